@@ -1,0 +1,58 @@
+-- A deck text: one card a line, each byte of the line a column punched by the card code.
+use Rattle.std.specs.Prelude.{◌≡◌, ℕ, ◌+◌, ◌-◌, ◌<◌, ◌≤◌, List, [], length, take, slice_index, slice_index_or, All, EachIndex, IsSome, Some, None}
+use Rattle.std.specs.List.{AllZip}
+use Rattle.card_code.specs.CardCode.{rows_of}
+use Rattle.card_code.specs.Lines.{lines_of}
+use Rattle.card_code.specs.declared.deck.DeckFault.{DeckFault}
+use Rattle.card_code.specs.declared.deck.DeckFault.TheVariants.{CardTooLong, NoSuchCharacter, TooManyCards, Memory}
+
+-- the card of a line: each byte is punched in its column, and the columns behind the line are blank
+pub record IsCardOf (line card : List ℕ) : Type 0 where
+  pub short : length line ≤ 80
+  pub whole : length card ≡ 80
+  pub punched : (k : ℕ) → k < length line → rows_of (slice_index line k) ≡ Some (slice_index card k)
+  pub blank : (k : ℕ) → length line ≤ k → slice_index card k ≡ 0
+
+-- the cards of a deck text, at most 999,999: one for each line, in order
+pub record Deck (bytes : List ℕ) (cards : List (List ℕ)) : Type 0 where
+  pub few : length cards ≤ 999999
+  pub each : AllZip IsCardOf (lines_of bytes) cards
+
+-- a line that a card can be punched from: at most 80 bytes, each a deck character
+pub record IsPunchable (line : List ℕ) : Type 0 where
+  pub short : length line ≤ 80
+  pub characters : EachIndex line (λ k. IsSome (rows_of (slice_index line k)))
+
+-- the column, from 1, of the first byte that is no deck character, in a line that is not too long
+pub record IsOddColumn (line : List ℕ) (column : ℕ) : Type 0 where
+  pub short : length line ≤ 80
+  pub from : 1 ≤ column
+  pub to : column ≤ length line
+  pub odd : rows_of (slice_index line (column - 1)) ≡ None
+  pub before : (k : ℕ) → k + 1 < column → IsSome (rows_of (slice_index line k))
+
+-- what keeps the line with this number from being punched
+abbrev pub HasLineFault : List ℕ → ℕ → DeckFault → Type 0
+HasLineFault line number (CardTooLong n) = (n ≡ number) × (80 < length line)
+HasLineFault line number (NoSuchCharacter n column) = (n ≡ number) × IsOddColumn line column
+HasLineFault line number TooManyCards = ⊥
+HasLineFault line number Memory = ⊥
+
+-- a line, from 1, of the first 999,999 that comes behind punchable lines alone
+pub record IsReached (bytes : List ℕ) (line : ℕ) : Type 0 where
+  pub from : 1 ≤ line
+  pub to : line ≤ 999999
+  pub within : line ≤ length (lines_of bytes)
+  pub before : All IsPunchable (take (line - 1) (lines_of bytes))
+
+-- the line with a number from 1
+abbrev pub line_at : List ℕ → ℕ → List ℕ
+line_at bytes line = slice_index_or (lines_of bytes) (line - 1) []
+
+-- the fault that a text is refused for: that of its first line at fault, or a million lines of which
+-- the first 999,999 are punchable; no text makes memory run out
+abbrev pub HasFault : List ℕ → DeckFault → Type 0
+HasFault bytes (CardTooLong line) = IsReached bytes line × (80 < length (line_at bytes line))
+HasFault bytes (NoSuchCharacter line column) = IsReached bytes line × IsOddColumn (line_at bytes line) column
+HasFault bytes TooManyCards = (1000000 ≤ length (lines_of bytes)) × All IsPunchable (take 999999 (lines_of bytes))
+HasFault bytes Memory = ⊥

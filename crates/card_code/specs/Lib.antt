@@ -1,0 +1,3 @@
+pub mod CardCode
+pub mod Deck
+pub mod Lines

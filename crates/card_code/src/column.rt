@@ -1,0 +1,76 @@
+//! A column of a card, as the set of its punched rows.
+
+ghost use Rattle.std.specs.Prelude.{◌≡◌, ◌+◌, ◌^◌, ◌<◌, ◌↔◌, ℕ, IsTrue, true, false};
+ghost use Rattle.card_code.specs.CardCode.{has_row, with_row, rows_of, deck_character, print_character};
+
+use crate::code::{character_of_rows, rows_of_character};
+use std::marker::Model;
+
+/// The rows punched in one column: any set of the rows 0 to 9, 11 and 12.
+///
+/// Contracts see a column as a number in which bit `r` tells of row `r`.
+#[derive(Clone, Copy, Debug, Default, PartialEq, Eq)]
+pub struct Column {
+    rows: u16,
+}
+
+impl Model for Column {
+    ghost Value = { ℕ };
+
+    ghost view = { λ column. column.rows };
+
+    ghost inverse = { λ rows. record { rows = rows } };
+}
+
+impl Column {
+    /// A column without a punch.
+    pub fn blank() -> Self
+        ensures { result ≡ 0 }
+    {
+        Column { rows: 0 }
+    }
+
+    /// The column that a deck character is punched as, or `None` for a character that is none.
+    pub fn of_char(character: char) -> Option<Self>
+        ensures { result ≡ rows_of character }
+    {
+        rows_of_character(character).map(|rows| Column { rows })
+    }
+
+    /// The deck character of the punched rows, or `None` where no character has exactly these.
+    pub fn to_char(self) -> Option<char>
+        ensures { result ≡ deck_character self }
+    {
+        character_of_rows(self.rows).map(char::from)
+    }
+
+    /// The character that a print wheel prints for these rows: a blank for `!`, and for rows that
+    /// no character has.
+    #[tactic(auto, unfolding(crate::specs::CardCode::print_character))]
+    pub fn print_character(self) -> u8
+        ensures { result ≡ print_character self }
+    {
+        match character_of_rows(self.rows) {
+            None | Some(b'!') => b' ',
+            Some(character) => character,
+        }
+    }
+
+    /// Whether row `row` is punched.
+    pub fn has_row(self, row: u8) -> bool
+        requires { row < 16 }
+        ensures { result ≡ has_row self row }
+    {
+        self.rows >> row & 1 == 1
+    }
+
+    /// This column with row `row` punched too.
+    pub fn with_row(self, row: u8) -> Self
+        requires { row < 16 }
+        ensures { result ≡ with_row self row }
+    {
+        Column {
+            rows: self.rows | 1 << row,
+        }
+    }
+}

@@ -1,0 +1,99 @@
+//! Decks of cards as text.
+
+ghost use Rattle.std.specs.Prelude.{◌≡◌, ◌≢◌, ◌-◌, ◌<◌, ◌≤◌, ◌++◌, ℕ, length, replicate, IfErr, IfOk};
+ghost use Rattle.arrayvec.specs.ArrayVec.{array_vec_len};
+ghost use Rattle.card_code.specs.Deck.{Deck, HasFault, HasLineFault, IsCardOf};
+ghost use Rattle.card_code.specs.declared.deck.DeckFault.TheVariants.{Memory};
+
+use crate::card::{CARD_COLUMNS, Card};
+use crate::column::Column;
+use crate::lines::next_line;
+use arrayvec::ArrayVec;
+use std::alloc::{AllocFailed, Global};
+use thiserror::Error;
+
+/// The most cards of a deck.
+pub const MOST_CARDS: usize = 999_999;
+
+/// Why a deck text is refused.
+#[derive(Debug, Drop, Error)]
+pub enum DeckFault {
+    /// Line `line`, from 1, has more than 80 bytes.
+    #[error("card {line} has more than 80 columns")]
+    CardTooLong { line: u32 },
+    /// Column `column` of line `line`, both from 1, is no deck character.
+    #[error("card {line} has no deck character in column {column}")]
+    NoSuchCharacter { line: u32, column: u32 },
+    /// There are 1,000,000 lines or more.
+    #[error("more than 999,999 cards")]
+    TooManyCards,
+    /// A growth was refused.
+    #[error("out of memory")]
+    Memory,
+}
+
+impl<T: Drop> From<AllocFailed<T>> for DeckFault {
+    ghost from_gives = { λ _ fault. fault ≡ Memory };
+
+    fn from(_failed: AllocFailed<T>) -> DeckFault {
+        DeckFault::Memory
+    }
+}
+
+/// The cards of a deck text, one a line: short lines are filled with blanks, an empty line is a
+/// blank card.
+///
+/// The first line at fault is told: `CardTooLong` before `NoSuchCharacter` in one line, and
+/// `TooManyCards` at line 1,000,000 whatever it holds. `Memory` comes only where a growth was
+/// refused.
+pub fn read_deck(alloc: Global, bytes: &[u8]) -> Result<Vec<Card>, DeckFault>
+    ensures deck { IfOk result (λ cards. Deck bytes.now cards.items) }
+    ensures fault { IfErr result (λ fault. fault ≢ Memory → HasFault bytes.now fault) }
+{
+    let mut cards = Vec::new(alloc);
+    let mut text = bytes;
+    while let Some((line, rest)) = next_line(text) {
+        if cards.len() == MOST_CARDS {
+            return Err(DeckFault::TooManyCards);
+        }
+        cards.push(read_card(cards.len() as u32 + 1, line)?)?;
+        text = rest;
+    }
+    Ok(cards)
+}
+
+/// The card of line `number`, or the line's fault.
+fn read_card(number: u32, line: &[u8]) -> Result<Card, DeckFault>
+    ensures card { IfOk result (λ card. IsCardOf line.now card) }
+    ensures fault { IfErr result (λ fault. HasLineFault line.now number fault) }
+{
+    if line.len() > CARD_COLUMNS {
+        return Err(DeckFault::CardTooLong { line: number });
+    }
+    let mut columns = ArrayVec::<Column, CARD_COLUMNS>::new();
+    for (place, character) in line.iter().enumerate() {
+        match Column::of_char(char::from(*character)) {
+            Some(column) => columns.push(column),
+            None => {
+                return Err(DeckFault::NoSuchCharacter {
+                    line: number,
+                    column: place as u32 + 1,
+                });
+            }
+        }
+    }
+    Ok(filled(columns))
+}
+
+/// The card whose first columns are these, the others being blank.
+fn filled(mut columns: ArrayVec<Column, CARD_COLUMNS>) -> Card
+    ensures { result ≡ columns.items ++ replicate (80 - length columns.items) 0 }
+{
+    while !columns.is_full() {
+        columns.push(Column::blank());
+    }
+    match columns.into_inner() {
+        Ok(columns) => Card::of_columns(columns),
+        Err(_) => unreachable!(),
+    }
+}

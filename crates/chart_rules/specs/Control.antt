@@ -1,0 +1,40 @@
+-- Rules on control levels: a total or an indicated field has its level controlled, and a text on a total line controls it.
+use Rattle.std.specs.Prelude.{ℕ, Bool, true, false, List, Option, Some, None, not, ◌&&◌, ◌==◌, nat_le, if◌then◌else◌}
+use Rattle.std.specs.List.{list_any}
+use Rattle.chart_text.specs.declared.chart.Line.{Line}
+use Rattle.chart_text.specs.declared.statement.DetailOption.TheVariants as shown
+use Rattle.chart_text.specs.declared.statement.Statement.{Statement}
+use Rattle.chart_text.specs.declared.statement.Statement.TheVariants as says
+use Rattle.chart_rules.specs.Fields.{is_same_name}
+
+-- the level 1 to 3 that a line needs to be controlled, if it needs one: level 4 is the whole deck
+abbrev pub level_needed : Statement → Option ℕ
+level_needed (says.DetailField wheel name (shown.Indicated level)) = Some level
+level_needed (says.TotalLiteral level wheel literal) = if nat_le level 3 then Some level else None
+level_needed (says.TotalText level wheel name) = if nat_le level 3 then Some level else None
+level_needed (says.TotalAmount level wheel name digits mark) = if nat_le level 3 then Some level else None
+level_needed other = None
+
+-- whether a line is CONTROL of a level
+abbrev pub controls : ℕ → Statement → Bool
+controls wanted (says.Control level name) = level == wanted
+controls wanted other = false
+
+-- whether a level, if one is needed, has no CONTROL line
+abbrev pub is_uncontrolled : List Line → Option ℕ → Bool
+is_uncontrolled lines (Some level) = not (list_any (λ line. controls level line.statement) lines)
+is_uncontrolled lines None = false
+
+-- No control: TOTAL or INDICATE of a level 1 to 3 without CONTROL of that level.
+abbrev pub breaks_no_control : List Line → Statement → Bool
+breaks_no_control lines line = is_uncontrolled lines (level_needed line)
+
+-- whether a line makes a name a control field of a level or a higher one
+abbrev pub controls_by : ℕ → List ℕ → Statement → Bool
+controls_by lowest wanted (says.Control level name) = nat_le lowest level && is_same_name name wanted
+controls_by lowest wanted other = false
+
+-- Total text not control: a text on a total line that is no control field of its level or higher.
+abbrev pub breaks_total_text_not_control : List Line → Statement → Bool
+breaks_total_text_not_control lines (says.TotalText level wheel name) = not (list_any (λ line. controls_by level name line.statement) lines)
+breaks_total_text_not_control lines other = false

@@ -1,0 +1,14 @@
+pub mod Fields
+pub mod Index
+pub mod Names
+pub mod Columns
+pub mod Repeats
+pub mod Control
+pub mod Digits
+pub mod Shrink
+pub mod Marks
+pub mod Wheels
+pub mod Printing
+pub mod Forms
+pub mod Tapes
+pub mod Rules

@@ -1,0 +1,84 @@
+-- The rules of a chart: which lines break which rule, and which charts are lawful.
+use Rattle.std.specs.Prelude.{◌≡◌, ℕ, ◌+◌, ◌<◌, ◌≤◌, Bool, true, false, List, [], ◌∷◌, ◌++◌}
+use Rattle.chart_text.specs.Chart.{Chart}
+use Rattle.chart_text.specs.declared.chart.Line.{Line}
+use Rattle.chart_text.specs.declared.statement.Statement.{Statement}
+use Rattle.chart_rules.specs.declared.rule.Rule.{Rule}
+use Rattle.chart_rules.specs.declared.rule.Rule.TheVariants as rule
+use Rattle.chart_rules.specs.Fields.{fields_of}
+use Rattle.chart_rules.specs.Names.{breaks_name_twice, breaks_unknown_name, breaks_wrong_kind}
+use Rattle.chart_rules.specs.Columns.{breaks_columns, breaks_amount_size}
+use Rattle.chart_rules.specs.Repeats.{breaks_line_twice}
+use Rattle.chart_rules.specs.Control.{breaks_no_control, breaks_total_text_not_control}
+use Rattle.chart_rules.specs.Digits.{breaks_digits_range}
+use Rattle.chart_rules.specs.Shrink.{breaks_digits_shrink}
+use Rattle.chart_rules.specs.Marks.{breaks_mark_mismatch}
+use Rattle.chart_rules.specs.Wheels.{breaks_wheel_range, breaks_wheel_overlap, breaks_wheel_clash}
+use Rattle.chart_rules.specs.Printing.{breaks_print_kind, lacks_print}
+use Rattle.chart_rules.specs.Forms.{breaks_form, lacks_form}
+use Rattle.chart_rules.specs.Tapes.{breaks_tape}
+
+-- the number of a rule
+abbrev pub number_of : Rule → ℕ
+number_of rule.NameTwice = 21
+number_of rule.Columns = 22
+number_of rule.AmountSize = 23
+number_of rule.UnknownName = 24
+number_of rule.WrongKind = 25
+number_of rule.LineTwice = 26
+number_of rule.NoControl = 27
+number_of rule.TotalTextNotControl = 28
+number_of rule.DigitsRange = 29
+number_of rule.DigitsShrink = 30
+number_of rule.MarkMismatch = 31
+number_of rule.WheelRange = 32
+number_of rule.WheelOverlap = 33
+number_of rule.WheelClash = 34
+number_of rule.PrintKind = 35
+number_of rule.Form = 36
+number_of rule.Tape = 37
+
+-- whether a line breaks a rule, by all lines of the chart, the lines before this one, and what it says
+unfoldable pub breaks : Rule → List Line → List Line → Statement → Bool
+breaks rule.NameTwice lines earlier statement = breaks_name_twice (fields_of earlier) statement
+breaks rule.Columns lines earlier statement = breaks_columns statement
+breaks rule.AmountSize lines earlier statement = breaks_amount_size statement
+breaks rule.UnknownName lines earlier statement = breaks_unknown_name (fields_of lines) statement
+breaks rule.WrongKind lines earlier statement = breaks_wrong_kind (fields_of lines) statement
+breaks rule.LineTwice lines earlier statement = breaks_line_twice earlier statement
+breaks rule.NoControl lines earlier statement = breaks_no_control lines statement
+breaks rule.TotalTextNotControl lines earlier statement = breaks_total_text_not_control lines statement
+breaks rule.DigitsRange lines earlier statement = breaks_digits_range (fields_of lines) statement
+breaks rule.DigitsShrink lines earlier statement = breaks_digits_shrink lines statement
+breaks rule.MarkMismatch lines earlier statement = breaks_mark_mismatch (fields_of lines) statement
+breaks rule.WheelRange lines earlier statement = breaks_wheel_range (fields_of lines) statement
+breaks rule.WheelOverlap lines earlier statement = breaks_wheel_overlap (fields_of lines) earlier statement
+breaks rule.WheelClash lines earlier statement = breaks_wheel_clash (fields_of lines) earlier statement
+breaks rule.PrintKind lines earlier statement = breaks_print_kind lines statement
+breaks rule.Form lines earlier statement = breaks_form lines statement
+breaks rule.Tape lines earlier statement = breaks_tape lines statement
+
+-- whether a chart lacks a line that a rule demands: PRINT or FORM
+unfoldable pub lacks : Rule → List Line → Bool
+lacks rule.PrintKind lines = lacks_print lines
+lacks rule.Form lines = lacks_form lines
+lacks other lines = false
+
+-- The line with a number breaks a rule: a line of the chart by what it says, or the line END where a line is missing.
+pub data Broken (broken : Rule) (chart : Chart) : ℕ → Type 0 where
+  by_line : (earlier : List Line) (line : Line) (later : List Line) → chart.lines ≡ earlier ++ line ∷ later → breaks broken chart.lines earlier line.statement ≡ true → Broken broken chart line.number
+  by_end : lacks broken chart.lines ≡ true → Broken broken chart chart.end
+
+-- no line breaks a rule
+unfoldable pub IsKept : Rule → Chart → Type 0
+IsKept kept chart = (number : ℕ) → ¬ Broken kept chart number
+
+-- a chart is lawful where no line breaks any rule
+unfoldable pub IsLawful : Chart → Type 0
+IsLawful chart = (each : Rule) → IsKept each chart
+
+-- a rule is the lowest that a chart breaks, and a line is the lowest that breaks it
+pub record IsFirstBroken (chart : Chart) (first : Rule) (line : ℕ) : Type 0 where
+  pub broken : Broken first chart line
+  pub lowest_rule : (lower : Rule) → number_of lower < number_of first → IsKept lower chart
+  pub lowest_line : (other : ℕ) → Broken first chart other → line ≤ other

@@ -1,0 +1,51 @@
+-- A chart as text: line 1 names the language, each other line is a form or empty, END ends the chart.
+-- A text that is no chart breaks one of four text rules, asked in this order: its size, its first line, its other lines, its END.
+use Rattle.std.specs.Prelude.{◌≡◌, ℕ, ◌+◌, ◌-◌, ◌<◌, ◌≤◌, suc, List, [], ◌∷◌, length, slice_index_or, Any, ◌⊎◌, codes}
+use Rattle.std.specs.List.{AllByRecursion}
+use Rattle.card_code.specs.Lines.{lines_of}
+use Rattle.chart_text.specs.Chart.{Chart}
+use Rattle.chart_text.specs.Tokens.{HasTokens}
+use Rattle.chart_text.specs.Forms.{Says}
+use Rattle.chart_text.specs.declared.chart.Line.{Line}
+use Rattle.chart_text.specs.declared.statement.Statement.{Statement}
+
+-- a line without a token: nothing, or spaces alone
+abbrev pub IsEmptyLine : List ℕ → Type 0
+IsEmptyLine line = HasTokens line []
+
+-- a line whose only token is END
+abbrev pub IsEndLine : List ℕ → Type 0
+IsEndLine line = HasTokens line (codes "END" ∷ [])
+
+-- a line `CHART407 1`
+abbrev pub IsFirstLine : List ℕ → Type 0
+IsFirstLine line = HasTokens line (codes "CHART407" ∷ codes "1" ∷ [])
+
+-- a line that is a form, and what it says
+pub record IsFormLine (line : List ℕ) (statement : Statement) : Type 0 where
+  pub tokens : List (List ℕ)
+  pub divided : HasTokens line tokens
+  pub said : Says tokens statement
+
+-- the lines from a number on say this up to END: forms and empty lines, END, and empty lines alone
+pub data ReadsFrom : ℕ → List (List ℕ) → List Line → ℕ → Type 0 where
+  empty : {number end : ℕ} {line : List ℕ} {lines : List (List ℕ)} {said : List Line}
+      → IsEmptyLine line → ReadsFrom (suc number) lines said end → ReadsFrom number (line ∷ lines) said end
+  form : {number end : ℕ} {line : List ℕ} {lines : List (List ℕ)} {said : List Line} {statement : Statement}
+      → IsFormLine line statement → ReadsFrom (suc number) lines said end
+      → ReadsFrom number (line ∷ lines) (record { number = number; statement = statement } ∷ said) end
+  end : {number : ℕ} {line : List ℕ} {lines : List (List ℕ)}
+      → IsEndLine line → AllByRecursion IsEmptyLine lines → ReadsFrom number (line ∷ lines) [] number
+
+-- more than 500 lines, or a line of more than 200 bytes
+abbrev pub IsTooLarge : List ℕ → Type 0
+IsTooLarge bytes = (500 < length (lines_of bytes)) ⊎ Any (λ line. 200 < length line) (lines_of bytes)
+
+-- the text is a chart, and what it says
+pub record Reads (bytes : List ℕ) (chart : Chart) : Type 0 where
+  pub size : ¬ IsTooLarge bytes
+  pub first : List ℕ
+  pub others : List (List ℕ)
+  pub lines : lines_of bytes ≡ first ∷ others
+  pub begun : IsFirstLine first
+  pub said : ReadsFrom 2 others chart.lines chart.end

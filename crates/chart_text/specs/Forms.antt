@@ -1,0 +1,85 @@
+-- The forms of a chart: what the tokens of a line say.
+use Rattle.std.specs.Prelude.{ℕ, ◌≤◌, List, [], ◌∷◌, ◌++◌, length, Option, Some, None, codes}
+use Rattle.chart_text.specs.Number.{IsNumber, IsNumberTo, AreNumbers}
+use Rattle.chart_text.specs.Name.{IsName}
+use Rattle.chart_text.specs.Literal.{IsLiteral}
+use Rattle.chart_text.specs.declared.statement.SignRule.{SignRule}
+use Rattle.chart_text.specs.declared.statement.SignRule.TheVariants.{X, NX}
+use Rattle.chart_text.specs.declared.statement.FieldKind.TheVariants as kinds
+use Rattle.chart_text.specs.declared.statement.Printing.TheVariants as printings
+use Rattle.chart_text.specs.declared.statement.Mark.{Mark}
+use Rattle.chart_text.specs.declared.statement.Mark.TheVariants.{Credit, Minus}
+use Rattle.chart_text.specs.declared.statement.BodyLine.{BodyLine}
+use Rattle.chart_text.specs.declared.statement.BodyLine.TheVariants as lines
+use Rattle.chart_text.specs.declared.statement.After.TheVariants.{Page, Skip}
+use Rattle.chart_text.specs.declared.statement.DetailOption.{DetailOption}
+use Rattle.chart_text.specs.declared.statement.DetailOption.TheVariants.{Plain, Indicated, Marked}
+use Rattle.chart_text.specs.declared.statement.Statement.{Statement}
+use Rattle.chart_text.specs.declared.statement.Statement.TheVariants as says
+
+-- the sign rule of an amount: nothing, `X c` or `NX c`
+pub data SaysSign : List (List ℕ) → Option SignRule → Type 0 where
+  unsigned : SaysSign [] None
+  by_row : {column : List ℕ} {c : ℕ} → IsNumber column c → SaysSign (codes "X" ∷ column ∷ []) (Some (X c))
+  by_absence : {column : List ℕ} {c : ℕ} → IsNumber column c → SaysSign (codes "NX" ∷ column ∷ []) (Some (NX c))
+
+-- the two marks
+pub data IsMark : List ℕ → Mark → Type 0 where
+  credit : IsMark (codes "CR") Credit
+  minus : IsMark (codes "-") Minus
+
+-- the mark of a total: nothing, or `MARK m`
+pub data SaysMark : List (List ℕ) → Option Mark → Type 0 where
+  unmarked : SaysMark [] None
+  marked : {token : List ℕ} {m : Mark} → IsMark token m → SaysMark (codes "MARK" ∷ token ∷ []) (Some m)
+
+-- how a field stands on a card's line: nothing, `INDICATE l` or `MARK m`
+pub data SaysOption : List (List ℕ) → DetailOption → Type 0 where
+  plain : SaysOption [] Plain
+  indicated : {level : List ℕ} {l : ℕ} → IsNumberTo 3 level l → SaysOption (codes "INDICATE" ∷ level ∷ []) (Indicated l)
+  marked : {token : List ℕ} {m : Mark} → IsMark token m → SaysOption (codes "MARK" ∷ token ∷ []) (Marked m)
+
+-- a kind of body line: `DETAIL` or `TOTAL l`
+pub data SaysKind : List (List ℕ) → BodyLine → Type 0 where
+  detail : SaysKind (codes "DETAIL" ∷ []) lines.Detail
+  total : {level : List ℕ} {l : ℕ} → IsNumberTo 4 level l → SaysKind (codes "TOTAL" ∷ level ∷ []) (lines.Total l)
+
+-- the forms, and what each says
+pub data Says : List (List ℕ) → Statement → Type 0 where
+  text_field : {name first last n : List ℕ} {a b : ℕ} → IsName name n → IsNumber first a → IsNumber last b
+      → Says (codes "FIELD" ∷ name ∷ codes "TEXT" ∷ first ∷ last ∷ [])
+      (says.Field (record { name = n; first = a; last = b; kind = kinds.Text }))
+  amount_field : {name first last decimals n : List ℕ} {sign : List (List ℕ)} {a b d : ℕ} {rule : Option SignRule}
+      → IsName name n → IsNumber first a → IsNumber last b → IsNumber decimals d → SaysSign sign rule
+      → Says (codes "FIELD" ∷ name ∷ codes "AMOUNT" ∷ first ∷ last ∷ decimals ∷ sign)
+      (says.Field (record { name = n; first = a; last = b; kind = kinds.Amount d rule }))
+  control : {level name n : List ℕ} {l : ℕ} → IsNumberTo 3 level l → IsName name n
+      → Says (codes "CONTROL" ∷ level ∷ name ∷ []) (says.Control l n)
+  print_detail : Says (codes "PRINT" ∷ codes "DETAIL" ∷ []) (says.Print printings.Detail)
+  print_group : Says (codes "PRINT" ∷ codes "GROUP" ∷ []) (says.Print printings.Group)
+  head : {line wheel literal characters : List ℕ} {h w : ℕ} → IsNumberTo 3 line h → IsNumber wheel w → IsLiteral literal characters
+      → Says (codes "HEAD" ∷ line ∷ wheel ∷ literal ∷ []) (says.Head h w characters)
+  detail_literal : {wheel literal characters : List ℕ} {w : ℕ} → IsNumber wheel w → IsLiteral literal characters
+      → Says (codes "DETAIL" ∷ wheel ∷ literal ∷ []) (says.DetailLiteral w characters)
+  detail_field : {wheel name n : List ℕ} {option : List (List ℕ)} {w : ℕ} {how : DetailOption}
+      → IsNumber wheel w → IsName name n → SaysOption option how
+      → Says (codes "DETAIL" ∷ wheel ∷ name ∷ option) (says.DetailField w n how)
+  total_literal : {level wheel literal characters : List ℕ} {l w : ℕ}
+      → IsNumberTo 4 level l → IsNumber wheel w → IsLiteral literal characters
+      → Says (codes "TOTAL" ∷ level ∷ wheel ∷ literal ∷ []) (says.TotalLiteral l w characters)
+  total_text : {level wheel name n : List ℕ} {l w : ℕ} → IsNumberTo 4 level l → IsNumber wheel w → IsName name n
+      → Says (codes "TOTAL" ∷ level ∷ wheel ∷ name ∷ []) (says.TotalText l w n)
+  total_amount : {level wheel name digits n : List ℕ} {mark : List (List ℕ)} {l w g : ℕ} {m : Option Mark}
+      → IsNumberTo 4 level l → IsNumber wheel w → IsName name n → IsNumber digits g → SaysMark mark m
+      → Says (codes "TOTAL" ∷ level ∷ wheel ∷ name ∷ digits ∷ mark) (says.TotalAmount l w n g m)
+  space : {kind : List (List ℕ)} {count : List ℕ} {line : BodyLine} {n : ℕ} → SaysKind kind line → IsNumberTo 3 count n
+      → Says (codes "SPACE" ∷ (kind ++ count ∷ [])) (says.Space line n)
+  page_after : {kind : List (List ℕ)} {line : BodyLine} → SaysKind kind line
+      → Says (codes "AFTER" ∷ (kind ++ codes "PAGE" ∷ [])) (says.After line Page)
+  skip_after : {kind : List (List ℕ)} {channel : List ℕ} {line : BodyLine} {c : ℕ} → SaysKind kind line → IsNumber channel c
+      → Says (codes "AFTER" ∷ (kind ++ codes "SKIP" ∷ channel ∷ [])) (says.After line (Skip c))
+  form : {size first overflow : List ℕ} {p t o : ℕ} → IsNumber size p → IsNumber first t → IsNumber overflow o
+      → Says (codes "FORM" ∷ size ∷ first ∷ overflow ∷ []) (says.Form p t o)
+  tape : {channel : List ℕ} {stops : List (List ℕ)} {c : ℕ} {numbers : List ℕ}
+      → IsNumber channel c → AreNumbers stops numbers → 1 ≤ length numbers → length numbers ≤ 10
+      → Says (codes "TAPE" ∷ channel ∷ stops) (says.Tape c numbers)

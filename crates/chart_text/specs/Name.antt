@@ -1,0 +1,26 @@
+-- The name of a field: a letter A to Z and up to 7 letters or digits, filled with blanks to 8 characters.
+use Rattle.std.specs.Prelude.{◌≡◌, ℕ, ◌-◌, ◌≤◌, ◌==◌, ◌&&◌, ◌||◌, Bool, false, IsTrue, List, [], ◌∷◌, ◌++◌, length, nat_le, replicate}
+use Rattle.std.specs.List.{before_first, list_all}
+
+-- a capital letter
+abbrev pub is_letter : ℕ → Bool
+is_letter character = nat_le 65 character && nat_le character 90
+
+-- a capital letter or a digit
+abbrev pub is_letter_or_digit : ℕ → Bool
+is_letter_or_digit character = is_letter character || (nat_le 48 character && nat_le character 57)
+
+-- letters and digits, a letter first
+abbrev pub begins_with_letter : List ℕ → Bool
+begins_with_letter [] = false
+begins_with_letter (first ∷ others) = is_letter first && list_all is_letter_or_digit others
+
+-- the token is this name
+pub record IsName (token name : List ℕ) : Type 0 where
+  pub spelled : IsTrue (begins_with_letter token)
+  pub short : length token ≤ 8
+  pub filled : name ≡ token ++ replicate (8 - length token) 32
+
+-- a name without the blanks that fill it
+abbrev pub name_text : List ℕ → List ℕ
+name_text name = before_first (λ character. character == 32) name

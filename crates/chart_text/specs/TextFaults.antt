@@ -1,0 +1,57 @@
+-- The text rules, in the order in which they are asked: the size of the text, its first line, its other lines, its END.
+use Rattle.std.specs.Prelude.{ℕ, ◌-◌, ◌<◌, ◌≤◌, List, [], length, slice_index_or, ◌⊎◌}
+use Rattle.card_code.specs.Lines.{lines_of}
+use Rattle.chart_text.specs.ChartText.{IsEmptyLine, IsEndLine, IsFirstLine, IsFormLine, IsTooLarge}
+use Rattle.chart_text.specs.declared.statement.Statement.{Statement}
+use Rattle.chart_text.specs.declared.fault.TextFault.{TextFault}
+use Rattle.chart_text.specs.declared.fault.TextFault.TheVariants.{TooLarge, NoFirstLine, NotALine, NoEnd, Memory}
+
+-- the line of a number, from 1
+abbrev pub line_at : List (List ℕ) → ℕ → List ℕ
+line_at lines number = slice_index_or lines (number - 1) []
+
+-- the number is that of a line behind the first
+pub record IsBehindFirst (lines : List (List ℕ)) (number : ℕ) : Type 0 where
+  pub from : 2 ≤ number
+  pub to : number ≤ length lines
+
+-- the first line is missing, or is not `CHART407 1`
+abbrev pub LacksFirstLine : List (List ℕ) → Type 0
+LacksFirstLine lines = (0 < length lines) × IsFirstLine (line_at lines 1) → ⊥
+
+-- a line END stands before the line of a number
+pub record IsBehindEnd (lines : List (List ℕ)) (number : ℕ) : Type 0 where
+  pub end : ℕ
+  pub there : IsBehindFirst lines end
+  pub before : end < number
+  pub is_end : IsEndLine (line_at lines end)
+
+-- the line is neither empty nor END, and no form derives it
+pub record IsNoForm (line : List ℕ) : Type 0 where
+  pub not_empty : ¬ IsEmptyLine line
+  pub not_end : ¬ IsEndLine line
+  pub not_form : (statement : Statement) → ¬ IsFormLine line statement
+
+-- the line of a number is one that no form derives, or one behind END that isn't empty
+pub record IsMisplaced (lines : List (List ℕ)) (number : ℕ) : Type 0 where
+  pub there : IsBehindFirst lines number
+  pub cause : IsNoForm (line_at lines number) ⊎ (IsBehindEnd lines number × (¬ IsEmptyLine (line_at lines number)))
+
+-- it is the lowest of these
+pub record IsLowestMisplaced (lines : List (List ℕ)) (number : ℕ) : Type 0 where
+  pub misplaced : IsMisplaced lines number
+  pub lowest : (lower : ℕ) → lower < number → ¬ IsMisplaced lines lower
+
+-- no line behind the first is END
+abbrev pub LacksEnd : List (List ℕ) → Type 0
+LacksEnd lines = (number : ℕ) → IsBehindFirst lines number → ¬ IsEndLine (line_at lines number)
+
+-- the fault of a text: its rule is broken, and none that is asked before
+abbrev pub HasFault : List ℕ → TextFault → Type 0
+HasFault bytes TooLarge = IsTooLarge bytes
+HasFault bytes NoFirstLine = (¬ IsTooLarge bytes) × LacksFirstLine (lines_of bytes)
+HasFault bytes (NotALine number) =
+    (¬ IsTooLarge bytes) × (¬ LacksFirstLine (lines_of bytes)) × IsLowestMisplaced (lines_of bytes) number
+HasFault bytes NoEnd =
+    (¬ IsTooLarge bytes) × (¬ LacksFirstLine (lines_of bytes)) × ((number : ℕ) → ¬ IsMisplaced (lines_of bytes) number) × LacksEnd (lines_of bytes)
+HasFault bytes Memory = ⊥

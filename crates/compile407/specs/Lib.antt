@@ -1,0 +1,11 @@
+pub mod Items
+pub mod PrintLine
+pub mod Outline
+pub mod ChartForm
+pub mod BodyLines
+pub mod Places
+pub mod Pages
+pub mod Report
+pub mod WiredFor
+pub mod Listing
+pub mod Rows

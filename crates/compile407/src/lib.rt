@@ -1,0 +1,2 @@
+//! From planning charts to panel wiring, and from decks to pages.
+#![tactic(auto)]

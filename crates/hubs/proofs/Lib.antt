@@ -1,0 +1,4 @@
+pub mod HubLemmas
+pub mod RowLemmas
+pub mod StopLemmas
+pub mod WiringLemmas

@@ -1,0 +1,6 @@
+pub mod Hubs
+pub mod Jacks
+pub mod Ranges
+pub mod Rows
+pub mod Tapes
+pub mod Wiring

@@ -1,0 +1,40 @@
+//! Why a setup or a tape is refused.
+
+ghost use Rattle.std.specs.Prelude.{◌≡◌};
+ghost use Rattle.hubs.specs.declared.fault.SetupFault.TheVariants.{Memory};
+
+use std::alloc::{AllocError, AllocFailed};
+use thiserror::Error;
+
+/// Why a part of a setup is refused.
+#[derive(Clone, Copy, Debug, PartialEq, Eq, Error)]
+pub enum SetupFault {
+    /// A wire's first hub is no exit in range: fault 51.
+    #[error("the first hub of the wire is no exit")]
+    NotExit,
+    /// A wire's second hub is no entry in range, and its first is an exit: fault 52.
+    #[error("the second hub of the wire is no entry")]
+    NotEntry,
+    /// A carriage tape with a number out of range, or with a stop twice: fault 54.
+    #[error("no carriage tape has these lines and stops")]
+    TapeFault,
+    /// No memory was left.
+    #[error("out of memory")]
+    Memory,
+}
+
+impl From<AllocError> for SetupFault {
+    ghost from_gives = { λ _ fault. fault ≡ Memory };
+
+    fn from(_failed: AllocError) -> SetupFault {
+        SetupFault::Memory
+    }
+}
+
+impl<T: Drop> From<AllocFailed<T>> for SetupFault {
+    ghost from_gives = { λ _ fault. fault ≡ Memory };
+
+    fn from(_failed: AllocFailed<T>) -> SetupFault {
+        SetupFault::Memory
+    }
+}

@@ -1,0 +1,6 @@
+pub mod Stations
+pub mod Wheels
+pub mod Carriage
+pub mod CycleOrder
+pub mod Machine
+pub mod InOrder

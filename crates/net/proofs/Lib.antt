@@ -1,0 +1,5 @@
+pub mod Following
+pub mod ImpulsedLaws
+pub mod NetWires
+pub mod Pictures
+pub mod Sets

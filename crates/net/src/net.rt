@@ -1,0 +1,74 @@
+//! The wires of a setup, made ready for pictures.
+
+ghost use Rattle.std.specs.Prelude.{◌≡◌, ◌++◌, OnOk};
+ghost use Rattle.net.specs.Nets.{wires_from};
+
+use crate::picture::{Contacts, HUBS, Picture};
+use crate::search::{Wire, follow};
+use hubs::{Hub, Setup};
+use std::alloc::{AllocError, Global};
+use std::marker::Model;
+
+/// The wires of one setup, made ready for pictures at every point of a run.
+#[derive(Drop)]
+pub struct Net {
+    wires: Vec<Wire>,
+}
+
+impl Model for Net {
+    ghost use Rattle.std.specs.Prelude.{List};
+    ghost use Rattle.net.specs.declared.search.Wire.{Wire};
+    ghost use Rattle.net.specs.Search.{AreInRange};
+
+    ghost Value = { List Wire };
+
+    ghost view = { λ net. net.wires.items };
+
+    ghost invariant = { λ net. AreInRange net.wires.items };
+}
+
+impl Net {
+    ghost use Rattle.std.specs.Prelude.{IfOk};
+    ghost use Rattle.hubs.specs.Wiring.{Wiring};
+    ghost use Rattle.net.specs.Impulsed.{has, IsPicture};
+    ghost use Rattle.net.specs.Nets.{IsNetOf};
+
+    /// The net of a setup, with exactly its wires. Fails only where no memory is left.
+    pub fn of(alloc: Global, setup: &Setup) -> Result<Net, AllocError>
+        ensures { IfOk result (IsNetOf setup.now) }
+    {
+        let mut wires = Vec::new(alloc);
+        for number in 1..=HUBS as u32 {
+            if let Some(exit) = Hub::of_number(number) {
+                add_wires(&mut wires, number as u16, setup.entries_of(exit))?;
+            }
+        }
+        Ok(Net { wires })
+    }
+
+    /// Makes `out` the picture of the emitting exits: it then holds exactly the impulsed hubs, whatever it held before.
+    /// An entry among the exits is impulsed as an exit is, and the picture goes on from it.
+    pub fn picture(&self, exits: &Picture, contacts: &Contacts, out: &mut Picture)
+        ensures { (wiring : Wiring)
+            → IsNetOf wiring self.now
+            → IsPicture wiring (has exits.now) (has contacts.now) (has out.new) }
+    {
+        out.hubs = exits.hubs;
+        follow(self.wires.as_slice(), &mut out.hubs);
+    }
+}
+
+// Adds a wire from the hub with the number `from` to each of the entries that has a number.
+fn add_wires(wires: &mut Vec<Wire>, from: u16, entries: &[Hub]) -> Result<(), AllocError>
+    ensures { OnOk result (wires.new.items ≡ wires.old.items ++ wires_from from entries.now) }
+{
+    for entry in entries {
+        if let Some(to) = entry.number() {
+            wires.push(Wire {
+                from,
+                to: to as u16,
+            })?;
+        }
+    }
+    Ok(())
+}
