@@ -1,9 +1,10 @@
 -- The lines of a deck text, read one after the other.
 use Rattle.std.proofs.Common.{◌≡◌, ◌≢◌, ℕ, ◌+◌, ◌-◌, ◌<◌, ◌≤◌, suc, List, [], ◌∷◌, ◌++◌, length, take, drop, get_or, refl, ap, sym, ◌∙◌, subst, arith, All, IsSome, Some, Option, length-drop, length-append}
 use Rattle.std.proofs.Math.Seq.{drop-cons}
+use Rattle.std.proofs.lemmas.List.{take_all}
 use Rattle.std.proofs.lemmas.List.Elements.{All-from_get_or, AllZip-get_or, all_zip_more}
 use Rattle.std.specs.List.{AllZip}
-use Rattle.card_code.specs.Deck.{IsCardOf, IsPunchable, IsReached, HasFault, HasLineFault, IsOddColumn, line_at}
+use Rattle.card_code.specs.Deck.{Deck, IsCardOf, IsPunchable, IsReached, HasFault, HasLineFault, IsOddColumn, line_at}
 use Rattle.card_code.specs.Lines.{lines_of}
 use Rattle.card_code.specs.declared.deck.DeckFault.{DeckFault}
 use Rattle.card_code.specs.declared.deck.DeckFault.TheVariants.{CardTooLong, NoSuchCharacter, TooManyCards, Memory}
@@ -95,3 +96,10 @@ HasFault-many bytes text line rest cards read full cut =
     let all = lines_of bytes in
     let within : length cards < length all = within_of all (length cards) line (lines_of rest) (read.left ∙ cut) in
     (omega arith, rw full at (All-punchable (take (length cards) all) cards read.each))
+
+-- all lines are read
+pub Deck-at_end : (bytes text : List ℕ) (cards : List (List ℕ)) → IsReadUpTo bytes text cards → lines_of text ≡ [] → Deck bytes cards
+Deck-at_end bytes text cards read none =
+    let all = lines_of bytes in
+    let end : length all ≤ length cards = omega (arith, ap length (read.left ∙ none), length-drop (length cards) all) in
+    record { few = read.few; each = rw (take_all (length cards) all end) at read.each }

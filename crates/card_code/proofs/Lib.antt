@@ -1,3 +1,5 @@
 pub mod Decks
+pub mod Faults
+pub mod OneToOne
 pub mod Pieces
 pub mod Rows

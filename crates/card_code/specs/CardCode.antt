@@ -1,5 +1,5 @@
 -- The card code: which set of punched rows stands for which character.
-use Rattle.std.specs.Prelude.{ℕ, ◌+◌, ◌^◌, Bool, List, [], ◌∷◌, Option, Some, None, if◌then◌else◌, ◌==◌}
+use Rattle.std.specs.Prelude.{ℕ, ◌+◌, ◌^◌, Bool, List, [], ◌∷◌, Option, Some, None, if◌then◌else◌, ◌==◌, true, ◌&&◌, not, is_some}
 use Rattle.std.specs.Int.{bit_at}
 
 -- A set of rows is a number: row r, one of 0 to 9, 11 and 12, is in it where bit r is 1.
@@ -51,6 +51,12 @@ character_in (pair ∷ pairs) set = if pair.1 == set then Some pair.0 else chara
 abbrev pub rows_in : List (ℕ × ℕ) → ℕ → Option ℕ
 rows_in [] character = None
 rows_in (pair ∷ pairs) character = if pair.0 == character then Some pair.1 else rows_in pairs character
+
+-- in a list of pairs no character and no set stands twice
+abbrev pub is_one_to_one : List (ℕ × ℕ) → Bool
+is_one_to_one [] = true
+is_one_to_one (pair ∷ pairs) =
+    not (is_some (rows_in pairs pair.0)) && not (is_some (character_in pairs pair.1)) && is_one_to_one pairs
 
 -- the deck character of a set of rows
 unfoldable pub deck_character : ℕ → Option ℕ

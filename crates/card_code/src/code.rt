@@ -1,7 +1,7 @@
 //! The card code as a table, read both ways.
 
-ghost use Rattle.std.specs.Prelude.{◌≡◌};
-ghost use Rattle.card_code.specs.CardCode.{character_in, deck_character, rows_in, rows_of};
+ghost use Rattle.std.specs.Prelude.{◌≡◌, ◌↔◌, ℕ, length, Contains, IsTrue};
+ghost use Rattle.card_code.specs.CardCode.{character_in, code, deck_character, is_one_to_one, rows_in, rows_of};
 
 /// Each deck character with its punched rows, bit `r` for row `r`.
 #[rattlefmt::skip]
@@ -22,6 +22,15 @@ static CODE: [(u8, u16); 48] = [
     (b',', 1 << 0 | 1 << 3 | 1 << 8), (b'%', 1 << 0 | 1 << 4 | 1 << 8),
     (b'#', 1 << 3 | 1 << 8), (b'@', 1 << 4 | 1 << 8), (b'!', 1 << 11 | 1 << 0),
 ];
+
+/// The law of the card code: it has 48 characters, no character and no set of rows stands twice in
+/// it, so its two directions are inverse. The call does nothing.
+pub fn code_is_one_to_one()
+    ensures size { length code ≡ 48 }
+    ensures distinct { IsTrue (is_one_to_one code) }
+    ensures pairs { (character set : ℕ) → Contains code (character, set) ↔ (rows_of character ≡ Some set) }
+    ensures inverse { (character set : ℕ) → (rows_of character ≡ Some set) ↔ (deck_character set ≡ Some character) }
+{}
 
 /// The rows of a deck character, or `None` for a character that is none.
 pub fn rows_of_character(character: char) -> Option<u16>

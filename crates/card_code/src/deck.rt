@@ -1,6 +1,7 @@
 //! Decks of cards as text.
 
-ghost use Rattle.std.specs.Prelude.{◌≡◌, ◌≢◌, ◌-◌, ◌<◌, ◌≤◌, ◌++◌, ℕ, length, replicate, IfErr, IfOk};
+ghost use Rattle.std.specs.Prelude.{◌≡◌, ◌≢◌, ◌-◌, ◌<◌, ◌≤◌, ◌++◌, ℕ, ◌⊎◌, List, length, replicate, IfErr, IfOk, IsErrOf, IsOkAnd};
+ghost use Rattle.card_code.specs.declared.deck.DeckFault.{DeckFault};
 ghost use Rattle.arrayvec.specs.ArrayVec.{array_vec_len};
 ghost use Rattle.card_code.specs.Deck.{Deck, HasFault, HasLineFault, IsCardOf};
 ghost use Rattle.card_code.specs.declared.deck.DeckFault.TheVariants.{Memory};
@@ -16,7 +17,7 @@ use thiserror::Error;
 pub const MOST_CARDS: usize = 999_999;
 
 /// Why a deck text is refused.
-#[derive(Debug, Drop, Error)]
+#[derive(Clone, Copy, Debug, PartialEq, Eq, Error)]
 pub enum DeckFault {
     /// Line `line`, from 1, has more than 80 bytes.
     #[error("card {line} has more than 80 columns")]
@@ -49,6 +50,11 @@ impl<T: Drop> From<AllocFailed<T>> for DeckFault {
 pub fn read_deck(alloc: Global, bytes: &[u8]) -> Result<Vec<Card>, DeckFault>
     ensures deck { IfOk result (λ cards. Deck bytes.now cards.items) }
     ensures fault { IfErr result (λ fault. fault ≢ Memory → HasFault bytes.now fault) }
+
+    // Nothing but the deck or the fault of the text is answered, or that memory ran out.
+    ensures read { (cards : List (List ℕ)) → Deck bytes.now cards →
+        IsOkAnd result (λ read. read.items ≡ cards) ⊎ IsErrOf result Memory }
+    ensures told { (due : DeckFault) → HasFault bytes.now due → IsErrOf result due ⊎ IsErrOf result Memory }
 {
     let mut cards = Vec::new(alloc);
     let mut text = bytes;
@@ -61,6 +67,14 @@ pub fn read_deck(alloc: Global, bytes: &[u8]) -> Result<Vec<Card>, DeckFault>
     }
     Ok(cards)
 }
+
+/// The law of deck texts: a text has at most one deck, and at most one fault, and not both. The call
+/// does nothing.
+pub fn deck_text_is_unambiguous()
+    ensures deck { (bytes : List ℕ) (one other : List (List ℕ)) → Deck bytes one → Deck bytes other → one ≡ other }
+    ensures fault { (bytes : List ℕ) (one other : DeckFault) → HasFault bytes one → HasFault bytes other → one ≡ other }
+    ensures either { (bytes : List ℕ) (cards : List (List ℕ)) (fault : DeckFault) → Deck bytes cards → ¬ HasFault bytes fault }
+{}
 
 /// The card of line `number`, or the line's fault.
 fn read_card(number: u32, line: &[u8]) -> Result<Card, DeckFault>

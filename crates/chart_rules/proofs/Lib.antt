@@ -1,1 +1,5 @@
 pub mod Places
+pub mod Lowest
+pub mod InOrder
+pub mod Laws
+pub mod ValidCards

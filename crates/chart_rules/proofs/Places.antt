@@ -1,14 +1,14 @@
 -- Where the first field with a name stands.
-use Rattle.std.proofs.Common.{◌≡◌, ℕ, ◌+◌, ◌<◌, ◌≤◌, Bool, true, false, cond, List, [], ◌∷◌, ◌++◌, length, Option, Some, None, is_some, slice_get, find, position, get_or, take, not, nat_lt, nat_eq, ◌&&◌, ◌==◌, refl, sym, ap, ◌∙◌, arith, subst}
+use Rattle.std.proofs.Common.{◌≡◌, ℕ, ◌+◌, ◌<◌, ◌≤◌, Bool, true, false, cond, List, [], ◌∷◌, ◌++◌, length, Option, Some, None, is_some, slice_get, find, position, get_or, take, drop, not, nat_lt, nat_eq, ◌&&◌, ◌==◌, refl, sym, ap, ◌∙◌, arith, length-append, subst, ◌⊎◌, inl, inr}
 use Rattle.std.specs.List.{position_or_len, cons_option}
-use Rattle.std.proofs.lemmas.List.{take_more}
+use Rattle.std.proofs.lemmas.List.{take_more, take-append-drop}
 use Rattle.std.proofs.lemmas.List.Elements.{filter_map-append}
 use Rattle.chart_text.specs.declared.chart.Line.{Line}
 use Rattle.std.specs.Option.{option_and_then, option_or}
 use Rattle.std.proofs.lemmas.Grind.{common_steps}
 use Rattle.std.proofs.lemmas.Bool.Decides.{nat_tests}
-use Rattle.std.proofs.lemmas.List.Folds.{find_at, position_or_len_push}
-use Rattle.std.proofs.lemmas.Option.{slice_get_past, slice_get_read}
+use Rattle.std.proofs.lemmas.List.Folds.{find_at, position_or_len_push, prefix_len-append}
+use Rattle.std.proofs.lemmas.Option.{slice_get_past, slice_get_read, slice_get_cases}
 use Rattle.std.proofs.lemmas.List.Sums.{prefix_len-le-length}
 use Rattle.chart_text.specs.declared.statement.Field.{Field}
 use Rattle.indexmap.specs.IndexMap.{get}
@@ -109,3 +109,38 @@ fields_of-one line field h = ap (λ each. cons_option each []) h
 
 pub fields_of-none : (line : Line) → field_of line.statement ≡ None → fields_of (line ∷ []) ≡ []
 fields_of-none line h = ap (λ each. cons_option each []) h
+
+-- a list has an element that passes where the first place that passes is one of the list
+pub is_some-find : {X : Type 0} (p : X → Bool) (xs : List X) → is_some (find p xs) ≡ nat_lt (position_or_len p xs) (length xs)
+is_some-find p xs = ap is_some (find_at p xs) ∙ by (slice_get_cases xs (position_or_len p xs)).1
+  where
+    by : ((x : _) × (position_or_len p xs < length xs) × (slice_get xs (position_or_len p xs) ≡ Some x) × (get_or xs (position_or_len p xs) x ≡ x)) ⊎ ((length xs ≤ position_or_len p xs) × (slice_get xs (position_or_len p xs) ≡ None))
+        → is_some (slice_get xs (position_or_len p xs)) ≡ nat_lt (position_or_len p xs) (length xs)
+    by (inl h) = grind (arith, nat_tests)
+    by (inr h) = grind (arith, nat_tests)
+
+-- the first element that passes is among the first ones where its place is
+pub position-front : {X : Type 0} (p : X → Bool) (xs ys : List X) (place : ℕ) → Some place ≡ position p (xs ++ ys)
+    → nat_lt place (length xs) ≡ is_some (find p xs)
+position-front p xs ys place h = by ∙ sym (is_some-find p xs)
+  where
+    by : nat_lt place (length xs) ≡ nat_lt (position_or_len p xs) (length xs)
+    by =
+        let whole = prefix_len-append (λ y. not (p y)) xs ys in
+        let most = prefix_len-le-length (λ y. not (p y)) xs in
+        grind (arith, nat_tests, whole, most)
+
+-- where none passes, none of the first ones does
+pub position-none : {X : Type 0} (p : X → Bool) (xs ys : List X) → None ≡ position p (xs ++ ys) → false ≡ is_some (find p xs)
+position-none p xs ys h = by ∙ sym (is_some-find p xs)
+  where
+    by : false ≡ nat_lt (position_or_len p xs) (length xs)
+    by =
+        let whole = prefix_len-append (λ y. not (p y)) xs ys in
+        let most = prefix_len-le-length (λ y. not (p y)) xs in
+        let long = length-append xs ys in
+        grind (arith, nat_tests, whole, most, long)
+
+-- the fields of a chart are those of its first lines and those behind
+pub fields_of-split : (lines : List Line) (i : ℕ) → fields_of lines ≡ fields_of (take i lines) ++ fields_of (drop i lines)
+fields_of-split lines i = ap fields_of (sym (take-append-drop i lines)) ∙ filter_map-append (λ each. field_of each.statement) (take i lines) (drop i lines)

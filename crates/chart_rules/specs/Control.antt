@@ -7,12 +7,16 @@ use Rattle.chart_text.specs.declared.statement.Statement.{Statement}
 use Rattle.chart_text.specs.declared.statement.Statement.TheVariants as says
 use Rattle.chart_rules.specs.Fields.{is_same_name}
 
--- the level 1 to 3 that a line needs to be controlled, if it needs one: level 4 is the whole deck
+-- a level that needs to be controlled: 1 to 3, since level 4 is the whole deck
+abbrev pub below_final : ℕ → Option ℕ
+below_final level = if nat_le level 3 then Some level else None
+
+-- the level that a line needs to be controlled, if it needs one
 abbrev pub level_needed : Statement → Option ℕ
 level_needed (says.DetailField wheel name (shown.Indicated level)) = Some level
-level_needed (says.TotalLiteral level wheel literal) = if nat_le level 3 then Some level else None
-level_needed (says.TotalText level wheel name) = if nat_le level 3 then Some level else None
-level_needed (says.TotalAmount level wheel name digits mark) = if nat_le level 3 then Some level else None
+level_needed (says.TotalLiteral level wheel literal) = below_final level
+level_needed (says.TotalText level wheel name) = below_final level
+level_needed (says.TotalAmount level wheel name digits mark) = below_final level
 level_needed other = None
 
 -- whether a line is CONTROL of a level
@@ -20,9 +24,13 @@ abbrev pub controls : ℕ → Statement → Bool
 controls wanted (says.Control level name) = level == wanted
 controls wanted other = false
 
+-- whether a chart has a CONTROL line of a level
+abbrev pub is_controlled : List Line → ℕ → Bool
+is_controlled lines level = list_any (λ line. controls level line.statement) lines
+
 -- whether a level, if one is needed, has no CONTROL line
 abbrev pub is_uncontrolled : List Line → Option ℕ → Bool
-is_uncontrolled lines (Some level) = not (list_any (λ line. controls level line.statement) lines)
+is_uncontrolled lines (Some level) = not (is_controlled lines level)
 is_uncontrolled lines None = false
 
 -- No control: TOTAL or INDICATE of a level 1 to 3 without CONTROL of that level.
@@ -34,7 +42,11 @@ abbrev pub controls_by : ℕ → List ℕ → Statement → Bool
 controls_by lowest wanted (says.Control level name) = nat_le lowest level && is_same_name name wanted
 controls_by lowest wanted other = false
 
+-- whether a chart makes a name a control field of a level or a higher one
+abbrev pub is_controlled_by : List Line → ℕ → List ℕ → Bool
+is_controlled_by lines lowest name = list_any (λ line. controls_by lowest name line.statement) lines
+
 -- Total text not control: a text on a total line that is no control field of its level or higher.
 abbrev pub breaks_total_text_not_control : List Line → Statement → Bool
-breaks_total_text_not_control lines (says.TotalText level wheel name) = not (list_any (λ line. controls_by level name line.statement) lines)
+breaks_total_text_not_control lines (says.TotalText level wheel name) = not (is_controlled_by lines level name)
 breaks_total_text_not_control lines other = false

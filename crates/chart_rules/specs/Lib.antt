@@ -3,6 +3,7 @@ pub mod Index
 pub mod Names
 pub mod Columns
 pub mod Repeats
+pub mod Items
 pub mod Control
 pub mod Digits
 pub mod Shrink
@@ -12,3 +13,7 @@ pub mod Printing
 pub mod Forms
 pub mod Tapes
 pub mod Rules
+pub mod RuleFaults
+pub mod Lawful
+pub mod OnCard
+pub mod ValidCard

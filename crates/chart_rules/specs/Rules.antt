@@ -1,5 +1,5 @@
 -- The rules of a chart: which lines break which rule, and which charts are lawful.
-use Rattle.std.specs.Prelude.{◌≡◌, ℕ, ◌+◌, ◌<◌, ◌≤◌, Bool, true, false, List, [], ◌∷◌, ◌++◌}
+use Rattle.std.specs.Prelude.{◌≡◌, ℕ, ◌+◌, ◌<◌, ◌≤◌, Bool, true, false, List, [], ◌∷◌, ◌++◌, Option, Some, slice_get}
 use Rattle.chart_text.specs.Chart.{Chart}
 use Rattle.chart_text.specs.declared.chart.Line.{Line}
 use Rattle.chart_text.specs.declared.statement.Statement.{Statement}
@@ -39,7 +39,7 @@ number_of rule.Form = 36
 number_of rule.Tape = 37
 
 -- whether a line breaks a rule, by all lines of the chart, the lines before this one, and what it says
-unfoldable pub breaks : Rule → List Line → List Line → Statement → Bool
+abbrev pub breaks : Rule → List Line → List Line → Statement → Bool
 breaks rule.NameTwice lines earlier statement = breaks_name_twice (fields_of earlier) statement
 breaks rule.Columns lines earlier statement = breaks_columns statement
 breaks rule.AmountSize lines earlier statement = breaks_amount_size statement
@@ -59,7 +59,7 @@ breaks rule.Form lines earlier statement = breaks_form lines statement
 breaks rule.Tape lines earlier statement = breaks_tape lines statement
 
 -- whether a chart lacks a line that a rule demands: PRINT or FORM
-unfoldable pub lacks : Rule → List Line → Bool
+abbrev pub lacks : Rule → List Line → Bool
 lacks rule.PrintKind lines = lacks_print lines
 lacks rule.Form lines = lacks_form lines
 lacks other lines = false
@@ -81,4 +81,23 @@ IsLawful chart = (each : Rule) → IsKept each chart
 pub record IsFirstBroken (chart : Chart) (first : Rule) (line : ℕ) : Type 0 where
   pub broken : Broken first chart line
   pub lowest_rule : (lower : Rule) → number_of lower < number_of first → IsKept lower chart
+  pub lowest_line : (other : ℕ) → Broken first chart other → line ≤ other
+
+-- the rules, from the lowest number on
+unfoldable pub in_order : List Rule
+in_order =
+    rule.NameTwice ∷ rule.Columns ∷ rule.AmountSize ∷ rule.UnknownName ∷ rule.WrongKind ∷ rule.LineTwice ∷ rule.NoControl
+    ∷ rule.TotalTextNotControl ∷ rule.DigitsRange ∷ rule.DigitsShrink ∷ rule.MarkMismatch ∷ rule.WheelRange ∷ rule.WheelOverlap
+    ∷ rule.WheelClash ∷ rule.PrintKind ∷ rule.Form ∷ rule.Tape ∷ []
+
+-- no line breaks the first rules of a list
+abbrev pub AreKept : List Rule → ℕ → Chart → Type 0
+AreKept rules count chart = (place : ℕ) (kept : Rule) → place < count → slice_get rules place ≡ Some kept → IsKept kept chart
+
+-- a rule is the first of a list that a chart breaks, and a line is the lowest that breaks it
+pub record IsFirstAmong (rules : List Rule) (chart : Chart) (first : Rule) (line : ℕ) : Type 0 where
+  pub place : ℕ
+  pub is_there : slice_get rules place ≡ Some first
+  pub kept : AreKept rules place chart
+  pub broken : Broken first chart line
   pub lowest_line : (other : ℕ) → Broken first chart other → line ≤ other

@@ -1,1 +1,83 @@
-//! x
+//! The rules on control levels: a total or an indicated field has its level controlled, and a text on a total line controls it.
+
+ghost use Rattle.std.specs.Prelude.{◌≡◌};
+ghost use Rattle.chart_rules.specs.Control as rule;
+
+use crate::names::is_same;
+use chart_text::{DetailOption, Line, Name, Statement};
+
+/// A level that needs to be controlled: 1 to 3, since level 4 is the whole deck.
+fn below_final(level: u8) -> Option<u8>
+    ensures { result ≡ rule.below_final level }
+{
+    if level <= 3 { Some(level) } else { None }
+}
+
+/// The level that a line needs to be controlled, if it needs one.
+fn level_needed(statement: &Statement) -> Option<u8>
+    ensures { result ≡ rule.level_needed statement.now }
+{
+    match statement {
+        Statement::DetailField(_, _, DetailOption::Indicated(level)) => Some(*level),
+        Statement::TotalLiteral(level, _, _)
+        | Statement::TotalText(level, _, _)
+        | Statement::TotalAmount(level, _, _, _, _) => below_final(*level),
+        _ => None,
+    }
+}
+
+/// Whether a line is CONTROL of a level.
+fn controls(wanted: u8, statement: &Statement) -> bool
+    ensures { result ≡ rule.controls wanted statement.now }
+{
+    match statement {
+        Statement::Control(level, _) => *level == wanted,
+        _ => false,
+    }
+}
+
+/// Whether a chart has a CONTROL line of a level.
+fn is_controlled(lines: &[Line], level: u8) -> bool
+    ensures { result ≡ rule.is_controlled lines.now level }
+{
+    lines.iter().any(|line| controls(level, &line.statement))
+}
+
+/// Whether a line is TOTAL or INDICATE of a level 1 to 3 without CONTROL of that level.
+pub(crate) fn lacks_control(lines: &[Line], statement: &Statement) -> bool
+    ensures { result ≡ rule.breaks_no_control lines.now statement.now }
+{
+    match level_needed(statement) {
+        Some(level) => !is_controlled(lines, level),
+        None => false,
+    }
+}
+
+/// Whether a line makes a name a control field of a level or a higher one.
+fn controls_by(lowest: u8, wanted: Name, statement: &Statement) -> bool
+    ensures { result ≡ rule.controls_by lowest wanted statement.now }
+{
+    match statement {
+        Statement::Control(level, name) => lowest <= *level && is_same(*name, wanted),
+        _ => false,
+    }
+}
+
+/// Whether a chart makes a name a control field of a level or a higher one.
+fn is_controlled_by(lines: &[Line], lowest: u8, name: Name) -> bool
+    ensures { result ≡ rule.is_controlled_by lines.now lowest name }
+{
+    lines
+        .iter()
+        .any(|line| controls_by(lowest, name, &line.statement))
+}
+
+/// Whether a line is a text on a total line that is no control field of its level or a higher one.
+pub(crate) fn totals_other_text(lines: &[Line], statement: &Statement) -> bool
+    ensures { result ≡ rule.breaks_total_text_not_control lines.now statement.now }
+{
+    match statement {
+        Statement::TotalText(level, _, name) => !is_controlled_by(lines, *level, *name),
+        _ => false,
+    }
+}

@@ -1,7 +1,7 @@
 //! The fields of a chart, by their names.
 
-ghost use Rattle.std.specs.Prelude.{◌≡◌, ◌++◌, [], ◌∷◌, IfOk, OnOk};
-ghost use Rattle.chart_rules.specs.Fields.{field_of};
+ghost use Rattle.std.specs.Prelude.{◌≡◌, ◌++◌, [], ◌∷◌, length, IfOk, OnOk};
+ghost use Rattle.chart_rules.specs.Fields.{field_of, fields_of};
 ghost use Rattle.chart_rules.specs.Index.{IsIndexOf};
 
 use chart_text::{Field, Line, Name, Statement};
@@ -79,6 +79,16 @@ pub(crate) fn described_by(statement: &Statement) -> Option<Field>
         Statement::Field(field) => Some(*field),
         _ => None,
     }
+}
+
+/// How many FIELD lines there are among some lines.
+pub(crate) fn field_count(lines: &[Line]) -> usize
+    ensures { result ≡ length (fields_of lines.now) }
+{
+    lines
+        .iter()
+        .filter_map(|line| described_by(&line.statement))
+        .count()
 }
 
 /// Puts a field behind the others, and into the index where it is the first of its name.

@@ -1,20 +1,71 @@
-//! A rule on the form.
+//! The rule on the form: its lines leave room for the heading lines and for the overflow.
 
 ghost use Rattle.std.specs.Prelude.{◌≡◌};
-ghost use Rattle.chart_rules.specs.Forms.{breaks_form, lacks_form};
+ghost use Rattle.chart_rules.specs.Forms as rule;
 
 use chart_text::{Line, Statement};
 
-/// Whether the lines of a form leave no room for the report.
-pub(crate) fn has_bad_form(_lines: &[Line], _statement: &Statement) -> bool
-    ensures { result ≡ breaks_form _lines.now _statement.now }
+/// The number of the heading line that a HEAD line names, and 0 for other lines.
+fn heading_of(statement: &Statement) -> u8
+    ensures { result ≡ rule.heading_of statement.now }
 {
-    false
+    match statement {
+        Statement::Head(level, _, _) => *level,
+        _ => 0,
+    }
+}
+
+/// How many heading lines a chart has: the highest that a HEAD line names, or 0.
+pub(crate) fn heading_count(lines: &[Line]) -> u8
+    ensures { result ≡ rule.heading_count lines.now }
+{
+    let mut highest = 0;
+    for line in lines {
+        highest = heading_of(&line.statement).max(highest);
+    }
+    highest
+}
+
+/// Whether a form of so many lines, with its first line and its overflow line, has room for so many heading lines.
+fn has_room(headings: u8, lines: u16, first: u16, overflow: u16) -> bool
+    ensures { result ≡ rule.has_room headings lines first overflow }
+{
+    let last_heading = (u32::from(first) + u32::from(headings.max(1))).saturating_sub(1);
+    1 <= first
+        && last_heading < u32::from(overflow)
+        && u32::from(overflow) + 2 <= u32::from(lines)
+        && lines <= 144
+}
+
+/// Whether a line of a chart breaks the rule on the form.
+pub(crate) fn has_bad_form(chart: &[Line], statement: &Statement) -> bool
+    ensures { result ≡ rule.breaks_form chart.now statement.now }
+{
+    match statement {
+        Statement::Form(lines, first, overflow) => {
+            !has_room(heading_count(chart), *lines, *first, *overflow)
+        }
+        _ => false,
+    }
+}
+
+/// Whether a line is a FORM line.
+fn is_form(statement: &Statement) -> bool
+    ensures { result ≡ rule.is_form statement.now }
+{
+    matches!(statement, Statement::Form(_, _, _))
+}
+
+/// Whether a chart has a FORM line.
+fn has_form(chart: &[Line]) -> bool
+    ensures { result ≡ rule.has_form chart.now }
+{
+    chart.iter().any(|line| is_form(&line.statement))
 }
 
 /// Whether a chart has no FORM line.
-pub(crate) fn has_no_form(_lines: &[Line]) -> bool
-    ensures { result ≡ lacks_form _lines.now }
+pub(crate) fn has_no_form(chart: &[Line]) -> bool
+    ensures { result ≡ rule.lacks_form chart.now }
 {
-    false
+    !has_form(chart)
 }

@@ -1,11 +1,16 @@
 //! The rules of planning charts, and the cards that are valid for a chart.
 #![tactic(auto)]
 
+mod card;
+mod chart;
+mod checking;
 mod columns;
 mod control;
 mod digits;
+mod fault;
 mod fields;
 mod forms;
+mod items;
 mod marks;
 mod names;
 mod printing;
@@ -15,4 +20,9 @@ mod shrink;
 mod tapes;
 mod wheels;
 
+pub use card::{CardFault, valid_card};
+pub use chart::Chart;
+pub use checking::check;
+pub use fault::RuleFault;
+pub use items::{Figure, Item, PrintedLine};
 pub use rule::Rule;

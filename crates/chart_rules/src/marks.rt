@@ -1,14 +1,34 @@
-//! A rule on marks and sign columns.
+//! The rule on marks and sign columns: an amount item has a mark exactly where the amount has a sign column.
 
 ghost use Rattle.std.specs.Prelude.{◌≡◌};
-ghost use Rattle.chart_rules.specs.Marks.{breaks_mark_mismatch};
+ghost use Rattle.chart_rules.specs.Marks as rule;
 
 use crate::fields::Fields;
-use chart_text::Statement;
+use crate::items::mark_shown;
+use chart_text::{Field, FieldKind, Mark, Statement};
 
-/// Whether an amount item has a mark without a sign column, or the reverse.
-pub(crate) fn mismatches_mark(_fields: &Fields, _statement: &Statement) -> bool
-    ensures { result ≡ breaks_mark_mismatch _fields.now _statement.now }
+/// Whether a field, if there is one, is an amount that has a mark without a sign column, or the reverse.
+fn is_mismatched(field: Option<Field>, mark: Option<Mark>) -> bool
+    ensures { result ≡ rule.is_mismatched field mark }
 {
-    false
+    match field {
+        Some(field) => match field.kind {
+            FieldKind::Amount(_, rule) => mark.is_some() != rule.is_some(),
+            FieldKind::Text => false,
+        },
+        None => false,
+    }
+}
+
+/// Whether a line of a chart is an amount item with a mark without a sign column, or the reverse.
+pub(crate) fn mismatches_mark(fields: &Fields, statement: &Statement) -> bool
+    ensures { result ≡ rule.breaks_mark_mismatch fields.now statement.now }
+{
+    match statement {
+        Statement::DetailField(_, name, shown) => {
+            is_mismatched(fields.get(*name), mark_shown(*shown))
+        }
+        Statement::TotalAmount(_, _, name, _, mark) => is_mismatched(fields.get(*name), *mark),
+        _ => false,
+    }
 }

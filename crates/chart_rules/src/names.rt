@@ -1,13 +1,102 @@
-//! Rules on names: a name stands on one FIELD line, each name has one, and it stands for a field of the right kind.
+//! The rules on names: a name stands on one FIELD line, each name has one, and it stands for a field of the right kind.
 
-ghost use Rattle.std.specs.Prelude.{◌≡◌};
-ghost use Rattle.chart_rules.specs.Fields.{is_same_name};
+ghost use Rattle.std.specs.Prelude.{◌≡◌, ◌++◌, List, is_some};
+ghost use Rattle.chart_text.specs.declared.statement.Field.{Field};
+ghost use Rattle.chart_rules.specs.Fields.{fields_of, first_named, is_same_name, is_amount};
+ghost use Rattle.chart_rules.specs.Names as rule;
 
-use chart_text::Name;
+use crate::fields::{Fields, described_by, field_count};
+use chart_text::{DetailOption, Field, FieldKind, Line, Name, Statement};
 
 /// Whether two names are the same.
 pub(crate) fn is_same(one: Name, other: Name) -> bool
     ensures { result ≡ is_same_name one other }
 {
     one == other
+}
+
+/// Whether a name stands on one of the FIELD lines among the first lines of a chart.
+fn stands_among(fields: &Fields, earlier: &[Line], name: Name) -> bool
+    requires { (later : List Field) × (fields.now ≡ fields_of earlier.now ++ later) }
+    ensures { result ≡ is_some (first_named (fields_of earlier.now) name) }
+{
+    match fields.place_of(name) {
+        Some(place) => place < field_count(earlier),
+        None => false,
+    }
+}
+
+/// Whether a line is a FIELD line whose name stands on an earlier FIELD line.
+pub(crate) fn repeats_name(fields: &Fields, earlier: &[Line], statement: &Statement) -> bool
+    requires { (later : List Field) × (fields.now ≡ fields_of earlier.now ++ later) }
+    ensures { result ≡ rule.breaks_name_twice (fields_of earlier.now) statement.now }
+{
+    match statement {
+        Statement::Field(field) => stands_among(fields, earlier, field.name),
+        _ => false,
+    }
+}
+
+/// The name that a line uses, if it uses one.
+fn name_used(statement: &Statement) -> Option<Name>
+    ensures { result ≡ rule.name_used statement.now }
+{
+    match statement {
+        Statement::Control(_, name)
+        | Statement::DetailField(_, name, _)
+        | Statement::TotalText(_, _, name)
+        | Statement::TotalAmount(_, _, name, _, _) => Some(*name),
+        _ => None,
+    }
+}
+
+/// Whether a line uses a name without a FIELD line.
+pub(crate) fn uses_unknown_name(fields: &Fields, statement: &Statement) -> bool
+    ensures { result ≡ rule.breaks_unknown_name fields.now statement.now }
+{
+    match name_used(statement) {
+        Some(name) => fields.get(name).is_none(),
+        None => false,
+    }
+}
+
+/// Whether what a field holds is an amount.
+fn is_amount(kind: FieldKind) -> bool
+    ensures { result ≡ is_amount kind }
+{
+    matches!(kind, FieldKind::Amount(_, _))
+}
+
+/// Whether a name stands for an amount.
+fn names_amount(field: Option<Field>) -> bool
+    ensures { result ≡ rule.names_amount field }
+{
+    match field {
+        Some(field) => is_amount(field.kind),
+        None => false,
+    }
+}
+
+/// Whether a name stands for a text.
+fn names_text(field: Option<Field>) -> bool
+    ensures { result ≡ rule.names_text field }
+{
+    match field {
+        Some(field) => !is_amount(field.kind),
+        None => false,
+    }
+}
+
+/// Whether a line names an amount where a text belongs, or a text where an amount belongs.
+pub(crate) fn mistakes_kind(fields: &Fields, statement: &Statement) -> bool
+    ensures { result ≡ rule.breaks_wrong_kind fields.now statement.now }
+{
+    match statement {
+        Statement::Control(_, name)
+        | Statement::DetailField(_, name, DetailOption::Indicated(_))
+        | Statement::TotalText(_, _, name) => names_amount(fields.get(*name)),
+        Statement::DetailField(_, name, DetailOption::Marked(_))
+        | Statement::TotalAmount(_, _, name, _, _) => names_text(fields.get(*name)),
+        _ => false,
+    }
 }

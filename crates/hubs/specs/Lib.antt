@@ -1,3 +1,4 @@
+pub mod Fields
 pub mod Hubs
 pub mod Jacks
 pub mod Ranges

@@ -16,6 +16,11 @@ pub enum Hub {
 
 // What an unused inline place of a list of hubs holds.
 impl Default for Hub {
+    ghost use Rattle.std.specs.Prelude.{◌≡◌};
+    ghost use Rattle.hubs.specs.declared.hub.Hub.TheVariants.{SR};
+
+    ghost is_default = { λ hub. hub ≡ SR 1 };
+
     fn default() -> Hub {
         Hub::SR(1)
     }

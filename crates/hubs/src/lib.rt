@@ -14,3 +14,6 @@ pub use hub::Hub;
 pub use jack::Jack;
 pub use setup::Setup;
 pub use tape::Tape;
+
+#[cfg(test)]
+mod tests;

@@ -23,15 +23,15 @@ pub struct Setup {
 }
 
 impl Model for Setup {
-    ghost use Rattle.std.specs.Prelude.{map};
     ghost use Rattle.hubs.specs.Wiring.{Wiring, LeadsToEntries};
 
     ghost Value = { Wiring };
 
-    ghost view = { λ setup. record { wires = map (λ v. v.items) setup.wires.items; jacks = setup.jacks; tape = setup.tape } };
+    ghost use Rattle.hubs.specs.Fields.{wiring_of};
 
-    ghost invariant = { λ setup. LeadsToEntries
-        (record { wires = map (λ v. v.items) setup.wires.items; jacks = setup.jacks; tape = setup.tape }) };
+    ghost view = { wiring_of };
+
+    ghost invariant = { λ setup. LeadsToEntries (wiring_of setup) };
 }
 
 impl Setup {

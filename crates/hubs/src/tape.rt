@@ -28,11 +28,13 @@ impl Model for Tape {
 
     ghost Value = { Form };
 
-    ghost view = { λ tape. record { lines = tape.lines; first = tape.first; overflow = tape.overflow; stops = tape.stops } };
+    ghost use Rattle.hubs.specs.Fields.{form_of};
 
-    ghost invariant = { λ tape. IsForm (record { lines = tape.lines; first = tape.first; overflow = tape.overflow; stops = tape.stops }) };
+    ghost view = { form_of };
 
-    ghost inverse = { λ form. record { lines = form.lines; first = form.first; overflow = form.overflow; stops = form.stops } };
+    ghost invariant = { λ tape. IsForm (form_of tape) };
+
+    ghost inverse = { λ f. record { lines = f.lines; first = f.first; overflow = f.overflow; stops = f.stops } };
 }
 
 impl Tape {

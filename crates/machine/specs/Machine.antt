@@ -30,15 +30,18 @@ cards_behind (card ∷ cards) = cards
 abbrev pub moved_on : List (List ℕ) → Machine → Machine
 moved_on cards machine = record machine { stations = loaded (next_card cards) machine.stations }
 
--- the machine at the start of a run: each unit as it starts, and the first card at first reading
+-- each unit as it starts
+abbrev pub machine_without_cards : Wiring → Machine
+machine_without_cards wiring = record {
+  stations = stations_at_start;
+  wheels = wheels_at_start;
+  carriage = carriage_at_start wiring;
+  program = program_at_start wiring;
+}
+
+-- the machine at the start of a run, with the first card at first reading
 abbrev pub machine_at_start : Wiring → List (List ℕ) → Machine
-machine_at_start wiring cards =
-    moved_on cards (record {
-      stations = stations_at_start;
-      wheels = wheels_at_start;
-      carriage = carriage_at_start wiring;
-      program = program_at_start wiring;
-    })
+machine_at_start wiring cards = moved_on cards (machine_without_cards wiring)
 
 -- the exits that all units emit at a point: of the units that exist, the stations alone have exits
 abbrev pub emits : Machine → Cycle → Point → ℕ → Bool

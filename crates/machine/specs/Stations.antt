@@ -1,8 +1,7 @@
 -- The reading stations: a card stands at first reading and one at second reading. In card cycles the second station
 -- emits each column's punches, at the points of their rows. Stations sense nothing, and a cycle's end leaves them.
-use Rattle.std.specs.Prelude.{ℕ, ◌-◌, Bool, false, ◌&&◌, List, Option, Some, None, slice_index}
+use Rattle.std.specs.Prelude.{ℕ, ◌-◌, Bool, false, ◌&&◌, List, Option, Some, None, nat_le, slice_index}
 use Rattle.card_code.specs.CardCode.{has_row}
-use Rattle.hubs.specs.Hubs.{is_within}
 use Rattle.net.specs.declared.cycle.Cycle.{Cycle}
 use Rattle.net.specs.declared.cycle.Cycle.TheVariants.{RunIn, Card, Head}
 use Rattle.net.specs.declared.cycle.Point.{Point}
@@ -20,7 +19,7 @@ loaded next stations = record { first = next; second = stations.first }
 -- whether the card has the row in the column, 1 to 80
 abbrev pub is_punched : Option (List ℕ) → ℕ → ℕ → Bool
 is_punched None column row = false
-is_punched (Some card) column row = is_within column 80 && has_row (slice_index card (column - 1)) row
+is_punched (Some card) column row = nat_le 1 column && nat_le column 80 && has_row (slice_index card (column - 1)) row
 
 -- in card cycles, hub SR.column, which has the number 80 + column, emits at each row of that column at second reading
 abbrev pub stations_emit : Stations → Cycle → Point → ℕ → Bool

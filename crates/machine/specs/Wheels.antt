@@ -1,7 +1,7 @@
 -- The print wheels: a wheel collects the rows at whose points its hub is impulsed, in every cycle. At the end of the
 -- cycle the line is the print characters of these sets, and each wheel forgets its set. Wheels emit nothing.
-use Rattle.std.specs.Prelude.{ℕ, ◌+◌, ◌^◌, suc, Bool, List, [], ◌∷◌, map, replicate, if◌then◌else◌}
-use Rattle.card_code.specs.CardCode.{has_row, print_character}
+use Rattle.std.specs.Prelude.{ℕ, ◌+◌, suc, Bool, List, [], ◌∷◌, map, replicate, if◌then◌else◌}
+use Rattle.card_code.specs.CardCode.{with_row, print_character}
 use Rattle.net.specs.declared.cycle.Cycle.{Cycle}
 use Rattle.net.specs.declared.cycle.Point.{Point}
 use Rattle.net.specs.declared.cycle.Point.TheVariants.{C, Row, K}
@@ -15,10 +15,6 @@ empty_wheel = record { received = 0 }
 -- at the start each of the 120 wheels has received nothing, and the line is blank
 unfoldable pub wheels_at_start : Wheels
 wheels_at_start = record { wheels = replicate 120 empty_wheel; line = replicate 120 32 }
-
--- the set with the row in it too
-abbrev pub with_row : ℕ → ℕ → ℕ
-with_row set row = if has_row set row then set else set + 2 ^ row
 
 -- a wheel at a row's point: where it is impulsed, it has the row from then on
 abbrev pub wheel_sensed : ℕ → Bool → Wheel → Wheel
@@ -37,9 +33,13 @@ wheels_sensed wheels cycle (Row row) picture =
     record { wheels = wheels_from 1 row picture wheels.wheels; line = wheels.line }
 wheels_sensed wheels cycle K picture = wheels
 
+-- the character that a wheel prints
+abbrev pub printed_by : Wheel → ℕ
+printed_by wheel = print_character wheel.received
+
 -- at the end of each cycle the wheels print what they received, and forget it
 abbrev pub wheels_ended : Wheels → Cycle → Wheels
 wheels_ended wheels cycle = record {
   wheels = map (λ wheel. empty_wheel) wheels.wheels;
-  line = map (λ wheel. print_character wheel.received) wheels.wheels;
+  line = map printed_by wheels.wheels;
 }

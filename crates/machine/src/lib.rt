@@ -7,10 +7,15 @@
 #![tactic(auto)]
 
 mod carriage;
+pub mod laws;
 mod machine;
 mod placed_line;
 mod program;
+mod run;
 mod stations;
+#[cfg(test)]
+mod tests;
 mod wheels;
 
 pub use placed_line::{LINE_WHEELS, PlacedLine};
+pub use run::simulate;

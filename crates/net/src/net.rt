@@ -53,6 +53,7 @@ impl Net {
             → IsNetOf wiring self.now
             → IsPicture wiring (has exits.now) (has contacts.now) (has out.new) }
     {
+        // No hub is a contact's yet, so the closed contacts lead nowhere.
         out.hubs = exits.hubs;
         follow(self.wires.as_slice(), &mut out.hubs);
     }
@@ -64,11 +65,50 @@ fn add_wires(wires: &mut Vec<Wire>, from: u16, entries: &[Hub]) -> Result<(), Al
 {
     for entry in entries {
         if let Some(to) = entry.number() {
-            wires.push(Wire {
-                from,
-                to: to as u16,
-            })?;
+            let to = to as u16;
+            wires.push(Wire { from, to })?;
         }
     }
     Ok(())
+}
+
+#[cfg(test)]
+mod tests {
+    use super::*;
+    use hubs::Tape;
+    use std::test::Fail;
+
+    // Two exits are wired to one entry, and one of them to a second entry.
+    fn wired(alloc: Global) -> Result<Setup, Fail> {
+        let mut setup = Setup::new(alloc, Tape::new(66, 4, 60, &[])?);
+        setup.add(Hub::SR(1), Hub::W(1))?;
+        setup.add(Hub::SR(2), Hub::W(1))?;
+        setup.add(Hub::SR(2), Hub::W(120))?;
+        Ok(setup)
+    }
+
+    #[test]
+    fn pictures(rt: HostRuntime) -> Result<(), Fail> {
+        let net = Net::of(rt.alloc(), &wired(rt.alloc())?)?;
+        let mut contacts = Contacts::new();
+        contacts.insert(Hub::W(7));
+        assert!(rt; contacts.has(Hub::W(7)));
+        let mut out = Picture::new();
+        for (exit, impulsed) in [
+            (Hub::SR(1), [true, false, true, false]),
+            (Hub::SR(2), [false, true, true, true]),
+            (Hub::SR(3), [false, false, false, false]),
+            (Hub::SR(81), [false, false, false, false]),
+            (Hub::W(1), [false, false, true, false]),
+        ] {
+            let mut exits = Picture::new();
+            exits.insert(exit);
+            net.picture(&exits, &contacts, &mut out);
+            let found = [Hub::SR(1), Hub::SR(2), Hub::W(1), Hub::W(120)].map(|hub| out.has(hub));
+            assert_eq!(rt; found, impulsed);
+            assert_eq!(rt; out.has(exit), exit != Hub::SR(81));
+            assert!(rt; !out.has(Hub::W(7)));
+        }
+        Ok(())
+    }
 }

@@ -1,0 +1,7 @@
+pub mod Cycles
+pub mod Work
+pub mod RunSteps
+pub mod Order
+pub mod OneOutcome
+mod WheelSteps
+mod Pictures

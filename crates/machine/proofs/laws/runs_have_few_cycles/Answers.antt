@@ -1,0 +1,5 @@
+use Rattle.machine.proofs.Work.{MachineLines-cycles}
+use Rattle.machine.proofs.laws.runs_have_few_cycles.Goals as goal
+
+pub returns : goal.returns
+returns c = MachineLines-cycles
