@@ -7,7 +7,8 @@ use Rattle.std.specs.Int.Bits.{or_add_and}
 use Rattle.card_code.specs.CardCode.{with_row}
 
 -- a sum that counts the power twice where the bit is set
-by_bit : (bit n power sum : ℕ) → bit < 2 → sum + bit * power ≡ n + power → sum ≡ (if bit == 1 then n else n + power)
+by_bit : (bit n power sum : ℕ) → bit < 2 → sum + bit * power ≡ n + power →
+    sum ≡ (if bit == 1 then n else n + power)
 by_bit zero n power sum below e = omega arith
 by_bit (suc zero) n power sum below e = omega arith
 by_bit (suc (suc bit)) n power sum below e = absurd (omega arith)

@@ -19,16 +19,18 @@ with_row set r = if has_row set r then set else set + 2 ^ r
 unfoldable pub code : List (ℕ × ℕ)
 code =
     (32, set_of []) ∷  -- blank
-    (48, set_of (0 ∷ [])) ∷ (49, set_of (1 ∷ [])) ∷ (50, set_of (2 ∷ [])) ∷ (51, set_of (3 ∷ [])) ∷ (52, set_of (4 ∷ [])) ∷  -- 0 to 4
-    (53, set_of (5 ∷ [])) ∷ (54, set_of (6 ∷ [])) ∷ (55, set_of (7 ∷ [])) ∷ (56, set_of (8 ∷ [])) ∷ (57, set_of (9 ∷ [])) ∷  -- 5 to 9
+    (48, set_of (0 ∷ [])) ∷ (49, set_of (1 ∷ [])) ∷ (50, set_of (2 ∷ [])) ∷  -- 0 to 2
+    (51, set_of (3 ∷ [])) ∷ (52, set_of (4 ∷ [])) ∷ (53, set_of (5 ∷ [])) ∷  -- 3 to 5
+    (54, set_of (6 ∷ [])) ∷ (55, set_of (7 ∷ [])) ∷ (56, set_of (8 ∷ [])) ∷ (57, set_of (9 ∷ [])) ∷  -- 6 to 9
     (65, set_of (12 ∷ 1 ∷ [])) ∷ (66, set_of (12 ∷ 2 ∷ [])) ∷ (67, set_of (12 ∷ 3 ∷ [])) ∷  -- A to C
     (68, set_of (12 ∷ 4 ∷ [])) ∷ (69, set_of (12 ∷ 5 ∷ [])) ∷ (70, set_of (12 ∷ 6 ∷ [])) ∷  -- D to F
     (71, set_of (12 ∷ 7 ∷ [])) ∷ (72, set_of (12 ∷ 8 ∷ [])) ∷ (73, set_of (12 ∷ 9 ∷ [])) ∷  -- G to I
     (74, set_of (11 ∷ 1 ∷ [])) ∷ (75, set_of (11 ∷ 2 ∷ [])) ∷ (76, set_of (11 ∷ 3 ∷ [])) ∷  -- J to L
     (77, set_of (11 ∷ 4 ∷ [])) ∷ (78, set_of (11 ∷ 5 ∷ [])) ∷ (79, set_of (11 ∷ 6 ∷ [])) ∷  -- M to O
     (80, set_of (11 ∷ 7 ∷ [])) ∷ (81, set_of (11 ∷ 8 ∷ [])) ∷ (82, set_of (11 ∷ 9 ∷ [])) ∷  -- P to R
-    (83, set_of (0 ∷ 2 ∷ [])) ∷ (84, set_of (0 ∷ 3 ∷ [])) ∷ (85, set_of (0 ∷ 4 ∷ [])) ∷ (86, set_of (0 ∷ 5 ∷ [])) ∷  -- S to V
-    (87, set_of (0 ∷ 6 ∷ [])) ∷ (88, set_of (0 ∷ 7 ∷ [])) ∷ (89, set_of (0 ∷ 8 ∷ [])) ∷ (90, set_of (0 ∷ 9 ∷ [])) ∷  -- W to Z
+    (83, set_of (0 ∷ 2 ∷ [])) ∷ (84, set_of (0 ∷ 3 ∷ [])) ∷ (85, set_of (0 ∷ 4 ∷ [])) ∷  -- S to U
+    (86, set_of (0 ∷ 5 ∷ [])) ∷ (87, set_of (0 ∷ 6 ∷ [])) ∷ (88, set_of (0 ∷ 7 ∷ [])) ∷  -- V to X
+    (89, set_of (0 ∷ 8 ∷ [])) ∷ (90, set_of (0 ∷ 9 ∷ [])) ∷  -- Y to Z
     (38, set_of (12 ∷ [])) ∷  -- &
     (45, set_of (11 ∷ [])) ∷  -- -
     (47, set_of (0 ∷ 1 ∷ [])) ∷  -- /

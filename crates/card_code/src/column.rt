@@ -6,7 +6,7 @@ ghost use Rattle.card_code.specs.CardCode.{has_row, with_row, rows_of, deck_char
 use crate::code::{character_of_rows, rows_of_character};
 use std::marker::Model;
 
-/// The rows punched in one column: any set of the rows 0 to 9, 11 and 12.
+/// The set of rows punched in one column. A card has the rows 0 to 9, 11 and 12.
 ///
 /// Contracts see a column as a number in which bit `r` tells of row `r`.
 #[derive(Clone, Copy, Debug, Default, PartialEq, Eq)]

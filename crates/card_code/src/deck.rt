@@ -71,9 +71,12 @@ pub fn read_deck(alloc: Global, bytes: &[u8]) -> Result<Vec<Card>, DeckFault>
 /// The law of deck texts: a text has at most one deck, and at most one fault, and not both. The call
 /// does nothing.
 pub fn deck_text_is_unambiguous()
-    ensures deck { (bytes : List ℕ) (one other : List (List ℕ)) → Deck bytes one → Deck bytes other → one ≡ other }
-    ensures fault { (bytes : List ℕ) (one other : DeckFault) → HasFault bytes one → HasFault bytes other → one ≡ other }
-    ensures either { (bytes : List ℕ) (cards : List (List ℕ)) (fault : DeckFault) → Deck bytes cards → ¬ HasFault bytes fault }
+    ensures deck { (bytes : List ℕ) (one other : List (List ℕ)) →
+        Deck bytes one → Deck bytes other → one ≡ other }
+    ensures fault { (bytes : List ℕ) (one other : DeckFault) →
+        HasFault bytes one → HasFault bytes other → one ≡ other }
+    ensures either { (bytes : List ℕ) (cards : List (List ℕ)) (fault : DeckFault) →
+        Deck bytes cards → ¬ HasFault bytes fault }
 {}
 
 /// The card of line `number`, or the line's fault.

@@ -26,4 +26,5 @@ same_hub (W a) (W b) = (λ e. ap W (eqb-true a b e), λ e. eq-eqb a b cc)
 -- what the `contains` of a slice of hubs answers
 pub contains_hub : (hubs : List Hub) (hub : Hub) (r : Bool) → IsAnyAnswer (λ y t. same.ghosts.eq y hub ≡ t) hubs r
     → Decides r (Contains hubs hub)
-contains_hub hubs hub r answer = Decides-contains hubs hub r (contains_decides same.ghosts.eq same_hub hubs hub r answer)
+contains_hub hubs hub r answer =
+    Decides-contains hubs hub r (contains_decides same.ghosts.eq same_hub hubs hub r answer)

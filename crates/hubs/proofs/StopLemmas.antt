@@ -1,19 +1,26 @@
 -- A stop written into the rows of channels.
-use Rattle.std.proofs.Common.{◌≡◌, ◌≢◌, ℕ, ◌<◌, Bool, true, false, ◌||◌, ◌&&◌, eqb, List, [], length, get_or, set, take, arith, refl, sym, ap, ◌∙◌, ⊎_elim, zero, suc, not, ◌++◌, ◌∷◌}
+use Rattle.std.proofs.Common.{◌≡◌, ◌≢◌, refl, sym, ap, ◌∙◌, ⊎_elim, ℕ, ◌<◌, zero, suc, eqb, arith}
+use Rattle.std.proofs.Common.{Bool, true, false, not, ◌||◌, ◌&&◌, List, [], ◌∷◌, ◌++◌, length, get_or, set, take}
+use Rattle.std.proofs.Common.{Contains}
 use Rattle.std.specs.List.{list_all}
-use Rattle.std.proofs.lemmas.Bool.{and_parts, and_from, or_cases, or_left, or_right, eqb-true, eq-eqb, both_ways, false_from_ne_true}
+use Rattle.std.proofs.lemmas.Bool.{and_parts, and_from, or_cases, or_left, or_right, eqb-true, eq-eqb}
+use Rattle.std.proofs.lemmas.Bool.{both_ways, false_from_ne_true}
 use Rattle.std.proofs.lemmas.List.{get_or_default, get_or-take, length-take}
-use Rattle.std.proofs.lemmas.List.Elements.{Contains-get_or, All-push, Contains-append_left, Contains-push, Contains-push_cases}
+use Rattle.std.proofs.lemmas.List.Elements.{All-push, Contains-get_or, Contains-append_left}
+use Rattle.std.proofs.lemmas.List.Elements.{Contains-push, Contains-push_cases}
 use Rattle.std.proofs.lemmas.List.Quantifiers.{all_pairs_push}
 use Rattle.hubs.specs.Tapes.{Form, has_stop, IsStop, IsTape, HasStops, AddsStop}
 use Rattle.std.proofs.lemmas.Grind.{common_steps}
 use Rattle.std.proofs.lemmas.Bool.Decides.{nat_tests}
 
+-- a row written back with a hole more
 pub stops_after : (stops : List (List Bool)) (row : List Bool) (channel line c l : ℕ) → channel < length stops
     → get_or row l false ≡ (get_or (get_or stops channel []) l false || eqb l line)
-    → get_or (get_or (set stops channel row) c []) l false ≡ (get_or (get_or stops c []) l false || (eqb c channel && eqb l line))
+    → get_or (get_or (set stops channel row) c []) l false
+    ≡ (get_or (get_or stops c []) l false || (eqb c channel && eqb l line))
 stops_after stops row channel line c l in_stops in_row = grind (arith, nat_tests, common_steps)
 
+-- a row of no hole has none at any line
 blank_row : (row : List Bool) → list_all not row ≡ true → (l : ℕ) → get_or row l false ≡ false
 blank_row [] blank l = refl
 blank_row (false ∷ row) blank zero = refl
@@ -30,28 +37,32 @@ blank_rows (row ∷ rows) blank (suc c) l = blank_rows rows (and_parts _ _ blank
 -- the tape's stops are still exactly the holes, with one more on both sides
 pub HasStops-push : (old new : Form) (holes : List (ℕ × ℕ)) (channel line : ℕ) → HasStops old holes
     → AddsStop old new channel line → HasStops new (holes ++ (channel, line) ∷ [])
-HasStops-push old new holes channel line held adds c l = (
-  λ stands.
+HasStops-push old new holes channel line held adds c l = (listed, stands) where
+  listed : has_stop new c l ≡ true → Contains (holes ++ (channel, line) ∷ []) (c, l)
+  listed there =
       ⊎_elim
       (λ before. Contains-append_left holes _ _ ((held c l).0 before))
       (λ here.
       let same = and_parts _ _ here in
       rw (eqb-true c channel same.0, eqb-true l line same.1) (Contains-push holes (channel, line)))
-      (or_cases (has_stop old c l) _ (sym (adds.stops c l) ∙ stands)),
-  λ listed.
+      (or_cases (has_stop old c l) _ (sym (adds.stops c l) ∙ there))
+
+  is_here : ◌≡◌ {A = ℕ × ℕ} (channel, line) (c, l) → (eqb c channel && eqb l line) ≡ true
+  is_here same =
+      and_from _ _ (eq-eqb c channel (sym (ap (λ (x : ℕ × ℕ). x.0) same)))
+      (eq-eqb l line (sym (ap (λ (x : ℕ × ℕ). x.1) same)))
+
+  stands : Contains (holes ++ (channel, line) ∷ []) (c, l) → has_stop new c l ≡ true
+  stands there =
       ⊎_elim
       (λ before. adds.stops c l ∙ or_left _ _ ((held c l).1 before))
-      (λ (here : (channel, line) ≡ (c, l)).
-      adds.stops c l
-      ∙ or_right (has_stop old c l) _
-      (and_from _ _ (eq-eqb c channel (sym (ap (λ (x : ℕ × ℕ). x.0) here))) (eq-eqb l line (sym (ap (λ (x : ℕ × ℕ). x.1) here)))))
-      (Contains-push_cases holes (channel, line) (c, l) listed),
-)
+      (λ same. adds.stops c l ∙ or_right (has_stop old c l) _ (is_here same))
+      (Contains-push_cases holes (channel, line) (c, l) there)
 
 -- a stop of the form that is not there may join the stops of a tape
-pub IsTape-push : (lines first overflow : ℕ) (form : Form) (holes : List (ℕ × ℕ)) (channel line : ℕ) → HasStops form holes
-    → IsTape lines first overflow holes → IsStop lines channel line → has_stop form channel line ≡ false
-    → IsTape lines first overflow (holes ++ (channel, line) ∷ [])
+pub IsTape-push : (lines first overflow : ℕ) (form : Form) (holes : List (ℕ × ℕ)) (channel line : ℕ)
+    → HasStops form holes → IsTape lines first overflow holes → IsStop lines channel line
+    → has_stop form channel line ≡ false → IsTape lines first overflow (holes ++ (channel, line) ∷ [])
 IsTape-push lines first overflow form holes channel line held tape stop free =
     record {
       formed = tape.formed;
@@ -66,7 +77,8 @@ IsTape-push lines first overflow form holes channel line held tape stop free =
 -- a stop that a tape can't take spoils each list of stops that it stands in
 pub refused : (lines first overflow : ℕ) (form : Form) (stops : List (ℕ × ℕ)) (i : ℕ) (d : ℕ × ℕ) → i < length stops
     → HasStops form (take i stops)
-    → (IsStop lines (get_or stops i d).0 (get_or stops i d).1 → has_stop form (get_or stops i d).0 (get_or stops i d).1 ≡ false → ⊥)
+    → (IsStop lines (get_or stops i d).0 (get_or stops i d).1
+    → has_stop form (get_or stops i d).0 (get_or stops i d).1 ≡ false → ⊥)
     → IsTape lines first overflow stops → ⊥
 refused lines first overflow form stops i d within held unfit tape =
     let hole = get_or stops i d in

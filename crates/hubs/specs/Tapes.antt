@@ -1,5 +1,6 @@
 -- Carriage tapes: the lines of a form and the stops of its channels.
-use Rattle.std.specs.Prelude.{◌≡◌, ◌≢◌, ℕ, ◌≤◌, List, All, AllPairs, Contains, ◌↔◌, Bool, true, false, ◌&&◌, ◌||◌, nat_eq, slice_index_or, []}
+use Rattle.std.specs.Prelude.{◌≡◌, ◌≢◌, ◌↔◌, ℕ, ◌≤◌, nat_eq, Bool, true, false, ◌&&◌, ◌||◌}
+use Rattle.std.specs.Prelude.{List, [], All, AllPairs, Contains, slice_index_or}
 
 -- A carriage tape: the lines of a form, its first line (channel 1), its overflow line (channel 12), and the stops of
 -- channels 2 to 11. Read the stops through has_stop alone.

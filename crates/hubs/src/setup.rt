@@ -1,7 +1,7 @@
 //! Setups of the panel.
 
-ghost use Rattle.std.specs.Prelude.{◌≡◌, ℕ, ◌<◌, ◌∷◌, [], ◌++◌, ◌≢◌, OnOk, OnErr, vec_len};
-ghost use Rattle.hubs.specs.Rows.{entries_at, SameRows, RowGains};
+ghost use Rattle.std.specs.Prelude.{◌<◌, OnOk, OnErr, vec_len};
+ghost use Rattle.hubs.specs.Rows.{SameRows, RowGains};
 
 use crate::fault::SetupFault;
 use crate::hub::Hub;
@@ -35,7 +35,8 @@ impl Model for Setup {
 }
 
 impl Setup {
-    ghost use Rattle.std.specs.Prelude.{◌≡◌, ◌↔◌, true, false, not, Ok, Contains, IsTrue, IsErrOf, IsOkUnless, OnOk, OnErr};
+    ghost use Rattle.std.specs.Prelude.{◌≡◌, ◌↔◌, true, false, not, Contains, IsTrue};
+    ghost use Rattle.std.specs.Prelude.{Ok, IsErrOf, IsOkUnless, OnOk, OnErr};
     ghost use Rattle.hubs.specs.Hubs.{is_exit_hub, is_entry_hub};
     ghost use Rattle.hubs.specs.Jacks.{is_jack_in_range};
     ghost use Rattle.hubs.specs.Wiring.{HasWire, is_plugged, LeadsToEntries, SameWires, SameJacks, AddsWire, AddsJack};
@@ -66,7 +67,8 @@ impl Setup {
         ensures tape { self.new.tape ≡ self.old.tape }
 
         ensures not_exit { IsErrOf result SetupFault.NotExit ↔ (is_exit_hub exit ≡ false) }
-        ensures not_entry { IsErrOf result SetupFault.NotEntry ↔ ((is_exit_hub exit ≡ true) × (is_entry_hub entry ≡ false)) }
+        ensures not_entry { IsErrOf result SetupFault.NotEntry
+            ↔ ((is_exit_hub exit ≡ true) × (is_entry_hub entry ≡ false)) }
         ensures memory { is_exit_hub exit ≡ true → is_entry_hub entry ≡ true → IsOkUnless result SetupFault.Memory }
         ensures refused { OnErr result (SameWires self.old self.new) }
     {

@@ -38,7 +38,7 @@ impl Model for Tape {
 }
 
 impl Tape {
-    ghost use Rattle.std.specs.Prelude.{◌≡◌, ℕ, ◌+◌, ◌≤◌, ◌<◌, ◌↔◌, true, false, IsOk, IfOk, IfErr, Contains, IsTrue, length};
+    ghost use Rattle.std.specs.Prelude.{◌≡◌, ◌↔◌, false, IsTrue, IsOk, IfOk, IfErr};
     ghost use Rattle.hubs.specs.Tapes.{has_stop, IsForm, IsStop, IsTape, AddsStop, HasStops};
     ghost use Rattle.hubs.specs.declared.fault.SetupFault.{SetupFault};
     ghost use Rattle.std.specs.Bool.{OnTrue, OnFalse};
@@ -77,7 +77,8 @@ impl Tape {
     // Adds a stop of the form, and tells whether it could: a stop that is there already, or that is no stop of the
     // form, changes nothing.
     fn add_stop(&mut self, channel: u8, line: u8) -> bool
-        ensures could { IsTrue result ↔ (IsStop self.old.lines channel line × (has_stop self.old channel line ≡ false)) }
+        ensures could { IsTrue result
+            ↔ (IsStop self.old.lines channel line × (has_stop self.old channel line ≡ false)) }
         ensures added { OnTrue result (AddsStop self.old self.new channel line) }
         ensures refused { OnFalse result (self.new ≡ self.old) }
     {

@@ -14,7 +14,9 @@ AreOf-net wiring wires net k d below =
     (net (slice_index_or wires k d).from (slice_index_or wires k d).to).0 (All-contains_itself wires k d below)
 
 -- a closed set with the exits has each impulsed hub
-has-impulsed : (wiring : Wiring) (wires : List Wire) (exits new : List Bool) (closed : ℕ → Bool) → IsNetOf wiring wires → Keeps exits new → IsClosed wires new → {h : ℕ} → Impulsed wiring (has exits) closed h → has new h ≡ true
+has-impulsed :
+    (wiring : Wiring) (wires : List Wire) (exits new : List Bool) (closed : ℕ → Bool) → IsNetOf wiring wires
+    → Keeps exits new → IsClosed wires new → {h : ℕ} → Impulsed wiring (has exits) closed h → has new h ≡ true
 has-impulsed wiring wires exits new closed net kept shut (emitted h at) = kept h at
 has-impulsed wiring wires exits new closed net kept shut (led g h at (inl wired)) =
     All-contains (λ wire. has new wire.from ≡ true → has new wire.to ≡ true) wires (record { from = g; to = h }) shut
@@ -23,7 +25,9 @@ has-impulsed wiring wires exits new closed net kept shut (led g h at (inl wired)
 has-impulsed wiring wires exits new closed net kept shut (led g h at (inr contact)) = let never = contact.0 in cc
 
 -- so it is the picture, in whatever setup the net is of
-pub IsPicture-closed : (wires : List Wire) (exits new : List Bool) (closed : ℕ → Bool) → Keeps exits new → AddsOnlyLed wires exits new → IsClosed wires new → (wiring : Wiring) → IsNetOf wiring wires → IsPicture wiring (has exits) closed (has new)
+pub IsPicture-closed :
+    (wires : List Wire) (exits new : List Bool) (closed : ℕ → Bool) → Keeps exits new → AddsOnlyLed wires exits new
+    → IsClosed wires new → (wiring : Wiring) → IsNetOf wiring wires → IsPicture wiring (has exits) closed (has new)
 IsPicture-closed wires exits new closed kept added shut wiring net h = (
   added wiring (has exits) closed (AreOf-net wiring wires net) (λ g at. emitted g at) h,
   has-impulsed wiring wires exits new closed net kept shut,

@@ -14,8 +14,11 @@ FollowsLeads wiring closed set = (g h : ℕ) → set g ≡ true → Leads wiring
 -- The impulsed hubs hold the exits, hold what they lead on to, and lie within each set that does so too.
 pub record IsLeastSet (wiring : Wiring) (exits closed : ℕ → Bool) : Type 0 where
   pub holds : (h : ℕ) → exits h ≡ true → Impulsed wiring exits closed h
-  pub follows : (g h : ℕ) → Impulsed wiring exits closed g → Leads wiring closed g h → Impulsed wiring exits closed h
-  pub within : (set : ℕ → Bool) → Holds exits set → FollowsLeads wiring closed set → (h : ℕ) → Impulsed wiring exits closed h → set h ≡ true
+  pub follows :
+      (g h : ℕ) → Impulsed wiring exits closed g → Leads wiring closed g h → Impulsed wiring exits closed h
+  pub within :
+      (set : ℕ → Bool) → Holds exits set → FollowsLeads wiring closed set → (h : ℕ) → Impulsed wiring exits closed h
+      → set h ≡ true
 
 -- a wire leads to the hub from an emitting exit
 pub record IsFed (wiring : Wiring) (exits : ℕ → Bool) (h : ℕ) : Type 0 where

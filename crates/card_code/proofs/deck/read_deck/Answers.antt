@@ -13,7 +13,8 @@ too_many c = HasFault-many _ _ _ _ _ c.loop-line.invariant (omega arith) c.in-So
 -- the line read is at fault
 at_fault : (c : goal.After-drop-cards-in_err-read_card) → HasFault c.args.bytes.now c.in_err-read_card.field-0.0
 at_fault c =
-    HasFault-next _ _ _ _ _ c.loop-line.invariant (omega arith) c.in-Some.ensures.first _ (omega arith) _ c.in_err-read_card.ensures.fault
+    HasFault-next _ _ _ _ _ c.loop-line.invariant (omega arith) c.in-Some.ensures.first _ (omega arith) _
+    c.in_err-read_card.ensures.fault
 
 -- all lines are read
 at_end : (c : goal.In_default) → Deck c.args.bytes.now c.loop-line.cards.items
@@ -23,7 +24,8 @@ pub returns-then-len-eq-MOST_CARDS-clause-fault : goal.returns-then-len-eq-MOST_
 returns-then-len-eq-MOST_CARDS-clause-fault c = λ other. too_many c
 
 pub returns-then-len-eq-MOST_CARDS-clause-read : goal.returns-then-len-eq-MOST_CARDS-clause-read
-returns-then-len-eq-MOST_CARDS-clause-read c = λ cards deck. absurd (Deck-no_fault _ cards TooManyCards deck (too_many c))
+returns-then-len-eq-MOST_CARDS-clause-read c =
+    λ cards deck. absurd (Deck-no_fault _ cards TooManyCards deck (too_many c))
 
 pub returns-then-len-eq-MOST_CARDS-clause-told : goal.returns-then-len-eq-MOST_CARDS-clause-told
 returns-then-len-eq-MOST_CARDS-clause-told c = λ due h. inl (told_at_fault _ TooManyCards due (too_many c) h)
@@ -52,4 +54,5 @@ returns-clause-told c = λ due h. absurd (Deck-no_fault _ _ due (at_end c) h)
 pub loop-line-preserved : goal.loop-line-preserved
 loop-line-preserved c =
     rw c.in_ok-push.ensures.items
-    (IsReadUpTo-push _ _ _ _ _ _ c.loop-line.invariant (omega arith) c.in-Some.ensures.first c.in_ok-read_card.ensures.card)
+    (IsReadUpTo-push _ _ _ _ _ _ c.loop-line.invariant (omega arith) c.in-Some.ensures.first
+    c.in_ok-read_card.ensures.card)

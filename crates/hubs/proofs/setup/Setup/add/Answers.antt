@@ -24,11 +24,13 @@ pub invariant_of-self-2 : goal.invariant_of-self-2
 invariant_of-self-2 c =
     let gained = c.in_ok-push_entry.ensures.gained in
     LeadsToEntries-adds _ _ c.args.exit c.args.entry c.self.invariant
-    (AddsWire-by_number _ _ c.args.exit c.args.entry c.in-Some.number (sym c.in-Some.ensures.value) gained.here gained.others)
+    (AddsWire-by_number _ _ c.args.exit c.args.entry c.in-Some.number (sym c.in-Some.ensures.value) gained.here
+    gained.others)
     (sym c.if-not-is_exit.ensures) (sym c.if-not-is_entry.ensures)
 
 pub returns-clause-wires : goal.returns-clause-wires
 returns-clause-wires c =
     let gained = c.in_ok-push_entry.ensures.gained in
     rw (← c.self.view_is)
-    (AddsWire-by_number _ _ c.args.exit c.args.entry c.in-Some.number (sym c.in-Some.ensures.value) gained.here gained.others)
+    (AddsWire-by_number _ _ c.args.exit c.args.entry c.in-Some.number (sym c.in-Some.ensures.value) gained.here
+    gained.others)

@@ -8,5 +8,7 @@ returns-clause-added c =
       lines = refl;
       first = refl;
       overflow = refl;
-      stops = λ other l. stops_after _ _ _ _ other l (omega (arith, c.if-not-is_stop.ensures.0 refl)) (c.punch.ensures l);
+      stops =
+          λ other l.
+          stops_after _ _ _ _ other l (omega (arith, c.if-not-is_stop.ensures.0 refl)) (c.punch.ensures l);
     })

@@ -5,15 +5,15 @@ use Rattle.hubs.proofs.StopLemmas.{refused, IsTape-push, HasStops-push}
 use Rattle.hubs.proofs.tape.Tape.new.Goals as goal
 
 pub returns-then-not-add_stop-clause-made : goal.returns-then-not-add_stop-clause-made
-returns-then-not-add_stop-clause-made c = (
-  λ made. absurd (false≢true made),
-  λ tape.
-      absurd
-      (refused c.loop-channel.tape.lines c.args.first c.args.overflow c.loop-channel.tape c.args.stops.now c.loop-channel.channel-index (0, 0) (omega arith)
-      c.loop-channel.invariant.has_stops
-      (λ stop free. false≢true (c.if-not-add_stop.ensures.could.1 (stop, free)))
-      (rw c.loop-channel.invariant.lines tape)),
-)
+returns-then-not-add_stop-clause-made c =
+    let loop = c.loop-channel in (
+      λ made. absurd (false≢true made),
+      λ tape. absurd
+          (refused loop.tape.lines c.args.first c.args.overflow loop.tape c.args.stops.now loop.channel-index (0, 0)
+          (omega arith) loop.invariant.has_stops
+          (λ stop free. false≢true (c.if-not-add_stop.ensures.could.1 (stop, free)))
+          (rw loop.invariant.lines tape)),
+    )
 
 pub loop-channel-preserved : goal.loop-channel-preserved
 loop-channel-preserved c =
@@ -27,6 +27,8 @@ loop-channel-preserved c =
       lines = added.lines ∙ old.lines;
       first = added.first ∙ old.first;
       overflow = added.overflow ∙ old.overflow;
-      is_tape = IsTape-push _ _ _ c.loop-channel.tape _ hole.0 hole.1 old.has_stops old.is_tape (rw old.lines at could.0) could.1;
+      is_tape =
+          IsTape-push _ _ _ c.loop-channel.tape _ hole.0 hole.1 old.has_stops old.is_tape (rw old.lines at could.0)
+          could.1;
       has_stops = HasStops-push c.loop-channel.tape _ _ hole.0 hole.1 old.has_stops added;
     })
