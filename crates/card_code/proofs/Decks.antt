@@ -16,10 +16,6 @@ pub record IsReadUpTo (bytes rest : List ℕ) (cards : List (List ℕ)) : Type 0
   pub left : drop (length cards) (lines_of bytes) ≡ lines_of rest
   pub each : AllZip IsCardOf (take (length cards) (lines_of bytes)) cards
 
--- at the start nothing is read
-pub IsReadUpTo-start : (bytes : List ℕ) → IsReadUpTo bytes bytes []
-IsReadUpTo-start bytes = record { few = omega arith; within = omega arith; left = refl; each = tt }
-
 -- a value that is there
 IsSome-of : (o : Option ℕ) (x : ℕ) → o ≡ Some x → IsSome o
 IsSome-of o x e = rw e refl

@@ -29,21 +29,21 @@ pub record IsFormLine (line : List ℕ) (statement : Statement) : Type 0 where
 
 -- the lines from a number on say this up to END: forms and empty lines, END, and empty lines alone
 pub data ReadsFrom : ℕ → List (List ℕ) → List Line → ℕ → Type 0 where
-  empty : {number end : ℕ} {line : List ℕ} {lines : List (List ℕ)} {said : List Line}
+  empty_line : {number end : ℕ} {line : List ℕ} {lines : List (List ℕ)} {said : List Line}
       → IsEmptyLine line → ReadsFrom (suc number) lines said end → ReadsFrom number (line ∷ lines) said end
-  form : {number end : ℕ} {line : List ℕ} {lines : List (List ℕ)} {said : List Line} {statement : Statement}
+  form_line : {number end : ℕ} {line : List ℕ} {lines : List (List ℕ)} {said : List Line} {statement : Statement}
       → IsFormLine line statement → ReadsFrom (suc number) lines said end
       → ReadsFrom number (line ∷ lines) (record { number = number; statement = statement } ∷ said) end
-  end : {number : ℕ} {line : List ℕ} {lines : List (List ℕ)}
+  end_line : {number : ℕ} {line : List ℕ} {lines : List (List ℕ)}
       → IsEndLine line → AllByRecursion IsEmptyLine lines → ReadsFrom number (line ∷ lines) [] number
 
 -- more than 500 lines, or a line of more than 200 bytes
-abbrev pub IsTooLarge : List ℕ → Type 0
-IsTooLarge bytes = (500 < length (lines_of bytes)) ⊎ Any (λ line. 200 < length line) (lines_of bytes)
+abbrev pub IsTooLarge : List (List ℕ) → Type 0
+IsTooLarge lines = (500 < length lines) ⊎ Any (λ line. 200 < length line) lines
 
 -- the text is a chart, and what it says
 pub record Reads (bytes : List ℕ) (chart : Chart) : Type 0 where
-  pub size : ¬ IsTooLarge bytes
+  pub size : ¬ IsTooLarge (lines_of bytes)
   pub first : List ℕ
   pub others : List (List ℕ)
   pub lines : lines_of bytes ≡ first ∷ others

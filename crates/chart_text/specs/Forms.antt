@@ -31,18 +31,18 @@ pub data IsMark : List ℕ → Mark → Type 0 where
 -- the mark of a total: nothing, or `MARK m`
 pub data SaysMark : List (List ℕ) → Option Mark → Type 0 where
   unmarked : SaysMark [] None
-  marked : {token : List ℕ} {m : Mark} → IsMark token m → SaysMark (codes "MARK" ∷ token ∷ []) (Some m)
+  total_marked : {token : List ℕ} {m : Mark} → IsMark token m → SaysMark (codes "MARK" ∷ token ∷ []) (Some m)
 
 -- how a field stands on a card's line: nothing, `INDICATE l` or `MARK m`
 pub data SaysOption : List (List ℕ) → DetailOption → Type 0 where
-  plain : SaysOption [] Plain
+  as_it_is : SaysOption [] Plain
   indicated : {level : List ℕ} {l : ℕ} → IsNumberTo 3 level l → SaysOption (codes "INDICATE" ∷ level ∷ []) (Indicated l)
-  marked : {token : List ℕ} {m : Mark} → IsMark token m → SaysOption (codes "MARK" ∷ token ∷ []) (Marked m)
+  item_marked : {token : List ℕ} {m : Mark} → IsMark token m → SaysOption (codes "MARK" ∷ token ∷ []) (Marked m)
 
 -- a kind of body line: `DETAIL` or `TOTAL l`
 pub data SaysKind : List (List ℕ) → BodyLine → Type 0 where
-  detail : SaysKind (codes "DETAIL" ∷ []) lines.Detail
-  total : {level : List ℕ} {l : ℕ} → IsNumberTo 4 level l → SaysKind (codes "TOTAL" ∷ level ∷ []) (lines.Total l)
+  detail_line : SaysKind (codes "DETAIL" ∷ []) lines.Detail
+  total_line : {level : List ℕ} {l : ℕ} → IsNumberTo 4 level l → SaysKind (codes "TOTAL" ∷ level ∷ []) (lines.Total l)
 
 -- the forms, and what each says
 pub data Says : List (List ℕ) → Statement → Type 0 where

@@ -15,9 +15,10 @@ pub record IsBehindFirst (lines : List (List ℕ)) (number : ℕ) : Type 0 where
   pub from : 2 ≤ number
   pub to : number ≤ length lines
 
--- the first line is missing, or is not `CHART407 1`
-abbrev pub LacksFirstLine : List (List ℕ) → Type 0
-LacksFirstLine lines = (0 < length lines) × IsFirstLine (line_at lines 1) → ⊥
+-- there is a first line, and it is `CHART407 1`
+pub record HasFirstLine (lines : List (List ℕ)) : Type 0 where
+  pub there : 1 ≤ length lines
+  pub begun : IsFirstLine (line_at lines 1)
 
 -- a line END stands before the line of a number
 pub record IsBehindEnd (lines : List (List ℕ)) (number : ℕ) : Type 0 where
@@ -46,12 +47,14 @@ pub record IsLowestMisplaced (lines : List (List ℕ)) (number : ℕ) : Type 0 w
 abbrev pub LacksEnd : List (List ℕ) → Type 0
 LacksEnd lines = (number : ℕ) → IsBehindFirst lines number → ¬ IsEndLine (line_at lines number)
 
--- the fault of a text: its rule is broken, and none that is asked before
+-- the fault of the lines of a text: its rule is broken, and none that is asked before
+abbrev pub HaveFault : List (List ℕ) → TextFault → Type 0
+HaveFault lines TooLarge = IsTooLarge lines
+HaveFault lines NoFirstLine = (¬ IsTooLarge lines) × (¬ HasFirstLine lines)
+HaveFault lines (NotALine number) = (¬ IsTooLarge lines) × HasFirstLine lines × IsLowestMisplaced lines number
+HaveFault lines NoEnd = (¬ IsTooLarge lines) × HasFirstLine lines × ((number : ℕ) → ¬ IsMisplaced lines number) × LacksEnd lines
+HaveFault lines Memory = ⊥
+
+-- the fault of a text
 abbrev pub HasFault : List ℕ → TextFault → Type 0
-HasFault bytes TooLarge = IsTooLarge bytes
-HasFault bytes NoFirstLine = (¬ IsTooLarge bytes) × LacksFirstLine (lines_of bytes)
-HasFault bytes (NotALine number) =
-    (¬ IsTooLarge bytes) × (¬ LacksFirstLine (lines_of bytes)) × IsLowestMisplaced (lines_of bytes) number
-HasFault bytes NoEnd =
-    (¬ IsTooLarge bytes) × (¬ LacksFirstLine (lines_of bytes)) × ((number : ℕ) → ¬ IsMisplaced (lines_of bytes) number) × LacksEnd (lines_of bytes)
-HasFault bytes Memory = ⊥
+HasFault bytes fault = HaveFault (lines_of bytes) fault

@@ -35,6 +35,15 @@ impl RawChart {
     ghost use Rattle.std.specs.Prelude.{◌≡◌};
     ghost use Rattle.chart_text.specs.Chart.{NumbersRise};
 
+    /// The chart of these lines, the numbers of which rise up to that of END.
+    pub(crate) fn new(lines: Vec<Line>, end: u16) -> Self
+        requires { NumbersRise lines.items end }
+        ensures lines { result.lines ≡ lines.items }
+        ensures end { result.end ≡ end }
+    {
+        RawChart { lines, end }
+    }
+
     /// The lines that say something, in order.
     pub fn lines(&self) -> &[Line]
         ensures value { result.now ≡ self.now.lines }

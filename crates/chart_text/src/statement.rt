@@ -3,6 +3,9 @@
 use crate::name::Name;
 use std::marker::Model;
 
+/// How many characters a literal has at most.
+pub const MAX_LITERAL: usize = 120;
+
 /// The characters of a literal, 1 to 120 print characters or blanks.
 #[derive(Debug, Drop)]
 pub struct Literal {
@@ -48,6 +51,9 @@ impl Literal {
         self.characters
     }
 }
+
+/// How many stops a channel has at most.
+pub const MAX_STOPS: usize = 10;
 
 /// The lines of a channel's stops, 1 to 10 of them.
 #[derive(Debug, Drop)]

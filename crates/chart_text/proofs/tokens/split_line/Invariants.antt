@@ -1,0 +1,11 @@
+-- The tokens so far, before those of the rest, are those of the line; the rest begins with no space, and gets shorter.
+use Rattle.std.proofs.Common.{◌≡◌, ◌<◌, ◌≢◌, length, slice_index, ℕ}
+use Rattle.chart_text.specs.Reading.{texts, tokens_of}
+use Rattle.chart_text.proofs.Dividing.{SplitsSoFar}
+use Rattle.chart_text.proofs.tokens.split_line.Given as goal
+
+abbrev pub invariant-loop-rest : goal.invariant-loop-rest
+invariant-loop-rest l = SplitsSoFar l.tokens.items l.rest l.line
+
+abbrev pub decreases-loop-rest : goal.decreases-loop-rest
+decreases-loop-rest l = length l.rest

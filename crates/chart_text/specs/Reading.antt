@@ -1,0 +1,361 @@
+-- What the readers answer, as functions of lists: the tokens of a line, and what tokens say, where they say something.
+-- The theorems about the grammar say that these are its relations.
+use Rattle.std.specs.Prelude.{ℕ, ◌+◌, ◌-◌, ◌*◌, ◌==◌, ◌&&◌, ◌||◌, Bool, true, List, [], ◌∷◌, ◌++◌, length, Option, Some, None, option_and_then, option_map, if◌then◌else◌, nat_le, nat_lt, not, map, slice_index, slice_range, replicate, codes}
+use Rattle.std.specs.List.{list_all}
+use Rattle.std.specs.Str.{bytes_eq}
+use denote.Ref.{Bor}
+use Rattle.card_code.specs.Lines.{onto}
+use Rattle.chart_text.specs.Number.{is_digit}
+use Rattle.chart_text.specs.Name.{begins_with_letter}
+use Rattle.chart_text.specs.Literal.{is_printable}
+use Rattle.chart_text.specs.declared.statement.SignRule.{SignRule}
+use Rattle.chart_text.specs.declared.statement.SignRule.TheVariants.{X, NX}
+use Rattle.chart_text.specs.declared.statement.FieldKind.{FieldKind}
+use Rattle.chart_text.specs.declared.statement.FieldKind.TheVariants as kinds
+use Rattle.chart_text.specs.declared.statement.Printing.TheVariants as printings
+use Rattle.chart_text.specs.declared.statement.Mark.{Mark}
+use Rattle.chart_text.specs.declared.statement.Mark.TheVariants.{Credit, Minus}
+use Rattle.chart_text.specs.declared.statement.BodyLine.{BodyLine}
+use Rattle.chart_text.specs.declared.statement.BodyLine.TheVariants as lines
+use Rattle.chart_text.specs.declared.statement.After.TheVariants.{Page, Skip}
+use Rattle.chart_text.specs.declared.statement.DetailOption.{DetailOption}
+use Rattle.chart_text.specs.declared.statement.DetailOption.TheVariants.{Plain, Indicated, Marked}
+use Rattle.chart_text.specs.declared.statement.Statement.{Statement}
+use Rattle.chart_text.specs.declared.statement.Statement.TheVariants as says
+use Rattle.chart_text.specs.declared.words.Keyword.{Keyword}
+use Rattle.chart_text.specs.declared.words.Keyword.TheVariants as words
+
+-- what lists of tokens that lie in a text say
+abbrev pub texts : List (Bor (List ℕ)) → List (List ℕ)
+texts tokens = map (λ token. token.now) tokens
+
+infixl 10 ◌>>=◌
+abbrev pub ◌>>=◌ : {A B : Type 0} → Option A → (A → Option B) → Option B
+o >>= f = option_and_then f o
+
+-- where in a line a byte stands: between tokens, in a plain token, in a literal, or behind its second apostrophe
+pub data Place : Type 0 where
+  between in_plain in_literal closed : Place
+
+-- a token before the others
+abbrev pub before : List ℕ → List (List ℕ) → List (List ℕ)
+before token tokens = token ∷ tokens
+
+-- the tokens from a byte on, the first one being the rest of a token that is begun
+unfoldable pub tokens_from : Place → List ℕ → Option (List (List ℕ))
+tokens_from between [] = Some []
+tokens_from between (b ∷ bs) =
+    if b == 32 then tokens_from between bs
+    else (if b == 39 then option_map (onto b) (tokens_from in_literal bs) else option_map (onto b) (tokens_from in_plain bs))
+tokens_from in_plain [] = Some ([] ∷ [])
+tokens_from in_plain (b ∷ bs) =
+    if b == 32 then option_map (before []) (tokens_from between bs)
+    else (if b == 39 then None else option_map (onto b) (tokens_from in_plain bs))
+tokens_from in_literal [] = None
+tokens_from in_literal (b ∷ bs) =
+    if b == 39 then option_map (onto b) (tokens_from closed bs) else option_map (onto b) (tokens_from in_literal bs)
+tokens_from closed [] = Some ([] ∷ [])
+tokens_from closed (b ∷ bs) = if b == 32 then option_map (before []) (tokens_from between bs) else None
+
+-- the tokens of a line
+abbrev pub tokens_of : List ℕ → Option (List (List ℕ))
+tokens_of line = tokens_from between line
+
+-- a space
+abbrev pub is_space : ℕ → Bool
+is_space byte = byte == 32
+
+-- nothing, or a space first
+abbrev pub is_apart : List ℕ → Bool
+is_apart [] = true
+is_apart (b ∷ bs) = b == 32
+
+-- the tokens of a line that is cut behind its first token, or that begins with none
+abbrev pub first_then : Option (Bor (List ℕ) × Bor (List ℕ)) → Option (List (List ℕ))
+first_then None = None
+first_then (Some cut) = option_map (before cut.0.now) (tokens_of cut.1.now)
+
+-- the digit of a byte
+abbrev pub digit_of : ℕ → Option ℕ
+digit_of byte = if is_digit byte then Some (byte - 48) else None
+
+-- the number that a token is
+unfoldable pub number_of : List ℕ → Option ℕ
+number_of [] = None
+number_of (a ∷ []) = digit_of a
+number_of (a ∷ b ∷ []) = if a == 48 then None else (do
+  tens ← digit_of a
+  units ← digit_of b
+  Some (10 * tens + units))
+number_of (a ∷ b ∷ c ∷ []) = if a == 48 then None else (do
+  hundreds ← digit_of a
+  tens ← digit_of b
+  units ← digit_of c
+  Some (100 * hundreds + 10 * tens + units))
+number_of (a ∷ b ∷ c ∷ d ∷ bytes) = None
+
+-- the number that a token is, where it is 1 to the greatest
+unfoldable pub number_to : ℕ → List ℕ → Option ℕ
+number_to greatest token = do
+  number ← number_of token
+  if nat_le 1 number && nat_le number greatest then Some number else None
+
+-- the name that a token is
+unfoldable pub name_of : List ℕ → Option (List ℕ)
+name_of token =
+    if nat_le (length token) 8 && begins_with_letter token then Some (token ++ replicate (8 - length token) 32) else None
+
+-- whether characters are those of a literal
+abbrev pub is_literal_text : List ℕ → Bool
+is_literal_text characters = nat_le 1 (length characters) && nat_le (length characters) 120 && list_all is_printable characters
+
+-- the characters of the literal that a token is
+unfoldable pub literal_of : List ℕ → Option (List ℕ)
+literal_of token =
+    if nat_le 2 (length token) && slice_index token 0 == 39 && slice_index token (length token - 1) == 39 && is_literal_text (slice_range token 1 (length token - 1))
+    then Some (slice_range token 1 (length token - 1)) else None
+
+-- the mark that a token is
+abbrev pub mark_of : List ℕ → Option Mark
+mark_of token = if bytes_eq token (codes "CR") then Some Credit else (if bytes_eq token (codes "-") then Some Minus else None)
+
+-- the word that a form begins with
+abbrev pub keyword_of : List ℕ → Option Keyword
+keyword_of token =
+    if bytes_eq token (codes "FIELD") then Some words.Field
+    else (if bytes_eq token (codes "CONTROL") then Some words.Control
+    else (if bytes_eq token (codes "PRINT") then Some words.Print
+    else (if bytes_eq token (codes "HEAD") then Some words.Head
+    else (if bytes_eq token (codes "DETAIL") then Some words.Detail
+    else (if bytes_eq token (codes "TOTAL") then Some words.Total
+    else (if bytes_eq token (codes "SPACE") then Some words.Space
+    else (if bytes_eq token (codes "AFTER") then Some words.After
+    else (if bytes_eq token (codes "FORM") then Some words.Form
+    else (if bytes_eq token (codes "TAPE") then Some words.Tape else None)))))))))
+
+-- the sign rule of an amount
+unfoldable pub sign_of : List (List ℕ) → Option (Option SignRule)
+sign_of [] = Some None
+sign_of (word ∷ []) = None
+sign_of (word ∷ column ∷ []) =
+    if bytes_eq word (codes "X") then (do
+      c ← number_of column
+      Some (Some (X c)))
+    else (if bytes_eq word (codes "NX") then (do
+      c ← number_of column
+      Some (Some (NX c))) else None)
+sign_of (word ∷ column ∷ next ∷ others) = None
+
+-- the mark of a total
+unfoldable pub total_mark_of : List (List ℕ) → Option (Option Mark)
+total_mark_of [] = Some None
+total_mark_of (word ∷ []) = None
+total_mark_of (word ∷ token ∷ []) =
+    if bytes_eq word (codes "MARK") then (do
+      mark ← mark_of token
+      Some (Some mark))
+    else None
+total_mark_of (word ∷ token ∷ next ∷ others) = None
+
+-- how a field stands on a card's line
+unfoldable pub option_of : List (List ℕ) → Option DetailOption
+option_of [] = Some Plain
+option_of (word ∷ []) = None
+option_of (word ∷ token ∷ []) =
+    if bytes_eq word (codes "INDICATE") then (do
+      level ← number_to 3 token
+      Some (Indicated level))
+    else (if bytes_eq word (codes "MARK") then (do
+      mark ← mark_of token
+      Some (Marked mark)) else None)
+option_of (word ∷ token ∷ next ∷ others) = None
+
+-- the kind of body line that tokens begin with, and the tokens behind it
+unfoldable pub kind_of : List (List ℕ) → Option (BodyLine × List (List ℕ))
+kind_of [] = None
+kind_of (word ∷ []) = if bytes_eq word (codes "DETAIL") then Some (lines.Detail, []) else None
+kind_of (word ∷ level ∷ others) =
+    if bytes_eq word (codes "DETAIL") then Some (lines.Detail, level ∷ others)
+    else (if bytes_eq word (codes "TOTAL") then (do
+      l ← number_to 4 level
+      Some (lines.Total l, others)) else None)
+
+-- the numbers that tokens are
+abbrev pub numbers_of : List (List ℕ) → Option (List ℕ)
+numbers_of [] = Some []
+numbers_of (token ∷ tokens) = do
+  number ← number_of token
+  numbers ← numbers_of tokens
+  Some (number ∷ numbers)
+
+-- what the columns of a field hold
+unfoldable pub field_kind_of : List ℕ → List (List ℕ) → Option FieldKind
+field_kind_of word [] = if bytes_eq word (codes "TEXT") then Some kinds.Text else None
+field_kind_of word (decimals ∷ sign) =
+    if bytes_eq word (codes "AMOUNT") then (do
+      d ← number_of decimals
+      rule ← sign_of sign
+      Some (kinds.Amount d rule))
+    else None
+
+-- what tokens behind `FIELD` say
+unfoldable pub field_of : List (List ℕ) → Option Statement
+field_of (name ∷ kind ∷ first ∷ last ∷ others) = do
+  n ← name_of name
+  a ← number_of first
+  b ← number_of last
+  k ← field_kind_of kind others
+  Some (says.Field (record { name = n; first = a; last = b; kind = k }))
+field_of _ = None
+
+-- what tokens behind `CONTROL` say
+unfoldable pub control_of : List (List ℕ) → Option Statement
+control_of (level ∷ name ∷ []) = do
+  l ← number_to 3 level
+  n ← name_of name
+  Some (says.Control l n)
+control_of _ = None
+
+-- what tokens behind `PRINT` say
+unfoldable pub print_of : List (List ℕ) → Option Statement
+print_of (word ∷ []) =
+    if bytes_eq word (codes "DETAIL") then Some (says.Print printings.Detail)
+    else (if bytes_eq word (codes "GROUP") then Some (says.Print printings.Group) else None)
+print_of _ = None
+
+-- what tokens behind `HEAD` say
+unfoldable pub head_of : List (List ℕ) → Option Statement
+head_of (line ∷ wheel ∷ literal ∷ []) = do
+  h ← number_to 3 line
+  w ← number_of wheel
+  characters ← literal_of literal
+  Some (says.Head h w characters)
+head_of _ = None
+
+-- what a literal on a card's line says
+unfoldable pub detail_literal_of : List ℕ → List ℕ → List (List ℕ) → Option Statement
+detail_literal_of wheel characters [] = do
+  w ← number_of wheel
+  Some (says.DetailLiteral w characters)
+detail_literal_of wheel characters (next ∷ others) = None
+
+-- what a field on a card's line says
+unfoldable pub detail_field_of : List ℕ → List ℕ → List (List ℕ) → Option Statement
+detail_field_of wheel name others = do
+  w ← number_of wheel
+  n ← name_of name
+  option ← option_of others
+  Some (says.DetailField w n option)
+
+-- what an item of a card's line says, a literal where its token is one
+abbrev pub detail_item_of : List ℕ → List ℕ → List (List ℕ) → Option (List ℕ) → Option Statement
+detail_item_of wheel item others (Some characters) = detail_literal_of wheel characters others
+detail_item_of wheel item others None = detail_field_of wheel item others
+
+-- what tokens behind `DETAIL` say
+unfoldable pub detail_of : List (List ℕ) → Option Statement
+detail_of (wheel ∷ item ∷ others) = detail_item_of wheel item others (literal_of item)
+detail_of _ = None
+
+-- what a literal on a total line says
+unfoldable pub total_literal_of : List ℕ → List ℕ → List ℕ → List (List ℕ) → Option Statement
+total_literal_of level wheel characters [] = do
+  l ← number_to 4 level
+  w ← number_of wheel
+  Some (says.TotalLiteral l w characters)
+total_literal_of level wheel characters (next ∷ others) = None
+
+-- what a field on a total line says
+unfoldable pub total_field_of : List ℕ → List ℕ → List ℕ → List (List ℕ) → Option Statement
+total_field_of level wheel name [] = do
+  l ← number_to 4 level
+  w ← number_of wheel
+  n ← name_of name
+  Some (says.TotalText l w n)
+total_field_of level wheel name (digits ∷ mark) = do
+  l ← number_to 4 level
+  w ← number_of wheel
+  n ← name_of name
+  g ← number_of digits
+  m ← total_mark_of mark
+  Some (says.TotalAmount l w n g m)
+
+-- what an item of a total line says, a literal where its token is one
+abbrev pub total_item_of : List ℕ → List ℕ → List ℕ → List (List ℕ) → Option (List ℕ) → Option Statement
+total_item_of level wheel item others (Some characters) = total_literal_of level wheel characters others
+total_item_of level wheel item others None = total_field_of level wheel item others
+
+-- what tokens behind `TOTAL` say
+unfoldable pub total_of : List (List ℕ) → Option Statement
+total_of (level ∷ wheel ∷ item ∷ others) = total_item_of level wheel item others (literal_of item)
+total_of _ = None
+
+-- the spacing of a kind of line
+unfoldable pub spacing_of : BodyLine → List (List ℕ) → Option Statement
+spacing_of line (count ∷ []) = do
+  n ← number_to 3 count
+  Some (says.Space line n)
+spacing_of line _ = None
+
+-- what tokens behind `SPACE` say
+unfoldable pub space_of : List (List ℕ) → Option Statement
+space_of operands = do
+  kind ← kind_of operands
+  spacing_of kind.0 kind.1
+
+-- what follows a kind of line
+unfoldable pub follower_of : BodyLine → List (List ℕ) → Option Statement
+follower_of line (word ∷ []) = if bytes_eq word (codes "PAGE") then Some (says.After line Page) else None
+follower_of line (word ∷ channel ∷ []) =
+    if bytes_eq word (codes "SKIP") then (do
+      c ← number_of channel
+      Some (says.After line (Skip c)))
+    else None
+follower_of line _ = None
+
+-- what tokens behind `AFTER` say
+unfoldable pub after_of : List (List ℕ) → Option Statement
+after_of operands = do
+  kind ← kind_of operands
+  follower_of kind.0 kind.1
+
+-- what tokens behind `FORM` say
+unfoldable pub form_of : List (List ℕ) → Option Statement
+form_of (size ∷ first ∷ overflow ∷ []) = do
+  p ← number_of size
+  t ← number_of first
+  o ← number_of overflow
+  Some (says.Form p t o)
+form_of _ = None
+
+-- 1 to 10 stops
+unfoldable pub stops_of : List (List ℕ) → Option (List ℕ)
+stops_of tokens = if nat_le 1 (length tokens) && nat_le (length tokens) 10 then numbers_of tokens else None
+
+-- what tokens behind `TAPE` say
+unfoldable pub tape_of : List (List ℕ) → Option Statement
+tape_of (channel ∷ stops) = do
+  c ← number_of channel
+  numbers ← stops_of stops
+  Some (says.Tape c numbers)
+tape_of _ = None
+
+-- what tokens behind a word say
+abbrev pub said_behind : Keyword → List (List ℕ) → Option Statement
+said_behind words.Field operands = field_of operands
+said_behind words.Control operands = control_of operands
+said_behind words.Print operands = print_of operands
+said_behind words.Head operands = head_of operands
+said_behind words.Detail operands = detail_of operands
+said_behind words.Total operands = total_of operands
+said_behind words.Space operands = space_of operands
+said_behind words.After operands = after_of operands
+said_behind words.Form operands = form_of operands
+said_behind words.Tape operands = tape_of operands
+
+-- what the tokens of a line say, where they are a form
+unfoldable pub statement_of : List (List ℕ) → Option Statement
+statement_of [] = None
+statement_of (word ∷ operands) = do
+  keyword ← keyword_of word
+  said_behind keyword operands

@@ -1,0 +1,364 @@
+//! The forms of a chart: what the tokens of a line say.
+
+ghost use Rattle.std.specs.Prelude.{◌≡◌, ℕ, length, IfOk, IfSome, Some, None, map, option_map, ◌++◌};
+ghost use Rattle.std.specs.Str.{bytes_eq};
+ghost use Rattle.chart_text.specs.Reading.{texts, sign_of, total_mark_of, option_of, kind_of, numbers_of, stops_of, field_kind_of, field_of, control_of, print_of, head_of, detail_literal_of, detail_field_of, detail_of, total_literal_of, total_field_of, total_of, spacing_of, space_of, follower_of, after_of, form_of, tape_of, said_behind, statement_of};
+
+use crate::statement::{
+    After, BodyLine, DetailOption, Field, FieldKind, Literal, MAX_STOPS, Mark, Printing, SignRule,
+    Statement, Stops,
+};
+use crate::words::{
+    Keyword, is, read_keyword, read_literal, read_mark, read_name, read_number, read_number_to,
+};
+use std::alloc::{AllocError, Global};
+
+/// What the tokens of a line say, or `None` where they are no form.
+#[tactic(auto, unfolding(crate::specs::Reading::statement_of))]
+pub(crate) fn read_statement(
+    alloc: Global,
+    tokens: &[&[u8]],
+) -> Result<Option<Statement>, AllocError>
+    ensures { IfOk result (λ statement. statement ≡ statement_of (texts tokens.now)) }
+{
+    let [word, operands @ ..] = tokens else {
+        return Ok(None);
+    };
+    match read_keyword(word) {
+        Some(keyword) => read_behind(alloc, keyword, operands),
+        None => Ok(None),
+    }
+}
+
+/// What the tokens behind a word say.
+fn read_behind(
+    alloc: Global,
+    keyword: Keyword,
+    operands: &[&[u8]],
+) -> Result<Option<Statement>, AllocError>
+    ensures { IfOk result (λ statement. statement ≡ said_behind keyword (texts operands.now)) }
+{
+    match keyword {
+        Keyword::Field => Ok(read_field(operands)),
+        Keyword::Control => Ok(read_control(operands)),
+        Keyword::Print => Ok(read_print(operands)),
+        Keyword::Head => read_head(alloc, operands),
+        Keyword::Detail => read_detail(alloc, operands),
+        Keyword::Total => read_total(alloc, operands),
+        Keyword::Space => Ok(read_space(operands)),
+        Keyword::After => Ok(read_after(operands)),
+        Keyword::Form => Ok(read_form(operands)),
+        Keyword::Tape => read_tape(alloc, operands),
+    }
+}
+
+/// `FIELD name TEXT a b`, or `FIELD name AMOUNT a b d` with or without a sign rule.
+#[tactic(auto, unfolding(crate::specs::Reading::field_of))]
+fn read_field(operands: &[&[u8]]) -> Option<Statement>
+    ensures { result ≡ field_of (texts operands.now) }
+{
+    let [name, kind, first, last, others @ ..] = operands else {
+        return None;
+    };
+    let name = read_name(name)?;
+    let first = read_number(first)?;
+    let last = read_number(last)?;
+    let kind = read_field_kind(kind, others)?;
+    Some(Statement::Field(Field {
+        name,
+        first,
+        last,
+        kind,
+    }))
+}
+
+/// What the columns of a field hold.
+#[tactic(auto, unfolding(crate::specs::Reading::field_kind_of))]
+fn read_field_kind(word: &[u8], operands: &[&[u8]]) -> Option<FieldKind>
+    ensures { result ≡ field_kind_of word.now (texts operands.now) }
+{
+    match operands {
+        [] if is(word, b"TEXT") => Some(FieldKind::Text),
+        [decimals, sign @ ..] if is(word, b"AMOUNT") => {
+            Some(FieldKind::Amount(read_number(decimals)?, read_sign(sign)?))
+        }
+        _ => None,
+    }
+}
+
+/// The sign rule of an amount: nothing, `X c` or `NX c`.
+#[tactic(auto, unfolding(crate::specs::Reading::sign_of))]
+fn read_sign(operands: &[&[u8]]) -> Option<Option<SignRule>>
+    ensures { result ≡ sign_of (texts operands.now) }
+{
+    match operands {
+        [] => Some(None),
+        [word, column] if is(word, b"X") => Some(Some(SignRule::X(read_number(column)?))),
+        [word, column] if is(word, b"NX") => Some(Some(SignRule::NX(read_number(column)?))),
+        _ => None,
+    }
+}
+
+/// `CONTROL l name`.
+#[tactic(auto, unfolding(crate::specs::Reading::control_of))]
+fn read_control(operands: &[&[u8]]) -> Option<Statement>
+    ensures { result ≡ control_of (texts operands.now) }
+{
+    let [level, name] = operands else {
+        return None;
+    };
+    Some(Statement::Control(read_number_to(3, level)?, read_name(name)?))
+}
+
+/// `PRINT DETAIL` or `PRINT GROUP`.
+#[tactic(auto, unfolding(crate::specs::Reading::print_of))]
+fn read_print(operands: &[&[u8]]) -> Option<Statement>
+    ensures { result ≡ print_of (texts operands.now) }
+{
+    match operands {
+        [word] if is(word, b"DETAIL") => Some(Statement::Print(Printing::Detail)),
+        [word] if is(word, b"GROUP") => Some(Statement::Print(Printing::Group)),
+        _ => None,
+    }
+}
+
+/// `HEAD h w literal`.
+#[tactic(auto, unfolding(crate::specs::Reading::head_of))]
+fn read_head(alloc: Global, operands: &[&[u8]]) -> Result<Option<Statement>, AllocError>
+    ensures { IfOk result (λ statement. statement ≡ head_of (texts operands.now)) }
+{
+    let [line, wheel, literal] = operands else {
+        return Ok(None);
+    };
+    let literal = read_literal(alloc, literal)?;
+    match (read_number_to(3, line), read_number(wheel), literal) {
+        (Some(line), Some(wheel), Some(literal)) => {
+            Ok(Some(Statement::Head(line, wheel, literal)))
+        }
+        _ => Ok(None),
+    }
+}
+
+/// `DETAIL w literal`, or `DETAIL w name` with or without an option.
+#[tactic(auto, unfolding(crate::specs::Reading::detail_of))]
+fn read_detail(alloc: Global, operands: &[&[u8]]) -> Result<Option<Statement>, AllocError>
+    ensures { IfOk result (λ statement. statement ≡ detail_of (texts operands.now)) }
+{
+    let [wheel, item, others @ ..] = operands else {
+        return Ok(None);
+    };
+    match read_literal(alloc, item)? {
+        Some(literal) => Ok(read_detail_literal(wheel, literal, others)),
+        None => Ok(read_detail_field(wheel, item, others)),
+    }
+}
+
+/// A literal on the line of a card.
+#[tactic(auto, unfolding(crate::specs::Reading::detail_literal_of))]
+fn read_detail_literal(wheel: &[u8], literal: Literal, others: &[&[u8]]) -> Option<Statement>
+    ensures { result ≡ detail_literal_of wheel.now literal (texts others.now) }
+{
+    match others {
+        [] => Some(Statement::DetailLiteral(read_number(wheel)?, literal)),
+        _ => None,
+    }
+}
+
+/// A field on the line of a card.
+#[tactic(auto, unfolding(crate::specs::Reading::detail_field_of))]
+fn read_detail_field(wheel: &[u8], name: &[u8], others: &[&[u8]]) -> Option<Statement>
+    ensures { result ≡ detail_field_of wheel.now name.now (texts others.now) }
+{
+    let wheel = read_number(wheel)?;
+    let name = read_name(name)?;
+    Some(Statement::DetailField(wheel, name, read_option(others)?))
+}
+
+/// How a field stands on the line of a card: nothing, `INDICATE l` or `MARK m`.
+#[tactic(auto, unfolding(crate::specs::Reading::option_of))]
+fn read_option(operands: &[&[u8]]) -> Option<DetailOption>
+    ensures { result ≡ option_of (texts operands.now) }
+{
+    match operands {
+        [] => Some(DetailOption::Plain),
+        [word, level] if is(word, b"INDICATE") => {
+            Some(DetailOption::Indicated(read_number_to(3, level)?))
+        }
+        [word, mark] if is(word, b"MARK") => Some(DetailOption::Marked(read_mark(mark)?)),
+        _ => None,
+    }
+}
+
+/// `TOTAL l w literal`, `TOTAL l w name`, or `TOTAL l w name g` with or without a mark.
+#[tactic(auto, unfolding(crate::specs::Reading::total_of))]
+fn read_total(alloc: Global, operands: &[&[u8]]) -> Result<Option<Statement>, AllocError>
+    ensures { IfOk result (λ statement. statement ≡ total_of (texts operands.now)) }
+{
+    let [level, wheel, item, others @ ..] = operands else {
+        return Ok(None);
+    };
+    match read_literal(alloc, item)? {
+        Some(literal) => Ok(read_total_literal(level, wheel, literal, others)),
+        None => Ok(read_total_field(level, wheel, item, others)),
+    }
+}
+
+/// A literal on a total line.
+#[tactic(auto, unfolding(crate::specs::Reading::total_literal_of))]
+fn read_total_literal(
+    level: &[u8],
+    wheel: &[u8],
+    literal: Literal,
+    others: &[&[u8]],
+) -> Option<Statement>
+    ensures { result ≡ total_literal_of level.now wheel.now literal (texts others.now) }
+{
+    match others {
+        [] => {
+            let level = read_number_to(4, level)?;
+            Some(Statement::TotalLiteral(level, read_number(wheel)?, literal))
+        }
+        _ => None,
+    }
+}
+
+/// A control field's text or a total on a total line.
+#[tactic(auto, unfolding(crate::specs::Reading::total_field_of))]
+fn read_total_field(level: &[u8], wheel: &[u8], name: &[u8], others: &[&[u8]]) -> Option<Statement>
+    ensures { result ≡ total_field_of level.now wheel.now name.now (texts others.now) }
+{
+    let level = read_number_to(4, level)?;
+    let wheel = read_number(wheel)?;
+    let name = read_name(name)?;
+    match others {
+        [] => Some(Statement::TotalText(level, wheel, name)),
+        [digits, mark @ ..] => {
+            let digits = read_number(digits)?;
+            let mark = read_total_mark(mark)?;
+            Some(Statement::TotalAmount(level, wheel, name, digits, mark))
+        }
+    }
+}
+
+/// The mark of a total: nothing, or `MARK m`.
+#[tactic(auto, unfolding(crate::specs::Reading::total_mark_of))]
+fn read_total_mark(operands: &[&[u8]]) -> Option<Option<Mark>>
+    ensures { result ≡ total_mark_of (texts operands.now) }
+{
+    match operands {
+        [] => Some(None),
+        [word, mark] if is(word, b"MARK") => Some(Some(read_mark(mark)?)),
+        _ => None,
+    }
+}
+
+/// The kind of body line that tokens begin with, `DETAIL` or `TOTAL l`, and the tokens behind it.
+#[tactic(auto, unfolding(crate::specs::Reading::kind_of))]
+fn read_kind<'a, 'b>(operands: &'b [&'a [u8]]) -> Option<(BodyLine, &'b [&'a [u8]])>
+    ensures { option_map (λ kind. (kind.0, texts kind.1.now)) result ≡ kind_of (texts operands.now) }
+{
+    match operands {
+        [word, others @ ..] if is(word, b"DETAIL") => Some((BodyLine::Detail, others)),
+        [word, level, others @ ..] if is(word, b"TOTAL") => {
+            Some((BodyLine::Total(read_number_to(4, level)?), others))
+        }
+        _ => None,
+    }
+}
+
+/// `SPACE kind n`.
+#[tactic(auto, unfolding(crate::specs::Reading::space_of))]
+fn read_space(operands: &[&[u8]]) -> Option<Statement>
+    ensures { result ≡ space_of (texts operands.now) }
+{
+    let (line, others) = read_kind(operands)?;
+    read_spacing(line, others)
+}
+
+/// The spacing of a kind of line.
+#[tactic(auto, unfolding(crate::specs::Reading::spacing_of))]
+fn read_spacing(line: BodyLine, operands: &[&[u8]]) -> Option<Statement>
+    ensures { result ≡ spacing_of line (texts operands.now) }
+{
+    match operands {
+        [count] => Some(Statement::Space(line, read_number_to(3, count)?)),
+        _ => None,
+    }
+}
+
+/// `AFTER kind PAGE` or `AFTER kind SKIP c`.
+#[tactic(auto, unfolding(crate::specs::Reading::after_of))]
+fn read_after(operands: &[&[u8]]) -> Option<Statement>
+    ensures { result ≡ after_of (texts operands.now) }
+{
+    let (line, others) = read_kind(operands)?;
+    read_follower(line, others)
+}
+
+/// What follows a kind of line.
+#[tactic(auto, unfolding(crate::specs::Reading::follower_of))]
+fn read_follower(line: BodyLine, operands: &[&[u8]]) -> Option<Statement>
+    ensures { result ≡ follower_of line (texts operands.now) }
+{
+    match operands {
+        [word] if is(word, b"PAGE") => Some(Statement::After(line, After::Page)),
+        [word, channel] if is(word, b"SKIP") => {
+            Some(Statement::After(line, After::Skip(read_number(channel)?)))
+        }
+        _ => None,
+    }
+}
+
+/// `FORM P T O`.
+#[tactic(auto, unfolding(crate::specs::Reading::form_of))]
+fn read_form(operands: &[&[u8]]) -> Option<Statement>
+    ensures { result ≡ form_of (texts operands.now) }
+{
+    let [size, first, overflow] = operands else {
+        return None;
+    };
+    let size = read_number(size)?;
+    let first = read_number(first)?;
+    Some(Statement::Form(size, first, read_number(overflow)?))
+}
+
+/// `TAPE c n1 n2 ..`.
+#[tactic(auto, unfolding(crate::specs::Reading::tape_of))]
+fn read_tape(alloc: Global, operands: &[&[u8]]) -> Result<Option<Statement>, AllocError>
+    ensures { IfOk result (λ statement. statement ≡ tape_of (texts operands.now)) }
+{
+    let [channel, stops @ ..] = operands else {
+        return Ok(None);
+    };
+    let stops = read_stops(alloc, stops)?;
+    match (read_number(channel), stops) {
+        (Some(channel), Some(stops)) => Ok(Some(Statement::Tape(channel, stops))),
+        _ => Ok(None),
+    }
+}
+
+/// The 1 to 10 stops of a channel.
+#[tactic(auto, unfolding(crate::specs::Reading::stops_of))]
+fn read_stops(alloc: Global, tokens: &[&[u8]]) -> Result<Option<Stops>, AllocError>
+    ensures { IfOk result (λ stops. stops ≡ stops_of (texts tokens.now)) }
+{
+    if tokens.is_empty() || tokens.len() > MAX_STOPS {
+        return Ok(None);
+    }
+    Ok(read_numbers(alloc, tokens)?.map(Stops::from_vec))
+}
+
+/// The numbers that tokens are, or `None` where one is no number.
+fn read_numbers(alloc: Global, tokens: &[&[u8]]) -> Result<Option<Vec<u16>>, AllocError>
+    ensures value { IfOk result (λ numbers. option_map (λ v. v.items) numbers ≡ numbers_of (texts tokens.now)) }
+    ensures size { IfOk result (λ numbers. IfSome numbers (λ v. length v.items ≡ length tokens.now)) }
+{
+    let mut numbers = Vec::new(alloc);
+    for token in tokens {
+        match read_number(token) {
+            Some(number) => numbers.push(number)?,
+            None => return Ok(None),
+        }
+    }
+    Ok(Some(numbers))
+}

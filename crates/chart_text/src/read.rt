@@ -1,0 +1,174 @@
+//! Reading a chart.
+
+ghost use Rattle.std.specs.Prelude.{◌≡◌, ◌+◌, ◌<◌, ◌≤◌, ℕ, length, IfOk, IfErr, IfSome, OnOk, None, unwrap_or, ◌⊎◌};
+ghost use Rattle.card_code.specs.Lines.{lines_of};
+ghost use Rattle.chart_text.specs.Reading.{texts, tokens_of};
+ghost use Rattle.chart_text.specs.Chart.{Chart, NumbersRise};
+ghost use Rattle.chart_text.specs.ChartText.{Reads};
+ghost use Rattle.chart_text.specs.TextFaults.{HasFault};
+ghost use Rattle.chart_text.specs.TextReading.{content_of, tokens_content, is_first, is_large, is_long, chart_from, chart_of, chart_of_lines, Answers, TakesLine, RefusesLine};
+
+use crate::chart::{Line, RawChart};
+use crate::fault::TextFault;
+use crate::forms::read_statement;
+use crate::statement::Statement;
+use crate::tokens::split_line;
+use crate::words::is;
+use card_code::next_line;
+use std::alloc::{AllocError, Global};
+
+/// How many lines a chart has at most.
+const MAX_LINES: u16 = 500;
+
+/// How many bytes a line of a chart has at most.
+const MAX_LINE_BYTES: usize = 200;
+
+/// What one line is.
+#[derive(Debug, Drop)]
+pub(crate) enum Content {
+    /// A line without a token.
+    Empty,
+    /// END alone.
+    End,
+    /// A form, and what it says.
+    Form(Statement),
+    /// Nothing that a chart has.
+    NoForm,
+}
+
+/// Reads a chart: the raw chart of its text, as the grammar of charts has it.
+///
+/// # Errors
+///
+/// The first of the text rules that is broken, in this order: `TooLarge` for more than 500 lines or a line
+/// of more than 200 bytes; `NoFirstLine` where line 1 is not `CHART407 1`; `NotALine` for the lowest line
+/// that no form derives, text behind END included; `NoEnd` where no line is END. `Memory` only where memory
+/// was refused; what was read so far is given back then.
+pub fn read_chart(alloc: Global, text: &[u8]) -> Result<RawChart, TextFault>
+    // What is read is the chart of the text, and a fault is the one of the text.
+    ensures read { IfOk result (λ chart. Reads text.now chart) }
+    ensures fault { IfErr result (λ fault. (fault ≡ TextFault.Memory) ⊎ HasFault text.now fault) }
+
+    // Each chart is read, and each fault told, unless memory is refused.
+    ensures only_read { (chart : Chart) → Reads text.now chart
+        → (result ≡ Ok chart) ⊎ (result ≡ Err TextFault.Memory) }
+    ensures only_fault { (fault : TextFault) → HasFault text.now fault
+        → (result ≡ Err fault) ⊎ (result ≡ Err TextFault.Memory) }
+{
+    read_text(alloc, text)
+}
+
+/// The chart of a text, or the first of its text rules that is broken.
+#[tactic(auto, unfolding(crate::specs::TextReading::chart_of))]
+fn read_text(alloc: Global, text: &[u8]) -> Result<RawChart, TextFault>
+    ensures { Answers result (chart_of text.now) }
+{
+    if is_too_large(text) {
+        return Err(TextFault::TooLarge);
+    }
+    let Some((first, others)) = next_line(text) else {
+        return Err(TextFault::NoFirstLine);
+    };
+    if !is_first_line(alloc, first)? {
+        return Err(TextFault::NoFirstLine);
+    }
+    read_lines(alloc, others)
+}
+
+/// Whether a text has too many lines, or a line of too many bytes.
+fn is_too_large(text: &[u8]) -> bool
+    ensures { result ≡ is_large (lines_of text.now) }
+{
+    let mut lines = 0;
+    let mut rest = text;
+    while let Some((line, behind)) = next_line(rest) {
+        if lines == MAX_LINES || line.len() > MAX_LINE_BYTES {
+            return true;
+        }
+        lines += 1;
+        rest = behind;
+    }
+    false
+}
+
+/// Whether a line is `CHART407 1`.
+fn is_first_line(alloc: Global, line: &[u8]) -> Result<bool, AllocError>
+    ensures { IfOk result (λ is. is ≡ is_first (tokens_of line.now)) }
+{
+    let Some(tokens) = split_line(alloc, line)? else {
+        return Ok(false);
+    };
+    match tokens.as_slice() {
+        [name, version] => Ok(is(name, b"CHART407") && is(version, b"1")),
+        _ => Ok(false),
+    }
+}
+
+/// What a line is.
+#[tactic(auto, unfolding(crate::specs::TextReading::content_of))]
+fn read_line(alloc: Global, line: &[u8]) -> Result<Content, AllocError>
+    ensures { IfOk result (λ content. content ≡ content_of line.now) }
+{
+    match split_line(alloc, line)? {
+        Some(tokens) => read_tokens(alloc, tokens.as_slice()),
+        None => Ok(Content::NoForm),
+    }
+}
+
+/// What a line of these tokens is.
+fn read_tokens(alloc: Global, tokens: &[&[u8]]) -> Result<Content, AllocError>
+    ensures { IfOk result (λ content. content ≡ tokens_content (texts tokens.now)) }
+{
+    match tokens {
+        [] => return Ok(Content::Empty),
+        [word] if is(word, b"END") => return Ok(Content::End),
+        _ => {}
+    }
+    match read_statement(alloc, tokens)? {
+        Some(statement) => Ok(Content::Form(statement)),
+        None => Ok(Content::NoForm),
+    }
+}
+
+/// The chart of the lines from line 2 on.
+fn read_lines(alloc: Global, text: &[u8]) -> Result<RawChart, TextFault>
+    requires { length (lines_of text.now) < 500 }
+    ensures { Answers result (chart_from None 2 (lines_of text.now)) }
+{
+    let mut lines = Vec::new(alloc);
+    let mut end = None;
+    let mut number = 2;
+    let mut rest = text;
+    while let Some((line, behind)) = next_line(rest) {
+        let content = read_line(alloc, line)?;
+        take_line(content, number, &mut lines, &mut end)?;
+        number += 1;
+        rest = behind;
+    }
+    match end {
+        Some(end) => Ok(RawChart::new(lines, end)),
+        None => Err(TextFault::NoEnd),
+    }
+}
+
+/// Takes the line of a number: behind the lines so far, or as END where there was none.
+fn take_line(
+    content: Content,
+    number: u16,
+    lines: &mut Vec<Line>,
+    end: &mut Option<u16>,
+) -> Result<(), TextFault>
+    ensures taken { OnOk result (TakesLine content number lines.old.items end.old lines.new.items end.new) }
+    ensures refused { IfErr result (RefusesLine content number end.old) }
+    ensures rising { OnOk result (NumbersRise lines.old.items (unwrap_or end.old number)
+        → NumbersRise lines.new.items (unwrap_or end.new (number + 1))) }
+    ensures placed { OnOk result (IfSome end.old (λ e. e < number) → IfSome end.new (λ e. e < number + 1)) }
+{
+    match (content, *end) {
+        (Content::Empty, _) => {}
+        (Content::End, None) => *end = Some(number),
+        (Content::Form(statement), None) => lines.push(Line { number, statement })?,
+        _ => return Err(TextFault::NotALine { line: number }),
+    }
+    Ok(())
+}

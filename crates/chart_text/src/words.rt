@@ -1,0 +1,199 @@
+//! What single tokens are: numbers, names, the characters of literals, marks.
+
+ghost use Rattle.std.specs.Prelude.{◌≡◌, ◌+◌, ◌-◌, ◌*◌, ◌<◌, ◌≤◌, ℕ, length, IfSome, IfNone, IfOk, IsTrue, map, option_map, fold};
+ghost use Rattle.std.specs.List.{list_all};
+ghost use Rattle.std.specs.Str.{bytes_eq};
+ghost use Rattle.chart_text.specs.Reading.{digit_of, number_of, number_to, name_of, literal_of, is_literal_text, mark_of, keyword_of};
+ghost use Rattle.chart_text.specs.Name.{begins_with_letter, is_letter, is_letter_or_digit};
+ghost use Rattle.chart_text.specs.Literal.{is_printable};
+
+use crate::name::Name;
+use crate::statement::{Literal, MAX_LITERAL, Mark};
+use card_code::Column;
+use std::alloc::{AllocError, Global};
+
+/// The words that forms begin with.
+#[derive(Clone, Copy, Debug, PartialEq, Eq)]
+pub(crate) enum Keyword {
+    Field,
+    Control,
+    Print,
+    Head,
+    Detail,
+    Total,
+    Space,
+    After,
+    Form,
+    Tape,
+}
+
+/// Whether a token is a word of the language.
+pub(crate) fn is(token: &[u8], word: &[u8]) -> bool
+    ensures { result ≡ bytes_eq token.now word.now }
+{
+    token == word
+}
+
+/// The digit of a byte.
+fn read_digit(byte: u8) -> Option<u16>
+    ensures value { result ≡ digit_of byte }
+    ensures small { IfSome result (λ digit. digit < 10) }
+{
+    if byte.is_ascii_digit() {
+        Some(u16::from(byte - b'0'))
+    } else {
+        None
+    }
+}
+
+/// The number that a token is: `0`, or 1 to 3 digits of which the first is no 0.
+#[tactic(auto, unfolding(crate::specs::Reading::number_of))]
+pub(crate) fn read_number(token: &[u8]) -> Option<u16>
+    ensures value { result ≡ number_of token.now }
+    ensures small { IfSome result (λ number. number < 1000) }
+{
+    match token {
+        [only] => read_digit(*only),
+        [b'0', ..] => None,
+        [tens, units] => Some(10 * read_digit(*tens)? + read_digit(*units)?),
+        [hundreds, tens, units] => {
+            Some(100 * read_digit(*hundreds)? + 10 * read_digit(*tens)? + read_digit(*units)?)
+        }
+        _ => None,
+    }
+}
+
+/// The number that a token is, where it is one of 1 to the greatest.
+#[tactic(auto, unfolding(crate::specs::Reading::number_to))]
+pub(crate) fn read_number_to(greatest: u8, token: &[u8]) -> Option<u8>
+    ensures value { result ≡ number_to greatest token.now }
+{
+    let number = read_number(token)?;
+    if 1 <= number && number <= u16::from(greatest) {
+        Some(number as u8)
+    } else {
+        None
+    }
+}
+
+/// Whether a byte is a capital letter or a digit.
+fn is_letter_or_digit(byte: u8) -> bool
+    ensures { result ≡ is_letter_or_digit byte }
+{
+    byte.is_ascii_uppercase() || byte.is_ascii_digit()
+}
+
+/// Whether bytes are letters and digits, a letter first.
+fn begins_with_letter(token: &[u8]) -> bool
+    ensures { result ≡ begins_with_letter token.now }
+{
+    match token {
+        [first, others @ ..] => first.is_ascii_uppercase() && are_letters_or_digits(others),
+        [] => false,
+    }
+}
+
+/// Whether all bytes are letters or digits.
+fn are_letters_or_digits(bytes: &[u8]) -> bool
+    ensures { result ≡ list_all is_letter_or_digit bytes.now }
+{
+    bytes.iter().all(|byte| is_letter_or_digit(*byte))
+}
+
+/// The name that a token is: a letter and up to 7 letters or digits.
+#[tactic(auto, unfolding(crate::specs::Reading::name_of))]
+pub(crate) fn read_name(token: &[u8]) -> Option<Name>
+    ensures { result ≡ name_of token.now }
+{
+    if token.len() > 8 || !begins_with_letter(token) {
+        return None;
+    }
+    let mut characters = [b' '; 8];
+    characters[..token.len()].copy_from_slice(token);
+    Some(Name::from_characters(characters))
+}
+
+/// Whether a byte can stand in a literal: a print character or a blank.
+fn is_printable(byte: u8) -> bool
+    ensures { result ≡ is_printable byte }
+{
+    Column::of_char(char::from(byte)).is_some() && byte != b'!'
+}
+
+/// Whether bytes are the characters of a literal.
+fn is_literal_text(characters: &[u8]) -> bool
+    ensures { result ≡ is_literal_text characters.now }
+{
+    !characters.is_empty() && characters.len() <= MAX_LITERAL && are_printable(characters)
+}
+
+/// Whether all bytes can stand in a literal.
+fn are_printable(bytes: &[u8]) -> bool
+    ensures { result ≡ list_all is_printable bytes.now }
+{
+    bytes.iter().all(|byte| is_printable(*byte))
+}
+
+/// The characters of the literal that a token is.
+#[tactic(auto, unfolding(crate::specs::Reading::literal_of))]
+fn literal_characters(token: &[u8]) -> Option<&[u8]>
+    ensures value { option_map (λ characters. characters.now) result ≡ literal_of token.now }
+    ensures text { IfSome result (λ characters. IsTrue (is_literal_text characters.now)) }
+{
+    match token {
+        [b'\'', characters @ .., b'\''] if is_literal_text(characters) => Some(characters),
+        _ => None,
+    }
+}
+
+/// The literal that a token is.
+pub(crate) fn read_literal(alloc: Global, token: &[u8]) -> Result<Option<Literal>, AllocError>
+    ensures { IfOk result (λ literal. literal ≡ literal_of token.now) }
+{
+    let Some(characters) = literal_characters(token) else {
+        return Ok(None);
+    };
+    Ok(Some(Literal::from_vec(Vec::from_slice(alloc, characters)?)))
+}
+
+/// The mark that a token is.
+pub(crate) fn read_mark(token: &[u8]) -> Option<Mark>
+    ensures { result ≡ mark_of token.now }
+{
+    if is(token, b"CR") {
+        Some(Mark::Credit)
+    } else if is(token, b"-") {
+        Some(Mark::Minus)
+    } else {
+        None
+    }
+}
+
+/// The word that a line begins with.
+pub(crate) fn read_keyword(token: &[u8]) -> Option<Keyword>
+    ensures { result ≡ keyword_of token.now }
+{
+    if is(token, b"FIELD") {
+        Some(Keyword::Field)
+    } else if is(token, b"CONTROL") {
+        Some(Keyword::Control)
+    } else if is(token, b"PRINT") {
+        Some(Keyword::Print)
+    } else if is(token, b"HEAD") {
+        Some(Keyword::Head)
+    } else if is(token, b"DETAIL") {
+        Some(Keyword::Detail)
+    } else if is(token, b"TOTAL") {
+        Some(Keyword::Total)
+    } else if is(token, b"SPACE") {
+        Some(Keyword::Space)
+    } else if is(token, b"AFTER") {
+        Some(Keyword::After)
+    } else if is(token, b"FORM") {
+        Some(Keyword::Form)
+    } else if is(token, b"TAPE") {
+        Some(Keyword::Tape)
+    } else {
+        None
+    }
+}

@@ -1,0 +1,152 @@
+//! The program's rows, on `serve`: what it prints, what it tells, and its status.
+
+mod cases;
+mod charts;
+
+use crate::input::chart_and_deck;
+use crate::serve::serve;
+use cases::{BOLTS, BOLTS_DECK, Served, chart_of, serve_texts, text_of};
+use std::io;
+use std::io::{ErrorKind, Read, Write};
+use std::test::Fail;
+
+#[test]
+fn cuts_standard_input_behind_end(rt: HostRuntime) -> Result<(), Fail> {
+    let (chart, deck) = chart_and_deck(b"CHART407 1\n  END \r\nA\nEND\n");
+    assert_eq!(rt; chart, b"CHART407 1\n  END \r\n".as_slice());
+    assert_eq!(rt; deck, b"A\nEND\n".as_slice());
+    let (chart, deck) = chart_and_deck(b"ENDS\nA END\nEND");
+    assert_eq!(rt; chart, b"ENDS\nA END\nEND".as_slice());
+    assert_eq!(rt; deck, b"".as_slice());
+    Ok(())
+}
+
+// The 46 bytes of the bolts listing.
+const BOLTS_PAGE: &str = "\nBOLT    A01\nNUT     B22\nWASHER  C30\n\n\n\n\n\n\n\n\n\x0c";
+
+#[test]
+fn prints_the_bolts_listing(rt: HostRuntime) -> Result<(), Fail> {
+    let decks = [
+        BOLTS_DECK,
+        "BOLT   A01\r\nNUT    B22\r\nWASHER C30\r\n",
+        "BOLT   A01\nNUT    B22\nWASHER C30",
+    ];
+    for deck in decks {
+        let served = serve_texts(rt.alloc(), "run", BOLTS, deck)?;
+        assert_eq!(rt; served.status, 0);
+        assert_eq!(rt; served.pages.as_slice(), BOLTS_PAGE.as_bytes());
+        assert_eq!(rt; served.pages.len(), 46);
+    }
+    let empty = serve_texts(rt.alloc(), "run", BOLTS, "")?;
+    assert_eq!(rt; empty.status, 0);
+    assert_eq!(rt; empty.pages.len(), 0);
+    let checked = serve_texts(rt.alloc(), "check", BOLTS, "")?;
+    assert_eq!(rt; checked.status, 0);
+    assert_eq!(rt; checked.pages.as_slice(), b"ok\n".as_slice());
+    Ok(())
+}
+
+// Decks that the bolts listing's chart refuses, and what is told of them.
+const REFUSED_DECKS: [(&str, &str); 9] = [
+    ("BOLT\nbolt\n", "fault 2 card 2 column 1\n"),
+    ("NUT !\n\tA\n", "fault 2 card 2 column 1\n"),
+    (
+        "AAAAAAAAAAAAAAAAAAAAAAAAAAAAAAAAAAAAAAAAAAAAAAAAAAAAAAAAAAAAAAAAAAAAAAAAAAAAAAAAA\n",
+        "fault 1 card 1\n",
+    ),
+    ("A!\n", "fault 41 card 1 column 1\n"),
+    ("BOLT   A01\nNUT    !22\n", "fault 41 card 2 column 8\n"),
+    ("BOLT!  !01\n", "fault 41 card 1 column 1\n"),
+    ("A\nB\nC\nD\nE\nF\nG\nH\nI\n", "fault toolong\n"),
+    ("A\nB\nC\nD\nE\nF\nG\nH\nI!\n", "fault 41 card 9 column 1\n"),
+    ("A\r \n", "fault 2 card 1 column 2\n"),
+];
+
+#[test]
+fn refuses_decks(rt: HostRuntime) -> Result<(), Fail> {
+    for (deck, told) in REFUSED_DECKS {
+        let served = serve_texts(rt.alloc(), "run", BOLTS, deck)?;
+        assert_eq!(rt; served.told.as_slice(), told.as_bytes(), "deck {deck}");
+        assert_eq!(rt; served.status, 3);
+        assert_eq!(rt; served.pages.len(), 0);
+    }
+    Ok(())
+}
+
+#[test]
+fn tells_each_charts_fault(rt: HostRuntime) -> Result<(), Fail> {
+    for (chart, told) in charts::CHARTS {
+        let text = text_of(rt.alloc(), chart)?;
+        let served = serve_texts(rt.alloc(), "check", text.as_str(), "")?;
+        assert_eq!(rt; served.told.as_slice(), told.as_bytes(), "chart {chart}");
+        assert_eq!(rt; served.status, 3);
+    }
+    for (chart, told) in charts::TEXTS {
+        let served = serve_texts(rt.alloc(), "check", chart, "")?;
+        assert_eq!(rt; served.told.as_slice(), told.as_bytes(), "text {chart}");
+    }
+    Ok(())
+}
+
+#[test]
+fn tells_charts_that_are_too_large(rt: HostRuntime) -> Result<(), Fail> {
+    for (lines, length, told) in [
+        (500, 200, "fault 14\n"),
+        (501, 10, "fault 11\n"),
+        (3, 201, "fault 11\n"),
+    ] {
+        let text = chart_of(rt.alloc(), lines, length)?;
+        let served = serve_texts(rt.alloc(), "check", text.as_str(), "")?;
+        assert_eq!(rt; served.told.as_slice(), told.as_bytes());
+    }
+    Ok(())
+}
+
+#[derive(Drop)]
+struct Broken;
+
+impl Read for Broken {
+    fn read(&mut self, _buf: &mut [u8]) -> io::Result<usize> {
+        Err(io::Error::from(ErrorKind::Other))
+    }
+}
+
+impl Write for Broken {
+    fn write(&mut self, _buf: &[u8]) -> io::Result<usize> {
+        Err(io::Error::from(ErrorKind::Other))
+    }
+
+    fn flush(&mut self) -> io::Result<()> {
+        Ok(())
+    }
+}
+
+#[test]
+fn tells_of_files_and_output(rt: HostRuntime) -> Result<(), Fail> {
+    let alloc = rt.alloc();
+    let mut served = Served::new(alloc);
+    served.status = serve(
+        alloc,
+        "run",
+        BOLTS.as_bytes(),
+        "my.deck",
+        Broken,
+        &mut served.pages,
+        &mut served.told,
+    );
+    assert_eq!(rt; served.told.as_slice(), b"fault file my.deck\n".as_slice());
+    assert_eq!(rt; served.status, 4);
+    let mut told = Vec::new(alloc);
+    let status = serve(
+        alloc,
+        "run",
+        BOLTS.as_bytes(),
+        "my.deck",
+        BOLTS_DECK.as_bytes(),
+        &mut Broken,
+        &mut told,
+    );
+    assert_eq!(rt; told.as_slice(), b"fault write\n".as_slice());
+    assert_eq!(rt; status, 4);
+    Ok(())
+}
