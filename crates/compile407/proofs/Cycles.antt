@@ -21,7 +21,8 @@ use Rattle.machine.specs.Carriage.{carriage_ended}
 use Rattle.machine.specs.CycleOrder.{program_ended}
 use Rattle.machine.specs.Machine.{emits, closed, PointStep, Reached, CycleRun, ended, point_at}
 use Rattle.compile407.specs.Items.{Item, items_of}
-use Rattle.compile407.specs.BodyLines.{column_of, piece_on, card_line}
+use Rattle.chart_rules.specs.ValidCard.{column_of}
+use Rattle.compile407.specs.BodyLines.{piece_on, card_line}
 use Rattle.compile407.specs.PrintLine.{char_at, line_of}
 use Rattle.compile407.specs.WiredFor.{WiredFor}
 use Rattle.compile407.specs.Listing.{IsListing}

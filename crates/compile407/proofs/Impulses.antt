@@ -12,11 +12,11 @@ use Rattle.hubs.specs.Wiring.{Wiring, HasWire}
 use Rattle.net.specs.Impulsed.{IsWired, Leads, Impulsed, emitted, led, IsPicture}
 use Rattle.chart_text.specs.Chart.{Chart}
 use Rattle.compile407.specs.Items.{Item, Text, items_of}
-use Rattle.compile407.specs.BodyLines.{column_of}
+use Rattle.chart_rules.specs.ValidCard.{column_of}
 use Rattle.compile407.specs.Listing.{IsOnCard, IsOnWheels, AreApart, IsListing}
 use Rattle.compile407.specs.WiredFor.{WiresOf, text, WiresOfSome, WiredFor}
 use Rattle.compile407.proofs.Sets.{set_at, set_at-covered, set_at_source}
-use Rattle.compile407.proofs.Tests.{same_bools}
+use Rattle.compile407.proofs.NumberTests.{same_bools}
 
 -- a wheel's number tells its hub
 wheel_number : (w v : ℕ) → number_of (W w) ≡ Some (1798 + v) → w ≡ v

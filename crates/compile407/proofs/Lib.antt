@@ -1,7 +1,11 @@
-pub mod Tests
+pub mod NumberTests
 pub mod Sets
 pub mod Impulses
 pub mod Gathered
 pub mod Cycles
-pub mod Run
+pub mod WholeRun
+pub mod Lawful
+pub mod Validity
 pub mod Headline
+pub mod PageLists
+pub mod WiringSteps

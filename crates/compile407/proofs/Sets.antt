@@ -4,10 +4,11 @@ use Rattle.std.specs.List.{range_with_len, Contains, AllPairs}
 use Rattle.std.proofs.lemmas.List.FromFn.{get_or-map-range_with_len, length-map-range_with_len}
 use Rattle.card_code.specs.CardCode.{print_character, deck_character, code}
 use Rattle.compile407.specs.Items.{Item, Text}
-use Rattle.compile407.specs.BodyLines.{column_of, piece_on}
+use Rattle.chart_rules.specs.ValidCard.{column_of}
+use Rattle.compile407.specs.BodyLines.{piece_on}
 use Rattle.compile407.specs.PrintLine.{char_at}
 use Rattle.compile407.specs.Listing.{AreApart}
-use Rattle.compile407.proofs.Tests.{is_among, is_elsewhere, among, same_choice}
+use Rattle.compile407.proofs.NumberTests.{is_among, is_elsewhere, among, same_choice}
 
 -- the column of the first item that stands on the wheel, and no rows where none does
 abbrev pub set_at : List Item → List ℕ → ℕ → ℕ

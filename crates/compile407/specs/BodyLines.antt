@@ -1,16 +1,13 @@
 -- The texts of a report's body lines.
-use Rattle.std.specs.Prelude.{ℕ, ◌-◌, List, [], ◌∷◌, map, slice_index, if◌then◌else◌}
+use Rattle.std.specs.Prelude.{ℕ, List, [], ◌∷◌, map, if◌then◌else◌}
 use Rattle.std.specs.List.{range_with_len, flat_map}
 use Rattle.card_code.specs.CardCode.{print_character}
 use Rattle.chart_text.specs.declared.chart.Line.{Line}
+use Rattle.chart_rules.specs.ValidCard.{column_of}
 use Rattle.compile407.specs.Items.{Item, Text, items_of}
 use Rattle.compile407.specs.PrintLine.{Piece, line_of}
 use Rattle.compile407.specs.Outline.{OutlineLine, Detail, outline_of}
 use Rattle.compile407.specs.ChartForm.{prints_details}
-
--- the column of a card with a number from 1, as its set of rows
-abbrev pub column_of : List ℕ → ℕ → ℕ
-column_of card number = slice_index card (number - 1)
 
 -- what an item shows for a card: a text shows the print character of each of its columns
 abbrev pub piece_on : List ℕ → Item → Piece

@@ -26,7 +26,8 @@ item_of_field wheel field = item_of_kind field.kind wheel field.first (field.las
 
 -- the item that a line of the chart puts on the line of a card, if it puts one there
 abbrev pub item_of : List Line → Statement → Option Item
-item_of lines (says.DetailField wheel name stands.Plain) = option_and_then (item_of_field wheel) (field_named lines name)
+item_of lines (says.DetailField wheel name stands.Plain) =
+    option_and_then (item_of_field wheel) (field_named lines name)
 item_of lines other = None
 
 -- the items of a chart, in the order of its lines

@@ -8,4 +8,10 @@ pub mod Pages
 pub mod Report
 pub mod WiredFor
 pub mod Listing
-pub mod Rows
+pub mod Served
+pub mod Headline
+pub mod Compilation
+pub mod Runnable
+pub mod ChartFaults
+pub mod RunFaults
+pub mod AddedWires

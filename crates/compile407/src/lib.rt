@@ -1,2 +1,25 @@
 //! From planning charts to panel wiring, and from decks to pages.
+//!
+//! `compile` reads a chart, checks it and wires a setup of the panel for it; `run` runs a deck of cards through the
+//! machine, wired so, and answers the bytes of its pages. These are byte by byte the chart's report of the deck, which
+//! knows fields, lines and pages, and nothing of the machine. So far listings are served: text fields, PRINT DETAIL,
+//! DETAIL lines with a field alone, and FORM.
 #![tactic(auto)]
+
+mod compiled;
+mod compiling;
+mod fault;
+mod laws;
+mod pages;
+mod running;
+mod served;
+mod wiring;
+
+pub use compiled::Compiled;
+pub use compiling::compile;
+pub use fault::{ChartFault, RunFault};
+pub use laws::wired_setups_print_reports;
+pub use running::{MOST_CARDS, run};
+
+#[cfg(test)]
+mod tests;

@@ -1,0 +1,50 @@
+-- What a fault says of the text of a chart.
+use Rattle.std.specs.Prelude.{ℕ, List}
+use Rattle.chart_text.specs.Chart.{Chart}
+use Rattle.chart_text.specs.ChartText.{Reads}
+use Rattle.chart_text.specs.TextFaults.{HasFault}
+use Rattle.chart_text.specs.declared.fault.TextFault.{TextFault}
+use Rattle.chart_text.specs.declared.fault.TextFault.TheVariants as text
+use Rattle.chart_rules.specs.Rules.{IsLawful, IsFirstBroken}
+use Rattle.chart_rules.specs.declared.rule.Rule.{Rule}
+use Rattle.chart_rules.specs.declared.fault.RuleFault.{RuleFault}
+use Rattle.chart_rules.specs.declared.fault.RuleFault.TheVariants as rule
+use Rattle.compile407.specs.declared.fault.ChartFault.{ChartFault}
+use Rattle.compile407.specs.declared.fault.ChartFault.TheVariants as chart
+use Rattle.compile407.specs.Served.{IsFirstUnserved}
+
+-- the fault of a text, as one of a chart
+abbrev pub of_text : TextFault → ChartFault
+of_text text.TooLarge = chart.TooLarge
+of_text text.NoFirstLine = chart.NoFirstLine
+of_text (text.NotALine line) = chart.NotALine line
+of_text text.NoEnd = chart.NoEnd
+of_text text.Memory = chart.Memory
+
+-- the fault of a chart that was read, as one of a chart
+abbrev pub of_rule : RuleFault → ChartFault
+of_rule (rule.Rule broken line) = chart.Rule broken line
+of_rule rule.Memory = chart.Memory
+
+-- the text reads as a chart whose lowest broken rule and line these are
+pub record BreaksRule (bytes : List ℕ) (broken : Rule) (line : ℕ) : Type 0 where
+  pub read : Chart
+  pub reads : Reads bytes read
+  pub first : IsFirstBroken read broken line
+
+-- the text reads as a chart that breaks no rule, and this is its first line that isn't served
+pub record IsUnserved (bytes : List ℕ) (line : ℕ) : Type 0 where
+  pub read : Chart
+  pub reads : Reads bytes read
+  pub lawful : IsLawful read
+  pub first : IsFirstUnserved read.lines line
+
+-- What a fault says of the text of a chart; want of memory says nothing of it.
+abbrev pub HasChartFault : List ℕ → ChartFault → Type 0
+HasChartFault bytes chart.TooLarge = HasFault bytes text.TooLarge
+HasChartFault bytes chart.NoFirstLine = HasFault bytes text.NoFirstLine
+HasChartFault bytes (chart.NotALine line) = HasFault bytes (text.NotALine line)
+HasChartFault bytes chart.NoEnd = HasFault bytes text.NoEnd
+HasChartFault bytes (chart.Rule broken line) = BreaksRule bytes broken line
+HasChartFault bytes (chart.NotYet line) = IsUnserved bytes line
+HasChartFault bytes chart.Memory = Unit {0}

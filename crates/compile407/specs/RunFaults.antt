@@ -1,0 +1,36 @@
+-- What a fault says of a deck of cards.
+use Rattle.std.specs.Prelude.{◌≡◌, ℕ, ◌+◌, ◌<◌, ◌≤◌, List, Some, length, take, slice_get, All}
+use Rattle.chart_text.specs.Chart.{Chart}
+use Rattle.chart_rules.specs.Fields.{fields_of}
+use Rattle.chart_rules.specs.ValidCard.{IsValidCard, IsFirstInvalid}
+use Rattle.chart_rules.specs.declared.card.CardFault.{CardFault}
+use Rattle.chart_rules.specs.declared.card.CardFault.TheVariants as card
+use Rattle.compile407.specs.declared.fault.RunFault.{RunFault}
+use Rattle.compile407.specs.declared.fault.RunFault.TheVariants as deck
+use Rattle.compile407.specs.Headline.{IsDeck}
+use Rattle.compile407.specs.Runnable.{HasManyPages}
+
+-- the fault of a card with a number, as one of a deck
+abbrev pub of_card : CardFault → ℕ → RunFault
+of_card (card.NotText column) number = deck.NotText number column
+of_card (card.NotAmount column) number = deck.NotAmount number column
+
+-- the fault tells of the first card of the deck that is not valid, by its number from 1
+pub record IsInvalidDeck (chart : Chart) (cards : List (List ℕ)) (fault : RunFault) : Type 0 where
+  pub place : ℕ
+  pub card : List ℕ
+  pub is_there : slice_get cards place ≡ Some card
+  pub valid_before : All (IsValidCard chart) (take place cards)
+  pub told : CardFault
+  pub first : IsFirstInvalid (fields_of chart.lines) card told
+  pub is_fault : fault ≡ of_card told (place + 1)
+
+-- What a fault says of a deck; want of memory says nothing of it.
+abbrev pub HasRunFault : Chart → List (List ℕ) → RunFault → Type 0
+HasRunFault chart cards deck.TooManyCards = 999999 < length cards
+HasRunFault chart cards (deck.NotText number column) =
+    (length cards ≤ 999999) × IsInvalidDeck chart cards (deck.NotText number column)
+HasRunFault chart cards (deck.NotAmount number column) =
+    (length cards ≤ 999999) × IsInvalidDeck chart cards (deck.NotAmount number column)
+HasRunFault chart cards deck.TooLong = IsDeck chart cards × HasManyPages chart cards
+HasRunFault chart cards deck.Memory = Unit {0}

@@ -1,0 +1,39 @@
+//! Compiling a chart: from its text to a setup of the panel.
+
+ghost use Rattle.std.specs.Prelude.{◌≡◌, IfOk, IfErr};
+ghost use Rattle.chart_text.specs.ChartText.{Reads};
+ghost use Rattle.compile407.specs.Compilation.{IsCompiled};
+ghost use Rattle.compile407.specs.ChartFaults.{HasChartFault};
+ghost use Rattle.compile407.specs.Headline.{PrintsReport};
+
+use crate::compiled::Compiled;
+use crate::fault::ChartFault;
+use crate::served::first_unserved;
+use crate::wiring::wire;
+use chart_rules::check;
+use chart_text::read_chart;
+use std::alloc::Global;
+
+/// The chart of a text with the setup that is wired for it.
+///
+/// For every deck of at most 999,999 valid cards, the pages that the machine prints in that setup are the chart's
+/// report.
+///
+/// # Errors
+///
+/// `TooLarge`, `NoFirstLine`, `NotALine` or `NoEnd` where the text is no chart, else `Rule` where the chart breaks a
+/// rule, else `NotYet` where a line's form is not served yet; `Memory` where a growth was refused.
+pub fn compile(alloc: Global, bytes: &[u8]) -> Result<Compiled, ChartFault>
+    ensures read { IfOk result (λ compiled. Reads bytes.now compiled.chart) }
+    ensures compiled { IfOk result IsCompiled }
+    ensures prints { IfOk result (λ compiled. PrintsReport compiled.chart compiled.setup) }
+    ensures refused { IfErr result (HasChartFault bytes.now) }
+{
+    let raw = read_chart(alloc, bytes)?;
+    let chart = check(alloc, raw)?;
+    if let Some(line) = first_unserved(chart.lines()) {
+        return Err(ChartFault::NotYet { line });
+    }
+    let setup = wire(alloc, &chart)?;
+    Ok(Compiled::of(chart, setup))
+}

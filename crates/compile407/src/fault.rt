@@ -1,0 +1,122 @@
+//! What can be wrong with a chart, and with a deck of cards for it.
+
+ghost use Rattle.std.specs.Prelude.{◌≡◌};
+ghost use Rattle.compile407.specs.declared.fault.ChartFault.TheVariants as chart;
+ghost use Rattle.compile407.specs.declared.fault.RunFault.TheVariants as deck;
+
+use chart_rules::{Rule, RuleFault};
+use chart_text::TextFault;
+use std::alloc::AllocError;
+use thiserror::Error;
+
+/// Why a chart is refused. A later cause is told only where no earlier one is there.
+#[derive(Clone, Copy, Debug, PartialEq, Eq, Error)]
+pub enum ChartFault {
+    /// The text has more than 500 lines, or a line of more than 200 bytes.
+    #[error("the chart is too large")]
+    TooLarge,
+    /// The first line is not `CHART407 1`.
+    #[error("the chart does not begin with CHART407 1")]
+    NoFirstLine,
+    /// No form of the chart language derives the line with this number, from 1: the first such line.
+    #[error("line {line} is no line of a chart")]
+    NotALine {
+        /// The number of the line.
+        line: u16,
+    },
+    /// There is no line END.
+    #[error("the chart has no END")]
+    NoEnd,
+    /// A rule is broken.
+    #[error("line {line} breaks rule {rule:?}")]
+    Rule {
+        /// The lowest rule that is broken.
+        rule: Rule,
+        /// The number of the lowest line that breaks it.
+        line: u16,
+    },
+    /// The chart is good, and the line with this number is the first whose form is not served yet.
+    #[error("line {line} is not served yet")]
+    NotYet {
+        /// The number of the line.
+        line: u16,
+    },
+    /// A growth was refused.
+    #[error("out of memory")]
+    Memory,
+}
+
+impl From<AllocError> for ChartFault {
+    ghost from_gives = { λ _ fault. fault ≡ chart.Memory };
+
+    fn from(_refused: AllocError) -> ChartFault {
+        ChartFault::Memory
+    }
+}
+
+impl From<TextFault> for ChartFault {
+    ghost use Rattle.compile407.specs.ChartFaults.{of_text};
+
+    ghost from_gives = { λ text fault. fault ≡ of_text text };
+
+    fn from(fault: TextFault) -> ChartFault {
+        match fault {
+            TextFault::TooLarge => ChartFault::TooLarge,
+            TextFault::NoFirstLine => ChartFault::NoFirstLine,
+            TextFault::NotALine { line } => ChartFault::NotALine { line },
+            TextFault::NoEnd => ChartFault::NoEnd,
+            TextFault::Memory => ChartFault::Memory,
+        }
+    }
+}
+
+impl From<RuleFault> for ChartFault {
+    ghost use Rattle.compile407.specs.ChartFaults.{of_rule};
+
+    ghost from_gives = { λ broken fault. fault ≡ of_rule broken };
+
+    fn from(fault: RuleFault) -> ChartFault {
+        match fault {
+            RuleFault::Rule { rule, line } => ChartFault::Rule { rule, line },
+            RuleFault::Memory => ChartFault::Memory,
+        }
+    }
+}
+
+/// Why a deck is refused. A later cause is told only where no earlier one is there.
+#[derive(Clone, Copy, Debug, PartialEq, Eq, Error)]
+pub enum RunFault {
+    /// There are more than 999,999 cards.
+    #[error("more than 999,999 cards")]
+    TooManyCards,
+    /// A text of the card with this number, from 1, holds something that is neither a print character nor blank.
+    #[error("card {card} has no text in the field from column {column} on")]
+    NotText {
+        /// The number of the first invalid card.
+        card: u32,
+        /// The first column of its first invalid field.
+        column: u16,
+    },
+    /// An amount of the card with this number, from 1, is no number.
+    #[error("card {card} has no amount in the field from column {column} on")]
+    NotAmount {
+        /// The number of the first invalid card.
+        card: u32,
+        /// The first column of its first invalid field.
+        column: u16,
+    },
+    /// The report has more than one page, which is not served yet.
+    #[error("the report has more than one page")]
+    TooLong,
+    /// A growth was refused.
+    #[error("out of memory")]
+    Memory,
+}
+
+impl From<AllocError> for RunFault {
+    ghost from_gives = { λ _ fault. fault ≡ deck.Memory };
+
+    fn from(_refused: AllocError) -> RunFault {
+        RunFault::Memory
+    }
+}
