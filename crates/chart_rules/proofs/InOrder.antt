@@ -1,10 +1,10 @@
 -- The list of the rules has each rule at the place that its number gives.
-use Rattle.std.proofs.Common.{◌≡◌, ℕ, zero, suc, ◌+◌, ◌-◌, ◌<◌, ◌≤◌, List, [], ◌∷◌, length, Option, Some, None, slice_get, IfNone, IfSome, refl, sym, ap, ◌∙◌, arith}
+use Rattle.std.proofs.Common.{◌≡◌, ℕ, zero, suc, ◌+◌, ◌-◌, List, [], ◌∷◌, length, Option, Some, None, slice_get, IfNone, IfSome, refl, ap, arith}
 use Rattle.std.proofs.lemmas.Option.{slice_get_within}
 use Rattle.chart_text.specs.Chart.{Chart}
 use Rattle.chart_rules.specs.declared.rule.Rule.{Rule}
 use Rattle.chart_rules.specs.declared.rule.Rule.TheVariants as rule
-use Rattle.chart_rules.specs.Rules.{number_of, in_order, AreKept, IsKept, IsLawful, IsFirstAmong, IsFirstBroken}
+use Rattle.chart_rules.specs.Rules.{number_of, in_order, AreKept, IsLawful, IsFirstAmong, IsFirstBroken}
 
 -- each rule stands in the list at its number, counted from 21
 pub in_order-at : (each : Rule) → slice_get in_order (number_of each - 21) ≡ Some each

@@ -1,5 +1,5 @@
 -- What a lawful chart keeps, line by line and field by field.
-use Rattle.std.proofs.Common.{◌≡◌, ℕ, zero, suc, ◌≤◌, Bool, true, false, List, [], ◌∷◌, ◌++◌, Option, Some, None, slice_get, not, ◌&&◌, nat_le, refl, sym, ap, ◌∙◌, arith}
+use Rattle.std.proofs.Common.{◌≡◌, ℕ, zero, suc, Bool, true, false, List, [], ◌∷◌, ◌++◌, Option, Some, None, slice_get, refl, sym, ap, ◌∙◌, arith}
 use Rattle.std.specs.List.{cons_option}
 use Rattle.std.proofs.lemmas.Bool.Decides.{nat_tests}
 use Rattle.chart_text.specs.Chart.{Chart}
@@ -12,7 +12,7 @@ use Rattle.chart_rules.specs.declared.rule.Rule.TheVariants as rule
 use Rattle.chart_rules.specs.Columns.{breaks_columns}
 use Rattle.chart_rules.specs.Fields.{field_of, fields_of}
 use Rattle.chart_rules.specs.OnCard.{IsOnCard, AreOnCard}
-use Rattle.chart_rules.specs.Rules.{breaks, Broken, by_line, IsKept, IsLawful}
+use Rattle.chart_rules.specs.Rules.{breaks, by_line, IsKept, IsLawful}
 
 -- a line of a chart that keeps a rule doesn't break it
 pub breaks-kept : (each : Rule) (chart : Chart) (earlier : List Line) (line : Line) (later : List Line) → IsKept each chart

@@ -1,12 +1,10 @@
 -- Counting punched rows, and the answer for a whole card.
-use Rattle.std.proofs.Common.{◌≡◌, ℕ, zero, suc, ◌+◌, ◌<◌, List, Option, Some, slice_get, length, Result, Ok, Err, IsOk, IfErr, if◌then◌else◌, refl, sym, ap, ◌∙◌, add-one, arith}
+use Rattle.std.proofs.Common.{◌≡◌, ℕ, ◌+◌, List, length, Result, Ok, Err, IsOk, IfErr, if◌then◌else◌, refl, add-one}
 use Rattle.std.proofs.lemmas.Option.{slice_get_within}
 use Rattle.card_code.specs.CardCode.{has_row}
-use Rattle.chart_text.specs.Chart.{Chart}
 use Rattle.chart_text.specs.declared.statement.Field.{Field}
 use Rattle.chart_rules.specs.declared.card.CardFault.{CardFault}
-use Rattle.chart_rules.specs.Fields.{fields_of}
-use Rattle.chart_rules.specs.ValidCard.{punched_below, AreValid, IsValidCard, IsFirstInvalid}
+use Rattle.chart_rules.specs.ValidCard.{punched_below, AreValid, IsFirstInvalid}
 
 -- below row 0 none is punched
 pub punched_below-none : (rows : ℕ) → punched_below rows 0 ≡ 0

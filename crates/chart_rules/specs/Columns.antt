@@ -1,6 +1,5 @@
 -- Rules on the columns of a field: they are columns of the card, and an amount is not too large.
 use Rattle.std.specs.Prelude.{ℕ, Bool, true, false, Option, Some, None, not, ◌&&◌, ◌||◌, nat_le, nat_lt}
-use Rattle.chart_text.specs.declared.statement.Field.{Field}
 use Rattle.chart_text.specs.declared.statement.FieldKind.{FieldKind}
 use Rattle.chart_text.specs.declared.statement.FieldKind.TheVariants as holds
 use Rattle.chart_text.specs.declared.statement.Statement.{Statement}

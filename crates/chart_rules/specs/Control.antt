@@ -1,5 +1,5 @@
 -- Rules on control levels: a total or an indicated field has its level controlled, and a text on a total line controls it.
-use Rattle.std.specs.Prelude.{ℕ, Bool, true, false, List, Option, Some, None, not, ◌&&◌, ◌==◌, nat_le, if◌then◌else◌}
+use Rattle.std.specs.Prelude.{ℕ, Bool, false, List, Option, Some, None, not, ◌&&◌, ◌==◌, nat_le, if◌then◌else◌}
 use Rattle.std.specs.List.{list_any}
 use Rattle.chart_text.specs.declared.chart.Line.{Line}
 use Rattle.chart_text.specs.declared.statement.DetailOption.TheVariants as shown

@@ -1,5 +1,5 @@
 -- A rule on the digits of a total.
-use Rattle.std.specs.Prelude.{ℕ, Bool, true, false, List, Option, Some, None, is_some, ◌&&◌, ◌||◌, nat_lt}
+use Rattle.std.specs.Prelude.{ℕ, Bool, false, List, Option, Some, None, is_some, ◌&&◌, ◌||◌, nat_lt}
 use Rattle.chart_text.specs.declared.statement.Field.{Field}
 use Rattle.chart_text.specs.declared.statement.Statement.{Statement}
 use Rattle.chart_text.specs.declared.statement.Statement.TheVariants as says

@@ -15,8 +15,8 @@ abbrev pub heading_count : List Line → ℕ
 heading_count [] = 0
 heading_count (line ∷ lines) = max (heading_of line.statement) (heading_count lines)
 
--- whether a form has room for so many heading lines: the first line is at least 1, the last heading line (the first line
--- where there is none) stands above the overflow line, two lines follow the overflow line, and there are at most 144 lines
+-- whether a form has room for so many heading lines: the first line is at least 1, the last heading line (the first
+-- line where there is none) stands above the overflow line, and two lines follow that one, of at most 144
 abbrev pub has_room : ℕ → ℕ → ℕ → ℕ → Bool
 has_room headings lines first overflow =
     nat_le 1 first && nat_lt (first + max headings 1 - 1) overflow && nat_le (overflow + 2) lines && nat_le lines 144

@@ -1,6 +1,6 @@
 -- The items of a chart: what its lines put on the lines of the report, and on which print wheels.
-use Rattle.std.specs.Prelude.{ℕ, ◌+◌, Bool, true, false, List, Option, Some, None, option_map, length, nat_lt, if◌then◌else◌, ◌==◌}
-use Rattle.chart_text.specs.declared.statement.BodyLine.{BodyLine}
+use Rattle.std.specs.Prelude.{ℕ, ◌+◌, Bool, false, List, Option, Some, None, option_map, length, nat_lt, ◌==◌}
+use Rattle.std.specs.Prelude.{if◌then◌else◌}
 use Rattle.chart_text.specs.declared.statement.BodyLine.TheVariants as body
 use Rattle.chart_text.specs.declared.statement.DetailOption.{DetailOption}
 use Rattle.chart_text.specs.declared.statement.DetailOption.TheVariants as shown
@@ -50,7 +50,8 @@ text_item line wheel characters = record { line = line; first = wheel; end = whe
 
 -- an amount, from a wheel on
 abbrev pub figure_item : PrintedLine → ℕ → Figure → Item
-figure_item line wheel figure = record { line = line; first = wheel; end = wheel + figure_width figure; figure = Some figure }
+figure_item line wheel figure =
+    record { line = line; first = wheel; end = wheel + figure_width figure; figure = Some figure }
 
 -- the mark that an option of a field on the line of a card gives it
 abbrev pub mark_shown : DetailOption → Option Mark
@@ -63,17 +64,22 @@ detail_item wheel shown columns holds.Text = text_item (Body body.Detail) wheel 
 detail_item wheel shown columns (holds.Amount decimals rule) =
     figure_item (Body body.Detail) wheel (record { digits = columns; decimals = decimals; mark = mark_shown shown })
 
--- the item that a line of the chart is, if it is one: a literal has its characters, a text its columns, a total its digits
+-- a total of an amount: its own digits, and the decimals of the amount
+abbrev pub total_item : ℕ → ℕ → ℕ → Option Mark → FieldKind → Item
+total_item level wheel digits mark kind =
+    figure_item (Body (body.Total level)) wheel (record { digits = digits; decimals = decimals_of kind; mark = mark })
+
+-- the item that a line of the chart is, if it is one: a literal has its characters, a text its columns, a total its
+-- digits
 abbrev pub item_of : List Field → Statement → Option Item
 item_of fields (says.Head level wheel literal) = Some (text_item (Heading level) wheel (length literal))
 item_of fields (says.DetailLiteral wheel literal) = Some (text_item (Body body.Detail) wheel (length literal))
 item_of fields (says.DetailField wheel name shown) =
     option_map (λ field. detail_item wheel shown (columns_of field) field.kind) (first_named fields name)
-item_of fields (says.TotalLiteral level wheel literal) = Some (text_item (Body (body.Total level)) wheel (length literal))
+item_of fields (says.TotalLiteral level wheel literal) =
+    Some (text_item (Body (body.Total level)) wheel (length literal))
 item_of fields (says.TotalText level wheel name) =
     option_map (λ field. text_item (Body (body.Total level)) wheel (columns_of field)) (first_named fields name)
 item_of fields (says.TotalAmount level wheel name digits mark) =
-    option_map
-    (λ field. figure_item (Body (body.Total level)) wheel (record { digits = digits; decimals = decimals_of field.kind; mark = mark }))
-    (first_named fields name)
+    option_map (λ field. total_item level wheel digits mark field.kind) (first_named fields name)
 item_of fields other = None

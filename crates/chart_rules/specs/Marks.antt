@@ -1,6 +1,5 @@
 -- A rule on marks and sign columns: an amount item has a mark exactly where the amount has a sign column.
-use Rattle.std.specs.Prelude.{ℕ, Bool, true, false, List, Option, Some, None, not, is_some, ◌&&◌}
-use Rattle.chart_text.specs.declared.statement.DetailOption.TheVariants as shown
+use Rattle.std.specs.Prelude.{Bool, true, false, List, Option, Some, None, not, is_some}
 use Rattle.chart_text.specs.declared.statement.Field.{Field}
 use Rattle.chart_text.specs.declared.statement.FieldKind.{FieldKind}
 use Rattle.chart_text.specs.declared.statement.FieldKind.TheVariants as holds
@@ -27,6 +26,8 @@ is_mismatched None mark = false
 
 -- Mark mismatch: an amount item with a mark without a sign column, or the reverse.
 abbrev pub breaks_mark_mismatch : List Field → Statement → Bool
-breaks_mark_mismatch fields (says.DetailField wheel name shown) = is_mismatched (first_named fields name) (mark_shown shown)
-breaks_mark_mismatch fields (says.TotalAmount level wheel name digits mark) = is_mismatched (first_named fields name) mark
+breaks_mark_mismatch fields (says.DetailField wheel name shown) =
+    is_mismatched (first_named fields name) (mark_shown shown)
+breaks_mark_mismatch fields (says.TotalAmount level wheel name digits mark) =
+    is_mismatched (first_named fields name) mark
 breaks_mark_mismatch fields other = false

@@ -1,5 +1,5 @@
 -- Rules on names: a name stands on one FIELD line, each name has one, and it stands for a field of the right kind.
-use Rattle.std.specs.Prelude.{ℕ, Bool, true, false, List, Option, Some, None, is_some, is_none, not, ◌&&◌}
+use Rattle.std.specs.Prelude.{ℕ, Bool, false, List, Option, Some, None, is_some, is_none, not}
 use Rattle.chart_text.specs.declared.statement.Field.{Field}
 use Rattle.chart_text.specs.declared.statement.DetailOption.TheVariants as shown
 use Rattle.chart_text.specs.declared.statement.Statement.{Statement}

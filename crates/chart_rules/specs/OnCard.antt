@@ -1,5 +1,5 @@
 -- Fields whose columns are columns of the card.
-use Rattle.std.specs.Prelude.{◌≡◌, ℕ, ◌<◌, ◌≤◌, List, Some, length, slice_get}
+use Rattle.std.specs.Prelude.{◌≡◌, ℕ, ◌≤◌, List, Some, slice_get}
 use Rattle.chart_text.specs.declared.statement.Field.{Field}
 
 -- the columns of a field are columns of the card, in order

@@ -1,4 +1,4 @@
--- A rule on what is printed: each kind of body line that a chart speaks of has items, and GROUP prints no line of a card.
+-- A rule on what is printed: each kind of body line that a chart speaks of has items, and GROUP prints totals alone.
 use Rattle.std.specs.Prelude.{Bool, true, false, List, Option, Some, None, not}
 use Rattle.std.specs.List.{list_any}
 use Rattle.chart_text.specs.declared.chart.Line.{Line}
@@ -8,7 +8,7 @@ use Rattle.chart_text.specs.declared.statement.Printing.TheVariants as print
 use Rattle.chart_text.specs.declared.statement.Statement.{Statement}
 use Rattle.chart_text.specs.declared.statement.Statement.TheVariants as says
 use Rattle.chart_rules.specs.declared.items.PrintedLine.{PrintedLine}
-use Rattle.chart_rules.specs.declared.items.PrintedLine.TheVariants.{Heading, Body}
+use Rattle.chart_rules.specs.declared.items.PrintedLine.TheVariants.{Body}
 use Rattle.chart_rules.specs.Items.{printed_line_of, is_same_line}
 
 -- whether a printed line, if there is one, is a kind of body line
@@ -43,8 +43,8 @@ is_print_group other = false
 abbrev pub prints_group : List Line → Bool
 prints_group lines = list_any (λ line. is_print_group line.statement) lines
 
--- Print kind: PRINT DETAIL without a DETAIL item or PRINT GROUP without a TOTAL item; a DETAIL item under PRINT GROUP; SPACE
--- or AFTER of a kind without items.
+-- Print kind: PRINT DETAIL without a DETAIL item or PRINT GROUP without a TOTAL item; a DETAIL item under PRINT GROUP;
+-- SPACE or AFTER of a kind without items.
 abbrev pub breaks_print_kind : List Line → Statement → Bool
 breaks_print_kind lines (says.Print print.Detail) = not (has_item_of lines body.Detail)
 breaks_print_kind lines (says.Print print.Group) = not (has_total_item lines)

@@ -1,5 +1,6 @@
--- Rules on the print wheels of the items: they are wheels of the machine, and items that may print at one time share none.
-use Rattle.std.specs.Prelude.{ℕ, ◌+◌, Bool, true, false, List, Option, Some, None, max, min, not, is_some, ◌&&◌, ◌||◌, ◌==◌, nat_lt, nat_le}
+-- Rules on the print wheels of the items: they are wheels of the machine, and only items that agree share them.
+use Rattle.std.specs.Prelude.{ℕ, ◌<◌, ◌≤◌, Bool, true, false, List, Option, Some, None, max, min, not, is_none}
+use Rattle.std.specs.Prelude.{◌&&◌, ◌||◌, ◌==◌, nat_lt, nat_le}
 use Rattle.std.specs.List.{list_any}
 use Rattle.chart_text.specs.declared.chart.Line.{Line}
 use Rattle.chart_text.specs.declared.statement.Field.{Field}
@@ -21,7 +22,11 @@ is_off_wheels None = false
 abbrev pub breaks_wheel_range : List Field → Statement → Bool
 breaks_wheel_range fields statement = is_off_wheels (item_of fields statement)
 
--- whether two items meet: they have a wheel in common
+-- a wheel is one of those that an item takes
+abbrev pub HasWheel : Item → ℕ → Type 0
+HasWheel item wheel = (item.first ≤ wheel) × (wheel < item.end)
+
+-- whether two items meet: they have a wheel in common, since the later first wheel stands before the earlier end
 abbrev pub meet : Item → Item → Bool
 meet one other = nat_lt (max one.first other.first) (min one.end other.end)
 
@@ -55,16 +60,21 @@ is_same_style one other = false
 -- whether two items may share wheels: neither is an amount, or both are with the same last wheel, decimals and mark
 abbrev pub may_share : Item → Item → Bool
 may_share one other =
-    (not (is_some one.figure) && not (is_some other.figure)) || ((one.end == other.end) && is_same_style one.figure other.figure)
+    (is_none one.figure && is_none other.figure)
+    || ((one.end == other.end) && is_same_style one.figure other.figure)
 
 -- whether two lines of a chart are items of different body lines that meet and may not share wheels
 abbrev pub clash : Option Item → Option Item → Bool
 clash (Some one) (Some other) =
-    is_body one.line && is_body other.line && not (is_same_line one.line other.line) && meet one other && not (may_share one other)
+    is_body one.line
+    && is_body other.line
+    && not (is_same_line one.line other.line)
+    && meet one other
+    && not (may_share one other)
 clash one other = false
 
--- Wheel clash: the later of two items of different body lines that meet, at least one an amount, unless both are amounts
--- with the same last wheel, decimals and mark.
+-- Wheel clash: the later of two items of different body lines that meet, at least one an amount, unless both are
+-- amounts with the same last wheel, decimals and mark.
 abbrev pub breaks_wheel_clash : List Field → List Line → Statement → Bool
 breaks_wheel_clash fields earlier statement =
     list_any (λ line. clash (item_of fields line.statement) (item_of fields statement)) earlier

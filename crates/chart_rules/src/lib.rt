@@ -26,3 +26,6 @@ pub use checking::check;
 pub use fault::RuleFault;
 pub use items::{Figure, Item, PrintedLine};
 pub use rule::Rule;
+
+#[cfg(test)]
+mod tests;

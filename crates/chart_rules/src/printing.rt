@@ -1,4 +1,4 @@
-//! The rule on what is printed: each kind of body line that a chart speaks of has items, and GROUP prints no line of a card.
+//! The rule on what is printed: each kind of body line that a chart speaks of has items, and GROUP prints totals alone.
 
 ghost use Rattle.std.specs.Prelude.{◌≡◌};
 ghost use Rattle.chart_rules.specs.Items.{printed_line_of};

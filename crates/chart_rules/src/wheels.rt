@@ -1,7 +1,6 @@
-//! The rules on the print wheels of the items: they are wheels of the machine, and items that may print at one time share
-//! none.
+//! The rules on the print wheels of the items: they are wheels of the machine, and only items that agree share them.
 
-ghost use Rattle.std.specs.Prelude.{◌≡◌};
+ghost use Rattle.std.specs.Prelude.{◌≡◌, ◌↔◌, ℕ, IsTrue};
 ghost use Rattle.chart_rules.specs.Wheels as rule;
 
 use crate::fields::Fields;
@@ -20,7 +19,8 @@ pub(crate) fn leaves_wheels(fields: &Fields, statement: &Statement) -> bool
 
 /// Whether two items have a wheel in common.
 fn meet(one: Item, other: Item) -> bool
-    ensures { result ≡ rule.meet one other }
+    ensures value { result ≡ rule.meet one other }
+    ensures common { IsTrue result ↔ ((wheel : ℕ) × rule.HasWheel one wheel × rule.HasWheel other wheel) }
 {
     one.first.max(other.first) < one.end.min(other.end)
 }

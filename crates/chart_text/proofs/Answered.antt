@@ -3,16 +3,18 @@ use Rattle.std.proofs.Common.{◌≡◌, ℕ, List, Result, Ok, Err, IfOk, IfErr
 use Rattle.chart_text.specs.Chart.{Chart}
 use Rattle.chart_text.specs.ChartText.{Reads}
 use Rattle.chart_text.specs.TextFaults.{HasFault}
-use Rattle.chart_text.specs.TextReading.{chart_of, Faults, Answers}
+use Rattle.chart_text.specs.TextReading.{chart_of, Answers}
 use Rattle.chart_text.specs.declared.fault.TextFault.{TextFault}
 use Rattle.chart_text.specs.declared.fault.TextFault.TheVariants.{TooLarge, NoFirstLine, NotALine, NoEnd, Memory}
 use Rattle.chart_text.proofs.ChartGrammar.{fault_is, fault_read, reads_is, reads_read}
 
-pub read_by : (text : List ℕ) (answer : Result Chart TextFault) → Answers answer (chart_of text) → IfOk answer (λ chart. Reads text chart)
+pub read_by : (text : List ℕ) (answer : Result Chart TextFault) → Answers answer (chart_of text)
+    → IfOk answer (λ chart. Reads text chart)
 read_by text (Ok chart) read = reads_is text chart read
 read_by text (Err fault) read = tt
 
-pub fault_by : (text : List ℕ) (answer : Result Chart TextFault) → Answers answer (chart_of text) → IfErr answer (λ fault. (fault ≡ Memory) ⊎ HasFault text fault)
+pub fault_by : (text : List ℕ) (answer : Result Chart TextFault) → Answers answer (chart_of text)
+    → IfErr answer (λ fault. (fault ≡ Memory) ⊎ HasFault text fault)
 fault_by text (Ok chart) read = tt
 fault_by text (Err Memory) read = inl refl
 fault_by text (Err TooLarge) read = inr (fault_is text TooLarge read)

@@ -1,15 +1,13 @@
 -- A text is a chart exactly where the reader answers it, and has exactly the fault that the reader answers.
-use Rattle.std.proofs.Common.{◌≡◌, ℕ, ◌+◌, ◌-◌, ◌<◌, ◌≤◌, Bool, true, false, cond, ltb, ◌||◌, ◌&&◌, List, [], ◌∷◌, ◌++◌, length, get_or, Option, Some, None, Result, Ok, Err, suc, refl, ap, sym, ◌∙◌, subst, inl, inr, ◌⊎◌, ⊎_elim, arith, codes}
-use Rattle.std.proofs.Math.Numerals.{add-one}
-use Rattle.std.proofs.lemmas.Bool.{ltb-true, ltb-false, lt-ltb, le-ltb, and_parts, or_cases, cases_order, both_ways}
+use Rattle.std.proofs.Common.{◌≡◌, ℕ, ◌+◌, ◌-◌, ◌<◌, ◌≤◌, Bool, true, false, cond, ltb, ◌||◌, List, [], ◌∷◌, length, get_or, Option, Some, None, Result, Ok, Err, suc, refl, ap, sym, ◌∙◌, subst, inl, inr, ◌⊎◌, arith, codes}
+use Rattle.std.proofs.lemmas.Bool.{ltb-true, lt-ltb, and_parts, or_cases, cases_order, both_ways}
 use Rattle.std.proofs.lemmas.Option.{same_Some}
 use Rattle.std.proofs.lemmas.List.Folds.{Any-from_list_any, list_any-from_Any}
-use Rattle.std.specs.List.{AllByRecursion, list_any, Any}
+use Rattle.std.specs.List.{AllByRecursion, list_any}
 use Rattle.std.specs.Str.{bytes_eq}
 use Rattle.card_code.specs.Lines.{lines_of}
 use Rattle.chart_text.specs.Chart.{Chart}
 use Rattle.chart_text.specs.Tokens.{HasTokens}
-use Rattle.chart_text.specs.Forms.{Says}
 use Rattle.chart_text.specs.ChartText.{IsEmptyLine, IsEndLine, IsFirstLine, IsFormLine, IsTooLarge, ReadsFrom, empty_line, form_line, end_line, Reads}
 use Rattle.chart_text.specs.TextFaults.{line_at, IsBehindFirst, HasFirstLine, IsBehindEnd, IsNoForm, IsMisplaced, IsLowestMisplaced, LacksEnd, HasFault, HaveFault}
 use Rattle.chart_text.specs.Reading.{tokens_of, statement_of}
@@ -32,7 +30,8 @@ IsContent line (Form statement) = IsFormLine line statement
 IsContent line NoForm = IsNoForm line
 
 -- the tokens that a line has, against those that are read
-same_tokens : (line : List ℕ) (tokens others : List (List ℕ)) → HasTokens line others → tokens_of line ≡ Some tokens → others ≡ tokens
+same_tokens : (line : List ℕ) (tokens others : List (List ℕ)) → HasTokens line others → tokens_of line ≡ Some tokens
+    → others ≡ tokens
 same_tokens line tokens others has read = same_Some others tokens (sym (read_what_it_has has) ∙ read)
 
 no_division : (line : List ℕ) (tokens : List (List ℕ)) → tokens_of line ≡ None → HasTokens line tokens → ⊥
@@ -41,16 +40,24 @@ no_division line tokens read has =
     cc
 
 -- tokens that are no form
-no_form_said : (line : List ℕ) (tokens : List (List ℕ)) (statement : Statement) → tokens_of line ≡ Some tokens → statement_of tokens ≡ None → IsFormLine line statement → ⊥
+no_form_said : (line : List ℕ) (tokens : List (List ℕ)) (statement : Statement) → tokens_of line ≡ Some tokens
+    → statement_of tokens ≡ None → IsFormLine line statement → ⊥
 no_form_said line tokens statement read none is =
     let said : statement_of tokens ≡ Some statement =
     ap statement_of (sym (same_tokens line tokens is.tokens is.divided read)) ∙ read_what_it_says is.said in
     cc
 
-form_is : (line : List ℕ) (tokens : List (List ℕ)) (content : Content) (said : Option Statement) → tokens_of line ≡ Some tokens → statement_of tokens ≡ said
+form_is : (line : List ℕ) (tokens : List (List ℕ)) (content : Content) (said : Option Statement)
+    → tokens_of line ≡ Some tokens → statement_of tokens ≡ said
     → (tokens ≡ [] → ⊥) → (tokens ≡ codes "END" ∷ [] → ⊥) → form_content said ≡ content → IsContent line content
 form_is line tokens content (Some statement) read says some no_end same =
-    subst (IsContent line) same (record { tokens = tokens; divided = has_what_is_read line tokens read; said = says_what_is_read tokens statement says })
+    subst (IsContent line) same
+    (record {
+      tokens = tokens;
+      divided = has_what_is_read line tokens read;
+      said = says_what_is_read tokens
+          statement says;
+    })
 form_is line tokens content None read says some no_end same =
     subst (IsContent line) same
     (record {
@@ -59,7 +66,8 @@ form_is line tokens content None read says some no_end same =
       not_form = λ statement is. no_form_said line tokens statement read says is;
     })
 
-end_or_form : (line word : List ℕ) (content : Content) (test : Bool) → tokens_of line ≡ Some (word ∷ []) → bytes_eq word (codes "END") ≡ test
+end_or_form : (line word : List ℕ) (content : Content) (test : Bool) → tokens_of line ≡ Some (word ∷ [])
+    → bytes_eq word (codes "END") ≡ test
     → cond test End (form_content (statement_of (word ∷ []))) ≡ content → IsContent line content
 end_or_form line word content true read tests same =
     subst (IsContent line) same
@@ -73,7 +81,8 @@ end_or_form line word content false read tests same =
         let yes : bytes_eq word (codes "END") ≡ true = ap (λ w. bytes_eq w (codes "END")) is in
         cc
 
-content_is : (line : List ℕ) (content : Content) (tokens : Option (List (List ℕ))) → tokens_of line ≡ tokens → divided_content tokens ≡ content → IsContent line content
+content_is : (line : List ℕ) (content : Content) (tokens : Option (List (List ℕ))) → tokens_of line ≡ tokens
+    → divided_content tokens ≡ content → IsContent line content
 content_is line content None read same =
     subst (IsContent line) same
     (record {
@@ -82,7 +91,8 @@ content_is line content None read same =
       not_form = λ statement is. no_division line is.tokens read is.divided;
     })
 content_is line content (Some []) read same = subst (IsContent line) same (has_what_is_read line [] read)
-content_is line content (Some (word ∷ [])) read same = end_or_form line word content (bytes_eq word (codes "END")) read refl same
+content_is line content (Some (word ∷ [])) read same = end_or_form line word content
+    (bytes_eq word (codes "END")) read refl same
 content_is line content (Some (word ∷ next ∷ others)) read same =
     form_is line (word ∷ next ∷ others) content (statement_of (word ∷ next ∷ others)) read refl (λ e. cc) (λ e. cc) same
 
@@ -99,12 +109,14 @@ end_read : (line : List ℕ) → IsEndLine line → content_of line ≡ End
 unfolding content_of
 end_read line has = ap divided_content (read_what_it_has has)
 
-form_of_tokens : (tokens : List (List ℕ)) (statement : Statement) → statement_of tokens ≡ Some statement → tokens_content tokens ≡ Form statement
+form_of_tokens : (tokens : List (List ℕ)) (statement : Statement) → statement_of tokens ≡ Some statement
+    → tokens_content tokens ≡ Form statement
 unfolding statement_of
 form_of_tokens [] statement read = cc
 form_of_tokens (word ∷ []) statement read = by_test (bytes_eq word (codes "END")) refl
   where
-    by_test : (b : Bool) → bytes_eq word (codes "END") ≡ b → cond b End (form_content (statement_of (word ∷ []))) ≡ Form statement
+    by_test : (b : Bool) → bytes_eq word (codes "END") ≡ b → cond b End (form_content (statement_of (word ∷ [])))
+        ≡ Form statement
     by_test true e =
         let none : statement_of (word ∷ []) ≡ None = ap (λ w. statement_of (w ∷ [])) (is_word word (codes "END") e) in
         cc
@@ -113,24 +125,31 @@ form_of_tokens (word ∷ next ∷ others) statement read = ap form_content read
 
 form_read : (line : List ℕ) (statement : Statement) → IsFormLine line statement → content_of line ≡ Form statement
 unfolding content_of
-form_read line statement is = ap divided_content (read_what_it_has is.divided) ∙ form_of_tokens is.tokens statement (read_what_it_says is.said)
+form_read line statement is = ap divided_content (read_what_it_has is.divided)
+    ∙ form_of_tokens is.tokens statement (read_what_it_says is.said)
 
 -- the lines from a number on, by the first of them
-chart_from-cons : (e : Option ℕ) (number : ℕ) (line : List ℕ) (lines : List (List ℕ)) (content : Content) → content_of line ≡ content
+chart_from-cons : (e : Option ℕ) (number : ℕ) (line : List ℕ) (lines : List (List ℕ)) (content : Content)
+    → content_of line ≡ content
     → chart_from e number (line ∷ lines) ≡ line_then e number content (λ e'. chart_from e' (suc number) lines)
 unfolding chart_from
-chart_from-cons None number line lines content is = ap (λ c. line_then None number c (λ e'. chart_from e' (suc number) lines)) is
-chart_from-cons (Some last) number line lines content is = ap (λ c. line_then (Some last) number c (λ e'. chart_from e' (suc number) lines)) is
+chart_from-cons None number line lines content is = ap
+    (λ c. line_then None number c (λ e'. chart_from e' (suc number) lines)) is
+chart_from-cons (Some last) number line lines content is = ap
+    (λ c. line_then (Some last) number c (λ e'. chart_from e' (suc number) lines)) is
 
 -- behind END
-empties_read : (lines : List (List ℕ)) (number last : ℕ) → AllByRecursion IsEmptyLine lines → chart_from (Some last) number lines ≡ Ok (record { lines = []; end = last })
+empties_read : (lines : List (List ℕ)) (number last : ℕ) → AllByRecursion IsEmptyLine lines
+    → chart_from (Some last) number lines ≡ Ok (record { lines = []; end = last })
 unfolding chart_from
 empties_read [] number last all = refl
 empties_read (line ∷ lines) number last all =
-    chart_from-cons (Some last) number line lines Empty (empty_read line all.0) ∙ empties_read lines (suc number) last all.1
+    chart_from-cons (Some last) number line lines Empty (empty_read line all.0)
+    ∙ empties_read lines (suc number) last all.1
 
 -- a chart is read
-chart_read : {number last : ℕ} {lines : List (List ℕ)} {said : List Line} → ReadsFrom number lines said last → chart_from None number lines ≡ Ok (record { lines = said; end = last })
+chart_read : {number last : ℕ} {lines : List (List ℕ)} {said : List Line} → ReadsFrom number lines said last
+    → chart_from None number lines ≡ Ok (record { lines = said; end = last })
 chart_read (empty_line {number} {end = last} {line} {lines} {said} is reads) =
     chart_from-cons None number line lines Empty (empty_read line is) ∙ chart_read reads
 chart_read (form_line {number} {end = last} {line} {lines} {said} {statement} is reads) =
@@ -145,9 +164,11 @@ record EndsAt (last : ℕ) (lines : List (List ℕ)) (chart : Chart) : Type 0 wh
   nothing : chart.lines ≡ []
   at : chart.end ≡ last
 
-by_content : (content : Content) (line : List ℕ) (lines : List (List ℕ)) (number last : ℕ) (chart : Chart) → content_of line ≡ content
+by_content : (content : Content) (line : List ℕ) (lines : List (List ℕ)) (number last : ℕ) (chart : Chart)
+    → content_of line ≡ content
     → ((n : ℕ) → chart_from (Some last) n lines ≡ Ok chart → EndsAt last lines chart)
-    → line_then (Some last) number content (λ e'. chart_from e' (suc number) lines) ≡ Ok chart → EndsAt last (line ∷ lines) chart
+    → line_then (Some last) number content (λ e'. chart_from e' (suc number) lines) ≡ Ok chart
+    → EndsAt last (line ∷ lines) chart
 by_content Empty line lines number last chart is rest read =
     let r = rest (suc number) read in
     record { all = (is_content line Empty is, r.all); nothing = r.nothing; at = r.at }
@@ -161,7 +182,8 @@ answered chart = Ok chart
 same_ok : (a b : Chart) → answered a ≡ answered b → a ≡ b
 same_ok a b e = cc
 
-ends_at : (lines : List (List ℕ)) (number last : ℕ) (chart : Chart) → chart_from (Some last) number lines ≡ Ok chart → EndsAt last lines chart
+ends_at : (lines : List (List ℕ)) (number last : ℕ) (chart : Chart) → chart_from (Some last) number lines ≡ Ok chart
+    → EndsAt last lines chart
 unfolding chart_from
 ends_at [] number last chart read =
     let c : Chart = record { lines = []; end = last } in
@@ -171,25 +193,31 @@ ends_at (line ∷ lines) number last chart read =
     by_content (content_of line) line lines number last chart refl (λ n. ends_at lines n last chart) read
 
 -- what is read is a chart
-reads_by : (content : Content) (line : List ℕ) (lines : List (List ℕ)) (number : ℕ) (chart : Chart) → content_of line ≡ content
+reads_by : (content : Content) (line : List ℕ) (lines : List (List ℕ)) (number : ℕ) (chart : Chart)
+    → content_of line ≡ content
     → ((n : ℕ) (c : Chart) → chart_from None n lines ≡ Ok c → ReadsFrom n lines c.lines c.end)
-    → line_then None number content (λ e'. chart_from e' (suc number) lines) ≡ Ok chart → ReadsFrom number (line ∷ lines) chart.lines chart.end
-reads_by Empty line lines number chart is rest read = empty_line (is_content line Empty is) (rest (suc number) chart read)
+    → line_then None number content (λ e'. chart_from e' (suc number) lines) ≡ Ok chart
+    → ReadsFrom number (line ∷ lines) chart.lines chart.end
+reads_by Empty line lines number chart is rest read = empty_line (is_content line Empty is)
+    (rest (suc number) chart read)
 reads_by End line lines number chart is rest read =
     let r = ends_at lines (suc number) number chart read in
     subst (λ (said : List Line). ReadsFrom number (line ∷ lines) said chart.end) (sym r.nothing)
     (subst (λ (last : ℕ). ReadsFrom number (line ∷ lines) [] last) (sym r.at) (end_line (is_content line End is) r.all))
-reads_by (Form statement) line lines number chart is rest read = by_others (chart_from None (suc number) lines) refl read
+reads_by (Form statement) line lines number chart is rest read = by_others
+    (chart_from None (suc number) lines) refl read
   where
     by_others : (others : Result Chart TextFault) → chart_from None (suc number) lines ≡ others
-        → with_lines (record { number = number; statement = statement } ∷ []) others ≡ Ok chart → ReadsFrom number (line ∷ lines) chart.lines chart.end
+        → with_lines (record { number = number; statement = statement } ∷ []) others ≡ Ok chart
+        → ReadsFrom number (line ∷ lines) chart.lines chart.end
     by_others (Ok c) found same =
         subst (λ (x : Chart). ReadsFrom number (line ∷ lines) x.lines x.end) (same_ok _ chart same)
         (form_line (is_content line (Form statement) is) (rest (suc number) c found))
     by_others (Err fault) found same = cc
 reads_by NoForm line lines number chart is rest read = cc
 
-reads_what_is_read : (lines : List (List ℕ)) (number : ℕ) (chart : Chart) → chart_from None number lines ≡ Ok chart → ReadsFrom number lines chart.lines chart.end
+reads_what_is_read : (lines : List (List ℕ)) (number : ℕ) (chart : Chart) → chart_from None number lines ≡ Ok chart
+    → ReadsFrom number lines chart.lines chart.end
 unfolding chart_from
 reads_what_is_read [] number chart read = cc
 reads_what_is_read (line ∷ lines) number chart read =
@@ -202,7 +230,8 @@ record Stands (all : List (List ℕ)) (number : ℕ) (rest : List (List ℕ)) : 
   at : (k : ℕ) → k < length rest → get_or rest k [] ≡ line_at all (number + k)
 
 -- one line on
-next_stands : (all : List (List ℕ)) (number : ℕ) (line : List ℕ) (rest : List (List ℕ)) → Stands all number (line ∷ rest) → Stands all (suc number) rest
+next_stands : (all : List (List ℕ)) (number : ℕ) (line : List ℕ) (rest : List (List ℕ))
+    → Stands all number (line ∷ rest) → Stands all (suc number) rest
 next_stands all number line rest is = record {
   from = omega (arith, is.from);
   size = omega (arith, is.size);
@@ -213,7 +242,8 @@ next_stands all number line rest is = record {
     moved number k = omega arith
 
 -- the line that stands at a number
-stands_here : (all : List (List ℕ)) (number : ℕ) (line : List ℕ) (rest : List (List ℕ)) → Stands all number (line ∷ rest) → line ≡ line_at all number
+stands_here : (all : List (List ℕ)) (number : ℕ) (line : List ℕ) (rest : List (List ℕ))
+    → Stands all number (line ∷ rest) → line ≡ line_at all number
 stands_here all number line rest is = is.at 0 (omega arith) ∙ ap (line_at all) (none_more number)
   where
     none_more : (number : ℕ) → number + 0 ≡ number
@@ -236,7 +266,8 @@ Outcome all (Err TooLarge) = ⊥
 Outcome all (Err NoFirstLine) = ⊥
 Outcome all (Err Memory) = ⊥
 
-with_lines_outcome : (all : List (List ℕ)) (front : List Line) (read : Result Chart TextFault) → Outcome all read → Outcome all (with_lines front read)
+with_lines_outcome : (all : List (List ℕ)) (front : List Line) (read : Result Chart TextFault) → Outcome all read
+    → Outcome all (with_lines front read)
 with_lines_outcome all front (Ok chart) is = is
 with_lines_outcome all front (Err (NotALine n)) is = is
 with_lines_outcome all front (Err NoEnd) is = is
@@ -245,7 +276,8 @@ with_lines_outcome all front (Err NoFirstLine) is = is
 with_lines_outcome all front (Err Memory) is = is
 
 -- a line that is not misplaced, behind good lines
-good_more : (all : List (List ℕ)) (number : ℕ) → GoodBelow all number → (IsMisplaced all number → ⊥) → GoodBelow all (suc number)
+good_more : (all : List (List ℕ)) (number : ℕ) → GoodBelow all number → (IsMisplaced all number → ⊥)
+    → GoodBelow all (suc number)
 good_more all number good here n below misplaced = by_order (cases_order n number)
   where
     by_order : (n ≡ number) ⊎ ((n < number) ⊎ (number < n)) → ⊥
@@ -253,7 +285,8 @@ good_more all number good here n below misplaced = by_order (cases_order n numbe
     by_order (inr (inl lower)) = good n lower misplaced
     by_order (inr (inr higher)) = absurd (omega (arith, below, higher))
 
-no_end_more : (all : List (List ℕ)) (number : ℕ) → NoEndBelow all number → (IsEndLine (line_at all number) → ⊥) → NoEndBelow all (suc number)
+no_end_more : (all : List (List ℕ)) (number : ℕ) → NoEndBelow all number → (IsEndLine (line_at all number) → ⊥)
+    → NoEndBelow all (suc number)
 no_end_more all number no_end here n below there is_end = by_order (cases_order n number)
   where
     by_order : (n ≡ number) ⊎ ((n < number) ⊎ (number < n)) → ⊥
@@ -262,15 +295,18 @@ no_end_more all number no_end here n below there is_end = by_order (cases_order 
     by_order (inr (inr higher)) = absurd (omega (arith, below, higher))
 
 -- what the line of a number is
-content_at : (all : List (List ℕ)) (number : ℕ) (line : List ℕ) (rest : List (List ℕ)) (content : Content) → Stands all number (line ∷ rest) → content_of line ≡ content
+content_at : (all : List (List ℕ)) (number : ℕ) (line : List ℕ) (rest : List (List ℕ)) (content : Content)
+    → Stands all number (line ∷ rest) → content_of line ≡ content
     → content_of (line_at all number) ≡ content
 content_at all number line rest content stands is = ap content_of (sym (stands_here all number line rest stands)) ∙ is
 
-there_at : (all : List (List ℕ)) (number : ℕ) (line : List ℕ) (rest : List (List ℕ)) → Stands all number (line ∷ rest) → IsBehindFirst all number
+there_at : (all : List (List ℕ)) (number : ℕ) (line : List ℕ) (rest : List (List ℕ)) → Stands all number (line ∷ rest)
+    → IsBehindFirst all number
 there_at all number line rest stands = record { from = stands.from; to = omega (arith, stands.size) }
 
 -- all lines are good where none is left
-all_good : (all : List (List ℕ)) (number : ℕ) → Stands all number [] → GoodBelow all number → (n : ℕ) → IsMisplaced all n → ⊥
+all_good : (all : List (List ℕ)) (number : ℕ) → Stands all number [] → GoodBelow all number → (n : ℕ)
+    → IsMisplaced all n → ⊥
 all_good all number stands good n misplaced = good n (omega (arith, stands.size, misplaced.there.to)) misplaced
 
 -- an empty line is never misplaced
@@ -282,7 +318,8 @@ empty_good all number here misplaced = by_cause misplaced.cause
     by_cause (inr behind) = behind.1 (is_content (line_at all number) Empty here)
 
 -- a line before END is misplaced only where no form derives it
-before_end_good : (all : List (List ℕ)) (number : ℕ) → NoEndBelow all number → (IsNoForm (line_at all number) → ⊥) → IsMisplaced all number → ⊥
+before_end_good : (all : List (List ℕ)) (number : ℕ) → NoEndBelow all number → (IsNoForm (line_at all number) → ⊥)
+    → IsMisplaced all number → ⊥
 before_end_good all number no_end a_form misplaced = by_cause misplaced.cause
   where
     by_cause : IsNoForm (line_at all number) ⊎ (IsBehindEnd all number × (IsEmptyLine (line_at all number) → ⊥)) → ⊥
@@ -290,42 +327,61 @@ before_end_good all number no_end a_form misplaced = by_cause misplaced.cause
     by_cause (inr behind) = no_end behind.0.end behind.0.before behind.0.there behind.0.is_end
 
 -- a line behind END that is not empty
-misplaced_behind : (all : List (List ℕ)) (number : ℕ) (line : List ℕ) (rest : List (List ℕ)) → Stands all number (line ∷ rest) → GoodBelow all number → IsBehindEnd all number
+misplaced_behind : (all : List (List ℕ)) (number : ℕ) (line : List ℕ) (rest : List (List ℕ))
+    → Stands all number (line ∷ rest) → GoodBelow all number → IsBehindEnd all number
     → (content_of (line_at all number) ≡ Empty → ⊥) → IsLowestMisplaced all number
 misplaced_behind all number line rest stands good behind filled = record {
-  misplaced = record { there = there_at all number line rest stands; cause = inr (behind, λ has. filled (empty_read (line_at all number) has)) };
+  misplaced = record {
+    there = there_at all number line rest stands;
+    cause = inr
+        (behind, λ has. filled (empty_read (line_at all number) has));
+  };
   lowest = good;
 }
 
 behind_more : (all : List (List ℕ)) (number : ℕ) → IsBehindEnd all number → IsBehindEnd all (suc number)
-behind_more all number behind = record { end = behind.end; there = behind.there; before = omega (arith, behind.before); is_end = behind.is_end }
+behind_more all number behind = record {
+  end = behind.end;
+  there = behind.there;
+  before = omega
+      (arith, behind.before);
+  is_end = behind.is_end;
+}
 
-ended_by : (all : List (List ℕ)) (number last : ℕ) (line : List ℕ) (rest : List (List ℕ)) (content : Content) → Stands all number (line ∷ rest) → GoodBelow all number → IsBehindEnd all number
+ended_by : (all : List (List ℕ)) (number last : ℕ) (line : List ℕ) (rest : List (List ℕ)) (content : Content)
+    → Stands all number (line ∷ rest) → GoodBelow all number → IsBehindEnd all number
     → content_of (line_at all number) ≡ content
     → ((n : ℕ) → Stands all n rest → GoodBelow all n → IsBehindEnd all n → Outcome all (chart_from (Some last) n rest))
     → Outcome all (line_then (Some last) number content (λ e'. chart_from e' (suc number) rest))
 ended_by all number last line rest Empty stands good behind here others =
-    others (suc number) (next_stands all number line rest stands) (good_more all number good (empty_good all number here)) (behind_more all number behind)
-ended_by all number last line rest End stands good behind here others = misplaced_behind all number line rest stands good behind (λ e. differ e here)
+    others (suc number) (next_stands all number line rest stands)
+    (good_more all number good (empty_good all number here)) (behind_more all number behind)
+ended_by all number last line rest End stands good behind here others = misplaced_behind all number line rest stands
+    good behind (λ e. differ e here)
   where
     differ : {c : Content} → c ≡ Empty → c ≡ End → ⊥
     differ e f = cc
-ended_by all number last line rest (Form statement) stands good behind here others = misplaced_behind all number line rest stands good behind (λ e. differ e here)
+ended_by all number last line rest (Form statement) stands good behind here others = misplaced_behind all number line
+    rest stands good behind (λ e. differ e here)
   where
     differ : {c : Content} {s : Statement} → c ≡ Empty → c ≡ Form s → ⊥
     differ e f = cc
-ended_by all number last line rest NoForm stands good behind here others = misplaced_behind all number line rest stands good behind (λ e. differ e here)
+ended_by all number last line rest NoForm stands good behind here others = misplaced_behind all number line rest
+    stands good behind (λ e. differ e here)
   where
     differ : {c : Content} → c ≡ Empty → c ≡ NoForm → ⊥
     differ e f = cc
 
 -- the outcome behind END
-ended_outcome : (all : List (List ℕ)) (last : ℕ) (rest : List (List ℕ)) (number : ℕ) → Stands all number rest → GoodBelow all number → IsBehindEnd all number
+ended_outcome : (all : List (List ℕ)) (last : ℕ) (rest : List (List ℕ)) (number : ℕ) → Stands all number rest
+    → GoodBelow all number → IsBehindEnd all number
     → Outcome all (chart_from (Some last) number rest)
 unfolding chart_from
-ended_outcome all last [] number stands good behind = (all_good all number stands good, λ lacks. lacks behind.end behind.there behind.is_end)
+ended_outcome all last [] number stands good behind =
+    (all_good all number stands good, λ lacks. lacks behind.end behind.there behind.is_end)
 ended_outcome all last (line ∷ rest) number stands good behind =
-    ended_by all number last line rest (content_of line) stands good behind (content_at all number line rest (content_of line) stands refl) (ended_outcome all last rest)
+    ended_by all number last line rest (content_of line) stands good behind
+    (content_at all number line rest (content_of line) stands refl) (ended_outcome all last rest)
 
 no_end_here : (line : List ℕ) (content : Content) → content_of line ≡ content → (content ≡ End → ⊥) → IsEndLine line → ⊥
 no_end_here line content is other has = other (sym is ∙ end_read line has)
@@ -334,12 +390,14 @@ not_end : (content : Content) → (content ≡ Empty) ⊎ ((s : Statement) × (c
 not_end content (inl e) f = cc
 not_end content (inr p) f = let e : content ≡ Form p.0 = p.1 in cc
 
-started_by : (all : List (List ℕ)) (number : ℕ) (line : List ℕ) (rest : List (List ℕ)) (content : Content) → Stands all number (line ∷ rest) → GoodBelow all number → NoEndBelow all number
+started_by : (all : List (List ℕ)) (number : ℕ) (line : List ℕ) (rest : List (List ℕ)) (content : Content)
+    → Stands all number (line ∷ rest) → GoodBelow all number → NoEndBelow all number
     → content_of (line_at all number) ≡ content
     → ((n : ℕ) → Stands all n rest → GoodBelow all n → NoEndBelow all n → Outcome all (chart_from None n rest))
     → Outcome all (line_then None number content (λ e'. chart_from e' (suc number) rest))
 started_by all number line rest Empty stands good no_end here others =
-    others (suc number) (next_stands all number line rest stands) (good_more all number good (empty_good all number here))
+    others (suc number) (next_stands all number line rest stands)
+    (good_more all number good (empty_good all number here))
     (no_end_more all number no_end (no_end_here (line_at all number) Empty here (not_end Empty (inl refl))))
 started_by all number line rest End stands good no_end here others =
     let is_end = is_content (line_at all number) End here in
@@ -352,25 +410,37 @@ started_by all number line rest (Form statement) stands good no_end here others 
     with_lines_outcome all (record { number = number; statement = statement } ∷ []) (chart_from None (suc number) rest)
     (others (suc number) (next_stands all number line rest stands)
     (good_more all number good (before_end_good all number no_end (λ no_form. no_form.not_form statement is_form)))
-    (no_end_more all number no_end (no_end_here (line_at all number) (Form statement) here (not_end (Form statement) (inr (statement, refl))))))
+    (no_end_more all number no_end
+    (no_end_here (line_at all number) (Form statement) here (not_end (Form statement) (inr (statement, refl))))))
 started_by all number line rest NoForm stands good no_end here others = record {
-  misplaced = record { there = there_at all number line rest stands; cause = inl (is_content (line_at all number) NoForm here) };
+  misplaced = record {
+    there = there_at all number line rest stands;
+    cause = inl
+        (is_content (line_at all number) NoForm here);
+  };
   lowest = good;
 }
 
 -- the outcome of lines without END so far
-started_outcome : (all : List (List ℕ)) (rest : List (List ℕ)) (number : ℕ) → Stands all number rest → GoodBelow all number → NoEndBelow all number → Outcome all (chart_from None number rest)
+started_outcome : (all : List (List ℕ)) (rest : List (List ℕ)) (number : ℕ) → Stands all number rest
+    → GoodBelow all number → NoEndBelow all number → Outcome all (chart_from None number rest)
 unfolding chart_from
 started_outcome all [] number stands good no_end =
     (all_good all number stands good, λ n there is_end. no_end n (omega (arith, stands.size, there.to)) there is_end)
 started_outcome all (line ∷ rest) number stands good no_end =
-    started_by all number line rest (content_of line) stands good no_end (content_at all number line rest (content_of line) stands refl) (started_outcome all rest)
+    started_by all number line rest (content_of line) stands good no_end
+    (content_at all number line rest (content_of line) stands refl) (started_outcome all rest)
 
 -- the outcome of all lines
 outcome : (first : List ℕ) (others : List (List ℕ)) → Outcome (first ∷ others) (chart_from None 2 others)
 outcome first others =
     started_outcome (first ∷ others) others 2
-    (record { from = omega arith; size = omega arith; at = λ k within. ap (λ n. get_or (first ∷ others) n []) (second k) })
+    (record {
+      from = omega arith;
+      size = omega arith;
+      at = λ k within. ap (λ n. get_or (first ∷ others) n [])
+          (second k);
+    })
     (λ n below misplaced. absurd (omega (arith, below, misplaced.there.from)))
     (λ n below there is_end. absurd (omega (arith, below, there.from)))
   where
@@ -378,13 +448,15 @@ outcome first others =
     second k = omega arith
 
 -- the first line
-first_is : (tokens : Option (List (List ℕ))) → is_first tokens ≡ true → tokens ≡ Some (codes "CHART407" ∷ codes "1" ∷ [])
+first_is : (tokens : Option (List (List ℕ))) → is_first tokens ≡ true
+    → tokens ≡ Some (codes "CHART407" ∷ codes "1" ∷ [])
 first_is None test = cc
 first_is (Some []) test = cc
 first_is (Some (a ∷ [])) test = cc
 first_is (Some (a ∷ b ∷ [])) test =
     let p = and_parts (bytes_eq a (codes "CHART407")) (bytes_eq b (codes "1")) test in
-    ap (λ w. Some (w ∷ b ∷ [])) (is_word a (codes "CHART407") p.0) ∙ ap (λ w. Some (codes "CHART407" ∷ w ∷ [])) (is_word b (codes "1") p.1)
+    ap (λ w. Some (w ∷ b ∷ [])) (is_word a (codes "CHART407") p.0)
+    ∙ ap (λ w. Some (codes "CHART407" ∷ w ∷ [])) (is_word b (codes "1") p.1)
 first_is (Some (a ∷ b ∷ c ∷ ds)) test = cc
 
 begun_is : (line : List ℕ) → is_first (tokens_of line) ≡ true → IsFirstLine line
@@ -411,7 +483,8 @@ large_is lines test = by_cause (or_cases (ltb 500 (length lines)) (list_any is_l
         inr (long.0, long.1, long.2, long.3, ltb-true 200 (length long.1) long.4)
 
 large_read : (lines : List (List ℕ)) → IsTooLarge lines → is_large lines ≡ true
-large_read lines (inl many) = or_first (ltb 500 (length lines)) (list_any is_long lines) (lt-ltb 500 (length lines) many)
+large_read lines (inl many) = or_first (ltb 500 (length lines)) (list_any is_long lines)
+    (lt-ltb 500 (length lines) many)
 large_read lines (inr long) =
     or_true (ltb 500 (length lines)) (list_any is_long lines)
     (list_any-from_Any is_long lines (long.0, long.1, long.2, long.3, lt-ltb 200 (length long.1) long.4))
@@ -434,7 +507,8 @@ has_first : (first : List ℕ) (others : List (List ℕ)) → IsFirstLine first 
 has_first first others begun = record { there = omega arith; begun = begun }
 
 -- the fault of lines that have a good size and a good first line
-later_fault : (lines : List (List ℕ)) (fault : TextFault) → (IsTooLarge lines → ⊥) → HasFirstLine lines → Outcome lines (Err fault) → HaveFault lines fault
+later_fault : (lines : List (List ℕ)) (fault : TextFault) → (IsTooLarge lines → ⊥) → HasFirstLine lines
+    → Outcome lines (Err fault) → HaveFault lines fault
 later_fault lines TooLarge size first is = absurd is
 later_fault lines NoFirstLine size first is = absurd is
 later_fault lines (NotALine n) size first is = (size, first, is)
@@ -447,7 +521,8 @@ failed fault = Err fault
 same_fault : (a b : TextFault) → failed a ≡ failed b → a ≡ b
 same_fault a b e = cc
 
-begun_fault : (first : List ℕ) (others : List (List ℕ)) (fault : TextFault) (test : Bool) → is_large (first ∷ others) ≡ false → is_first (tokens_of first) ≡ test
+begun_fault : (first : List ℕ) (others : List (List ℕ)) (fault : TextFault) (test : Bool)
+    → is_large (first ∷ others) ≡ false → is_first (tokens_of first) ≡ test
     → cond test (chart_from None 2 others) (Err NoFirstLine) ≡ Err fault → HaveFault (first ∷ others) fault
 begun_fault first others fault true size begun read =
     later_fault (first ∷ others) fault (not_large (first ∷ others) size) (has_first first others (begun_is first begun))
@@ -456,11 +531,14 @@ begun_fault first others fault false size begun read =
     subst (HaveFault (first ∷ others)) (same_fault NoFirstLine fault read)
     (not_large (first ∷ others) size, λ has. both_ways (is_first (tokens_of first)) begun (begun_read first has.begun))
 
-sized_fault : (lines : List (List ℕ)) (fault : TextFault) (test : Bool) → is_large lines ≡ test → cond test (Err TooLarge) (chart_of_lines lines) ≡ Err fault → HaveFault lines fault
+sized_fault : (lines : List (List ℕ)) (fault : TextFault) (test : Bool) → is_large lines ≡ test
+    → cond test (Err TooLarge) (chart_of_lines lines) ≡ Err fault → HaveFault lines fault
 sized_fault lines fault true size read = subst (HaveFault lines) (same_fault TooLarge fault read) (large_is lines size)
 sized_fault [] fault false size read =
-    subst (HaveFault []) (same_fault NoFirstLine fault read) (not_large [] size, λ has. absurd (omega (arith, has.there)))
-sized_fault (first ∷ others) fault false size read = begun_fault first others fault (is_first (tokens_of first)) size refl read
+    subst (HaveFault []) (same_fault NoFirstLine fault read)
+    (not_large [] size, λ has. absurd (omega (arith, has.there)))
+sized_fault (first ∷ others) fault false size read = begun_fault first others fault
+    (is_first (tokens_of first)) size refl read
 
 -- the fault that is read is the one of the text
 pub fault_is : (bytes : List ℕ) (fault : TextFault) → chart_of bytes ≡ Err fault → HasFault bytes fault
@@ -476,7 +554,8 @@ same_number lines m n is also = by_order (cases_order m n)
     by_order (inr (inl lower)) = absurd (also.lowest m lower is.misplaced)
     by_order (inr (inr lower)) = absurd (is.lowest n lower also.misplaced)
 
-misplaced_read : (lines : List (List ℕ)) (n : ℕ) (read : Result Chart TextFault) → IsLowestMisplaced lines n → Outcome lines read → read ≡ Err (NotALine n)
+misplaced_read : (lines : List (List ℕ)) (n : ℕ) (read : Result Chart TextFault) → IsLowestMisplaced lines n
+    → Outcome lines read → read ≡ Err (NotALine n)
 misplaced_read lines n (Ok chart) is says = absurd (says.0 n is.misplaced)
 misplaced_read lines n (Err (NotALine m)) is says = ap (λ k. Err (NotALine k)) (same_number lines m n says is)
 misplaced_read lines n (Err NoEnd) is says = absurd (says.0 n is.misplaced)
@@ -484,7 +563,8 @@ misplaced_read lines n (Err TooLarge) is says = absurd says
 misplaced_read lines n (Err NoFirstLine) is says = absurd says
 misplaced_read lines n (Err Memory) is says = absurd says
 
-no_end_read : (lines : List (List ℕ)) (read : Result Chart TextFault) → ((n : ℕ) → IsMisplaced lines n → ⊥) → LacksEnd lines → Outcome lines read → read ≡ Err NoEnd
+no_end_read : (lines : List (List ℕ)) (read : Result Chart TextFault) → ((n : ℕ) → IsMisplaced lines n → ⊥)
+    → LacksEnd lines → Outcome lines read → read ≡ Err NoEnd
 no_end_read lines (Ok chart) good lacks says = absurd (says.1 lacks)
 no_end_read lines (Err (NotALine m)) good lacks says = absurd (good m says.misplaced)
 no_end_read lines (Err NoEnd) good lacks says = refl
@@ -493,23 +573,28 @@ no_end_read lines (Err NoFirstLine) good lacks says = absurd says
 no_end_read lines (Err Memory) good lacks says = absurd says
 
 -- what is read behind a good first line
-past_first : (first : List ℕ) (others : List (List ℕ)) → (IsTooLarge (first ∷ others) → ⊥) → HasFirstLine (first ∷ others) → read_all (first ∷ others) ≡ chart_from None 2 others
+past_first : (first : List ℕ) (others : List (List ℕ)) → (IsTooLarge (first ∷ others) → ⊥)
+    → HasFirstLine (first ∷ others) → read_all (first ∷ others) ≡ chart_from None 2 others
 past_first first others size has = rw (small (first ∷ others) size, begun_read first has.begun) refl
 
 fault_read_all : (lines : List (List ℕ)) (fault : TextFault) → HaveFault lines fault → read_all lines ≡ Err fault
 fault_read_all lines TooLarge has = rw (large_read lines has) refl
 fault_read_all [] NoFirstLine has = refl
-fault_read_all (first ∷ others) NoFirstLine has = rw (small (first ∷ others) has.0) (by_test (is_first (tokens_of first)) refl)
+fault_read_all (first ∷ others) NoFirstLine has = rw (small (first ∷ others) has.0)
+    (by_test (is_first (tokens_of first)) refl)
   where
-    by_test : (b : Bool) → is_first (tokens_of first) ≡ b → cond b (chart_from None 2 others) (Err NoFirstLine) ≡ Err NoFirstLine
+    by_test : (b : Bool) → is_first (tokens_of first) ≡ b → cond b (chart_from None 2 others) (Err NoFirstLine)
+        ≡ Err NoFirstLine
     by_test true e = absurd (has.1 (has_first first others (begun_is first e)))
     by_test false e = refl
 fault_read_all [] (NotALine n) has = absurd (omega (arith, has.1.there))
 fault_read_all (first ∷ others) (NotALine n) has =
-    past_first first others has.0 has.1 ∙ misplaced_read (first ∷ others) n (chart_from None 2 others) has.2 (outcome first others)
+    past_first first others has.0 has.1 ∙ misplaced_read (first ∷ others) n (chart_from None 2 others) has.2
+    (outcome first others)
 fault_read_all [] NoEnd has = absurd (omega (arith, has.1.there))
 fault_read_all (first ∷ others) NoEnd has =
-    past_first first others has.0 has.1 ∙ no_end_read (first ∷ others) (chart_from None 2 others) has.2 has.3 (outcome first others)
+    past_first first others has.0 has.1 ∙ no_end_read (first ∷ others) (chart_from None 2 others) has.2 has.3
+    (outcome first others)
 fault_read_all lines Memory has = absurd has
 
 pub fault_read : (bytes : List ℕ) (fault : TextFault) → HasFault bytes fault → chart_of bytes ≡ Err fault
@@ -517,19 +602,33 @@ unfolding chart_of
 fault_read bytes fault has = fault_read_all (lines_of bytes) fault has
 
 -- what is read as a chart is one
-begun_chart : (bytes first : List ℕ) (others : List (List ℕ)) (chart : Chart) (test : Bool) → lines_of bytes ≡ first ∷ others → (IsTooLarge (lines_of bytes) → ⊥)
-    → is_first (tokens_of first) ≡ test → cond test (chart_from None 2 others) (Err NoFirstLine) ≡ Ok chart → Reads bytes chart
+begun_chart : (bytes first : List ℕ) (others : List (List ℕ)) (chart : Chart) (test : Bool)
+    → lines_of bytes ≡ first ∷ others → (IsTooLarge (lines_of bytes) → ⊥)
+    → is_first (tokens_of first) ≡ test → cond test (chart_from None 2 others) (Err NoFirstLine) ≡ Ok chart
+    → Reads bytes chart
 begun_chart bytes first others chart true lines size begun read =
-    record { size = size; first = first; others = others; lines = lines; begun = begun_is first begun; said = reads_what_is_read others 2 chart read }
+    record {
+      size = size;
+      first = first;
+      others = others;
+      lines = lines;
+      begun = begun_is first begun;
+      said =
+          reads_what_is_read others 2 chart read;
+    }
 begun_chart bytes first others chart false lines size begun read = cc
 
-lines_chart : (bytes : List ℕ) (lines : List (List ℕ)) (chart : Chart) → lines_of bytes ≡ lines → (IsTooLarge (lines_of bytes) → ⊥) → chart_of_lines lines ≡ Ok chart → Reads bytes chart
+lines_chart : (bytes : List ℕ) (lines : List (List ℕ)) (chart : Chart) → lines_of bytes ≡ lines
+    → (IsTooLarge (lines_of bytes) → ⊥) → chart_of_lines lines ≡ Ok chart → Reads bytes chart
 lines_chart bytes [] chart same size read = cc
-lines_chart bytes (first ∷ others) chart same size read = begun_chart bytes first others chart (is_first (tokens_of first)) same size refl read
+lines_chart bytes (first ∷ others) chart same size read = begun_chart bytes first others chart
+    (is_first (tokens_of first)) same size refl read
 
-sized_chart : (bytes : List ℕ) (chart : Chart) (test : Bool) → is_large (lines_of bytes) ≡ test → cond test (Err TooLarge) (chart_of_lines (lines_of bytes)) ≡ Ok chart → Reads bytes chart
+sized_chart : (bytes : List ℕ) (chart : Chart) (test : Bool) → is_large (lines_of bytes) ≡ test
+    → cond test (Err TooLarge) (chart_of_lines (lines_of bytes)) ≡ Ok chart → Reads bytes chart
 sized_chart bytes chart true size read = cc
-sized_chart bytes chart false size read = lines_chart bytes (lines_of bytes) chart refl (not_large (lines_of bytes) size) read
+sized_chart bytes chart false size read = lines_chart bytes (lines_of bytes) chart refl
+    (not_large (lines_of bytes) size) read
 
 pub reads_is : (bytes : List ℕ) (chart : Chart) → chart_of bytes ≡ Ok chart → Reads bytes chart
 unfolding chart_of

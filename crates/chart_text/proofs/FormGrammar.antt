@@ -1,23 +1,20 @@
 -- The tokens of a line say exactly what the reader of forms answers.
-use Rattle.std.proofs.Common.{◌≡◌, ℕ, ◌+◌, ◌<◌, ◌≤◌, Bool, true, false, cond, leb, ◌&&◌, List, [], ◌∷◌, ◌++◌, length, Option, Some, None, refl, ap, sym, ◌∙◌, subst, arith, codes}
+use Rattle.std.proofs.Common.{◌≡◌, ℕ, Bool, true, false, cond, leb, ◌&&◌, List, [], ◌∷◌, ◌++◌, length, Option, Some, None, refl, ap, sym, ◌∙◌, subst, arith, codes}
 use Rattle.std.proofs.lemmas.Bool.{and_parts, leb-true, le-leb}
 use Rattle.std.proofs.lemmas.Option.{same_Some, cond_some}
 use Rattle.std.specs.Str.{bytes_eq}
-use Rattle.chart_text.specs.Number.{IsNumber, IsNumberTo, AreNumbers}
+use Rattle.chart_text.specs.Number.{IsNumber}
 use Rattle.chart_text.specs.Name.{IsName}
-use Rattle.chart_text.specs.Literal.{IsLiteral}
 use Rattle.chart_text.specs.Forms.{SaysSign, unsigned, by_row, by_absence, SaysMark, unmarked, total_marked, SaysOption, as_it_is, indicated, item_marked, SaysKind, detail_line, total_line, Says, text_field, amount_field, control, print_detail, print_group, head, detail_literal, detail_field, total_literal, total_text, total_amount, space, page_after, skip_after, form, tape}
-use Rattle.chart_text.specs.Reading.{◌>>=◌, number_of, number_to, numbers_of, stops_of, name_of, literal_of, mark_of, keyword_of, sign_of, total_mark_of, option_of, kind_of, field_kind_of, field_of, control_of, print_of, head_of, detail_literal_of, detail_field_of, detail_item_of, detail_of, total_literal_of, total_field_of, total_item_of, total_of, spacing_of, space_of, follower_of, after_of, form_of, tape_of, said_behind, statement_of}
+use Rattle.chart_text.specs.Reading.{number_of, number_to, numbers_of, stops_of, name_of, literal_of, mark_of, keyword_of, sign_of, total_mark_of, option_of, kind_of, field_kind_of, field_of, control_of, print_of, head_of, detail_literal_of, detail_field_of, detail_item_of, detail_of, total_literal_of, total_field_of, total_item_of, total_of, spacing_of, space_of, follower_of, after_of, form_of, tape_of, said_behind, statement_of}
 use Rattle.chart_text.proofs.WordGrammar.{bound, granted, is_word, number_is, number_read, number_to_is, number_to_read, numbers_are, numbers_read, as_many_numbers, name_is, name_read, literal_is, literal_read, name_no_literal, mark_is, mark_read}
 use Rattle.chart_text.specs.declared.statement.SignRule.{SignRule}
 use Rattle.chart_text.specs.declared.statement.SignRule.TheVariants.{X, NX}
 use Rattle.chart_text.specs.declared.statement.FieldKind.{FieldKind}
 use Rattle.chart_text.specs.declared.statement.FieldKind.TheVariants as kinds
-use Rattle.chart_text.specs.declared.statement.Printing.TheVariants as printings
 use Rattle.chart_text.specs.declared.statement.Mark.{Mark}
 use Rattle.chart_text.specs.declared.statement.BodyLine.{BodyLine}
 use Rattle.chart_text.specs.declared.statement.BodyLine.TheVariants as lines
-use Rattle.chart_text.specs.declared.statement.After.TheVariants.{Page, Skip}
 use Rattle.chart_text.specs.declared.statement.DetailOption.{DetailOption}
 use Rattle.chart_text.specs.declared.statement.DetailOption.TheVariants.{Plain, Indicated, Marked}
 use Rattle.chart_text.specs.declared.statement.Statement.{Statement}
@@ -46,11 +43,13 @@ sign_is (word ∷ column ∷ []) rule read =
     (λ same r.
     let c = bound (number_of column) _ rule r in
     subst (λ (w : List ℕ). SaysSign (w ∷ column ∷ []) rule) (sym same)
-    (subst (SaysSign (codes "X" ∷ column ∷ [])) (same_Some (Some (X c.0)) rule c.2) (by_row (number_is column c.0 c.1))))
+    (subst (SaysSign (codes "X" ∷ column ∷ [])) (same_Some (Some (X c.0)) rule c.2)
+    (by_row (number_is column c.0 c.1))))
     (λ same r.
     let c = bound (number_of column) _ rule r in
     subst (λ (w : List ℕ). SaysSign (w ∷ column ∷ []) rule) (sym same)
-    (subst (SaysSign (codes "NX" ∷ column ∷ [])) (same_Some (Some (NX c.0)) rule c.2) (by_absence (number_is column c.0 c.1))))
+    (subst (SaysSign (codes "NX" ∷ column ∷ [])) (same_Some (Some (NX c.0)) rule c.2)
+    (by_absence (number_is column c.0 c.1))))
 sign_is (word ∷ column ∷ next ∷ others) rule read = cc
 
 sign_read : {tokens : List (List ℕ)} {rule : Option SignRule} → SaysSign tokens rule → sign_of tokens ≡ Some rule
@@ -68,7 +67,8 @@ total_mark_is (word ∷ token ∷ []) m read =
     let test = granted (bytes_eq word (codes "MARK")) _ m read in
     let mark = bound (mark_of token) _ m test.1 in
     subst (λ (w : List ℕ). SaysMark (w ∷ token ∷ []) m) (sym (is_word word (codes "MARK") test.0))
-    (subst (SaysMark (codes "MARK" ∷ token ∷ [])) (same_Some (Some mark.0) m mark.2) (total_marked (mark_is token mark.0 mark.1)))
+    (subst (SaysMark (codes "MARK" ∷ token ∷ [])) (same_Some (Some mark.0) m mark.2)
+    (total_marked (mark_is token mark.0 mark.1)))
 total_mark_is (word ∷ token ∷ next ∷ others) m read = cc
 
 total_mark_read : {tokens : List (List ℕ)} {m : Option Mark} → SaysMark tokens m → total_mark_of tokens ≡ Some m
@@ -86,11 +86,13 @@ option_is (word ∷ token ∷ []) how read =
     (λ same r.
     let l = bound (number_to 3 token) _ how r in
     subst (λ (w : List ℕ). SaysOption (w ∷ token ∷ []) how) (sym same)
-    (subst (SaysOption (codes "INDICATE" ∷ token ∷ [])) (same_Some (Indicated l.0) how l.2) (indicated (number_to_is 3 token l.0 l.1))))
+    (subst (SaysOption (codes "INDICATE" ∷ token ∷ [])) (same_Some (Indicated l.0) how l.2)
+    (indicated (number_to_is 3 token l.0 l.1))))
     (λ same r.
     let m = bound (mark_of token) _ how r in
     subst (λ (w : List ℕ). SaysOption (w ∷ token ∷ []) how) (sym same)
-    (subst (SaysOption (codes "MARK" ∷ token ∷ [])) (same_Some (Marked m.0) how m.2) (item_marked (mark_is token m.0 m.1))))
+    (subst (SaysOption (codes "MARK" ∷ token ∷ [])) (same_Some (Marked m.0) how m.2)
+    (item_marked (mark_is token m.0 m.1))))
 option_is (word ∷ token ∷ next ∷ others) how read = cc
 
 option_read : {tokens : List (List ℕ)} {how : DetailOption} → SaysOption tokens how → option_of tokens ≡ Some how
@@ -105,7 +107,8 @@ record BeginsWithKind (operands : List (List ℕ)) (line : BodyLine) (others : L
   spelled : operands ≡ kind ++ others
   said : SaysKind kind line
 
-kind_is : (operands : List (List ℕ)) (line : BodyLine) (others : List (List ℕ)) → kind_of operands ≡ Some (line, others) → BeginsWithKind operands line others
+kind_is : (operands : List (List ℕ)) (line : BodyLine) (others : List (List ℕ))
+    → kind_of operands ≡ Some (line, others) → BeginsWithKind operands line others
 unfolding kind_of
 kind_is [] line others read = cc
 kind_is (word ∷ []) line others read =
@@ -117,7 +120,8 @@ kind_is (word ∷ []) line others read =
       said = subst (λ (p : BodyLine × List (List ℕ)). SaysKind (codes "DETAIL" ∷ []) p.0) same detail_line;
     }
 kind_is (word ∷ level ∷ rest) line others read =
-    either word (codes "DETAIL") (codes "TOTAL") _ _ (line, others) (BeginsWithKind (word ∷ level ∷ rest) line others) read
+    either word (codes "DETAIL") (codes "TOTAL") _ _ (line, others)
+    (BeginsWithKind (word ∷ level ∷ rest) line others) read
     (λ is r.
     let same = same_Some (lines.Detail, level ∷ rest) (line, others) r in
     record {
@@ -131,10 +135,12 @@ kind_is (word ∷ level ∷ rest) line others read =
     record {
       kind = codes "TOTAL" ∷ level ∷ [];
       spelled = ap (λ w. w ∷ level ∷ rest) is ∙ ap (λ p. codes "TOTAL" ∷ level ∷ p.1) same;
-      said = subst (λ (p : BodyLine × List (List ℕ)). SaysKind (codes "TOTAL" ∷ level ∷ []) p.0) same (total_line (number_to_is 4 level l.0 l.1));
+      said = subst (λ (p : BodyLine × List (List ℕ)). SaysKind (codes "TOTAL" ∷ level ∷ []) p.0) same
+          (total_line (number_to_is 4 level l.0 l.1));
     })
 
-kind_read : {kind : List (List ℕ)} {line : BodyLine} → SaysKind kind line → (other : List ℕ) (others : List (List ℕ)) → kind_of (kind ++ other ∷ others) ≡ Some (line, other ∷ others)
+kind_read : {kind : List (List ℕ)} {line : BodyLine} → SaysKind kind line → (other : List ℕ) (others : List (List ℕ))
+    → kind_of (kind ++ other ∷ others) ≡ Some (line, other ∷ others)
 unfolding kind_of
 kind_read detail_line other others = refl
 kind_read (total_line {level} {l} is) other others = rw (number_to_read 4 level l is) refl
@@ -142,21 +148,26 @@ kind_read (total_line {level} {l} is) other others = rw (number_to_read 4 level 
 -- what the columns of a field hold
 field_kind_is : (name first last n : List ℕ) (a b : ℕ) → IsName name n → IsNumber first a → IsNumber last b
     → (word : List ℕ) (others : List (List ℕ)) (kind : FieldKind) → field_kind_of word others ≡ Some kind
-    → Says (codes "FIELD" ∷ name ∷ word ∷ first ∷ last ∷ others) (says.Field (record { name = n; first = a; last = b; kind = kind }))
+    → Says (codes "FIELD" ∷ name ∷ word ∷ first ∷ last ∷ others)
+    (says.Field (record { name = n; first = a; last = b; kind = kind }))
 unfolding field_kind_of
 field_kind_is name first last n a b is_n is_a is_b word [] kind read =
     let test = cond_some (bytes_eq word (codes "TEXT")) kinds.Text kind read in
-    subst (λ (w : List ℕ). Says (codes "FIELD" ∷ name ∷ w ∷ first ∷ last ∷ []) (says.Field (record { name = n; first = a; last = b; kind = kind })))
+    subst (λ (w : List ℕ). Says (codes "FIELD" ∷ name ∷ w ∷ first ∷ last ∷ [])
+    (says.Field (record { name = n; first = a; last = b; kind = kind })))
     (sym (is_word word (codes "TEXT") test.0))
-    (subst (λ (k : FieldKind). Says (codes "FIELD" ∷ name ∷ codes "TEXT" ∷ first ∷ last ∷ []) (says.Field (record { name = n; first = a; last = b; kind = k })))
+    (subst (λ (k : FieldKind). Says (codes "FIELD" ∷ name ∷ codes "TEXT" ∷ first ∷ last ∷ [])
+    (says.Field (record { name = n; first = a; last = b; kind = k })))
     test.1 (text_field is_n is_a is_b))
 field_kind_is name first last n a b is_n is_a is_b word (decimals ∷ sign) kind read =
     let test = granted (bytes_eq word (codes "AMOUNT")) _ kind read in
     let d = bound (number_of decimals) _ kind test.1 in
     let rule = bound (sign_of sign) _ kind d.2 in
-    subst (λ (w : List ℕ). Says (codes "FIELD" ∷ name ∷ w ∷ first ∷ last ∷ decimals ∷ sign) (says.Field (record { name = n; first = a; last = b; kind = kind })))
+    subst (λ (w : List ℕ). Says (codes "FIELD" ∷ name ∷ w ∷ first ∷ last ∷ decimals ∷ sign)
+    (says.Field (record { name = n; first = a; last = b; kind = kind })))
     (sym (is_word word (codes "AMOUNT") test.0))
-    (subst (λ (k : FieldKind). Says (codes "FIELD" ∷ name ∷ codes "AMOUNT" ∷ first ∷ last ∷ decimals ∷ sign) (says.Field (record { name = n; first = a; last = b; kind = k })))
+    (subst (λ (k : FieldKind). Says (codes "FIELD" ∷ name ∷ codes "AMOUNT" ∷ first ∷ last ∷ decimals ∷ sign)
+    (says.Field (record { name = n; first = a; last = b; kind = k })))
     (same_Some (kinds.Amount d.0 rule.0) kind rule.2)
     (amount_field is_n is_a is_b (number_is decimals d.0 d.1) (sign_is sign rule.0 rule.1)))
 
@@ -172,16 +183,19 @@ field_is (name ∷ word ∷ first ∷ last ∷ others) s read =
     let b = bound (number_of last) _ s a.2 in
     let k = bound (field_kind_of word others) _ s b.2 in
     subst (Says (codes "FIELD" ∷ name ∷ word ∷ first ∷ last ∷ others)) (same_Some _ s k.2)
-    (field_kind_is name first last n.0 a.0 b.0 (name_is name n.0 n.1) (number_is first a.0 a.1) (number_is last b.0 b.1) word others k.0 k.1)
+    (field_kind_is name first last n.0 a.0 b.0 (name_is name n.0 n.1) (number_is first a.0 a.1)
+    (number_is last b.0 b.1) word others k.0 k.1)
 
-control_is : (operands : List (List ℕ)) (s : Statement) → control_of operands ≡ Some s → Says (codes "CONTROL" ∷ operands) s
+control_is : (operands : List (List ℕ)) (s : Statement) → control_of operands ≡ Some s
+    → Says (codes "CONTROL" ∷ operands) s
 unfolding control_of
 control_is [] s read = cc
 control_is (level ∷ []) s read = cc
 control_is (level ∷ name ∷ []) s read =
     let l = bound (number_to 3 level) _ s read in
     let n = bound (name_of name) _ s l.2 in
-    subst (Says (codes "CONTROL" ∷ level ∷ name ∷ [])) (same_Some _ s n.2) (control (number_to_is 3 level l.0 l.1) (name_is name n.0 n.1))
+    subst (Says (codes "CONTROL" ∷ level ∷ name ∷ [])) (same_Some _ s n.2)
+    (control (number_to_is 3 level l.0 l.1) (name_is name n.0 n.1))
 control_is (level ∷ name ∷ next ∷ others) s read = cc
 
 print_is : (operands : List (List ℕ)) (s : Statement) → print_of operands ≡ Some s → Says (codes "PRINT" ∷ operands) s
@@ -189,8 +203,10 @@ unfolding print_of
 print_is [] s read = cc
 print_is (word ∷ []) s read =
     either word (codes "DETAIL") (codes "GROUP") _ _ s (Says (codes "PRINT" ∷ word ∷ []) s) read
-    (λ same r. subst (λ (w : List ℕ). Says (codes "PRINT" ∷ w ∷ []) s) (sym same) (subst (Says (codes "PRINT" ∷ codes "DETAIL" ∷ [])) (same_Some _ s r) print_detail))
-    (λ same r. subst (λ (w : List ℕ). Says (codes "PRINT" ∷ w ∷ []) s) (sym same) (subst (Says (codes "PRINT" ∷ codes "GROUP" ∷ [])) (same_Some _ s r) print_group))
+    (λ same r. subst (λ (w : List ℕ). Says (codes "PRINT" ∷ w ∷ []) s) (sym same)
+    (subst (Says (codes "PRINT" ∷ codes "DETAIL" ∷ [])) (same_Some _ s r) print_detail))
+    (λ same r. subst (λ (w : List ℕ). Says (codes "PRINT" ∷ w ∷ []) s) (sym same)
+    (subst (Says (codes "PRINT" ∷ codes "GROUP" ∷ [])) (same_Some _ s r) print_group))
 print_is (word ∷ next ∷ others) s read = cc
 
 head_is : (operands : List (List ℕ)) (s : Statement) → head_of operands ≡ Some s → Says (codes "HEAD" ∷ operands) s
@@ -206,12 +222,14 @@ head_is (line ∷ wheel ∷ literal ∷ []) s read =
     (head (number_to_is 3 line h.0 h.1) (number_is wheel w.0 w.1) (literal_is literal cs.0 cs.1))
 head_is (line ∷ wheel ∷ literal ∷ next ∷ others) s read = cc
 
-detail_item_is : (wheel item : List ℕ) (others : List (List ℕ)) (s : Statement) (characters : Option (List ℕ)) → literal_of item ≡ characters
+detail_item_is : (wheel item : List ℕ) (others : List (List ℕ)) (s : Statement) (characters : Option (List ℕ))
+    → literal_of item ≡ characters
     → detail_item_of wheel item others characters ≡ Some s → Says (codes "DETAIL" ∷ wheel ∷ item ∷ others) s
 unfolding detail_literal_of detail_field_of
 detail_item_is wheel item [] s (Some characters) found read =
     let w = bound (number_of wheel) _ s read in
-    subst (Says (codes "DETAIL" ∷ wheel ∷ item ∷ [])) (same_Some _ s w.2) (detail_literal (number_is wheel w.0 w.1) (literal_is item characters found))
+    subst (Says (codes "DETAIL" ∷ wheel ∷ item ∷ [])) (same_Some _ s w.2)
+    (detail_literal (number_is wheel w.0 w.1) (literal_is item characters found))
 detail_item_is wheel item (next ∷ others) s (Some characters) found read = cc
 detail_item_is wheel item others s None found read =
     let w = bound (number_of wheel) _ s read in
@@ -220,13 +238,15 @@ detail_item_is wheel item others s None found read =
     subst (Says (codes "DETAIL" ∷ wheel ∷ item ∷ others)) (same_Some _ s how.2)
     (detail_field (number_is wheel w.0 w.1) (name_is item n.0 n.1) (option_is others how.0 how.1))
 
-detail_is : (operands : List (List ℕ)) (s : Statement) → detail_of operands ≡ Some s → Says (codes "DETAIL" ∷ operands) s
+detail_is : (operands : List (List ℕ)) (s : Statement) → detail_of operands ≡ Some s
+    → Says (codes "DETAIL" ∷ operands) s
 unfolding detail_of
 detail_is [] s read = cc
 detail_is (wheel ∷ []) s read = cc
 detail_is (wheel ∷ item ∷ others) s read = detail_item_is wheel item others s (literal_of item) refl read
 
-total_item_is : (level wheel item : List ℕ) (others : List (List ℕ)) (s : Statement) (characters : Option (List ℕ)) → literal_of item ≡ characters
+total_item_is : (level wheel item : List ℕ) (others : List (List ℕ)) (s : Statement) (characters : Option (List ℕ))
+    → literal_of item ≡ characters
     → total_item_of level wheel item others characters ≡ Some s → Says (codes "TOTAL" ∷ level ∷ wheel ∷ item ∷ others) s
 unfolding total_literal_of total_field_of
 total_item_is level wheel item [] s (Some characters) found read =
@@ -248,7 +268,8 @@ total_item_is level wheel item (digits ∷ mark) s None found read =
     let g = bound (number_of digits) _ s n.2 in
     let m = bound (total_mark_of mark) _ s g.2 in
     subst (Says (codes "TOTAL" ∷ level ∷ wheel ∷ item ∷ digits ∷ mark)) (same_Some _ s m.2)
-    (total_amount (number_to_is 4 level l.0 l.1) (number_is wheel w.0 w.1) (name_is item n.0 n.1) (number_is digits g.0 g.1) (total_mark_is mark m.0 m.1))
+    (total_amount (number_to_is 4 level l.0 l.1) (number_is wheel w.0 w.1) (name_is item n.0 n.1)
+    (number_is digits g.0 g.1) (total_mark_is mark m.0 m.1))
 
 total_is : (operands : List (List ℕ)) (s : Statement) → total_of operands ≡ Some s → Says (codes "TOTAL" ∷ operands) s
 unfolding total_of
@@ -257,7 +278,8 @@ total_is (level ∷ []) s read = cc
 total_is (level ∷ wheel ∷ []) s read = cc
 total_is (level ∷ wheel ∷ item ∷ others) s read = total_item_is level wheel item others s (literal_of item) refl read
 
-spacing_is : (kind : List (List ℕ)) (line : BodyLine) → SaysKind kind line → (others : List (List ℕ)) (s : Statement) → spacing_of line others ≡ Some s
+spacing_is : (kind : List (List ℕ)) (line : BodyLine) → SaysKind kind line → (others : List (List ℕ)) (s : Statement)
+    → spacing_of line others ≡ Some s
     → Says (codes "SPACE" ∷ (kind ++ others)) s
 unfolding spacing_of
 spacing_is kind line said [] s read = cc
@@ -271,9 +293,11 @@ unfolding space_of
 space_is operands s read =
     let k = bound (kind_of operands) _ s read in
     let begins = kind_is operands k.0.0 k.0.1 k.1 in
-    subst (λ (ts : List (List ℕ)). Says (codes "SPACE" ∷ ts) s) (sym begins.spelled) (spacing_is begins.kind k.0.0 begins.said k.0.1 s k.2)
+    subst (λ (ts : List (List ℕ)). Says (codes "SPACE" ∷ ts) s) (sym begins.spelled)
+    (spacing_is begins.kind k.0.0 begins.said k.0.1 s k.2)
 
-follower_is : (kind : List (List ℕ)) (line : BodyLine) → SaysKind kind line → (others : List (List ℕ)) (s : Statement) → follower_of line others ≡ Some s
+follower_is : (kind : List (List ℕ)) (line : BodyLine) → SaysKind kind line → (others : List (List ℕ)) (s : Statement)
+    → follower_of line others ≡ Some s
     → Says (codes "AFTER" ∷ (kind ++ others)) s
 unfolding follower_of
 follower_is kind line said [] s read = cc
@@ -284,8 +308,10 @@ follower_is kind line said (word ∷ []) s read =
 follower_is kind line said (word ∷ channel ∷ []) s read =
     let test = granted (bytes_eq word (codes "SKIP")) _ s read in
     let c = bound (number_of channel) _ s test.1 in
-    subst (λ (w : List ℕ). Says (codes "AFTER" ∷ (kind ++ w ∷ channel ∷ [])) s) (sym (is_word word (codes "SKIP") test.0))
-    (subst (Says (codes "AFTER" ∷ (kind ++ codes "SKIP" ∷ channel ∷ []))) (same_Some _ s c.2) (skip_after said (number_is channel c.0 c.1)))
+    subst (λ (w : List ℕ). Says (codes "AFTER" ∷ (kind ++ w ∷ channel ∷ [])) s)
+    (sym (is_word word (codes "SKIP") test.0))
+    (subst (Says (codes "AFTER" ∷ (kind ++ codes "SKIP" ∷ channel ∷ []))) (same_Some _ s c.2)
+    (skip_after said (number_is channel c.0 c.1)))
 follower_is kind line said (word ∷ channel ∷ next ∷ others) s read = cc
 
 after_is : (operands : List (List ℕ)) (s : Statement) → after_of operands ≡ Some s → Says (codes "AFTER" ∷ operands) s
@@ -293,7 +319,8 @@ unfolding after_of
 after_is operands s read =
     let k = bound (kind_of operands) _ s read in
     let begins = kind_is operands k.0.0 k.0.1 k.1 in
-    subst (λ (ts : List (List ℕ)). Says (codes "AFTER" ∷ ts) s) (sym begins.spelled) (follower_is begins.kind k.0.0 begins.said k.0.1 s k.2)
+    subst (λ (ts : List (List ℕ)). Says (codes "AFTER" ∷ ts) s) (sym begins.spelled)
+    (follower_is begins.kind k.0.0 begins.said k.0.1 s k.2)
 
 form_is : (operands : List (List ℕ)) (s : Statement) → form_of operands ≡ Some s → Says (codes "FORM" ∷ operands) s
 unfolding form_of
@@ -319,7 +346,8 @@ tape_is (channel ∷ stops) s read =
     let are = numbers_are stops ns.0 test.1 in
     subst (Says (codes "TAPE" ∷ channel ∷ stops)) (same_Some _ s ns.2)
     (tape (number_is channel c.0 c.1) are
-    (omega (arith, as_many_numbers are, leb-true 1 (length stops) bounds.0)) (omega (arith, as_many_numbers are, leb-true (length stops) 10 bounds.1)))
+    (omega (arith, as_many_numbers are, leb-true 1 (length stops) bounds.0))
+    (omega (arith, as_many_numbers are, leb-true (length stops) 10 bounds.1)))
 
 -- the word of a form
 abbrev spelled : Keyword → List ℕ
@@ -335,7 +363,8 @@ spelled words.Form = codes "FORM"
 spelled words.Tape = codes "TAPE"
 
 -- the next word to try
-try_word : (word : List ℕ) (wanted k : Keyword) (others : Option Keyword) → cond (bytes_eq word (spelled wanted)) (Some wanted) others ≡ Some k
+try_word : (word : List ℕ) (wanted k : Keyword) (others : Option Keyword)
+    → cond (bytes_eq word (spelled wanted)) (Some wanted) others ≡ Some k
     → (others ≡ Some k → word ≡ spelled k) → word ≡ spelled k
 try_word word wanted k others read later = by_test (bytes_eq word (spelled wanted)) refl read
   where
@@ -345,12 +374,14 @@ try_word word wanted k others read later = by_test (bytes_eq word (spelled wante
 
 keyword_is : (word : List ℕ) (k : Keyword) → keyword_of word ≡ Some k → word ≡ spelled k
 keyword_is word k read =
-    try_word word words.Field k _ read λ r1. try_word word words.Control k _ r1 λ r2. try_word word words.Print k _ r2 λ r3.
+    try_word word words.Field k _ read λ r1. try_word word words.Control k _ r1 λ r2. try_word word words.Print k _ r2
+    λ r3.
     try_word word words.Head k _ r3 λ r4. try_word word words.Detail k _ r4 λ r5. try_word word words.Total k _ r5 λ r6.
     try_word word words.Space k _ r6 λ r7. try_word word words.After k _ r7 λ r8. try_word word words.Form k _ r8 λ r9.
     try_word word words.Tape k _ r9 λ r10. cc
 
-said_is : (k : Keyword) (operands : List (List ℕ)) (s : Statement) → said_behind k operands ≡ Some s → Says (spelled k ∷ operands) s
+said_is : (k : Keyword) (operands : List (List ℕ)) (s : Statement) → said_behind k operands ≡ Some s
+    → Says (spelled k ∷ operands) s
 said_is words.Field operands s read = field_is operands s read
 said_is words.Control operands s read = control_is operands s read
 said_is words.Print operands s read = print_is operands s read
@@ -372,30 +403,58 @@ says_what_is_read (word ∷ operands) s read =
 
 -- what tokens say is read
 pub read_what_it_says : {tokens : List (List ℕ)} {s : Statement} → Says tokens s → statement_of tokens ≡ Some s
-unfolding statement_of field_of field_kind_of control_of print_of head_of detail_of detail_literal_of detail_field_of total_of total_literal_of total_field_of space_of spacing_of after_of follower_of form_of tape_of stops_of
-read_what_it_says (text_field {name} {first} {last} {n} {a} {b} is_n is_a is_b) = rw (name_read name n is_n, number_read first a is_a, number_read last b is_b) refl
-read_what_it_says (amount_field {name} {first} {last} {decimals} {n} {sign} {a} {b} {d} {rule} is_n is_a is_b is_d said) =
-    rw (name_read name n is_n, number_read first a is_a, number_read last b is_b, number_read decimals d is_d, sign_read said) refl
-read_what_it_says (control {level} {name} {n} {l} is_l is_n) = rw (number_to_read 3 level l is_l, name_read name n is_n) refl
+unfolding statement_of field_of field_kind_of control_of print_of head_of detail_of detail_literal_of detail_field_of
+    total_of total_literal_of total_field_of space_of spacing_of after_of follower_of form_of tape_of stops_of
+read_what_it_says (text_field {name} {first} {last} {n} {a} {b} is_n is_a is_b) = rw
+    (name_read name n is_n, number_read first a is_a, number_read last b is_b) refl
+read_what_it_says
+    (amount_field {name} {first} {last} {decimals} {n} {sign} {a} {b} {d} {rule} is_n is_a is_b is_d said) =
+    rw (
+      name_read name n is_n,
+      number_read first a is_a,
+      number_read last b is_b,
+      number_read decimals d is_d,
+      sign_read said,
+    ) refl
+read_what_it_says (control {level} {name} {n} {l} is_l is_n) = rw
+    (number_to_read 3 level l is_l, name_read name n is_n) refl
 read_what_it_says print_detail = refl
 read_what_it_says print_group = refl
 read_what_it_says (head {line} {wheel} {literal} {characters} {h} {w} is_h is_w is) =
     rw (number_to_read 3 line h is_h, number_read wheel w is_w, literal_read literal characters is) refl
-read_what_it_says (detail_literal {wheel} {literal} {characters} {w} is_w is) = rw (literal_read literal characters is, number_read wheel w is_w) refl
+read_what_it_says (detail_literal {wheel} {literal} {characters} {w} is_w is) = rw
+    (literal_read literal characters is, number_read wheel w is_w) refl
 read_what_it_says (detail_field {wheel} {name} {n} {option} {w} {how} is_w is_n said) =
     rw (name_no_literal name n is_n, number_read wheel w is_w, name_read name n is_n, option_read said) refl
 read_what_it_says (total_literal {level} {wheel} {literal} {characters} {l} {w} is_l is_w is) =
     rw (literal_read literal characters is, number_to_read 4 level l is_l, number_read wheel w is_w) refl
 read_what_it_says (total_text {level} {wheel} {name} {n} {l} {w} is_l is_w is_n) =
-    rw (name_no_literal name n is_n, number_to_read 4 level l is_l, number_read wheel w is_w, name_read name n is_n) refl
+    rw (name_no_literal name n is_n, number_to_read 4 level l is_l, number_read wheel w is_w, name_read name n is_n)
+    refl
 read_what_it_says (total_amount {level} {wheel} {name} {digits} {n} {mark} {l} {w} {g} {m} is_l is_w is_n is_g said) =
-    rw (name_no_literal name n is_n, number_to_read 4 level l is_l, number_read wheel w is_w, name_read name n is_n, number_read digits g is_g, total_mark_read said) refl
-read_what_it_says (space {kind} {count} {line} {n} said is) = rw (kind_read said count [], number_to_read 3 count n is) refl
+    rw (
+      name_no_literal name n is_n,
+      number_to_read 4 level l is_l,
+      number_read wheel w is_w,
+      name_read name n is_n,
+      number_read digits g is_g,
+      total_mark_read said,
+    ) refl
+read_what_it_says (space {kind} {count} {line} {n} said is) = rw
+    (kind_read said count [], number_to_read 3 count n is) refl
 read_what_it_says (page_after {kind} {line} said) = rw (kind_read said (codes "PAGE") []) refl
-read_what_it_says (skip_after {kind} {channel} {line} {c} said is) = rw (kind_read said (codes "SKIP") (channel ∷ []), number_read channel c is) refl
-read_what_it_says (form {size} {first} {overflow} {p} {t} {o} is_p is_t is_o) = rw (number_read size p is_p, number_read first t is_t, number_read overflow o is_o) refl
+read_what_it_says (skip_after {kind} {channel} {line} {c} said is) = rw
+    (kind_read said (codes "SKIP") (channel ∷ []), number_read channel c is) refl
+read_what_it_says (form {size} {first} {overflow} {p} {t} {o} is_p is_t is_o) = rw
+    (number_read size p is_p, number_read first t is_t, number_read overflow o is_o) refl
 read_what_it_says (tape {channel} {stops} {c} {numbers} is are some few) =
-    rw (number_read channel c is, le-leb 1 (length stops) (omega (arith, as_many_numbers are)), le-leb (length stops) 10 (omega (arith, as_many_numbers are)), numbers_read are) refl
+    rw (
+      number_read channel c is,
+      le-leb 1 (length stops) (omega (arith, as_many_numbers are)),
+      le-leb
+          (length stops) 10 (omega (arith, as_many_numbers are)),
+      numbers_read are,
+    ) refl
 
 pub probe : ℕ
 probe = 0

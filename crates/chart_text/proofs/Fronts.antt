@@ -1,6 +1,5 @@
 -- The front of a list, up to the first element that passes a test.
-use Rattle.std.proofs.Common.{◌≡◌, ℕ, ◌≤◌, ◌<◌, Bool, true, false, List, length, cond, ltb, Some, None, unwrap_or, arith, refl, sym}
-use Rattle.std.specs.List.{position_or_len}
+use Rattle.std.proofs.Common.{◌≡◌, ℕ, ◌≤◌, cond, ltb, Some, None, unwrap_or, arith}
 use Rattle.std.proofs.lemmas.Bool.Decides.{nat_tests}
 
 -- where the place of the first one is asked for, and the length taken where there is none

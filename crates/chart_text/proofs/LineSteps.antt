@@ -3,7 +3,7 @@ use Rattle.std.proofs.Common.{◌≡◌, ℕ, ◌+◌, ◌<◌, ◌≤◌, List,
 use Rattle.card_code.specs.Lines.{lines_of}
 use Rattle.chart_text.specs.Chart.{Chart, NumbersRise}
 use Rattle.std.proofs.Math.Numerals.{add-one}
-use Rattle.chart_text.specs.TextReading.{with_lines, line_then, chart_from, content_of, Faults, Answers, TakesLine, RefusesLine}
+use Rattle.chart_text.specs.TextReading.{with_lines, line_then, chart_from, content_of, Faults, TakesLine, RefusesLine}
 use Rattle.chart_text.specs.declared.read.Content.{Content}
 use Rattle.chart_text.specs.declared.chart.Line.{Line}
 use Rattle.chart_text.specs.declared.fault.TextFault.{TextFault}
@@ -20,53 +20,67 @@ pub with_lines-none : (read : Result Chart TextFault) → with_lines [] read ≡
 with_lines-none (Ok chart) = refl
 with_lines-none (Err fault) = refl
 
-pub with_lines-push : (front : List Line) (line : Line) (read : Result Chart TextFault) → with_lines front (with_lines (line ∷ []) read) ≡ with_lines (front ++ line ∷ []) read
-with_lines-push front line (Ok chart) = ap (λ (ls : List Line). let c : Chart = record { lines = ls; end = chart.end } in Ok c) (sym (append_assoc front (line ∷ []) chart.lines))
+pub with_lines-push : (front : List Line) (line : Line) (read : Result Chart TextFault)
+    → with_lines front (with_lines (line ∷ []) read) ≡ with_lines (front ++ line ∷ []) read
+with_lines-push front line (Ok chart) = ap
+    (λ (ls : List Line). let c : Chart = record { lines = ls; end = chart.end } in Ok c)
+    (sym (append_assoc front (line ∷ []) chart.lines))
 with_lines-push front line (Err fault) = refl
 
 -- numbers that rise up to a number rise up to a higher one
 pub NumbersRise-more : (lines : List Line) (low high : ℕ) → low ≤ high → NumbersRise lines low → NumbersRise lines high
 NumbersRise-more [] low high below rising = tt
 NumbersRise-more (line ∷ []) low high below rising = omega (arith, rising)
-NumbersRise-more (line ∷ next ∷ lines) low high below rising = (rising.0, NumbersRise-more (next ∷ lines) low high below rising.1)
+NumbersRise-more (line ∷ next ∷ lines) low high below rising =
+    (rising.0, NumbersRise-more (next ∷ lines) low high below rising.1)
 
 -- a line of the next number
-pub NumbersRise-push : (lines : List Line) (line : Line) (number end : ℕ) → line.number ≡ number → number < end → NumbersRise lines number → NumbersRise (lines ++ line ∷ []) end
+pub NumbersRise-push : (lines : List Line) (line : Line) (number end : ℕ) → line.number ≡ number → number < end
+    → NumbersRise lines number → NumbersRise (lines ++ line ∷ []) end
 NumbersRise-push [] line number end is below rising = omega arith
 NumbersRise-push (first ∷ []) line number end is below rising = (omega (arith, rising), omega arith)
-NumbersRise-push (first ∷ next ∷ lines) line number end is below rising = (rising.0, NumbersRise-push (next ∷ lines) line number end is below rising.1)
+NumbersRise-push (first ∷ next ∷ lines) line number end is below rising =
+    (rising.0, NumbersRise-push (next ∷ lines) line number end is below rising.1)
 
 -- an empty line
-pub NumbersRise-empty : (lines : List Line) (end : Option ℕ) (number : ℕ) → NumbersRise lines (unwrap_or end number) → NumbersRise lines (unwrap_or end (number + 1))
+pub NumbersRise-empty : (lines : List Line) (end : Option ℕ) (number : ℕ) → NumbersRise lines (unwrap_or end number)
+    → NumbersRise lines (unwrap_or end (number + 1))
 NumbersRise-empty lines None number rising = NumbersRise-more lines number (number + 1) (omega arith) rising
 NumbersRise-empty lines (Some end) number rising = rising
 
 -- a form
-pub NumbersRise-form : (old new : List Line) (line : Line) (end : Option ℕ) (number : ℕ) → end ≡ None → line.number ≡ number → new ≡ old ++ line ∷ []
+pub NumbersRise-form : (old new : List Line) (line : Line) (end : Option ℕ) (number : ℕ) → end ≡ None
+    → line.number ≡ number → new ≡ old ++ line ∷ []
     → NumbersRise old (unwrap_or end number) → NumbersRise new (unwrap_or end (number + 1))
 NumbersRise-form old new line end number none is pushed rising =
-    let before_it : NumbersRise old number = subst (λ (e : Option ℕ). NumbersRise old (unwrap_or e number)) none rising in
+    let before_it : NumbersRise old number = subst (λ (e : Option ℕ). NumbersRise old (unwrap_or e number)) none
+    rising in
     subst (λ (ls : List Line). NumbersRise ls (unwrap_or end (number + 1))) (sym pushed)
     (subst (λ (e : Option ℕ). NumbersRise (old ++ line ∷ []) (unwrap_or e (number + 1))) (sym none)
     (NumbersRise-push old line number (number + 1) is (omega arith) before_it))
 
 -- the lines from a number on, by the first of them
 chart_from-cons : (end : Option ℕ) (number : ℕ) (line : List ℕ) (lines : List (List ℕ))
-    → chart_from end number (line ∷ lines) ≡ line_then end number (content_of line) (λ e. chart_from e (suc number) lines)
+    → chart_from end number (line ∷ lines) ≡ line_then end number (content_of line)
+    (λ e. chart_from e (suc number) lines)
 unfolding chart_from
 chart_from-cons None number line lines = refl
 chart_from-cons (Some end) number line lines = refl
 
 -- the rest of a text, by its first line
-rest_from : (end : Option ℕ) (number : ℕ) (content : Content) (line rest behind : List ℕ) → lines_of rest ≡ line ∷ lines_of behind → content ≡ content_of line
-    → chart_from end number (lines_of rest) ≡ line_then end number content (λ e. chart_from e (suc number) (lines_of behind))
+rest_from : (end : Option ℕ) (number : ℕ) (content : Content) (line rest behind : List ℕ)
+    → lines_of rest ≡ line ∷ lines_of behind → content ≡ content_of line
+    → chart_from end number (lines_of rest) ≡ line_then end number content
+    (λ e. chart_from e (suc number) (lines_of behind))
 rest_from end number content line rest behind first is =
     ap (chart_from end number) first ∙ chart_from-cons end number line (lines_of behind)
     ∙ ap (λ c. line_then end number c (λ e. chart_from e (suc number) (lines_of behind))) (sym is)
 
 -- one line more is read
-pub same_more : (lines new : List Line) (end new_end : Option ℕ) (number : ℕ) (content : Content) (line rest behind : List ℕ) (all : Result Chart TextFault)
-    → lines_of rest ≡ line ∷ lines_of behind → content ≡ content_of line → TakesLine content number lines end new new_end
+pub same_more : (lines new : List Line) (end new_end : Option ℕ) (number : ℕ) (content : Content)
+    (line rest behind : List ℕ) (all : Result Chart TextFault)
+    → lines_of rest ≡ line ∷ lines_of behind → content ≡ content_of line
+    → TakesLine content number lines end new new_end
     → with_lines lines (chart_from end number (lines_of rest)) ≡ all
     → with_lines new (chart_from new_end (number + 1) (lines_of behind)) ≡ all
 same_more lines new end new_end number content line rest behind all first is takes same =
@@ -76,22 +90,26 @@ same_more lines new end new_end number content line rest behind all first is tak
     ∙ same
 
 -- one line is the fault
-fault_of_all : (fault : TextFault) (lines : List Line) (read all : Result Chart TextFault) → Faults fault read → with_lines lines read ≡ all → Faults fault all
+fault_of_all : (fault : TextFault) (lines : List Line) (read all : Result Chart TextFault) → Faults fault read
+    → with_lines lines read ≡ all → Faults fault all
 fault_of_all TooLarge lines read all faults same = sym same ∙ ap (with_lines lines) faults
 fault_of_all NoFirstLine lines read all faults same = sym same ∙ ap (with_lines lines) faults
 fault_of_all (NotALine line) lines read all faults same = sym same ∙ ap (with_lines lines) faults
 fault_of_all NoEnd lines read all faults same = sym same ∙ ap (with_lines lines) faults
 fault_of_all Memory lines read all faults same = tt
 
-pub fault_more : (lines : List Line) (end : Option ℕ) (number : ℕ) (content : Content) (line rest behind : List ℕ) (all : Result Chart TextFault) (fault : TextFault)
+pub fault_more : (lines : List Line) (end : Option ℕ) (number : ℕ) (content : Content) (line rest behind : List ℕ)
+    (all : Result Chart TextFault) (fault : TextFault)
     → lines_of rest ≡ line ∷ lines_of behind → content ≡ content_of line → RefusesLine content number end fault
     → with_lines lines (chart_from end number (lines_of rest)) ≡ all → Faults fault all
 fault_more lines end number content line rest behind all fault first is refuses same =
-    fault_of_all fault lines (line_then end number content (λ e. chart_from e (suc number) (lines_of behind))) all (refuses (λ e. chart_from e (suc number) (lines_of behind)))
+    fault_of_all fault lines (line_then end number content (λ e. chart_from e (suc number) (lines_of behind))) all
+    (refuses (λ e. chart_from e (suc number) (lines_of behind)))
     (ap (with_lines lines) (sym (rest_from end number content line rest behind first is)) ∙ same)
 
 -- no line is left, behind END
-pub same_at_end : (lines : List Line) (end : Option ℕ) (number last : ℕ) (rest : List ℕ) (all : Result Chart TextFault) (chart : Chart)
+pub same_at_end : (lines : List Line) (end : Option ℕ) (number last : ℕ) (rest : List ℕ)
+    (all : Result Chart TextFault) (chart : Chart)
     → lines_of rest ≡ [] → end ≡ Some last → chart.lines ≡ lines → chart.end ≡ last
     → with_lines lines (chart_from end number (lines_of rest)) ≡ all → all ≡ Ok chart
 unfolding chart_from
@@ -99,7 +117,8 @@ same_at_end lines end number last rest all chart none is same_lines same_end sam
     sym same
     ∙ ap (λ (e : Option ℕ). with_lines lines (chart_from e number (lines_of rest))) is
     ∙ ap (λ (ls : List (List ℕ)). with_lines lines (chart_from (Some last) number ls)) none
-    ∙ ap (λ (ls : List Line). let c : Chart = record { lines = ls; end = last } in Ok c) (append-nil lines ∙ sym same_lines)
+    ∙ ap (λ (ls : List Line). let c : Chart = record { lines = ls; end = last } in Ok c)
+    (append-nil lines ∙ sym same_lines)
     ∙ ap (λ (n : ℕ). let c : Chart = record { lines = chart.lines; end = n } in Ok c) (sym same_end)
 
 -- no line is left, and there was no END

@@ -1,9 +1,8 @@
 -- Whether a text is too large, line by line.
-use Rattle.std.proofs.Common.{◌≡◌, ℕ, ◌+◌, ◌<◌, ◌≤◌, ◌||◌, Bool, true, false, ltb, nat_lt, List, [], ◌∷◌, length, refl, ap, sym, ◌∙◌, arith, suc}
+use Rattle.std.proofs.Common.{◌≡◌, ℕ, ◌+◌, ◌<◌, ◌≤◌, ◌||◌, Bool, true, false, ltb, nat_lt, List, [], ◌∷◌, length, refl, arith, suc}
 use Rattle.std.proofs.lemmas.Bool.{lt-ltb, le-ltb}
-use Rattle.std.proofs.lemmas.Bool.Decides.{nat_tests}
 use Rattle.std.specs.List.{list_any}
-use Rattle.chart_text.specs.TextReading.{is_long, is_large}
+use Rattle.chart_text.specs.TextReading.{is_long}
 
 -- whether a text is too large, where a number of lines stand before these
 abbrev pub large_behind : ℕ → List (List ℕ) → Bool
@@ -21,12 +20,15 @@ large_behind-short count line lines short =
     rw (le-ltb 200 (length line) short, moved) refl
 
 -- one line more than there may be
-pub large_behind-many : (count : ℕ) (line : List ℕ) (lines : List (List ℕ)) → 500 ≤ count → large_behind count (line ∷ lines) ≡ true
+pub large_behind-many : (count : ℕ) (line : List ℕ) (lines : List (List ℕ)) → 500 ≤ count
+    → large_behind count (line ∷ lines) ≡ true
 large_behind-many count line lines many = rw (lt-ltb 500 (count + suc (length lines)) (omega arith)) refl
 
 -- a line that is too long
-pub large_behind-long : (count : ℕ) (line : List ℕ) (lines : List (List ℕ)) → 200 < length line → large_behind count (line ∷ lines) ≡ true
-large_behind-long count line lines long = rw (lt-ltb 200 (length line) long) (or_true (ltb 500 (count + suc (length lines))))
+pub large_behind-long : (count : ℕ) (line : List ℕ) (lines : List (List ℕ)) → 200 < length line
+    → large_behind count (line ∷ lines) ≡ true
+large_behind-long count line lines long = rw (lt-ltb 200 (length line) long)
+    (or_true (ltb 500 (count + suc (length lines))))
 
 -- no line left
 pub large_behind-none : (count : ℕ) → count ≤ 500 → large_behind count [] ≡ false

@@ -1,6 +1,6 @@
 -- A chart as text: line 1 names the language, each other line is a form or empty, END ends the chart.
--- A text that is no chart breaks one of four text rules, asked in this order: its size, its first line, its other lines, its END.
-use Rattle.std.specs.Prelude.{◌≡◌, ℕ, ◌+◌, ◌-◌, ◌<◌, ◌≤◌, suc, List, [], ◌∷◌, length, slice_index_or, Any, ◌⊎◌, codes}
+-- The text rules, which say what is wrong with a text that is no chart, stand in TextFaults.
+use Rattle.std.specs.Prelude.{◌≡◌, ℕ, ◌<◌, suc, List, [], ◌∷◌, length, Any, ◌⊎◌, codes}
 use Rattle.std.specs.List.{AllByRecursion}
 use Rattle.card_code.specs.Lines.{lines_of}
 use Rattle.chart_text.specs.Chart.{Chart}

@@ -57,7 +57,8 @@ pub data Says : List (List ℕ) → Statement → Type 0 where
       → Says (codes "CONTROL" ∷ level ∷ name ∷ []) (says.Control l n)
   print_detail : Says (codes "PRINT" ∷ codes "DETAIL" ∷ []) (says.Print printings.Detail)
   print_group : Says (codes "PRINT" ∷ codes "GROUP" ∷ []) (says.Print printings.Group)
-  head : {line wheel literal characters : List ℕ} {h w : ℕ} → IsNumberTo 3 line h → IsNumber wheel w → IsLiteral literal characters
+  head : {line wheel literal characters : List ℕ} {h w : ℕ} → IsNumberTo 3 line h → IsNumber wheel w
+      → IsLiteral literal characters
       → Says (codes "HEAD" ∷ line ∷ wheel ∷ literal ∷ []) (says.Head h w characters)
   detail_literal : {wheel literal characters : List ℕ} {w : ℕ} → IsNumber wheel w → IsLiteral literal characters
       → Says (codes "DETAIL" ∷ wheel ∷ literal ∷ []) (says.DetailLiteral w characters)
@@ -76,7 +77,8 @@ pub data Says : List (List ℕ) → Statement → Type 0 where
       → Says (codes "SPACE" ∷ (kind ++ count ∷ [])) (says.Space line n)
   page_after : {kind : List (List ℕ)} {line : BodyLine} → SaysKind kind line
       → Says (codes "AFTER" ∷ (kind ++ codes "PAGE" ∷ [])) (says.After line Page)
-  skip_after : {kind : List (List ℕ)} {channel : List ℕ} {line : BodyLine} {c : ℕ} → SaysKind kind line → IsNumber channel c
+  skip_after : {kind : List (List ℕ)} {channel : List ℕ} {line : BodyLine} {c : ℕ} → SaysKind kind line
+      → IsNumber channel c
       → Says (codes "AFTER" ∷ (kind ++ codes "SKIP" ∷ channel ∷ [])) (says.After line (Skip c))
   form : {size first overflow : List ℕ} {p t o : ℕ} → IsNumber size p → IsNumber first t → IsNumber overflow o
       → Says (codes "FORM" ∷ size ∷ first ∷ overflow ∷ []) (says.Form p t o)

@@ -1,6 +1,6 @@
--- What the readers answer, as functions of lists: the tokens of a line, and what tokens say, where they say something.
--- The theorems about the grammar say that these are its relations.
-use Rattle.std.specs.Prelude.{ℕ, ◌+◌, ◌-◌, ◌*◌, ◌==◌, ◌&&◌, ◌||◌, Bool, true, List, [], ◌∷◌, ◌++◌, length, Option, Some, None, option_and_then, option_map, if◌then◌else◌, nat_le, nat_lt, not, map, slice_index, slice_range, replicate, codes}
+-- What the readers of lines answer, as functions of lists: the tokens of a line, and what tokens say.
+-- These are steps between the code and the grammar: read_chart promises the relations of Tokens and Forms.
+use Rattle.std.specs.Prelude.{ℕ, ◌+◌, ◌-◌, ◌*◌, ◌==◌, ◌&&◌, Bool, true, List, [], ◌∷◌, ◌++◌, length, Option, Some, None, option_and_then, option_map, if◌then◌else◌, nat_le, map, slice_index, slice_range, replicate, codes}
 use Rattle.std.specs.List.{list_all}
 use Rattle.std.specs.Str.{bytes_eq}
 use denote.Ref.{Bor}
@@ -46,7 +46,8 @@ unfoldable pub tokens_from : Place → List ℕ → Option (List (List ℕ))
 tokens_from between [] = Some []
 tokens_from between (b ∷ bs) =
     if b == 32 then tokens_from between bs
-    else (if b == 39 then option_map (onto b) (tokens_from in_literal bs) else option_map (onto b) (tokens_from in_plain bs))
+    else (if b == 39 then option_map (onto b) (tokens_from in_literal bs) else option_map (onto b)
+    (tokens_from in_plain bs))
 tokens_from in_plain [] = Some ([] ∷ [])
 tokens_from in_plain (b ∷ bs) =
     if b == 32 then option_map (before []) (tokens_from between bs)
@@ -103,21 +104,25 @@ number_to greatest token = do
 -- the name that a token is
 unfoldable pub name_of : List ℕ → Option (List ℕ)
 name_of token =
-    if nat_le (length token) 8 && begins_with_letter token then Some (token ++ replicate (8 - length token) 32) else None
+    if nat_le (length token) 8 && begins_with_letter token then Some
+    (token ++ replicate (8 - length token) 32) else None
 
 -- whether characters are those of a literal
 abbrev pub is_literal_text : List ℕ → Bool
-is_literal_text characters = nat_le 1 (length characters) && nat_le (length characters) 120 && list_all is_printable characters
+is_literal_text characters = nat_le 1 (length characters) && nat_le
+    (length characters) 120 && list_all is_printable characters
 
 -- the characters of the literal that a token is
 unfoldable pub literal_of : List ℕ → Option (List ℕ)
 literal_of token =
-    if nat_le 2 (length token) && slice_index token 0 == 39 && slice_index token (length token - 1) == 39 && is_literal_text (slice_range token 1 (length token - 1))
+    if nat_le 2 (length token) && slice_index token 0 == 39 && slice_index token
+    (length token - 1) == 39 && is_literal_text (slice_range token 1 (length token - 1))
     then Some (slice_range token 1 (length token - 1)) else None
 
 -- the mark that a token is
 abbrev pub mark_of : List ℕ → Option Mark
-mark_of token = if bytes_eq token (codes "CR") then Some Credit else (if bytes_eq token (codes "-") then Some Minus else None)
+mark_of token = if bytes_eq token (codes "CR") then Some Credit else
+    (if bytes_eq token (codes "-") then Some Minus else None)
 
 -- the word that a form begins with
 abbrev pub keyword_of : List ℕ → Option Keyword

@@ -52,7 +52,8 @@ abbrev pub HaveFault : List (List ℕ) → TextFault → Type 0
 HaveFault lines TooLarge = IsTooLarge lines
 HaveFault lines NoFirstLine = (¬ IsTooLarge lines) × (¬ HasFirstLine lines)
 HaveFault lines (NotALine number) = (¬ IsTooLarge lines) × HasFirstLine lines × IsLowestMisplaced lines number
-HaveFault lines NoEnd = (¬ IsTooLarge lines) × HasFirstLine lines × ((number : ℕ) → ¬ IsMisplaced lines number) × LacksEnd lines
+HaveFault lines NoEnd = (¬ IsTooLarge lines) × HasFirstLine lines × ((number : ℕ) → ¬ IsMisplaced lines number)
+    × LacksEnd lines
 HaveFault lines Memory = ⊥
 
 -- the fault of a text

@@ -1,5 +1,6 @@
--- What the reader of a whole text answers, as a function of its lines. The theorems about the grammar say that it is its relation.
-use Rattle.std.specs.Prelude.{◌≡◌, ℕ, ◌+◌, ◌==◌, ◌&&◌, ◌||◌, Bool, true, false, List, [], ◌∷◌, ◌++◌, length, Option, Some, None, Result, Ok, Err, suc, nat_lt, if◌then◌else◌, codes}
+-- What the reader of a whole text answers, as a function of its lines.
+-- This is a step between the code and the grammar: read_chart promises the relations of ChartText and TextFaults.
+use Rattle.std.specs.Prelude.{◌≡◌, ℕ, ◌&&◌, ◌||◌, Bool, false, List, [], ◌∷◌, ◌++◌, length, Option, Some, None, Result, Ok, Err, suc, nat_lt, if◌then◌else◌, codes}
 use Rattle.std.specs.List.{list_any}
 use Rattle.std.specs.Str.{bytes_eq}
 use Rattle.card_code.specs.Lines.{lines_of}
@@ -52,7 +53,8 @@ with_lines front (Err fault) = Err fault
 abbrev pub line_then : Option ℕ → ℕ → Content → (Option ℕ → Result Chart TextFault) → Result Chart TextFault
 line_then end number Empty others = others end
 line_then None number End others = others (Some number)
-line_then None number (Form statement) others = with_lines (record { number = number; statement = statement } ∷ []) (others None)
+line_then None number (Form statement) others = with_lines (record { number = number; statement = statement } ∷ [])
+    (others None)
 line_then (Some end) number End others = Err (NotALine number)
 line_then (Some end) number (Form statement) others = Err (NotALine number)
 line_then end number NoForm others = Err (NotALine number)
@@ -87,8 +89,10 @@ Answers (Err fault) read = Faults fault read
 -- the lines so far and END gain what one line gives, however the others go on
 abbrev pub TakesLine : Content → ℕ → List Line → Option ℕ → List Line → Option ℕ → Type 0
 TakesLine content number lines end new_lines new_end =
-    (others : Option ℕ → Result Chart TextFault) → with_lines lines (line_then end number content others) ≡ with_lines new_lines (others new_end)
+    (others : Option ℕ → Result Chart TextFault) → with_lines lines (line_then end number content others)
+    ≡ with_lines new_lines (others new_end)
 
 -- one line is the fault, however the others go on
 abbrev pub RefusesLine : Content → ℕ → Option ℕ → TextFault → Type 0
-RefusesLine content number end fault = (others : Option ℕ → Result Chart TextFault) → Faults fault (line_then end number content others)
+RefusesLine content number end fault = (others : Option ℕ → Result Chart TextFault)
+    → Faults fault (line_then end number content others)

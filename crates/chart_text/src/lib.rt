@@ -1,4 +1,12 @@
 //! Planning charts as text: what each line says, before any rule is asked.
+//!
+//! [`read_chart`] answers the [`RawChart`] of a text, or the first of its text rules that is broken, as a
+//! [`TextFault`]. A raw chart keeps the lines that say something, each with its number and a
+//! [`Statement`], and the number of END. It stands on `card_code`, for the lines of a text and for the
+//! characters that a wheel prints.
+//!
+//! `specs/` has the grammar apart from any scanner: tokens, numbers, names, literals, forms, whole texts
+//! and text rules are relations on lines. That one chart at most fits a text is a law of them.
 #![tactic(auto)]
 
 mod chart;
@@ -8,6 +16,8 @@ mod laws;
 mod name;
 mod read;
 mod statement;
+#[cfg(test)]
+mod tests;
 mod tokens;
 mod words;
 

@@ -1,25 +1,23 @@
 -- A cycle of the machine: what the wheels print in a card cycle, and what every cycle leaves as it was.
-use Rattle.std.proofs.Common.{◌≡◌, ℕ, zero, suc, ◌+◌, ◌-◌, ◌<◌, ◌≤◌, Bool, true, false, ◌&&◌, cond, if◌then◌else◌, List, [], ◌∷◌, Option, Some, None, map, length, replicate, refl, sym, ap, subst, ◌∙◌, arith, add-one}
+use Rattle.std.proofs.Common.{◌≡◌, ℕ, zero, suc, ◌+◌, ◌-◌, ◌<◌, ◌≤◌, Bool, true, false, ◌&&◌, if◌then◌else◌, List, [], ◌∷◌, Option, Some, map, length, replicate, refl, sym, ap, subst, ◌∙◌, arith, add-one}
 use Rattle.std.specs.List.{range_with_len}
 use Rattle.std.proofs.lemmas.Bool.Decides.{nat_tests}
 use Rattle.card_code.specs.CardCode.{has_row, with_row, print_character}
 use Rattle.hubs.specs.Wiring.{Wiring}
 use Rattle.hubs.specs.Hubs.{is_within}
-use Rattle.net.specs.Impulsed.{IsPicture}
 use Rattle.net.specs.declared.cycle.Cycle.{Cycle}
-use Rattle.net.specs.declared.cycle.Cycle.TheVariants.{RunIn, Card, Head}
+use Rattle.net.specs.declared.cycle.Cycle.TheVariants.{Card}
 use Rattle.net.specs.declared.cycle.Point.{Point}
 use Rattle.net.specs.declared.cycle.Point.TheVariants.{C, Row, K}
 use Rattle.chart_text.specs.Chart.{Chart}
 use Rattle.machine.specs.declared.machine.Machine.{Machine}
 use Rattle.machine.specs.declared.wheels.Wheel.{Wheel}
 use Rattle.machine.specs.declared.wheels.Wheels.{Wheels}
-use Rattle.machine.specs.declared.stations.Stations.{Stations}
-use Rattle.machine.specs.Stations.{is_punched, stations_emit}
-use Rattle.machine.specs.Wheels.{empty_wheel, wheel_sensed, wheels_from, wheels_sensed, wheels_ended}
+use Rattle.machine.specs.Stations.{is_punched}
+use Rattle.machine.specs.Wheels.{empty_wheel, wheel_sensed, wheels_from, wheels_sensed}
 use Rattle.machine.specs.Carriage.{carriage_ended}
 use Rattle.machine.specs.CycleOrder.{program_ended}
-use Rattle.machine.specs.Machine.{emits, closed, PointStep, Reached, CycleRun, ended, point_at}
+use Rattle.machine.specs.Machine.{PointStep, Reached, CycleRun, point_at}
 use Rattle.compile407.specs.Items.{Item, items_of}
 use Rattle.chart_rules.specs.ValidCard.{column_of}
 use Rattle.compile407.specs.BodyLines.{piece_on, card_line}

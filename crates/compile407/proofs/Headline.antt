@@ -1,5 +1,5 @@
 -- The pages that the machine prints, wired for a listing, are the report of the deck.
-use Rattle.std.proofs.Common.{◌≡◌, ℕ, ◌+◌, ◌^◌, ◌<◌, ◌≤◌, Bool, true, false, cond, if◌then◌else◌, List, [], ◌∷◌, ◌++◌, map, length, refl, sym, ap, subst, ◌∙◌, arith}
+use Rattle.std.proofs.Common.{◌≡◌, ℕ, ◌^◌, ◌≤◌, true, if◌then◌else◌, List, [], ◌∷◌, ◌++◌, map, length, refl, sym, ap, subst, ◌∙◌, arith}
 use Rattle.std.specs.List.{All, flat_map}
 use Rattle.hubs.specs.Wiring.{Wiring}
 use Rattle.chart_text.specs.Chart.{Chart}
@@ -8,7 +8,7 @@ use Rattle.machine.specs.declared.placed_line.PlacedLine.{PlacedLine}
 use Rattle.machine.specs.Machine.{MachineLines}
 use Rattle.compile407.specs.ChartForm.{prints_details, form_of}
 use Rattle.compile407.specs.Outline.{details}
-use Rattle.compile407.specs.BodyLines.{card_line, lines_for, body_lines}
+use Rattle.compile407.specs.BodyLines.{card_line, lines_for}
 use Rattle.compile407.specs.Places.{placed, before_all}
 use Rattle.compile407.specs.Report.{report_lines}
 use Rattle.chart_rules.specs.Rules.{IsLawful}
@@ -19,7 +19,7 @@ use Rattle.compile407.specs.Listing.{IsListing}
 use Rattle.compile407.proofs.Cycles.{IsGathered}
 use Rattle.compile407.specs.Pages.{Pages}
 use Rattle.chart_rules.specs.ValidCard.{IsValidCard}
-use Rattle.compile407.specs.Headline.{IsDeck, PrintsReport, WiredSetupsPrintReports}
+use Rattle.compile407.specs.Headline.{IsDeck, WiredSetupsPrintReports}
 use Rattle.std.proofs.lemmas.List.Elements.{All-weaker}
 use Rattle.compile407.proofs.Lawful.{listing_of}
 use Rattle.compile407.proofs.Validity.{valid_gathered}

@@ -1,6 +1,6 @@
 -- What a wheel's hub receives at the point of a row: the row, where the columns wired to the wheel hold it.
-use Rattle.std.proofs.Common.{◌≡◌, ◌⊎◌, ◌↔◌, ℕ, ◌+◌, ◌-◌, ◌<◌, ◌≤◌, Bool, true, false, ◌&&◌, nat_le, nat_lt, cond, List, Some, None, Option, inl, inr, refl, sym, ap, subst, ◌∙◌, arith, if◌then◌else◌}
-use Rattle.std.specs.List.{Contains, AllPairs, All}
+use Rattle.std.proofs.Common.{◌≡◌, ◌⊎◌, ℕ, ◌+◌, ◌-◌, ◌<◌, ◌≤◌, Bool, true, false, cond, List, Some, None, inl, inr, refl, sym, ap, subst, ◌∙◌, arith}
+use Rattle.std.specs.List.{Contains}
 use Rattle.std.proofs.lemmas.List.Elements.{All-contains}
 use Rattle.std.proofs.lemmas.Bool.Decides.{nat_tests}
 use Rattle.std.proofs.lemmas.Nat.Bits.{bit_at-zero}
@@ -8,13 +8,13 @@ use Rattle.card_code.specs.CardCode.{has_row}
 use Rattle.hubs.specs.declared.hub.Hub.{Hub}
 use Rattle.hubs.specs.declared.hub.Hub.TheVariants.{SR, W}
 use Rattle.hubs.specs.Hubs.{number_of, is_within}
-use Rattle.hubs.specs.Wiring.{Wiring, HasWire}
-use Rattle.net.specs.Impulsed.{IsWired, Leads, Impulsed, emitted, led, IsPicture}
+use Rattle.hubs.specs.Wiring.{Wiring}
+use Rattle.net.specs.Impulsed.{Impulsed, emitted, led, IsPicture}
 use Rattle.chart_text.specs.Chart.{Chart}
 use Rattle.compile407.specs.Items.{Item, Text, items_of}
 use Rattle.chart_rules.specs.ValidCard.{column_of}
-use Rattle.compile407.specs.Listing.{IsOnCard, IsOnWheels, AreApart, IsListing}
-use Rattle.compile407.specs.WiredFor.{WiresOf, text, WiresOfSome, WiredFor}
+use Rattle.compile407.specs.Listing.{IsOnCard, IsListing}
+use Rattle.compile407.specs.WiredFor.{WiresOf, text, WiredFor}
 use Rattle.compile407.proofs.Sets.{set_at, set_at-covered, set_at_source}
 use Rattle.compile407.proofs.NumberTests.{same_bools}
 

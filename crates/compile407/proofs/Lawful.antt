@@ -1,5 +1,5 @@
 -- A served chart that breaks no rule has what a listing rests on.
-use Rattle.std.proofs.Common.{◌≡◌, ◌⊎◌, ℕ, ◌+◌, ◌-◌, ◌<◌, ◌≤◌, Bool, true, false, ◌&&◌, ◌||◌, not, cond, if◌then◌else◌, nat_le, nat_lt, max, min, List, [], ◌∷◌, ◌++◌, Option, Some, None, option_and_then, option_map, find, inl, inr, refl, sym, ap, subst, ◌∙◌, arith, append_assoc}
+use Rattle.std.proofs.Common.{◌≡◌, ◌⊎◌, ℕ, ◌+◌, ◌-◌, ◌<◌, ◌≤◌, Bool, true, false, ◌&&◌, ◌||◌, not, cond, nat_le, nat_lt, max, min, List, [], ◌∷◌, ◌++◌, Option, Some, None, option_and_then, option_map, find, refl, sym, ap, subst, ◌∙◌, arith, append_assoc}
 use Rattle.std.specs.List.{All, AllPairs, filter_map, cons_option, list_any}
 use Rattle.std.proofs.lemmas.List.Elements.{All-nil, All-cons, All-head, All-tail}
 use Rattle.std.proofs.lemmas.List.Kept.{AllPairs-cons}
@@ -18,13 +18,13 @@ use Rattle.chart_text.specs.declared.statement.Statement.TheVariants as says
 use Rattle.chart_rules.specs.declared.rule.Rule.{Rule}
 use Rattle.chart_rules.specs.declared.rule.Rule.TheVariants as rule
 use Rattle.chart_rules.specs.declared.items.PrintedLine.TheVariants.{Body}
-use Rattle.chart_rules.specs.Fields.{fields_of, field_of, field_named, first_named, columns_of, sign_column}
+use Rattle.chart_rules.specs.Fields.{fields_of, field_of, field_named, columns_of, sign_column}
 use Rattle.chart_rules.specs.Columns.{has_good_sign}
 use Rattle.chart_rules.specs.Items as rules_items
 use Rattle.chart_rules.specs.Wheels.{overlap, is_off_wheels, meet}
 use Rattle.chart_rules.specs.Printing.{has_print, is_print}
 use Rattle.chart_rules.specs.Forms.{has_form, is_form, has_room, heading_count}
-use Rattle.chart_rules.specs.Rules.{breaks, lacks, Broken, by_line, by_end, IsKept, IsLawful}
+use Rattle.chart_rules.specs.Rules.{breaks, lacks, by_line, by_end, IsKept, IsLawful}
 use Rattle.compile407.specs.Items.{Item, Text, item_of_kind, item_of_field, item_of, items_of}
 use Rattle.compile407.specs.ChartForm.{Form, form_of, form_from, is_print_detail, prints_details}
 use Rattle.compile407.specs.Listing.{IsOnCard, IsOnWheels, AreApart, IsListing}

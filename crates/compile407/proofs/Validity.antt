@@ -1,14 +1,12 @@
 -- The columns of a valid card's texts hold sets that a wheel gathers whole.
-use Rattle.std.proofs.Common.{◌≡◌, ◌⊎◌, ℕ, ◌+◌, ◌-◌, ◌<◌, ◌≤◌, List, [], ◌∷◌, ◌++◌, Bool, true, Option, Some, None, get_or, inl, inr, refl, sym, ap, subst, ◌∙◌, arith}
+use Rattle.std.proofs.Common.{◌≡◌, ◌⊎◌, ℕ, ◌+◌, ◌-◌, ◌<◌, ◌≤◌, List, [], ◌∷◌, ◌++◌, true, Option, Some, None, get_or, inl, inr, refl, sym, ap, subst, ◌∙◌, arith}
 use Rattle.std.specs.List.{All, Contains}
 use Rattle.std.proofs.lemmas.List.Elements.{All-contains}
 use Rattle.std.proofs.lemmas.Option.{slice_get-get_or}
 use Rattle.chart_text.specs.Chart.{Chart}
 use Rattle.chart_text.specs.declared.chart.Line.{Line}
 use Rattle.card_code.specs.CardCode.{deck_character}
-use Rattle.chart_text.specs.declared.statement.Field.{Field}
 use Rattle.chart_text.specs.declared.statement.FieldKind.{FieldKind}
-use Rattle.chart_text.specs.declared.statement.FieldKind.TheVariants as holds
 use Rattle.chart_rules.specs.Fields.{fields_of}
 use Rattle.chart_rules.specs.Rules.{IsLawful}
 use Rattle.compile407.specs.Items.{Item, Text, item_of, items_of}

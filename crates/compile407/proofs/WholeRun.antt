@@ -1,5 +1,5 @@
 -- A whole run of a setup wired for a listing: the carriage stands where the report's lines left the form.
-use Rattle.std.proofs.Common.{◌≡◌, ℕ, zero, suc, ◌+◌, ◌^◌, ◌<◌, ◌≤◌, ◌==◌, Bool, true, false, ◌&&◌, cond, if◌then◌else◌, nat_le, nat_lt, List, [], ◌∷◌, ◌++◌, Option, Some, None, is_some, map, length, replicate, refl, sym, ap, subst, ◌∙◌, arith}
+use Rattle.std.proofs.Common.{◌≡◌, ℕ, zero, suc, ◌+◌, ◌^◌, ◌<◌, ◌≤◌, ◌==◌, Bool, true, false, cond, if◌then◌else◌, nat_le, nat_lt, List, [], ◌∷◌, ◌++◌, Option, Some, None, is_some, map, length, replicate, refl, sym, ap, subst, ◌∙◌, arith}
 use Rattle.std.specs.List.{All}
 use Rattle.std.proofs.lemmas.List.Elements.{All-head, All-tail}
 use Rattle.std.proofs.lemmas.Bool.Decides.{nat_tests}
@@ -12,18 +12,17 @@ use Rattle.net.specs.declared.cycle.Heading.TheVariants.{First, Second, Third}
 use Rattle.chart_text.specs.Chart.{Chart}
 use Rattle.machine.specs.declared.machine.Machine.{Machine}
 use Rattle.machine.specs.declared.carriage.Carriage.{Carriage}
-use Rattle.machine.specs.declared.program.Program.{Program}
 use Rattle.machine.specs.declared.placed_line.PlacedLine.{PlacedLine}
 use Rattle.machine.specs.Wheels.{empty_wheel, wheels_at_start}
 use Rattle.machine.specs.Carriage as carriage
 use Rattle.machine.specs.CycleOrder.{next_cycle, cycle_after, card_due, program_ended}
-use Rattle.machine.specs.Machine.{cycle_due, before_cycle, moved_on, cards_left, cards_behind, next_card, CycleRun, RunsCycle, Runs, line_at, line_of, MachineLines, machine_at_start}
+use Rattle.machine.specs.Machine.{cycle_due, before_cycle, moved_on, cards_left, cards_behind, next_card, CycleRun, Runs, line_at, line_of, MachineLines, machine_at_start}
 use Rattle.compile407.specs.ChartForm.{Form, form_of}
 use Rattle.compile407.specs.BodyLines.{card_line}
-use Rattle.compile407.specs.Places.{placed, next_page, next_line, left_below, left_after, before_all}
+use Rattle.compile407.specs.Places.{placed, left_below, before_all}
 use Rattle.compile407.specs.WiredFor.{WiredFor, list}
 use Rattle.compile407.specs.Listing.{IsListing}
-use Rattle.compile407.proofs.Cycles.{IsGathered, card_cycle-line, cycle_end, IsCycleEnd}
+use Rattle.compile407.proofs.Cycles.{IsGathered, card_cycle-line, cycle_end}
 
 -- A machine between two cycles: the card at first reading, wheels that have received nothing, the carriage, the last cycle.
 pub record IsState (cards : List (List ℕ)) (last : Option Cycle) (stands : Carriage) (machine : Machine) : Type 0 where
@@ -185,6 +184,28 @@ none_follows (Some Card) restore between = refl
 none_follows (Some (Head heading)) restore between = absurd between
 none_follows None restore between = absurd between
 
+-- a page number below 2^32 is followed by the next
+page_turned : (page : ℕ) → page < 2 ^ 32 → carriage.next_page page ≡ page + 1
+page_turned page below =
+    let test : nat_lt page (2 ^ 32) ≡ true = grind (arith, nat_tests) in ap (λ b. if b then page + 1 else page) test
+
+-- where a card cycle is due while the latch is set, the heading cycles come first, and leave the carriage on the next page
+page_begun : (wiring : Wiring) (card : List ℕ) (cards : List (List ℕ)) (page line first : ℕ) (printed : Option (ℕ × ℕ))
+    (last : Option Cycle) (cycles : ℕ) (machine : Machine) (lines : List PlacedLine) → page < 2 ^ 32 →
+    wiring.tape.first ≡ first → IsBetween last (card ∷ cards) →
+    IsState (card ∷ cards) last (carriage_at wiring page line true printed) machine → Runs wiring cycles machine cards lines →
+    (new : Machine) × (n : ℕ)
+    × IsState (card ∷ cards) (Some (Head Third)) (carriage_at wiring (page + 1) first false None) new
+    × Runs wiring n new cards lines
+page_begun wiring card cards page line first printed last cycles machine lines below is_first between state runs =
+    let one = quiet_run wiring cycles cards lines (Head First) state (due state ∙ card_follows last card cards true between)
+    refl refl refl runs in
+    let two = quiet_run wiring one.1 cards lines (Head Second) one.2 (due one.2) refl refl refl one.3 in
+    let three = quiet_run wiring two.1 cards lines (Head Third) two.2 (due two.2) refl refl refl two.3 in
+    let P : ℕ → Type 0 = λ p. IsState (card ∷ cards) (Some (Head Third)) (carriage_at wiring p wiring.tape.first false None) three.0 in
+    let L : ℕ → Type 0 = λ l. IsState (card ∷ cards) (Some (Head Third)) (carriage_at wiring (page + 1) l false None) three.0 in
+    (three.0, three.1, subst L is_first (subst P (page_turned page below) three.2), three.3)
+
 -- The lines of a run from a state between two cards are the placed lines of the cards that are left.
 cards_run : (chart : Chart) (wiring : Wiring) (cards : List (List ℕ)) (page line : ℕ) (left : Option ℕ) (latch : Bool) (printed : Option (ℕ × ℕ))
     (last : Option Cycle) (cycles : ℕ) (machine : Machine) (lines : List PlacedLine) → WiredFor chart wiring → IsListing chart →
@@ -208,27 +229,16 @@ cards_run chart wiring (card ∷ cards) page line (Some n) latch printed last cy
 cards_run chart wiring (card ∷ cards) page line None latch printed last cycles machine lines wired listing whole between on room state runs =
     let form : Form = form_of chart.lines in
     let S : Bool → Type 0 = λ b. IsState (card ∷ cards) last (carriage_at wiring page line b printed) machine in
-    let latched : S true = subst S on state in
-    let one = quiet_run wiring cycles cards lines (Head First) latched (due latched ∙ card_follows last card cards true between) refl refl refl runs in
-    let two = quiet_run wiring one.1 cards lines (Head Second) one.2 (due one.2) refl refl refl one.3 in
-    let three = quiet_run wiring two.1 cards lines (Head Third) two.2 (due two.2) refl refl refl two.3 in
-    let turns : carriage.next_page page ≡ page + 1 = turned page (omega arith) in
-    let T : ℕ → Type 0 = λ p. IsState (card ∷ cards) (Some (Head Third)) (carriage_at wiring p wiring.tape.first false None) three.0 in
-    let state_there : T (page + 1) = subst T turns three.2 in
-    let U : ℕ → Type 0 = λ f. IsState (card ∷ cards) (Some (Head Third)) (carriage_at wiring (page + 1) f false None) three.0 in
-    let on_line : U form.first = subst U wired.first state_there in
+    let begun = page_begun wiring card cards page line form.first printed last cycles machine lines (omega arith) wired.first between
+    (subst S on state) runs in
     let short : form.first < wiring.tape.lines = omega (arith, wired.lines, listing.overflow_line, listing.last_line) in
-    let step = card_step chart wiring (page + 1) form.first None (Some (Head Third)) card cards three.1 three.0 lines wired listing
-    (All-head (IsGathered chart) card cards whole) short refl on_line three.3 in
-    let others = cards_run chart wiring cards (page + 1) (form.first + 1) (left_below form (form.first + 1)) (form.first + 1 == wiring.tape.overflow)
-    (Some (page + 1, form.first + 1)) (Some Card) step.cycles step.new step.others wired listing (All-tail (IsGathered chart) card cards whole) tt
+    let step = card_step chart wiring (page + 1) form.first None (Some (Head Third)) card cards begun.1 begun.0 lines wired listing
+    (All-head (IsGathered chart) card cards whole) short refl begun.2 begun.3 in
+    let others = cards_run chart wiring cards (page + 1) (form.first + 1) (left_below form (form.first + 1))
+    (form.first + 1 == wiring.tape.overflow) (Some (page + 1, form.first + 1)) (Some Card) step.cycles step.new step.others
+    wired listing (All-tail (IsGathered chart) card cards whole) tt
     (on_form_below form form.first wiring.tape.overflow wired.overflow listing.overflow_line) (omega arith) step.state step.runs in
     step.is_lines ∙ ap (λ l. record { page = page + 1; line = form.first + 1; text = card_line chart.lines card } ∷ l) others
-  where
-    turned : (page : ℕ) → page < 2 ^ 32 → carriage.next_page page ≡ page + 1
-    turned page below =
-        let test : nat_lt page (2 ^ 32) ≡ true = grind (arith, nat_tests) in
-        ap (λ b. if b then page + 1 else page) test
 
 -- The lines of a whole run are the placed lines of the deck's cards.
 pub run_lines : (chart : Chart) (wiring : Wiring) (cards : List (List ℕ)) (lines : List PlacedLine) → WiredFor chart wiring → IsListing chart →

@@ -1,6 +1,6 @@
 -- What wiring adds step by step: the columns of a text one by one, and the items of a chart one by one.
-use Rattle.std.proofs.Common.{◌≡◌, ℕ, zero, suc, ◌+◌, ◌<◌, ◌≤◌, List, [], ◌∷◌, ◌++◌, take, length, ◌⊎◌, inl, inr, ◌↔◌, refl, sym, ap, ◌∙◌, subst, arith, Some, None, Option, get_or, Bool, true, false}
-use Rattle.std.specs.Prelude.{Contains, All, IfSome}
+use Rattle.std.proofs.Common.{◌≡◌, ℕ, zero, suc, ◌+◌, ◌<◌, List, [], ◌∷◌, ◌++◌, take, length, ◌⊎◌, inl, inr, ◌↔◌, refl, sym, ap, ◌∙◌, subst, arith, Some, None, Option, get_or, Bool, true, false}
+use Rattle.std.specs.Prelude.{All, IfSome}
 use Rattle.std.specs.List.{filter_map, cons_option}
 use Rattle.std.proofs.lemmas.Bool.{cases_lt}
 use Rattle.std.proofs.lemmas.List.{take_more}
@@ -11,9 +11,9 @@ use Rattle.hubs.specs.declared.hub.Hub.TheVariants.{SR, W}
 use Rattle.hubs.specs.declared.jack.Jack.{Jack}
 use Rattle.hubs.specs.declared.jack.Jack.TheVariants as jacks
 use Rattle.hubs.specs.Tapes.{Form, has_stop, HasStops}
-use Rattle.hubs.specs.Wiring.{Wiring, HasWire, HasJack, is_plugged, AddsWire, SameWires, SameJacks}
+use Rattle.hubs.specs.Wiring.{Wiring, HasJack, is_plugged, AddsWire, SameJacks}
 use Rattle.chart_text.specs.Chart.{Chart}
-use Rattle.compile407.specs.ChartForm.{form_of, prints_details}
+use Rattle.compile407.specs.ChartForm.{prints_details}
 use Rattle.compile407.specs.Items.{Item, Text, item_of, items_of}
 use Rattle.compile407.specs.AddedWires.{AddsWires, IsBareFor, listed, items_among}
 use Rattle.compile407.specs.WiredFor.{WiredFor, WiresOf, text, WiresOfSome, JacksOf, list}

@@ -1,5 +1,5 @@
 -- What a listing's chart keeps: the facts about its items and its form on which its report rests.
-use Rattle.std.specs.Prelude.{◌≡◌, ◌⊎◌, ℕ, ◌+◌, ◌<◌, ◌≤◌, List, true, All, AllPairs}
+use Rattle.std.specs.Prelude.{◌≡◌, ◌⊎◌, ◌+◌, ◌<◌, ◌≤◌, true, All, AllPairs}
 use Rattle.chart_text.specs.Chart.{Chart}
 use Rattle.compile407.specs.Items.{Item, Text, items_of}
 use Rattle.compile407.specs.ChartForm.{prints_details, form_of}

@@ -1,4 +1,4 @@
-use Rattle.std.proofs.Common.{◌≡◌, ◌∙◌, sym, arith}
+use Rattle.std.proofs.Common.{sym, arith}
 use Rattle.std.proofs.lemmas.Grind.{common_steps}
 use Rattle.chart_rules.proofs.ValidCards.{punched_below-none, punched_below-more}
 use Rattle.chart_rules.proofs.card.digit_count.Goals as goal

@@ -1,4 +1,3 @@
-use Rattle.std.proofs.Common.{◌≡◌}
 use Rattle.chart_rules.specs.ValidCard.{IsValidCard}
 use Rattle.chart_rules.proofs.Laws.{AreOnCard-lawful}
 use Rattle.chart_rules.proofs.ValidCards.{IsOk-valid}

@@ -1,4 +1,4 @@
-use Rattle.std.proofs.Common.{◌≡◌, ◌∙◌, sym, rules}
+use Rattle.std.proofs.Common.{sym, rules}
 use Rattle.chart_rules.proofs.Places.{IsIndexOf-kept, IsIndexOf-added}
 use Rattle.chart_rules.proofs.fields.add_field.Goals as goal
 

@@ -6,4 +6,5 @@ use Rattle.chart_text.proofs.forms.read_numbers.Given as goal
 
 abbrev pub invariant-loop-token : goal.invariant-loop-token
 invariant-loop-token l =
-    (led_by l.numbers.items (numbers_of (texts (drop l.token-index l.tokens))) ≡ numbers_of (texts l.tokens)) × (length l.numbers.items ≡ l.token-index)
+    (led_by l.numbers.items (numbers_of (texts (drop l.token-index l.tokens))) ≡ numbers_of (texts l.tokens))
+    × (length l.numbers.items ≡ l.token-index)

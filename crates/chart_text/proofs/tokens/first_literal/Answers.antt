@@ -1,4 +1,4 @@
-use Rattle.std.proofs.Common.{◌≡◌, arith, ap, ◌∙◌, drop}
+use Rattle.std.proofs.Common.{arith, ap, ◌∙◌}
 use Rattle.std.specs.List.{prefix_len}
 use Rattle.std.proofs.lemmas.List.{take_rest}
 use Rattle.chart_text.specs.Tokens.{is_inside}
@@ -15,10 +15,12 @@ pub returns-then-is_apart-clause-tokens : goal.returns-then-is_apart-clause-toke
 returns-then-is_apart-clause-tokens c =
     let line = c.args.line.now in
     let counted = c.bytes_inside-length.ensures.value ∙ ap (prefix_len is_inside) (take_rest line 1) in
-    tokens_of-cut_literal line _ _ _ _ c.requires.some c.requires.apostrophe counted (omega arith) c.split_at.ensures.front c.split_at.ensures.back c.if-is_apart.ensures
+    tokens_of-cut_literal line _ _ _ _ c.requires.some c.requires.apostrophe counted
+    (omega arith) c.split_at.ensures.front c.split_at.ensures.back c.if-is_apart.ensures
 
 pub returns-else-is_apart-clause-tokens : goal.returns-else-is_apart-clause-tokens
 returns-else-is_apart-clause-tokens c =
     let line = c.args.line.now in
     let counted = c.bytes_inside-length.ensures.value ∙ ap (prefix_len is_inside) (take_rest line 1) in
-    tokens_of-cut_literal line _ _ _ _ c.requires.some c.requires.apostrophe counted (omega arith) c.split_at.ensures.front c.split_at.ensures.back c.if-is_apart.ensures
+    tokens_of-cut_literal line _ _ _ _ c.requires.some c.requires.apostrophe counted
+    (omega arith) c.split_at.ensures.front c.split_at.ensures.back c.if-is_apart.ensures

@@ -4,7 +4,8 @@ use Rattle.chart_text.proofs.tokens.first_plain.Goals as goal
 
 pub returns-then-is_apart : goal.returns-then-is_apart
 returns-then-is_apart c = record {
-  shorter = omega (arith, prefix_len-plain c.args.line.now c.requires.some c.requires.no_space c.requires.no_apostrophe);
+  shorter = omega
+      (arith, prefix_len-plain c.args.line.now c.requires.some c.requires.no_space c.requires.no_apostrophe);
   tokens =
       tokens_of-cut_plain c.args.line.now _ _ _ _ c.requires.some c.requires.no_space c.requires.no_apostrophe
       c.plain_bytes_before.ensures.value c.split_at.ensures.front c.split_at.ensures.back c.if-is_apart.ensures;

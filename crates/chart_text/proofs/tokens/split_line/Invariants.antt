@@ -1,6 +1,5 @@
 -- The tokens so far, before those of the rest, are those of the line; the rest begins with no space, and gets shorter.
-use Rattle.std.proofs.Common.{◌≡◌, ◌<◌, ◌≢◌, length, slice_index, ℕ}
-use Rattle.chart_text.specs.Reading.{texts, tokens_of}
+use Rattle.std.proofs.Common.{length}
 use Rattle.chart_text.proofs.Dividing.{SplitsSoFar}
 use Rattle.chart_text.proofs.tokens.split_line.Given as goal
 

@@ -1,5 +1,4 @@
-use Rattle.std.proofs.Common.{◌≡◌, ◌<◌, sym, ◌∙◌, ap, arith, refl, rules}
-use Rattle.compile407.specs.Pages.{without_trailing_blanks}
+use Rattle.std.proofs.Common.{sym, ◌∙◌, arith}
 use Rattle.compile407.proofs.PageLists.{cut_shorter, cut_whole, cut_none}
 use Rattle.compile407.proofs.pages.without_trailing_blanks.Goals as goal
 use Rattle.compile407.proofs.pages.without_trailing_blanks.Goals.{then-loop-end-test+else-text-end-eq-BLANK, else-loop-end-test}

@@ -1,5 +1,4 @@
-use Rattle.std.proofs.Common.{◌≡◌, ℕ, ◌<◌, ◌≤◌, ap, sym, subst, ◌∙◌}
-use Rattle.compile407.specs.ChartForm.{form_of}
+use Rattle.std.proofs.Common.{ℕ, ◌<◌, ◌≤◌, ap, subst, ◌∙◌}
 use Rattle.compile407.specs.Pages.{Pages, last_page}
 use Rattle.compile407.specs.Report.{report_lines}
 use Rattle.compile407.proofs.Headline.{compiled_lines, compiled_deck}

@@ -1,4 +1,4 @@
-use Rattle.std.proofs.Common.{◌≡◌, ◌∙◌}
+use Rattle.std.proofs.Common.{◌∙◌}
 use Rattle.chart_rules.proofs.Places.{first_named-at, first_named-missing}
 use Rattle.chart_rules.proofs.fields.Fields.get.Goals as goal
 

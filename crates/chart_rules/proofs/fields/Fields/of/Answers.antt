@@ -1,4 +1,4 @@
-use Rattle.std.proofs.Common.{◌≡◌, ◌∙◌, sym, take}
+use Rattle.std.proofs.Common.{◌∙◌, sym, take}
 use Rattle.std.proofs.lemmas.List.{append-nil}
 use Rattle.chart_rules.specs.Fields.{fields_of}
 use Rattle.chart_rules.proofs.Places.{fields_of-more, fields_of-one, fields_of-none}
