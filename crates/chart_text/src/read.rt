@@ -43,7 +43,7 @@ pub(crate) enum Content {
 /// The first of the text rules that is broken, in this order: `TooLarge` for more than 500 lines or a line
 /// of more than 200 bytes; `NoFirstLine` where line 1 is not `CHART407 1`; `NotALine` for the lowest line
 /// that no form derives, text behind END included; `NoEnd` where no line is END. `Memory` only where memory
-/// was refused; what was read so far is given back then.
+/// was refused; what was read so far is freed then.
 pub fn read_chart(alloc: Global, text: &[u8]) -> Result<RawChart, TextFault>
     // What is read is the chart of the text, and a fault is the one of the text.
     ensures read { IfOk result (λ chart. Reads text.now chart) }

@@ -47,7 +47,8 @@ forgotten [] = refl
 forgotten (wheel ∷ wheels) = ap (λ others. empty_wheel ∷ others) (forgotten wheels)
 
 -- the wheels are as many as before
-length-wheels_from : (v row : ℕ) (picture : ℕ → Bool) (wheels : List Wheel) → length (wheels_from v row picture wheels) ≡ length wheels
+length-wheels_from : (v row : ℕ) (picture : ℕ → Bool) (wheels : List Wheel) →
+    length (wheels_from v row picture wheels) ≡ length wheels
 length-wheels_from v row picture [] = refl
 length-wheels_from v row picture (wheel ∷ wheels) = ap suc (length-wheels_from (suc v) row picture wheels)
 
@@ -64,7 +65,8 @@ pub record IsStill (old now : Machine) : Type 0 where
   pub program : now.program ≡ old.program
   pub long : length now.wheels.wheels ≡ length old.wheels.wheels
 
-pub still : (wiring : Wiring) (cycle : Cycle) (place : ℕ) (old now : Machine) → Reached wiring cycle place old now → IsStill old now
+pub still : (wiring : Wiring) (cycle : Cycle) (place : ℕ) (old now : Machine) → Reached wiring cycle place old now →
+    IsStill old now
 unfolding Reached
 still wiring cycle zero old now same = record {
   stations = ap (λ m. m.stations) same;
@@ -78,11 +80,13 @@ still wiring cycle (suc place) old now (mid, before, step) =
       stations = step.stations ∙ so_far.stations;
       carriage = step.carriage ∙ so_far.carriage;
       program = step.program ∙ so_far.program;
-      long = ap (λ w. length w.wheels) step.wheels ∙ length-wheels_sensed mid.wheels cycle (point_at place) step.picture ∙ so_far.long;
+      long = ap (λ w. length w.wheels) step.wheels
+          ∙ length-wheels_sensed mid.wheels cycle (point_at place) step.picture ∙ so_far.long;
     }
 
 -- the columns of the card at second reading emit at the point of a row
-punched : (second : Option (List ℕ)) (card : List ℕ) (row : ℕ) → second ≡ Some card → Emits (λ h. is_punched second (h - 80) row) card row
+punched : (second : Option (List ℕ)) (card : List ℕ) (row : ℕ) → second ≡ Some card →
+    Emits (λ h. is_punched second (h - 80) row) card row
 punched second card row is =
     let P : Option (List ℕ) → Type 0 = λ s. Emits (λ h. is_punched s (h - 80) row) card row in
     subst P (sym is) (record { columns = columns; others = others })
@@ -101,11 +105,14 @@ punched second card row is =
 -- the wheels at a row's point, where each is impulsed if its set has the row
 wheels_from-with : (row : ℕ) (picture : ℕ → Bool) (sets has_now : ℕ → ℕ) (from count : ℕ) →
     ((v : ℕ) → from ≤ v → v < from + count → picture (1798 + v) ≡ has_row (sets v) row) →
-    wheels_from from row picture (wheels_with has_now from count) ≡ wheels_with (λ v. collected (Row row) (sets v) (has_now v)) from count
+    wheels_from from row picture (wheels_with has_now from count)
+    ≡ wheels_with (λ v. collected (Row row) (sets v) (has_now v)) from count
 wheels_from-with row picture sets has_now from zero says = refl
 wheels_from-with row picture sets has_now from (suc count) says =
-    let first : wheel_sensed row (picture (1798 + from)) (wheel_with (has_now from)) ≡ wheel_with (collected (Row row) (sets from) (has_now from)) =
-    ap (λ b. wheel_with (if b then with_row (has_now from) row else has_now from)) (says from (omega arith) (omega arith)) in
+    let first : wheel_sensed row (picture (1798 + from)) (wheel_with (has_now from))
+    ≡ wheel_with (collected (Row row) (sets from) (has_now from)) =
+    ap (λ b. wheel_with (if b then with_row (has_now from) row else has_now from))
+    (says from (omega arith) (omega arith)) in
     let next : wheels_from (suc from) row picture (wheels_with has_now (from + 1) count)
     ≡ wheels_with (λ v. collected (Row row) (sets v) (has_now v)) (from + 1) count =
     ap (λ n. wheels_from n row picture (wheels_with has_now (from + 1) count)) (sym (add-one from))
@@ -143,7 +150,8 @@ at_points chart wiring card zero old now runs same =
     ap (λ m. m.wheels.wheels) same ∙ runs.empty ∙ sym (nothing_received 1 120)
 at_points chart wiring card (suc place) old now runs (mid, before, step) =
     let so_far = still wiring Card place old mid before in
-    at_point chart wiring card (point_at place) mid now (λ v. gathered place (set_at (items_of chart.lines) card v)) runs.wired runs.listing
+    at_point chart wiring card (point_at place) mid now
+    (λ v. gathered place (set_at (items_of chart.lines) card v)) runs.wired runs.listing
     (ap (λ s. s.second) so_far.stations ∙ runs.second) step (at_points chart wiring card place old mid runs before)
 
 -- the characters of wheels that have received what a line's sets hold
@@ -151,21 +159,25 @@ characters_of : (f g : ℕ → ℕ) (from count : ℕ) → ((v : ℕ) → from �
     map (λ wheel. print_character wheel.received) (wheels_with f from count) ≡ map g (range_with_len from count)
 characters_of f g from zero same = refl
 characters_of f g from (suc count) same =
-    ap (λ c. c ∷ map (λ wheel. print_character wheel.received) (wheels_with f (from + 1) count)) (same from (omega arith) (omega arith))
+    ap (λ c. c ∷ map (λ wheel. print_character wheel.received) (wheels_with f (from + 1) count))
+    (same from (omega arith) (omega arith))
     ∙ ap (λ cs. g from ∷ cs) (characters_of f g (from + 1) count (λ v low high. same v (omega arith) (omega arith)))
 
 -- each wheel can gather its set whole
 abbrev pub IsGathered : Chart → List ℕ → Type 0
-IsGathered chart card = (v : ℕ) → gathered 14 (set_at (items_of chart.lines) card v) ≡ set_at (items_of chart.lines) card v
+IsGathered chart card = (v : ℕ) → gathered 14 (set_at (items_of chart.lines) card v)
+    ≡ set_at (items_of chart.lines) card v
 
 -- A card cycle prints the line of the card at second reading.
 pub card_cycle-line : (chart : Chart) (wiring : Wiring) (card : List ℕ) (old new : Machine) →
-    CardRuns chart wiring card old → IsGathered chart card → CycleRun wiring Card old new → new.wheels.line ≡ card_line chart.lines card
+    CardRuns chart wiring card old → IsGathered chart card → CycleRun wiring Card old new → new.wheels.line
+    ≡ card_line chart.lines card
 unfolding line_of
 card_cycle-line chart wiring card old new runs whole run =
     let items : List Item = items_of chart.lines in
     ap (λ m. m.wheels.line) run.is_new
-    ∙ ap (λ ws. map (λ wheel. print_character wheel.received) ws) (at_points chart wiring card 14 old run.at_end runs run.reached)
+    ∙ ap (λ ws. map (λ wheel. print_character wheel.received) ws)
+    (at_points chart wiring card 14 old run.at_end runs run.reached)
     ∙ characters_of (λ v. gathered 14 (set_at items card v)) (char_at (map (piece_on card) items)) 1 120
     (λ v low high. ap print_character (whole v) ∙ sym (char_at-set_at items card v))
 

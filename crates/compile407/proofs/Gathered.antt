@@ -35,13 +35,16 @@ found_gathered (pair ∷ pairs) set character all found =
     by : (b t : Bool) → (pair.1 == set) ≡ b → is_gathered pair.1 ≡ t →
         (t && list_all (λ pair. is_gathered pair.1) pairs) ≡ true →
         cond b (Some pair.0) (character_in pairs set) ≡ Some character →
-        (list_all (λ pair. is_gathered pair.1) pairs ≡ true → character_in pairs set ≡ Some character → is_gathered set ≡ true) →
+        (list_all (λ pair. is_gathered pair.1) pairs ≡ true → character_in pairs set ≡ Some character →
+        is_gathered set ≡ true) →
         is_gathered set ≡ true
-    by true true here tested all found below = let same : pair.1 ≡ set = grind (arith, nat_tests) in ap is_gathered (sym same) ∙ tested
+    by true true here tested all found below = let same : pair.1 ≡ set = grind (arith, nat_tests) in
+        ap is_gathered (sym same) ∙ tested
     by false true here tested all found below = below all found
     by b false here tested all found below = cc
 
 -- the set of a deck character is gathered whole
 pub gathered-character : (set character : ℕ) → deck_character set ≡ Some character → gathered 14 set ≡ set
 unfolding deck_character is_gathered
-gathered-character set character found = let on = found_gathered code set character all_gathered found in grind (arith, nat_tests)
+gathered-character set character found = let on = found_gathered code set character all_gathered found in
+    grind (arith, nat_tests)

@@ -34,28 +34,35 @@ body_lines-details lines opens (card ∷ cards) prints =
     ∙ ap (λ others. card_line lines card ∷ others) (body_lines-details lines 0 cards prints)
 
 -- the lines that the machine places are those of the report
-pub machine_lines : (chart : Chart) (wiring : Wiring) (cards : List (List ℕ)) (lines : List PlacedLine) → WiredFor chart wiring → IsListing chart →
-    All (IsGathered chart) cards → length cards ≤ 2 ^ 32 → MachineLines wiring cards lines → lines ≡ report_lines chart cards
+pub machine_lines : (chart : Chart) (wiring : Wiring) (cards : List (List ℕ)) (lines : List PlacedLine) →
+    WiredFor chart wiring → IsListing chart →
+    All (IsGathered chart) cards → length cards ≤ 2 ^ 32 → MachineLines wiring cards lines → lines
+    ≡ report_lines chart cards
 machine_lines chart wiring cards lines wired listing whole room run =
     run_lines chart wiring cards lines wired listing whole room run
     ∙ sym (ap (placed (form_of chart.lines) before_all) (body_lines-details chart.lines 4 cards listing.prints))
 
 -- a setup wired for a served chart that breaks no rule places the lines of its reports
-placed_lines : (chart : Chart) (wiring : Wiring) (cards : List (List ℕ)) (lines : List PlacedLine) → IsLawful chart → IsServed chart →
+placed_lines : (chart : Chart) (wiring : Wiring) (cards : List (List ℕ)) (lines : List PlacedLine) → IsLawful chart →
+    IsServed chart →
     WiredFor chart wiring → IsDeck chart cards → MachineLines wiring cards lines → lines ≡ report_lines chart cards
 placed_lines chart wiring cards lines lawful served wired deck run =
     machine_lines chart wiring cards lines wired (listing_of chart lawful served)
-    (All-weaker (IsValidCard chart) (IsGathered chart) (λ card valid. valid_gathered chart card lawful valid) cards deck.valid)
+    (All-weaker (IsValidCard chart) (IsGathered chart)
+    (λ card valid. valid_gathered chart card lawful valid) cards deck.valid)
     (omega (arith, deck.long)) run
 
 -- the headline
 pub wired_setups_print_reports : WiredSetupsPrintReports
 wired_setups_print_reports chart wiring lawful served wired cards lines deck run =
-    ap (λ placed. Pages placed (form_of chart.lines).lines) (placed_lines chart wiring cards lines lawful served wired deck run)
+    ap (λ placed. Pages placed (form_of chart.lines).lines)
+    (placed_lines chart wiring cards lines lawful served wired deck run)
 
 -- the lines that a compiled setup places for a deck are those of its report
-pub compiled_lines : (compiled : Compilation) (chart : Chart) (wiring : Wiring) (cards : List (List ℕ)) (lines : List PlacedLine) → IsCompiled compiled →
-    chart ≡ compiled.chart → wiring ≡ compiled.setup → length cards ≤ 999999 → All (IsValidCard chart) cards → MachineLines wiring cards lines →
+pub compiled_lines : (compiled : Compilation) (chart : Chart) (wiring : Wiring) (cards : List (List ℕ))
+    (lines : List PlacedLine) → IsCompiled compiled →
+    chart ≡ compiled.chart → wiring ≡ compiled.setup → length cards ≤ 999999 → All (IsValidCard chart) cards →
+    MachineLines wiring cards lines →
     lines ≡ report_lines compiled.chart cards
 compiled_lines compiled chart wiring cards lines is_compiled same_chart same_setup long valid run =
     let V : Chart → Type 0 = λ c. All (IsValidCard c) cards in
@@ -64,7 +71,8 @@ compiled_lines compiled chart wiring cards lines is_compiled same_chart same_set
     (record { valid = subst V same_chart valid; long = long }) (subst M same_setup run)
 
 -- its deck can be run
-pub compiled_deck : (compiled : Compilation) (chart : Chart) (cards : List (List ℕ)) → chart ≡ compiled.chart → length cards ≤ 999999 →
+pub compiled_deck : (compiled : Compilation) (chart : Chart) (cards : List (List ℕ)) → chart ≡ compiled.chart →
+    length cards ≤ 999999 →
     All (IsValidCard chart) cards → IsDeck compiled.chart cards
 compiled_deck compiled chart cards same_chart long valid =
     let V : Chart → Type 0 = λ c. All (IsValidCard c) cards in

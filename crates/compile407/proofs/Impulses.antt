@@ -87,15 +87,18 @@ wheel_impulsed chart wiring exits closed picture card row v wired listing is_pic
     along {g = g} listed (text wheel first count j less) exit_number entry_number on =
         let at_v : wheel + j ≡ v = wheel_number (wheel + j) v entry_number in
         let column = column_number (first + j) g exit_number in
-        let emitting : exits g ≡ true = from_column chart wiring exits closed wired on (omega (arith, column.0, column.2)) in
+        let emitting : exits g ≡ true =
+        from_column chart wiring exits closed wired on (omega (arith, column.0, column.2)) in
         let held : has_row (column_of card (first + j)) row ≡ true =
         sym (emits.columns (first + j) column.1 column.2) ∙ ap exits (sym column.0) ∙ emitting in
         let covered : set_at (items_of chart.lines) card v ≡ column_of card (first + (v - wheel)) =
-        set_at-covered (items_of chart.lines) card wheel first count v listed listing.apart (omega arith) (omega arith) in
+        set_at-covered (items_of chart.lines) card wheel first count v listed listing.apart (omega arith)
+        (omega arith) in
         let same : first + (v - wheel) ≡ first + j = omega arith in
         ap (λ s. has_row s row) (covered ∙ ap (column_of card) same) ∙ held
 
-    received : {h : ℕ} → h ≡ 1798 + v → Impulsed wiring exits closed h → has_row (set_at (items_of chart.lines) card v) row ≡ true
+    received : {h : ℕ} → h ≡ 1798 + v → Impulsed wiring exits closed h →
+        has_row (set_at (items_of chart.lines) card v) row ≡ true
     received is (emitted h on) = let off : exits h ≡ false = emits.others h (omega arith) in cc
     received is (led g h before (inl wire)) =
         let chart_wire = (wired.wires wire.exit wire.entry).0 wire.wire in
@@ -105,18 +108,22 @@ wheel_impulsed chart wiring exits closed picture card row v wired listing is_pic
     reached : has_row (set_at (items_of chart.lines) card v) row ≡ true →
         (set_at (items_of chart.lines) card v ≡ 0)
         ⊎ ((wheel : ℕ) × (first : ℕ) × (count : ℕ) × Contains (items_of chart.lines) (Text wheel first count)
-        × (wheel ≤ v) × (v < wheel + count) × (set_at (items_of chart.lines) card v ≡ column_of card (first + (v - wheel)))) →
+        × (wheel ≤ v) × (v < wheel + count)
+        × (set_at (items_of chart.lines) card v ≡ column_of card (first + (v - wheel)))) →
         Impulsed wiring exits closed (1798 + v)
-    reached on (inl none) = let off : has_row (set_at (items_of chart.lines) card v) row ≡ false = ap (λ s. has_row s row) none ∙ nothing_held row in cc
+    reached on (inl none) = let off : has_row (set_at (items_of chart.lines) card v) row ≡ false =
+        ap (λ s. has_row s row) none ∙ nothing_held row in cc
     reached on (inr (wheel, first, count, listed, from, to, is)) =
         let c : ℕ = first + (v - wheel) in
-        let on_card : (1 ≤ first) × (first + count ≤ 81) = All-contains IsOnCard _ (Text wheel first count) listing.on_card listed in
+        let on_card : (1 ≤ first) × (first + count ≤ 81) =
+        All-contains IsOnCard _ (Text wheel first count) listing.on_card listed in
         let c_low : 1 ≤ c = omega (arith, on_card.0) in
         let c_high : c ≤ 80 = omega (arith, on_card.1) in
         let emitting : exits (80 + c) ≡ true = emits.columns c c_low c_high ∙ ap (λ s. has_row s row) (sym is) ∙ on in
         let at_v : wheel + (v - wheel) ≡ v = omega arith in
         let P : Hub → Type 0 = λ entry. WiresOf (Text wheel first count) (SR c) entry in
-        let wire : WiresOf (Text wheel first count) (SR c) (W v) = subst P (ap (λ w. W w) at_v) (text wheel first count (v - wheel) (omega arith)) in
+        let wire : WiresOf (Text wheel first count) (SR c) (W v) =
+        subst P (ap (λ w. W w) at_v) (text wheel first count (v - wheel) (omega arith)) in
         led (80 + c) (1798 + v) (emitted (80 + c) emitting) (inl (record {
           exit = SR c;
           entry = W v;

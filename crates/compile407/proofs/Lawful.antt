@@ -51,7 +51,8 @@ has_all chart lawful kept = by (lacks kept chart.lines) refl
 
 -- what holds of all that the lines of a list give, by where each line stands in the chart
 pub each_given : {X : Type 0} (lines : List Line) (f : Statement → Option X) (P : X → Type 0) →
-    ((earlier : List Line) (line : Line) (later : List Line) (x : X) → lines ≡ earlier ++ line ∷ later → f line.statement ≡ Some x → P x) →
+    ((earlier : List Line) (line : Line) (later : List Line) (x : X) → lines ≡ earlier ++ line ∷ later →
+    f line.statement ≡ Some x → P x) →
     (earlier rest : List Line) → lines ≡ earlier ++ rest → All P (filter_map (λ line. f line.statement) rest)
 each_given lines f P each earlier [] parts = All-nil P
 each_given lines f P each earlier (line ∷ rest) parts =
@@ -64,7 +65,8 @@ each_given lines f P each earlier (line ∷ rest) parts =
     by (Some x) is below = All-cons P x _ (each earlier line rest x parts is) below
 
 -- what is found in a list has what holds of all of it
-pub of_found : {X : Type 0} (P : X → Type 0) (test : X → Bool) (xs : List X) (x : X) → find test xs ≡ Some x → All P xs → P x
+pub of_found : {X : Type 0} (P : X → Type 0) (test : X → Bool) (xs : List X) (x : X) → find test xs ≡ Some x →
+    All P xs → P x
 of_found P test [] x found all = cc
 of_found P test (y ∷ ys) x found all = by (test y) found (λ below. of_found P test ys x below (All-tail P y ys all))
   where
@@ -90,9 +92,11 @@ parts_true true false c d is = cc
 parts_true true true false d is = cc
 parts_true true true true false is = cc
 
-pub good_columns : (chart : Chart) → IsLawful chart → (name : List ℕ) (field : Field) → field_named chart.lines name ≡ Some field → HasGoodColumns field
+pub good_columns : (chart : Chart) → IsLawful chart → (name : List ℕ) (field : Field) → field_named chart.lines name
+    ≡ Some field → HasGoodColumns field
 good_columns chart lawful name field named =
-    of_found HasGoodColumns _ (fields_of chart.lines) field named (each_given chart.lines field_of HasGoodColumns good [] chart.lines refl)
+    of_found HasGoodColumns _ (fields_of chart.lines) field named
+    (each_given chart.lines field_of HasGoodColumns good [] chart.lines refl)
   where
     of_rule : (statement : Statement) (field : Field) (earlier : List Line) → statement ≡ says.Field field →
         breaks rule.Columns chart.lines earlier statement ≡ false → HasGoodColumns field
@@ -100,12 +104,19 @@ good_columns chart lawful name field named =
         let P : Statement → Type 0 = λ s. breaks rule.Columns chart.lines earlier s ≡ false in
         let parts = parts_true (nat_le 1 field.first) (nat_le field.first field.last) (nat_le field.last 80)
         (has_good_sign (sign_column field.kind)) (subst P is kept) in
-        record { first = grind (arith, nat_tests, parts.0); order = grind (arith, nat_tests, parts.1); last = grind (arith, nat_tests, parts.2) }
+        record {
+          first = grind (arith, nat_tests, parts.0);
+          order = grind (arith, nat_tests, parts.1);
+          last =
+              grind (arith, nat_tests, parts.2);
+        }
 
-    good : (earlier : List Line) (line : Line) (later : List Line) (field : Field) → chart.lines ≡ earlier ++ line ∷ later →
+    good : (earlier : List Line) (line : Line) (later : List Line) (field : Field) → chart.lines
+        ≡ earlier ++ line ∷ later →
         field_of line.statement ≡ Some field → HasGoodColumns field
     good earlier line later field parts is =
-        of_rule line.statement field earlier (field_line line.statement field is) (keeps chart lawful rule.Columns earlier line later parts)
+        of_rule line.statement field earlier (field_line line.statement field is)
+        (keeps chart lawful rule.Columns earlier line later parts)
 
 -- where an item comes from: a DETAIL line with a text field
 pub record Source (lines : List Line) (statement : Statement) (item : Item) : Type 0 where
@@ -117,14 +128,24 @@ pub record Source (lines : List Line) (statement : Statement) (item : Item) : Ty
   pub holds_text : field.kind ≡ holds.Text
   pub is : item ≡ Text wheel field.first (field.last + 1 - field.first)
 
-pub source : (lines : List Line) (statement : Statement) (item : Item) → item_of lines statement ≡ Some item → Source lines statement item
+pub source : (lines : List Line) (statement : Statement) (item : Item) → item_of lines statement ≡ Some item →
+    Source lines statement item
 source lines (says.DetailField wheel name stands.Plain) item given = by (field_named lines name) refl given
   where
     of_kind : (field : Field) → field_named lines name ≡ Some field → (kind : FieldKind) → field.kind ≡ kind →
         item_of_kind kind wheel field.first (field.last + 1 - field.first) ≡ Some item →
         Source lines (says.DetailField wheel name stands.Plain) item
     of_kind field named holds.Text is_kind same =
-        record { wheel = wheel; name = name; field = field; says_so = refl; named = named; holds_text = is_kind; is = cc }
+        record {
+          wheel = wheel;
+          name = name;
+          field = field;
+          says_so = refl;
+          named = named;
+          holds_text = is_kind;
+          is =
+              cc;
+        }
     of_kind field named (holds.Amount decimals sign) is_kind same = cc
 
     by : (o : Option Field) → field_named lines name ≡ o → option_and_then (item_of_field wheel) o ≡ Some item →
@@ -141,10 +162,12 @@ record Keeps (wheel : ℕ) (field : Field) : Type 0 where
 
 -- the item of such a line in the words of the rules
 ruled : (lines : List Line) (statement : Statement) (item : Item) (from : Source lines statement item) →
-    rules_items.item_of (fields_of lines) statement ≡ Some (rules_items.text_item (Body body.Detail) from.wheel (columns_of from.field))
+    rules_items.item_of (fields_of lines) statement
+    ≡ Some (rules_items.text_item (Body body.Detail) from.wheel (columns_of from.field))
 ruled lines statement item from =
     ap (rules_items.item_of (fields_of lines)) from.says_so
-    ∙ ap (λ o. option_map (λ field. rules_items.detail_item from.wheel stands.Plain (columns_of field) field.kind) o) from.named
+    ∙ ap (λ o. option_map (λ field. rules_items.detail_item from.wheel stands.Plain (columns_of field) field.kind) o)
+    from.named
     ∙ ap (λ k. Some (rules_items.detail_item from.wheel stands.Plain (columns_of from.field) k)) from.holds_text
 
 both_true : (a b : Bool) → not (a && b) ≡ false → (a ≡ true) × (b ≡ true)
@@ -153,10 +176,13 @@ both_true false b is = cc
 both_true true false is = cc
 
 kept_by : (chart : Chart) → IsLawful chart → (earlier : List Line) (line : Line) (later : List Line) (item : Item) →
-    chart.lines ≡ earlier ++ line ∷ later → (from : Source chart.lines line.statement item) → Keeps from.wheel from.field
+    chart.lines ≡ earlier ++ line ∷ later → (from : Source chart.lines line.statement item) →
+    Keeps from.wheel from.field
 kept_by chart lawful earlier line later item parts from =
-    let on_wheels : is_off_wheels (Some (rules_items.text_item (Body body.Detail) from.wheel (columns_of from.field))) ≡ false =
-    sym (ap is_off_wheels (ruled chart.lines line.statement item from)) ∙ keeps chart lawful rule.WheelRange earlier line later parts in
+    let on_wheels : is_off_wheels
+    (Some (rules_items.text_item (Body body.Detail) from.wheel (columns_of from.field))) ≡ false =
+    sym (ap is_off_wheels (ruled chart.lines line.statement item from))
+    ∙ keeps chart lawful rule.WheelRange earlier line later parts in
     let both = both_true (nat_le 1 from.wheel) (nat_le (from.wheel + columns_of from.field) 121) on_wheels in
     record {
       columns = good_columns chart lawful from.name from.field from.named;
@@ -168,17 +194,20 @@ kept_by chart lawful earlier line later item parts from =
 on_card : (chart : Chart) → IsLawful chart → All IsOnCard (items_of chart.lines)
 on_card chart lawful = each_given chart.lines (item_of chart.lines) IsOnCard good [] chart.lines refl
   where
-    good : (earlier : List Line) (line : Line) (later : List Line) (item : Item) → chart.lines ≡ earlier ++ line ∷ later →
+    good : (earlier : List Line) (line : Line) (later : List Line) (item : Item) → chart.lines
+        ≡ earlier ++ line ∷ later →
         item_of chart.lines line.statement ≡ Some item → IsOnCard item
     good earlier line later item parts given =
         let from = source chart.lines line.statement item given in
         let kept = kept_by chart lawful earlier line later item parts from in
-        subst IsOnCard (sym from.is) (kept.columns.first, omega (arith, kept.columns.first, kept.columns.order, kept.columns.last))
+        subst IsOnCard (sym from.is)
+        (kept.columns.first, omega (arith, kept.columns.first, kept.columns.order, kept.columns.last))
 
 on_wheels : (chart : Chart) → IsLawful chart → All IsOnWheels (items_of chart.lines)
 on_wheels chart lawful = each_given chart.lines (item_of chart.lines) IsOnWheels good [] chart.lines refl
   where
-    good : (earlier : List Line) (line : Line) (later : List Line) (item : Item) → chart.lines ≡ earlier ++ line ∷ later →
+    good : (earlier : List Line) (line : Line) (later : List Line) (item : Item) → chart.lines
+        ≡ earlier ++ line ∷ later →
         item_of chart.lines line.statement ≡ Some item → IsOnWheels item
     good earlier line later item parts given =
         let from = source chart.lines line.statement item given in
@@ -191,16 +220,20 @@ either_false true b is = cc
 either_false false true is = cc
 
 -- two items of a lawful chart, the second on a later line, stand apart
-apart_by : (chart : Chart) → IsLawful chart → (known : List Line) (line : Line) (between : List Line) (other : Line) (later : List Line) (one two : Item) →
+apart_by : (chart : Chart) → IsLawful chart →
+    (known : List Line) (line : Line) (between : List Line) (other : Line) (later : List Line) (one two : Item) →
     chart.lines ≡ (known ++ line ∷ between) ++ other ∷ later → item_of chart.lines line.statement ≡ Some one →
     item_of chart.lines other.statement ≡ Some two → AreApart one two
 apart_by chart lawful known line between other later one two parts given given_other =
     let from = source chart.lines line.statement one given in
     let from_other = source chart.lines other.statement two given_other in
     let fields : List Field = fields_of chart.lines in
-    let test : Line → Bool = λ l. overlap (rules_items.item_of fields l.statement) (rules_items.item_of fields other.statement) in
-    let none : list_any test (known ++ line ∷ between) ≡ false = keeps chart lawful rule.WheelOverlap (known ++ line ∷ between) other later parts in
-    let behind : (list_any test known || (test line || list_any test between)) ≡ false = sym (list_any-append test known (line ∷ between)) ∙ none in
+    let test : Line → Bool =
+    λ l. overlap (rules_items.item_of fields l.statement) (rules_items.item_of fields other.statement) in
+    let none : list_any test (known ++ line ∷ between) ≡ false =
+    keeps chart lawful rule.WheelOverlap (known ++ line ∷ between) other later parts in
+    let behind : (list_any test known || (test line || list_any test between)) ≡ false =
+    sym (list_any-append test known (line ∷ between)) ∙ none in
     let here : test line ≡ false = (either_false (test line) _ (either_false (list_any test known) _ behind).1).0 in
     let a = rules_items.text_item (Body body.Detail) from.wheel (columns_of from.field) in
     let b = rules_items.text_item (Body body.Detail) from_other.wheel (columns_of from_other.field) in
@@ -215,11 +248,13 @@ apart_by chart lawful known line between other later one two parts given given_o
     (apart_spans from.wheel (columns_of from.field) from_other.wheel (columns_of from_other.field)
     (omega (arith, columns.order)) (omega (arith, columns_other.order)) no_meeting))
   where
-    apart_spans : (w n v m : ℕ) → 1 ≤ n → 1 ≤ m → nat_lt (max w v) (min (w + n) (v + m)) ≡ false → (w + n ≤ v) ⊎ (v + m ≤ w)
+    apart_spans : (w n v m : ℕ) → 1 ≤ n → 1 ≤ m → nat_lt (max w v) (min (w + n) (v + m)) ≡ false → (w + n ≤ v)
+        ⊎ (v + m ≤ w)
     apart_spans w n v m some some_other none = grind (arith, nat_tests)
 
 -- what the lines behind a line give stands apart from its item
-apart_behind : (chart : Chart) → IsLawful chart → (known : List Line) (line : Line) (one : Item) → item_of chart.lines line.statement ≡ Some one →
+apart_behind : (chart : Chart) → IsLawful chart → (known : List Line) (line : Line) (one : Item) →
+    item_of chart.lines line.statement ≡ Some one →
     (between rest : List Line) → chart.lines ≡ (known ++ line ∷ between) ++ rest →
     All (AreApart one) (filter_map (λ line. item_of chart.lines line.statement) rest)
 apart_behind chart lawful known line one given between [] parts = All-nil (AreApart one)
@@ -234,7 +269,8 @@ apart_behind chart lawful known line one given between (other ∷ rest) parts =
         All (AreApart one) (filter_map (λ line. item_of chart.lines line.statement) rest) →
         All (AreApart one) (cons_option o (filter_map (λ line. item_of chart.lines line.statement) rest))
     by None is below = below
-    by (Some two) is below = All-cons (AreApart one) two _ (apart_by chart lawful known line between other rest one two parts given is) below
+    by (Some two) is below =
+        All-cons (AreApart one) two _ (apart_by chart lawful known line between other rest one two parts given is) below
 
 apart_from : (chart : Chart) → IsLawful chart → (earlier rest : List Line) → chart.lines ≡ earlier ++ rest →
     AllPairs AreApart (filter_map (λ line. item_of chart.lines line.statement) rest)
@@ -248,15 +284,19 @@ apart_from chart lawful earlier (line ∷ rest) parts =
         AllPairs AreApart (cons_option o (filter_map (λ line. item_of chart.lines line.statement) rest))
     by None is below = below
     by (Some one) is below =
-        AllPairs-cons AreApart one _ (apart_behind chart lawful earlier line one is [] rest (parts ∙ sym (append_assoc earlier (line ∷ []) rest))) below
+        AllPairs-cons AreApart one _
+        (apart_behind chart lawful earlier line one is [] rest
+        (parts ∙ sym (append_assoc earlier (line ∷ []) rest))) below
 
 -- the PRINT lines of a served chart are PRINT DETAIL
 prints_alike : (lines : List Line) → All (λ line. is_served line.statement ≡ true) lines →
     list_any (λ line. is_print line.statement) lines ≡ prints_details lines
 prints_alike [] served = refl
 prints_alike (line ∷ lines) served =
-    ap (λ b. b || list_any (λ line. is_print line.statement) lines) (alike line.statement (All-head (λ line. is_served line.statement ≡ true) line lines served))
-    ∙ ap (λ b. is_print_detail line.statement || b) (prints_alike lines (All-tail (λ line. is_served line.statement ≡ true) line lines served))
+    ap (λ b. b || list_any (λ line. is_print line.statement) lines)
+    (alike line.statement (All-head (λ line. is_served line.statement ≡ true) line lines served))
+    ∙ ap (λ b. is_print_detail line.statement || b)
+    (prints_alike lines (All-tail (λ line. is_served line.statement ≡ true) line lines served))
   where
     alike : (statement : Statement) → is_served statement ≡ true → is_print statement ≡ is_print_detail statement
     alike (says.Print prints.Detail) on = refl
@@ -277,7 +317,8 @@ record HasRoom (form : Form) : Type 0 where
 roomy : (headings lines first overflow : ℕ) → not (has_room headings lines first overflow) ≡ false →
     HasRoom (record { lines = lines; first = first; overflow = overflow })
 roomy headings lines first overflow is =
-    let parts = parts_true (nat_le 1 first) (nat_lt (first + max headings 1 - 1) overflow) (nat_le (overflow + 2) lines) (nat_le lines 144) is in
+    let parts = parts_true (nat_le 1 first) (nat_lt (first + max headings 1 - 1) overflow)
+    (nat_le (overflow + 2) lines) (nat_le lines 144) is in
     record {
       first_line = grind (arith, nat_tests, parts.0);
       overflow_line = grind (arith, nat_tests, parts.1);
@@ -303,9 +344,11 @@ form_from_line chart lawful earlier (line ∷ rest) parts some =
 -- A served chart that breaks no rule is a listing's.
 pub listing_of : (chart : Chart) → IsLawful chart → IsServed chart → IsListing chart
 listing_of chart lawful served =
-    let form = form_from_line chart lawful [] chart.lines refl (not_false (has_form chart.lines) (has_all chart lawful rule.Form)) in
+    let form = form_from_line chart lawful [] chart.lines refl
+    (not_false (has_form chart.lines) (has_all chart lawful rule.Form)) in
     record {
-      prints = sym (prints_alike chart.lines served) ∙ not_false (has_print chart.lines) (has_all chart lawful rule.PrintKind);
+      prints = sym (prints_alike chart.lines served)
+          ∙ not_false (has_print chart.lines) (has_all chart lawful rule.PrintKind);
       on_card = on_card chart lawful;
       on_wheels = on_wheels chart lawful;
       apart = apart_from chart lawful [] chart.lines refl;

@@ -9,3 +9,4 @@ pub mod Validity
 pub mod Headline
 pub mod PageLists
 pub mod WiringSteps
+pub mod Exclusions

@@ -13,7 +13,8 @@ pub is_among : (from count v : ℕ) → from ≤ v → v < from + count → (nat
 is_among from count v low high = grind (arith, nat_tests)
 
 -- a number below or behind them isn't
-pub is_elsewhere : (from count v : ℕ) → (v < from) ⊎ (from + count ≤ v) → (nat_le from v && nat_lt v (from + count)) ≡ false
+pub is_elsewhere : (from count v : ℕ) → (v < from) ⊎ (from + count ≤ v) → (nat_le from v && nat_lt v (from + count))
+    ≡ false
 is_elsewhere from count v where_else = grind (arith, nat_tests)
 
 -- what the test says
@@ -21,6 +22,7 @@ pub among : (from count v : ℕ) → (nat_le from v && nat_lt v (from + count)) 
 among from count v test = (grind (arith, nat_tests), grind (arith, nat_tests))
 
 -- a choice on both sides of an equation
-pub same_choice : {X Y : Type 0} (f : X → Y) (b : Bool) (x y : Y) (s t : X) → (b ≡ true → x ≡ f s) → y ≡ f t → cond b x y ≡ f (cond b s t)
+pub same_choice : {X Y : Type 0} (f : X → Y) (b : Bool) (x y : Y) (s t : X) → (b ≡ true → x ≡ f s) → y ≡ f t →
+    cond b x y ≡ f (cond b s t)
 same_choice f true x y s t here there = here refl
 same_choice f false x y s t here there = there

@@ -12,7 +12,8 @@ range_more a zero = grind arith
 range_more a (suc n) = let more = range_more (a + 1) n in grind (arith, more)
 
 -- the parts of one number more
-pub flat_map-range_more : (f : ℕ → List ℕ) (n : ℕ) → flat_map f (range_with_len 1 (n + 1)) ≡ flat_map f (range_with_len 1 n) ++ f (n + 1)
+pub flat_map-range_more : (f : ℕ → List ℕ) (n : ℕ) → flat_map f (range_with_len 1 (n + 1))
+    ≡ flat_map f (range_with_len 1 n) ++ f (n + 1)
 flat_map-range_more f n =
     ap (flat_map f) (range_more 1 n) ∙ flat_map-append f (range_with_len 1 n) ((1 + n) ∷ [])
     ∙ ap (λ part. flat_map f (range_with_len 1 n) ++ part) (append-nil (f (1 + n)) ∙ ap f (omega arith))
@@ -29,7 +30,8 @@ cut-other (character ∷ []) last other = ap (onto_cut character) (cut-other [] 
 cut-other (character ∷ next ∷ text) last other = ap (onto_cut character) (cut-other (next ∷ text) last other)
 
 -- the text up to a place behind 0 is the text up to the place before it and one character more
-take_back : (text : List ℕ) (end : ℕ) → 0 < end → end ≤ length text → take end text ≡ take (end - 1) text ++ get_or text (end - 1) 0 ∷ []
+take_back : (text : List ℕ) (end : ℕ) → 0 < end → end ≤ length text → take end text
+    ≡ take (end - 1) text ++ get_or text (end - 1) 0 ∷ []
 take_back text end some within =
     let back : end - 1 + 1 ≡ end = omega arith in
     ap (λ n. take n text) (sym back) ∙ take_more text (end - 1) 0 (omega arith)
@@ -38,13 +40,15 @@ take_back text end some within =
 pub cut_shorter : (text : List ℕ) (end : ℕ) → 0 < end → end ≤ length text → get_or text (end - 1) 0 ≡ 32
     → without_trailing_blanks (take (end - 1) text) ≡ without_trailing_blanks (take end text)
 cut_shorter text end some within blank =
-    sym (ap without_trailing_blanks (take_back text end some within ∙ ap (λ c. take (end - 1) text ++ c ∷ []) blank) ∙ cut-blank (take (end - 1) text))
+    sym (ap without_trailing_blanks (take_back text end some within ∙ ap (λ c. take (end - 1) text ++ c ∷ []) blank)
+    ∙ cut-blank (take (end - 1) text))
 
 -- a text that ends in another character there is whole
 pub cut_whole : (text : List ℕ) (end : ℕ) → 0 < end → end ≤ length text → get_or text (end - 1) 0 ≢ 32
     → without_trailing_blanks (take end text) ≡ take end text
 cut_whole text end some within other =
-    ap without_trailing_blanks (take_back text end some within) ∙ cut-other (take (end - 1) text) (get_or text (end - 1) 0) other
+    ap without_trailing_blanks (take_back text end some within)
+    ∙ cut-other (take (end - 1) text) (get_or text (end - 1) 0) other
     ∙ sym (take_back text end some within)
 
 -- nothing is left to cut of a text of no characters
@@ -54,8 +58,10 @@ cut_none text end least =
     ap (λ n. take n text) none ∙ sym (ap (λ n. without_trailing_blanks (take n text)) none)
 
 -- the parts of the numbers from one on, and one part more
-pub grown : (f : ℕ → List ℕ) (n : ℕ) (old before part now : List ℕ) → before ≡ old ++ flat_map f (range_with_len 1 n) → part ≡ f (n + 1)
+pub grown : (f : ℕ → List ℕ) (n : ℕ) (old before part now : List ℕ) → before
+    ≡ old ++ flat_map f (range_with_len 1 n) → part ≡ f (n + 1)
     → now ≡ before ++ part → now ≡ old ++ flat_map f (range_with_len 1 (n + 1))
 grown f n old before part now so_far one_more gained =
     gained ∙ ap (λ b. b ++ part) so_far ∙ ap (λ p. (old ++ flat_map f (range_with_len 1 n)) ++ p) one_more
-    ∙ append_assoc old (flat_map f (range_with_len 1 n)) (f (n + 1)) ∙ ap (λ t. old ++ t) (sym (flat_map-range_more f n))
+    ∙ append_assoc old (flat_map f (range_with_len 1 n)) (f (n + 1))
+    ∙ ap (λ t. old ++ t) (sym (flat_map-range_more f n))

@@ -23,7 +23,8 @@ unfolding print_character deck_character code
 blank = refl
 
 -- the character on a wheel is that of its set
-pub char_at-set_at : (items : List Item) (card : List ℕ) (v : ℕ) → char_at (map (piece_on card) items) v ≡ print_character (set_at items card v)
+pub char_at-set_at : (items : List Item) (card : List ℕ) (v : ℕ) → char_at (map (piece_on card) items) v
+    ≡ print_character (set_at items card v)
 char_at-set_at [] card v = sym blank
 char_at-set_at (Text wheel first count ∷ items) card v =
     let f : ℕ → ℕ = λ number. print_character (column_of card number) in
@@ -33,8 +34,10 @@ char_at-set_at (Text wheel first count ∷ items) card v =
     let here : test ≡ true → slice_index_or text (v - wheel) 32 ≡ f (first + (v - wheel)) =
     λ on. let at = among wheel count v on in
     get_or-map-range_with_len f first count (v - wheel) (first + (v - wheel)) 32 (omega (arith, at.0, at.1)) refl in
-    ap (λ n. cond (nat_le wheel v && nat_lt v (wheel + n)) (slice_index_or text (v - wheel) 32) (char_at (map (piece_on card) items) v)) long
-    ∙ same_choice print_character test _ _ (column_of card (first + (v - wheel))) (set_at items card v) here (char_at-set_at items card v)
+    ap (λ n. cond (nat_le wheel v && nat_lt v (wheel + n)) (slice_index_or text (v - wheel) 32)
+    (char_at (map (piece_on card) items) v)) long
+    ∙ same_choice print_character test _ _ (column_of card (first + (v - wheel))) (set_at items card v) here
+    (char_at-set_at items card v)
 
 -- a wheel on which a text of the list stands has the column of that text, as no other one stands there
 pub set_at-covered : (items : List Item) (card : List ℕ) (wheel first count v : ℕ) →
@@ -50,10 +53,12 @@ set_at-covered (Text w f n ∷ items) card wheel first count v (zero, within, is
     ap (λ b. cond b (column_of card (f + (v - w))) (set_at items card v)) on ∙ ap (column_of card) same_column
 set_at-covered (Text w f n ∷ items) card wheel first count v (suc k, within, is) apart low high =
     let P : Item → Type 0 = λ item. AreApart (Text w f n) item in
-    let clear : AreApart (Text w f n) (Text wheel first count) = subst P is (apart 0 (suc k) (Text wheel first count) (omega arith) within) in
+    let clear : AreApart (Text w f n) (Text wheel first count) =
+    subst P is (apart 0 (suc k) (Text wheel first count) (omega arith) within) in
     let off : (nat_le w v && nat_lt v (w + n)) ≡ false = is_elsewhere w n v (outside clear) in
     ap (λ b. cond b (column_of card (f + (v - w))) (set_at items card v)) off
-    ∙ set_at-covered items card wheel first count v (k, omega (arith, within), is) (λ i j d less inside. apart (suc i) (suc j) d (omega arith) (omega arith)) low high
+    ∙ set_at-covered items card wheel first count v (k, omega (arith, within), is)
+    (λ i j d less inside. apart (suc i) (suc j) d (omega arith) (omega arith)) low high
   where
     outside : (w + n ≤ wheel) ⊎ (wheel + count ≤ w) → (v < w) ⊎ (w + n ≤ v)
     outside (inl before) = inr (omega arith)
@@ -80,7 +85,25 @@ set_at_source (Text w f n ∷ items) card v = by (nat_le w v && nat_lt v (w + n)
         × (set_at (Text w f n ∷ items) card v ≡ column_of card (first + (v - wheel))))
     by true on below =
         let at = among w n v on in
-        inr (w, f, n, (0, omega arith, refl), at.0, at.1, ap (λ b. cond b (column_of card (f + (v - w))) (set_at items card v)) on)
+        inr (
+          w,
+          f,
+          n,
+          (0, omega arith, refl),
+          at.0,
+          at.1,
+          ap
+              (λ b. cond b (column_of card (f + (v - w))) (set_at items card v)) on,
+        )
     by false off (inl none) = inl (ap (λ b. cond b (column_of card (f + (v - w))) (set_at items card v)) off ∙ none)
     by false off (inr (wheel, first, count, listed, low, high, is)) =
-        inr (wheel, first, count, later listed, low, high, ap (λ b. cond b (column_of card (f + (v - w))) (set_at items card v)) off ∙ is)
+        inr (
+          wheel,
+          first,
+          count,
+          later listed,
+          low,
+          high,
+          ap
+              (λ b. cond b (column_of card (f + (v - w))) (set_at items card v)) off ∙ is,
+        )

@@ -32,7 +32,8 @@ pub record IsState (cards : List (List ℕ)) (last : Option Cycle) (stands : Car
   pub program : machine.program ≡ record { last = last; prints_cards = true }
 
 -- the cycle that is due in such a state
-due : {cards : List (List ℕ)} {last : Option Cycle} {stands : Carriage} {machine : Machine} → IsState cards last stands machine →
+due : {cards : List (List ℕ)} {last : Option Cycle} {stands : Carriage} {machine : Machine} →
+    IsState cards last stands machine →
     cycle_due machine ≡ cycle_after last true stands.latch (is_some (next_card cards))
 due {cards} {last} {stands} {machine} state =
     ap (λ p. next_cycle p machine.carriage.latch (is_some machine.stations.first)) state.program
@@ -40,7 +41,8 @@ due {cards} {last} {stands} {machine} state =
     ∙ ap (λ f. cycle_after last true stands.latch (is_some f)) state.first
 
 -- the state behind a cycle
-after : {cards : List (List ℕ)} {last : Option Cycle} {stands : Carriage} {machine : Machine} (wiring : Wiring) (cycle : Cycle) (new : Machine) →
+after : {cards : List (List ℕ)} {last : Option Cycle} {stands : Carriage} {machine : Machine} (wiring : Wiring)
+    (cycle : Cycle) (new : Machine) →
     IsState cards last stands machine → CycleRun wiring cycle machine new →
     IsState cards (Some cycle) (carriage.carriage_ended stands cycle) new
 after {machine = machine} wiring cycle new state run =
@@ -53,7 +55,8 @@ after {machine = machine} wiring cycle new state run =
     }
 
 -- one more cycle of a run, and the rest of the run behind it
-record NextRun (wiring : Wiring) (machine : Machine) (cards : List (List ℕ)) (lines : List PlacedLine) (cycle : Cycle) : Type 0 where
+record NextRun (wiring : Wiring) (machine : Machine) (cards : List (List ℕ)) (lines : List PlacedLine)
+    (cycle : Cycle) : Type 0 where
   new : Machine
   others : List PlacedLine
   cycles : ℕ
@@ -61,7 +64,8 @@ record NextRun (wiring : Wiring) (machine : Machine) (cards : List (List ℕ)) (
   is_lines : lines ≡ line_of new ++ others
   runs : Runs wiring cycles new (cards_left cycle cards) others
 
-next_run : (wiring : Wiring) (cycles : ℕ) (machine : Machine) (cards : List (List ℕ)) (lines : List PlacedLine) (cycle : Cycle) →
+next_run : (wiring : Wiring) (cycles : ℕ) (machine : Machine) (cards : List (List ℕ)) (lines : List PlacedLine)
+    (cycle : Cycle) →
     cycle_due machine ≡ Some cycle → Runs wiring cycles machine cards lines → NextRun wiring machine cards lines cycle
 unfolding Runs
 next_run wiring zero machine cards lines cycle is_due (none, no_lines) = cc
@@ -83,19 +87,23 @@ no_run : (wiring : Wiring) (cycles : ℕ) (machine : Machine) (cards : List (Lis
     cycle_due machine ≡ None → Runs wiring cycles machine cards lines → lines ≡ []
 unfolding Runs
 no_run wiring zero machine cards lines is_due (none, no_lines) = no_lines
-no_run wiring (suc cycles) machine cards lines is_due (new, left, others, one, is_lines, runs) = let ran_due = one.due in cc
+no_run wiring (suc cycles) machine cards lines is_due (new, left, others, one, is_lines, runs) = let ran_due =
+    one.due in cc
 
 -- a run in which a cycle that places no line is due
-quiet_run : {cards : List (List ℕ)} {last : Option Cycle} {stands : Carriage} {machine : Machine} (wiring : Wiring) (cycles : ℕ) (deck : List (List ℕ))
+quiet_run : {cards : List (List ℕ)} {last : Option Cycle} {stands : Carriage} {machine : Machine} (wiring : Wiring)
+    (cycles : ℕ) (deck : List (List ℕ))
     (lines : List PlacedLine) (heading : Cycle) → IsState cards last stands machine → cycle_due machine ≡ Some heading →
     before_cycle heading deck machine ≡ machine → cards_left heading deck ≡ deck →
     (carriage.carriage_ended stands heading).printed ≡ None → Runs wiring cycles machine deck lines →
-    (new : Machine) × (n : ℕ) × IsState cards (Some heading) (carriage.carriage_ended stands heading) new × Runs wiring n new deck lines
+    (new : Machine) × (n : ℕ) × IsState cards (Some heading) (carriage.carriage_ended stands heading) new
+    × Runs wiring n new deck lines
 quiet_run {machine = machine} wiring cycles deck lines heading state is_due same_machine same_deck nothing runs =
     let next = next_run wiring cycles machine deck lines heading is_due runs in
     let R : Machine → Type 0 = λ m. CycleRun wiring heading m next.new in
     let ends = after wiring heading next.new state (subst R same_machine next.ran) in
-    let no_line : line_of next.new ≡ [] = ap (λ c. line_at c.printed next.new.wheels.line) ends.carriage ∙ ap (λ p. line_at p next.new.wheels.line) nothing in
+    let no_line : line_of next.new ≡ [] = ap (λ c. line_at c.printed next.new.wheels.line) ends.carriage
+    ∙ ap (λ p. line_at p next.new.wheels.line) nothing in
     let same_lines : next.others ≡ lines = sym (next.is_lines ∙ ap (λ l. l ++ next.others) no_line) in
     let Q : List (List ℕ) → Type 0 = λ d. Runs wiring next.cycles next.new d next.others in
     let S : List PlacedLine → Type 0 = λ l. Runs wiring next.cycles next.new deck l in
@@ -116,20 +124,26 @@ moves_down wiring page line printed below =
     (carriage.placed_at (carriage.next_page page) 1 (carriage_at wiring page line false printed))) test
 
 -- a card cycle and what it leaves
-record CardStep (chart : Chart) (wiring : Wiring) (page line : ℕ) (card : List ℕ) (cards : List (List ℕ)) (lines : List PlacedLine) : Type 0 where
+record CardStep (chart : Chart) (wiring : Wiring) (page line : ℕ) (card : List ℕ) (cards : List (List ℕ))
+    (lines : List PlacedLine) : Type 0 where
   new : Machine
   others : List PlacedLine
   cycles : ℕ
   is_lines : lines ≡ record { page = page; line = line + 1; text = card_line chart.lines card } ∷ others
-  state : IsState cards (Some Card) (carriage_at wiring page (line + 1) (line + 1 == wiring.tape.overflow) (Some (page, line + 1))) new
+  state : IsState cards (Some Card)
+      (carriage_at wiring page (line + 1) (line + 1 == wiring.tape.overflow) (Some (page, line + 1))) new
   runs : Runs wiring cycles new (cards_behind cards) others
 
-card_step : (chart : Chart) (wiring : Wiring) (page line : ℕ) (printed : Option (ℕ × ℕ)) (last : Option Cycle) (card : List ℕ) (cards : List (List ℕ))
-    (cycles : ℕ) (machine : Machine) (lines : List PlacedLine) → WiredFor chart wiring → IsListing chart → IsGathered chart card →
+card_step : (chart : Chart) (wiring : Wiring) (page line : ℕ) (printed : Option (ℕ × ℕ)) (last : Option Cycle)
+    (card : List ℕ) (cards : List (List ℕ))
+    (cycles : ℕ) (machine : Machine) (lines : List PlacedLine) → WiredFor chart wiring → IsListing chart →
+    IsGathered chart card →
     line < wiring.tape.lines → cycle_after last true false true ≡ Some Card →
-    IsState (card ∷ cards) last (carriage_at wiring page line false printed) machine → Runs wiring cycles machine cards lines →
+    IsState (card ∷ cards) last (carriage_at wiring page line false printed) machine →
+    Runs wiring cycles machine cards lines →
     CardStep chart wiring page line card cards lines
-card_step chart wiring page line printed last card cards cycles machine lines wired listing whole below is_card state runs =
+card_step chart wiring page line printed last card cards cycles machine lines wired listing whole below is_card state
+    runs =
     let next = next_run wiring cycles machine cards lines Card (due state ∙ is_card) runs in
     let moved : IsState cards last (carriage_at wiring page line false printed) (moved_on cards machine) =
     record { first = refl; empty = state.empty; carriage = state.carriage; program = state.program } in
@@ -169,7 +183,8 @@ IsBetween (Some RunIn) (card ∷ cards) = Unit {0}
 IsBetween (Some Card) cards = Unit {0}
 IsBetween last cards = ⊥
 
-card_follows : (last : Option Cycle) (card : List ℕ) (cards : List (List ℕ)) (restore : Bool) → IsBetween last (card ∷ cards) →
+card_follows : (last : Option Cycle) (card : List ℕ) (cards : List (List ℕ)) (restore : Bool) →
+    IsBetween last (card ∷ cards) →
     cycle_after last true restore true ≡ Some (card_due true restore)
 unfolding IsBetween
 card_follows (Some RunIn) card cards restore between = refl
@@ -193,67 +208,92 @@ page_turned page below =
 page_begun : (wiring : Wiring) (card : List ℕ) (cards : List (List ℕ)) (page line first : ℕ) (printed : Option (ℕ × ℕ))
     (last : Option Cycle) (cycles : ℕ) (machine : Machine) (lines : List PlacedLine) → page < 2 ^ 32 →
     wiring.tape.first ≡ first → IsBetween last (card ∷ cards) →
-    IsState (card ∷ cards) last (carriage_at wiring page line true printed) machine → Runs wiring cycles machine cards lines →
+    IsState (card ∷ cards) last (carriage_at wiring page line true printed) machine →
+    Runs wiring cycles machine cards lines →
     (new : Machine) × (n : ℕ)
     × IsState (card ∷ cards) (Some (Head Third)) (carriage_at wiring (page + 1) first false None) new
     × Runs wiring n new cards lines
 page_begun wiring card cards page line first printed last cycles machine lines below is_first between state runs =
-    let one = quiet_run wiring cycles cards lines (Head First) state (due state ∙ card_follows last card cards true between)
+    let one = quiet_run wiring cycles cards lines (Head First) state
+    (due state ∙ card_follows last card cards true between)
     refl refl refl runs in
     let two = quiet_run wiring one.1 cards lines (Head Second) one.2 (due one.2) refl refl refl one.3 in
     let three = quiet_run wiring two.1 cards lines (Head Third) two.2 (due two.2) refl refl refl two.3 in
-    let P : ℕ → Type 0 = λ p. IsState (card ∷ cards) (Some (Head Third)) (carriage_at wiring p wiring.tape.first false None) three.0 in
-    let L : ℕ → Type 0 = λ l. IsState (card ∷ cards) (Some (Head Third)) (carriage_at wiring (page + 1) l false None) three.0 in
+    let P : ℕ → Type 0 = λ p. IsState (card ∷ cards) (Some (Head Third))
+    (carriage_at wiring p wiring.tape.first false None) three.0 in
+    let L : ℕ → Type 0 = λ l. IsState (card ∷ cards) (Some (Head Third))
+    (carriage_at wiring (page + 1) l false None) three.0 in
     (three.0, three.1, subst L is_first (subst P (page_turned page below) three.2), three.3)
 
 -- The lines of a run from a state between two cards are the placed lines of the cards that are left.
-cards_run : (chart : Chart) (wiring : Wiring) (cards : List (List ℕ)) (page line : ℕ) (left : Option ℕ) (latch : Bool) (printed : Option (ℕ × ℕ))
-    (last : Option Cycle) (cycles : ℕ) (machine : Machine) (lines : List PlacedLine) → WiredFor chart wiring → IsListing chart →
-    All (IsGathered chart) cards → IsBetween last cards → OnForm (form_of chart.lines) left line latch → page + length cards ≤ 2 ^ 32 →
-    IsState cards last (carriage_at wiring page line latch printed) machine → Runs wiring cycles machine (cards_behind cards) lines →
+cards_run : (chart : Chart) (wiring : Wiring) (cards : List (List ℕ)) (page line : ℕ) (left : Option ℕ)
+    (latch : Bool) (printed : Option (ℕ × ℕ))
+    (last : Option Cycle) (cycles : ℕ) (machine : Machine) (lines : List PlacedLine) → WiredFor chart wiring →
+    IsListing chart →
+    All (IsGathered chart) cards → IsBetween last cards → OnForm (form_of chart.lines) left line latch →
+    page + length cards ≤ 2 ^ 32 →
+    IsState cards last (carriage_at wiring page line latch printed) machine →
+    Runs wiring cycles machine (cards_behind cards) lines →
     lines ≡ placed (form_of chart.lines) (record { page = page; line = left }) (map (card_line chart.lines) cards)
 unfolding IsBetween
-cards_run chart wiring [] page line left latch printed last cycles machine lines wired listing whole between on room state runs =
+cards_run chart wiring [] page line left latch printed last cycles machine lines wired listing whole between on room
+    state runs =
     no_run wiring cycles machine [] lines (due state ∙ none_follows last latch between) runs
-cards_run chart wiring (card ∷ cards) page line (Some n) latch printed last cycles machine lines wired listing whole between on room state runs =
+cards_run chart wiring (card ∷ cards) page line
+    (Some n) latch printed last cycles machine lines wired listing whole between on room state runs =
     let S : ℕ → Bool → Type 0 = λ l b. IsState (card ∷ cards) last (carriage_at wiring page l b printed) machine in
     let S' : ℕ → Type 0 = λ l. IsState (card ∷ cards) last (carriage_at wiring page l false printed) machine in
     let on_line : S' n = subst S' on.1 (subst (S line) on.0 state) in
     let short : n < wiring.tape.lines = omega (arith, on.2, wired.lines, listing.last_line) in
-    let step = card_step chart wiring page n printed last card cards cycles machine lines wired listing (All-head (IsGathered chart) card cards whole) short
+    let step = card_step chart wiring page n printed last card cards cycles machine lines wired listing
+    (All-head (IsGathered chart) card cards whole) short
     (card_follows last card cards false between) on_line runs in
-    let others = cards_run chart wiring cards page (n + 1) (left_below (form_of chart.lines) (n + 1)) (n + 1 == wiring.tape.overflow) (Some (page, n + 1))
+    let others = cards_run chart wiring cards page (n + 1) (left_below (form_of chart.lines) (n + 1))
+    (n + 1 == wiring.tape.overflow) (Some (page, n + 1))
     (Some Card) step.cycles step.new step.others wired listing (All-tail (IsGathered chart) card cards whole) tt
-    (on_form_below (form_of chart.lines) n wiring.tape.overflow wired.overflow on.2) (omega arith) step.state step.runs in
+    (on_form_below (form_of chart.lines) n wiring.tape.overflow wired.overflow on.2)
+    (omega arith) step.state step.runs in
     step.is_lines ∙ ap (λ l. record { page = page; line = n + 1; text = card_line chart.lines card } ∷ l) others
-cards_run chart wiring (card ∷ cards) page line None latch printed last cycles machine lines wired listing whole between on room state runs =
+cards_run chart wiring
+    (card ∷ cards) page line None latch printed last cycles machine lines wired listing whole between on room state
+    runs =
     let form : Form = form_of chart.lines in
     let S : Bool → Type 0 = λ b. IsState (card ∷ cards) last (carriage_at wiring page line b printed) machine in
-    let begun = page_begun wiring card cards page line form.first printed last cycles machine lines (omega arith) wired.first between
+    let begun = page_begun wiring card cards page line form.first printed last cycles machine lines
+    (omega arith) wired.first between
     (subst S on state) runs in
     let short : form.first < wiring.tape.lines = omega (arith, wired.lines, listing.overflow_line, listing.last_line) in
-    let step = card_step chart wiring (page + 1) form.first None (Some (Head Third)) card cards begun.1 begun.0 lines wired listing
+    let step = card_step chart wiring (page + 1) form.first None
+    (Some (Head Third)) card cards begun.1 begun.0 lines wired listing
     (All-head (IsGathered chart) card cards whole) short refl begun.2 begun.3 in
     let others = cards_run chart wiring cards (page + 1) (form.first + 1) (left_below form (form.first + 1))
-    (form.first + 1 == wiring.tape.overflow) (Some (page + 1, form.first + 1)) (Some Card) step.cycles step.new step.others
+    (form.first + 1 == wiring.tape.overflow) (Some (page + 1, form.first + 1))
+    (Some Card) step.cycles step.new step.others
     wired listing (All-tail (IsGathered chart) card cards whole) tt
-    (on_form_below form form.first wiring.tape.overflow wired.overflow listing.overflow_line) (omega arith) step.state step.runs in
-    step.is_lines ∙ ap (λ l. record { page = page + 1; line = form.first + 1; text = card_line chart.lines card } ∷ l) others
+    (on_form_below form form.first wiring.tape.overflow wired.overflow listing.overflow_line)
+    (omega arith) step.state step.runs in
+    step.is_lines ∙ ap (λ l. record { page = page + 1; line = form.first + 1; text = card_line chart.lines card } ∷
+    l) others
 
 -- The lines of a whole run are the placed lines of the deck's cards.
-pub run_lines : (chart : Chart) (wiring : Wiring) (cards : List (List ℕ)) (lines : List PlacedLine) → WiredFor chart wiring → IsListing chart →
+pub run_lines : (chart : Chart) (wiring : Wiring) (cards : List (List ℕ)) (lines : List PlacedLine) →
+    WiredFor chart wiring → IsListing chart →
     All (IsGathered chart) cards → length cards ≤ 2 ^ 32 → MachineLines wiring cards lines →
     lines ≡ placed (form_of chart.lines) before_all (map (card_line chart.lines) cards)
 unfolding wheels_at_start IsBetween
-run_lines chart wiring [] lines wired listing whole room run = no_run wiring run.cycles (machine_at_start wiring []) [] lines refl run.runs
+run_lines chart wiring [] lines wired listing whole room run =
+    no_run wiring run.cycles (machine_at_start wiring []) [] lines refl run.runs
 run_lines chart wiring (card ∷ cards) lines wired listing whole room run =
     let plugged : is_plugged wiring jacks.List ≡ true = (wired.jacks jacks.List).1 (list listing.prints) in
-    let state : IsState (card ∷ cards) None (carriage_at wiring 0 0 true None) (machine_at_start wiring (card ∷ cards)) =
+    let state : IsState (card ∷ cards) None (carriage_at wiring 0 0 true None)
+    (machine_at_start wiring (card ∷ cards)) =
     record {
       first = refl;
       empty = refl;
-      carriage = ap (λ b. record { tape = wiring.tape; prints_cards = b; page = 0; line = 0; latch = true; printed = None }) plugged;
+      carriage = ap (λ b. record
+          { tape = wiring.tape; prints_cards = b; page = 0; line = 0; latch = true; printed = None }) plugged;
       program = ap (λ b. record { last = None; prints_cards = b }) plugged;
     } in
     let begun = quiet_run wiring run.cycles cards lines RunIn state (due state) refl refl refl run.runs in
-    cards_run chart wiring (card ∷ cards) 0 0 None true None (Some RunIn) begun.1 begun.0 lines wired listing whole tt refl (omega arith) begun.2 begun.3
+    cards_run chart wiring (card ∷ cards) 0 0 None true None
+    (Some RunIn) begun.1 begun.0 lines wired listing whole tt refl (omega arith) begun.2 begun.3

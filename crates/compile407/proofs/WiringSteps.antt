@@ -19,22 +19,26 @@ use Rattle.compile407.specs.AddedWires.{AddsWires, IsBareFor, listed, items_amon
 use Rattle.compile407.specs.WiredFor.{WiredFor, WiresOf, text, WiresOfSome, JacksOf, list}
 
 -- nothing is added
-pub adds-nothing : (wires_of : Hub → Hub → Type 0) (setup : Wiring) → ((exit entry : Hub) → wires_of exit entry → ⊥) → AddsWires wires_of setup setup
+pub adds-nothing : (wires_of : Hub → Hub → Type 0) (setup : Wiring) →
+    ((exit entry : Hub) → wires_of exit entry → ⊥) → AddsWires wires_of setup setup
 adds-nothing wires_of setup none = record {
-  wires = λ exit entry. (λ there. inl there, λ either. elim either [ inl there ↦ there | inr added ↦ absurd (none exit entry added) ]);
+  wires = λ exit entry.
+      (λ there. inl there, λ either. elim either [ inl there ↦ there | inr added ↦ absurd (none exit entry added) ]);
   jacks = λ jack. refl;
   tape = refl;
 }
 
 -- two steps, one after the other
 pub adds-both : (first second both : Hub → Hub → Type 0) (old mid new : Wiring)
-    → ((exit entry : Hub) → first exit entry → both exit entry) → ((exit entry : Hub) → second exit entry → both exit entry)
+    → ((exit entry : Hub) → first exit entry → both exit entry) →
+    ((exit entry : Hub) → second exit entry → both exit entry)
     → ((exit entry : Hub) → both exit entry → first exit entry ⊎ second exit entry)
     → AddsWires first old mid → AddsWires second mid new → AddsWires both old new
 adds-both first second both old mid new from_first from_second split one two = record {
   wires = λ exit entry. (
     λ there. elim ((two.wires exit entry).0 there) [
-      | inl before ↦ elim ((one.wires exit entry).0 before) [ inl there ↦ inl there | inr added ↦ inr (from_first exit entry added) ]
+      | inl before ↦ elim ((one.wires exit entry).0 before)
+          [ inl there ↦ inl there | inr added ↦ inr (from_first exit entry added) ]
       | inr added ↦ inr (from_second exit entry added)
     ],
     λ either. elim either [
@@ -50,7 +54,8 @@ adds-both first second both old mid new from_first from_second split one two = r
 }
 
 -- the same wires under another name
-pub adds-same : (one other : Hub → Hub → Type 0) (old new : Wiring) → ((exit entry : Hub) → one exit entry → other exit entry)
+pub adds-same : (one other : Hub → Hub → Type 0) (old new : Wiring) →
+    ((exit entry : Hub) → one exit entry → other exit entry)
     → ((exit entry : Hub) → other exit entry → one exit entry) → AddsWires one old new → AddsWires other old new
 adds-same one other old new there back added = record {
   wires = λ exit entry. (
@@ -69,11 +74,13 @@ wire_place : {wheel first count : ℕ} {exit entry : Hub} → WiresOf (Text whee
     → (j : ℕ) × (j < count) × (exit ≡ SR (first + j)) × (entry ≡ W (wheel + j))
 wire_place (text wheel first count j less) = (j, less, refl, refl)
 
-wire_there : (wheel first count j : ℕ) (exit entry : Hub) → j < count → exit ≡ SR (first + j) → entry ≡ W (wheel + j) → WiresOf (Text wheel first count) exit entry
+wire_there : (wheel first count j : ℕ) (exit entry : Hub) → j < count → exit ≡ SR (first + j) → entry
+    ≡ W (wheel + j) → WiresOf (Text wheel first count) exit entry
 wire_there wheel first count j exit entry less is_exit is_entry =
     let P : Hub → Type 0 = λ x. WiresOf (Text wheel first count) x entry in
     subst P (sym is_exit)
-    (let Q : Hub → Type 0 = λ e. WiresOf (Text wheel first count) (SR (first + j)) e in subst Q (sym is_entry) (text wheel first count j less))
+    (let Q : Hub → Type 0 = λ e. WiresOf (Text wheel first count) (SR (first + j)) e in
+    subst Q (sym is_entry) (text wheel first count j less))
 
 -- no column is wired yet
 pub columns-none : (wheel first : ℕ) (setup : Wiring) → AddsWires (WiresOf (Text wheel first 0)) setup setup
@@ -81,22 +88,28 @@ columns-none wheel first setup =
     adds-nothing _ setup (λ exit entry wire. let place = wire_place wire in absurd (omega (arith, place.1)))
 
 -- one column more is wired
-pub columns-more : (wheel first j : ℕ) (old mid new : Wiring) → AddsWires (WiresOf (Text wheel first j)) old mid → AddsWire mid new (SR (first + j)) (W (wheel + j))
+pub columns-more : (wheel first j : ℕ) (old mid new : Wiring) → AddsWires (WiresOf (Text wheel first j)) old mid →
+    AddsWire mid new (SR (first + j)) (W (wheel + j))
     → SameJacks mid new → new.tape ≡ mid.tape → AddsWires (WiresOf (Text wheel first (j + 1))) old new
 columns-more wheel first j old mid new so_far added jacks tape =
-    adds-both (WiresOf (Text wheel first j)) (λ exit entry. (exit ≡ SR (first + j)) × (entry ≡ W (wheel + j))) _ old mid new
-    (λ exit entry wire. let place = wire_place wire in wire_there wheel first (j + 1) place.0 exit entry (omega (arith, place.1)) place.2 place.3)
+    adds-both (WiresOf (Text wheel first j))
+    (λ exit entry. (exit ≡ SR (first + j)) × (entry ≡ W (wheel + j))) _ old mid new
+    (λ exit entry wire. let place = wire_place wire in
+    wire_there wheel first (j + 1) place.0 exit entry (omega (arith, place.1)) place.2 place.3)
     (λ exit entry is. wire_there wheel first (j + 1) j exit entry (omega arith) is.0 is.1)
-    (λ exit entry wire. let place = wire_place wire in by_place place.0 exit entry (last_or place.0 j (omega (arith, place.1))) place.2 place.3)
+    (λ exit entry wire. let place = wire_place wire in
+    by_place place.0 exit entry (last_or place.0 j (omega (arith, place.1))) place.2 place.3)
     so_far
     (record { wires = added; jacks = jacks; tape = tape })
   where
     last_or : (place j : ℕ) → place < j + 1 → (place < j) ⊎ (place ≡ j)
     last_or place j less = elim (cases_lt place j) [ inl below ↦ inl below | inr behind ↦ inr (omega arith) ]
 
-    by_place : (place : ℕ) (exit entry : Hub) → (place < j) ⊎ (place ≡ j) → exit ≡ SR (first + place) → entry ≡ W (wheel + place)
+    by_place : (place : ℕ) (exit entry : Hub) → (place < j) ⊎ (place ≡ j) → exit ≡ SR (first + place) → entry
+        ≡ W (wheel + place)
         → WiresOf (Text wheel first j) exit entry ⊎ ((exit ≡ SR (first + j)) × (entry ≡ W (wheel + j)))
-    by_place place exit entry (inl less) is_exit is_entry = inl (wire_there wheel first j place exit entry less is_exit is_entry)
+    by_place place exit entry (inl less) is_exit is_entry =
+        inl (wire_there wheel first j place exit entry less is_exit is_entry)
     by_place place exit entry (inr last) is_exit is_entry =
         inr (is_exit ∙ ap (λ p. SR (first + p)) last, is_entry ∙ ap (λ p. W (wheel + p)) last)
 
@@ -114,18 +127,22 @@ listed_alone lines line = by_item (item_of lines line.statement)
 
 -- the items among one line more
 among_more : (lines some : List Line) (place : ℕ) (line : Line) → place < length some → line ≡ get_or some place line
-    → items_among lines (take (place + 1) some) ≡ items_among lines (take place some) ++ listed (item_of lines line.statement)
+    → items_among lines (take (place + 1) some)
+    ≡ items_among lines (take place some) ++ listed (item_of lines line.statement)
 among_more lines some place line within is =
     ap (items_among lines) (take_more some place line within ∙ ap (λ x. take place some ++ x ∷ []) (sym is))
     ∙ filter_map-append (λ l. item_of lines l.statement) (take place some) (line ∷ [])
     ∙ ap (λ part. items_among lines (take place some) ++ part) (listed_alone lines line)
 
 -- the items of one list and then those of another are wired
-items-both : (xs ys : List Item) (old mid new : Wiring) → AddsWires (WiresOfSome xs) old mid → AddsWires (WiresOfSome ys) mid new → AddsWires (WiresOfSome (xs ++ ys)) old new
+items-both : (xs ys : List Item) (old mid new : Wiring) → AddsWires (WiresOfSome xs) old mid →
+    AddsWires (WiresOfSome ys) mid new → AddsWires (WiresOfSome (xs ++ ys)) old new
 items-both xs ys old mid new one two =
     adds-both (WiresOfSome xs) (WiresOfSome ys) _ old mid new
-    (λ exit entry some. record { item = some.item; listed = Contains-append_left xs ys some.item some.listed; wire = some.wire })
-    (λ exit entry some. record { item = some.item; listed = Contains-append_right xs ys some.item some.listed; wire = some.wire })
+    (λ exit entry some. record
+    { item = some.item; listed = Contains-append_left xs ys some.item some.listed; wire = some.wire })
+    (λ exit entry some. record
+    { item = some.item; listed = Contains-append_right xs ys some.item some.listed; wire = some.wire })
     (λ exit entry some. elim (Contains-append_cases xs ys some.item some.listed) [
       | inl first ↦ inl (record { item = some.item; listed = first; wire = some.wire })
       | inr second ↦ inr (record { item = some.item; listed = second; wire = some.wire })
@@ -137,7 +154,8 @@ pub record IsLineAt (lines : List Line) (place : ℕ) (line : Line) : Type 0 whe
   pub within : place < length lines
   pub is : line ≡ get_or lines place line
 
-pub line-at : (shown lines : List Line) (place : ℕ) (line : Line) → shown ≡ lines → place < length shown → line ≡ get_or shown place line → IsLineAt lines place line
+pub line-at : (shown lines : List Line) (place : ℕ) (line : Line) → shown ≡ lines → place < length shown → line
+    ≡ get_or shown place line → IsLineAt lines place line
 line-at shown lines place line same within is =
     let P : List Line → Type 0 = λ some. IsLineAt some place line in
     subst P same (record { within = within; is = is })
@@ -153,7 +171,8 @@ items-more lines place line old mid new at so_far one =
     (items-both (items_among lines (take place lines)) (listed (item_of lines line.statement)) old mid new so_far one)
 
 -- the wires of one item are those of a list of it alone
-pub item-alone : (item : Item) (old new : Wiring) → AddsWires (WiresOf item) old new → AddsWires (WiresOfSome (item ∷ [])) old new
+pub item-alone : (item : Item) (old new : Wiring) → AddsWires (WiresOf item) old new →
+    AddsWires (WiresOfSome (item ∷ [])) old new
 item-alone item old new =
     adds-same (WiresOf item) (WiresOfSome (item ∷ [])) old new
     (λ exit entry wire. record { item = item; listed = (0, omega arith, refl); wire = wire })
@@ -164,17 +183,20 @@ item-alone item old new =
     subst P (sym same) some.wire)
 
 -- what all kept, the first of them keeps, if there is one
-first_keeps : (P : Item → Type 0) (found : Option Item) (items : List Item) → All P (cons_option found items) → IfSome found P
+first_keeps : (P : Item → Type 0) (found : Option Item) (items : List Item) → All P (cons_option found items) →
+    IfSome found P
 first_keeps P None items all = tt
 first_keeps P (Some item) items all = all 0 item (omega arith)
 
 -- and so do the others
-others_keep : (P : Item → Type 0) (found : Option Item) (items : List Item) → All P (cons_option found items) → All P items
+others_keep : (P : Item → Type 0) (found : Option Item) (items : List Item) → All P (cons_option found items) →
+    All P items
 others_keep P None items all = all
 others_keep P (Some item) items all = λ k d within. all (suc k) d (omega arith)
 
 -- what all items found among lines keep, the item of each of the lines keeps
-found_keeps : (P : Item → Type 0) (find : Line → Option Item) (lines : List Line) (place : ℕ) (line : Line) → place < length lines
+found_keeps : (P : Item → Type 0) (find : Line → Option Item) (lines : List Line) (place : ℕ) (line : Line) →
+    place < length lines
     → All P (filter_map find lines) → IfSome (find (get_or lines place line)) P
 found_keeps P find [] place line within all = absurd (omega arith)
 found_keeps P find (first ∷ others) zero line within all = first_keeps P (find first) (filter_map find others) all
@@ -182,13 +204,15 @@ found_keeps P find (first ∷ others) (suc place) line within all =
     found_keeps P find others place line (omega arith) (others_keep P (find first) (filter_map find others) all)
 
 -- what all items of a chart keep, the item of each line keeps
-pub item-keeps : (P : Item → Type 0) (lines : List Line) (place : ℕ) (line : Line) → IsLineAt lines place line → All P (items_of lines) → IfSome (item_of lines line.statement) P
+pub item-keeps : (P : Item → Type 0) (lines : List Line) (place : ℕ) (line : Line) → IsLineAt lines place line →
+    All P (items_of lines) → IfSome (item_of lines line.statement) P
 item-keeps P lines place line at all =
     let Q : Line → Type 0 = λ l. IfSome (item_of lines l.statement) P in
     subst Q (sym at.is) (found_keeps P (λ l. item_of lines l.statement) lines place line at.within all)
 
 -- the jacks of a chart are those that are plugged, where LIST is plugged for lines of cards alone
-jacks_for : (lines : List Line) (setup : Wiring) → is_plugged setup jacks.List ≡ prints_details lines → (jack : Jack) → HasJack setup jack ↔ JacksOf lines jack
+jacks_for : (lines : List Line) (setup : Wiring) → is_plugged setup jacks.List ≡ prints_details lines →
+    (jack : Jack) → HasJack setup jack ↔ JacksOf lines jack
 jacks_for lines setup same jacks.List = (λ plugged. list (sym same ∙ plugged), λ due. by due)
   where
     by : JacksOf lines jacks.List → is_plugged setup jacks.List ≡ true
@@ -203,10 +227,12 @@ no_stop form none channel line = by (has_stop form channel line) refl
     by false is = is
 
 -- a setup with the wires of all items of a chart on top of its jacks and tape is wired for the chart
-pub wired-from-bare : (chart : Chart) (bare setup : Wiring) → IsBareFor chart bare → AddsWires (WiresOfSome (items_of chart.lines)) bare setup → WiredFor chart setup
+pub wired-from-bare : (chart : Chart) (bare setup : Wiring) → IsBareFor chart bare →
+    AddsWires (WiresOfSome (items_of chart.lines)) bare setup → WiredFor chart setup
 wired-from-bare chart bare setup is added = record {
   wires = λ exit entry. (
-    λ there. elim ((added.wires exit entry).0 there) [ inl before ↦ absurd (is.wires exit entry before) | inr some ↦ some ],
+    λ there. elim ((added.wires exit entry).0 there)
+        [ inl before ↦ absurd (is.wires exit entry before) | inr some ↦ some ],
     λ some. (added.wires exit entry).1 (inr some),
   );
   jacks = jacks_for chart.lines setup (added.jacks jacks.List ∙ is.list);

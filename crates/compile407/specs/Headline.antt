@@ -26,4 +26,5 @@ PrintsReport chart wiring =
 -- a setup wired for a served chart that breaks no rule prints its reports
 abbrev pub WiredSetupsPrintReports : Type 0
 WiredSetupsPrintReports =
-    (chart : Chart) (wiring : Wiring) → IsLawful chart → IsServed chart → WiredFor chart wiring → PrintsReport chart wiring
+    (chart : Chart) (wiring : Wiring) → IsLawful chart → IsServed chart → WiredFor chart wiring →
+    PrintsReport chart wiring

@@ -15,3 +15,4 @@ pub mod Runnable
 pub mod ChartFaults
 pub mod RunFaults
 pub mod AddedWires
+pub mod Outcomes

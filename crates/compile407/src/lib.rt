@@ -18,7 +18,9 @@ mod wiring;
 pub use compiled::Compiled;
 pub use compiling::compile;
 pub use fault::{ChartFault, RunFault};
-pub use laws::wired_setups_print_reports;
+pub use laws::{
+    compiled_texts_have_no_fault, runnable_decks_have_no_fault, wired_setups_print_reports,
+};
 pub use running::{MOST_CARDS, run};
 
 #[cfg(test)]

@@ -7,7 +7,8 @@ use Rattle.compile407.proofs.Lawful.{listing_of}
 use Rattle.compile407.proofs.compiling.compile.Goals as goal
 
 pub wire-requires : goal.wire-requires
-wire-requires c = listing_of c.in_ok-chart.chart c.lines.ensures.lawful (subst AreServed c.lines.ensures.value c.in_default.ensures.none)
+wire-requires c = listing_of c.in_ok-chart.chart c.lines.ensures.lawful
+    (subst AreServed c.lines.ensures.value c.in_default.ensures.none)
 
 pub returns-clause-prints : goal.returns-clause-prints
 returns-clause-prints c =

@@ -6,10 +6,12 @@ use Rattle.compile407.proofs.pages.page_bytes.Goals as goal
 
 pub loop-page-preserved : goal.loop-page-preserved
 loop-page-preserved c =
-    grown (page_bytes c.args.placed.now c.args.long) c.loop-page.page [] _ _ _ c.loop-page.invariant refl c.in_ok-push_page.ensures
+    grown (page_bytes c.args.placed.now c.args.long) c.loop-page.page [] _ _ _ c.loop-page.invariant refl
+    c.in_ok-push_page.ensures
 
 pub returns : goal.returns
 unfolding Pages
 returns c =
     let all : c.loop-page.page ≡ last_page c.args.placed.now = omega (arith, c.last_page-page-end.ensures) in
-    c.loop-page.invariant ∙ ap (λ pages. flat_map (page_bytes c.args.placed.now c.args.long) (range_with_len 1 pages)) all
+    c.loop-page.invariant
+    ∙ ap (λ pages. flat_map (page_bytes c.args.placed.now c.args.long) (range_with_len 1 pages)) all

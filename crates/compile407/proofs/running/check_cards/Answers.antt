@@ -8,7 +8,8 @@ use Rattle.compile407.proofs.running.check_cards.Goals as goal
 pub loop-place-preserved : goal.loop-place-preserved
 loop-place-preserved c =
     let P : List ℕ → Type 0 = IsValidCard c.args.chart.now in
-    All-more P c.args.cards.now c.loop-place.place c.index-cards-place.result c.loop-place-test.true c.loop-place.invariant
+    All-more P c.args.cards.now c.loop-place.place c.index-cards-place.result c.loop-place-test.true
+    c.loop-place.invariant
     (subst P c.index-cards-place.is (c.in_default.ensures.valid.0 refl))
 
 pub returns-clause-valid : goal.returns-clause-valid

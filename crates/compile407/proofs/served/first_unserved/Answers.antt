@@ -9,7 +9,8 @@ pub loop-line-preserved : goal.loop-line-preserved
 loop-line-preserved c =
     let P : Line → Type 0 = λ line. is_served line.statement ≡ true in
     let here : P c.line-item.result = sym c.is_served.ensures ∙ c.if-not-is_served.false in
-    All-more P c.args.lines.now c.loop-line.line-index c.line-item.result c.loop-line-test.true c.loop-line.invariant (subst P c.line-item.is here)
+    All-more P c.args.lines.now c.loop-line.line-index c.line-item.result c.loop-line-test.true c.loop-line.invariant
+    (subst P c.line-item.is here)
 
 pub returns-clause-none : goal.returns-clause-none
 returns-clause-none c =

@@ -15,4 +15,5 @@ wire_line-requires-clause-on_wheels c =
 pub loop-line-preserved : goal.loop-line-preserved
 loop-line-preserved c =
     items-more c.args.chart.now.lines c.loop-line.line-index c.line-item.result _ _ _
-    (line-at _ _ _ _ c.lines-line-items.ensures.value c.loop-line-test.true c.line-item.is) c.loop-line.invariant c.in_ok-wire_line.ensures
+    (line-at _ _ _ _ c.lines-line-items.ensures.value c.loop-line-test.true c.line-item.is) c.loop-line.invariant
+    c.in_ok-wire_line.ensures

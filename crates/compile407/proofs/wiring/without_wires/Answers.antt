@@ -10,7 +10,8 @@ returns-then-prints_details c =
     let P : Form → Type 0 = λ form. HasStops form [] in
     record {
       wires = λ exit entry there. c.new-setup.ensures.wires exit entry ((c.plug.ensures.wires exit entry).0 there);
-      list = c.plug.ensures.plugged jacks.List ∙ ap (λ before. before || true) (c.new-setup.ensures.jacks jacks.List) ∙ sym c.requires.prints;
+      list = c.plug.ensures.plugged jacks.List ∙ ap (λ before. before || true) (c.new-setup.ensures.jacks jacks.List)
+          ∙ sym c.requires.prints;
       lines = ap (λ form. form.lines) tape ∙ c.tape_of.ensures.lines;
       first = ap (λ form. form.first) tape ∙ c.tape_of.ensures.first;
       overflow = ap (λ form. form.overflow) tape ∙ c.tape_of.ensures.overflow;

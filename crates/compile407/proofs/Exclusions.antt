@@ -1,0 +1,62 @@
+-- A text that compiles has no fault, and a deck that can be run has none.
+use Rattle.std.proofs.Common.{◌≡◌, ℕ, List, true, false, Some, get_or, slice_get, refl, sym, ap, subst, ◌∙◌, arith}
+use Rattle.std.specs.List.{All}
+use Rattle.std.proofs.lemmas.List.Elements.{All-get_or}
+use Rattle.std.proofs.lemmas.Option.{slice_get_within, get_or_from_slice_get}
+use Rattle.chart_text.specs.Chart.{Chart}
+use Rattle.chart_text.specs.declared.chart.Line.{Line}
+use Rattle.chart_text.specs.declared.fault.TextFault.TheVariants as text
+use Rattle.chart_text.proofs.ChartGrammar.{one_chart, no_chart}
+use Rattle.chart_rules.specs.Rules.{Broken, IsKept, IsLawful}
+use Rattle.chart_rules.specs.ValidCard.{IsValidCard}
+use Rattle.compile407.specs.declared.fault.ChartFault.TheVariants as chart
+use Rattle.compile407.specs.declared.fault.RunFault.{RunFault}
+use Rattle.compile407.specs.declared.fault.RunFault.TheVariants as deck
+use Rattle.compile407.specs.Outcomes.{CompiledTextsHaveNoFault, RunnableDecksHaveNoFault}
+use Rattle.compile407.specs.RunFaults.{IsInvalidDeck}
+use Rattle.compile407.specs.Served.{is_served, AreServed, IsFirstUnserved}
+
+-- what holds of all of a list holds of what is found at a place
+at_place : {X : Type 0} (P : X → Type 0) (xs : List X) (place : ℕ) (x : X) → slice_get xs place ≡ Some x → All P xs → P x
+at_place P xs place x is_there all =
+    subst P (get_or_from_slice_get xs place x x is_there) (All-get_or P xs place x (slice_get_within xs place x is_there) all)
+
+-- a served list of lines has no first one that isn't
+none_unserved : (lines : List Line) (number : ℕ) → AreServed lines → IsFirstUnserved lines number → ⊥
+none_unserved lines number served first =
+    let on : is_served first.line.statement ≡ true =
+    at_place (λ line. is_served line.statement ≡ true) lines first.place first.line first.is_there served in
+    let off : is_served first.line.statement ≡ false = first.unserved in
+    cc
+
+pub compiled_texts_have_no_fault : CompiledTextsHaveNoFault
+unfolding IsLawful IsKept
+compiled_texts_have_no_fault bytes compiled chart.TooLarge reads is has = absurd (no_chart bytes compiled.chart text.TooLarge has reads)
+compiled_texts_have_no_fault bytes compiled chart.NoFirstLine reads is has =
+    absurd (no_chart bytes compiled.chart text.NoFirstLine has reads)
+compiled_texts_have_no_fault bytes compiled (chart.NotALine line) reads is has =
+    absurd (no_chart bytes compiled.chart (text.NotALine line) has reads)
+compiled_texts_have_no_fault bytes compiled chart.NoEnd reads is has = absurd (no_chart bytes compiled.chart text.NoEnd has reads)
+compiled_texts_have_no_fault bytes compiled (chart.Rule broken line) reads is has =
+    let P : Chart → Type 0 = λ c. Broken broken c line in
+    absurd (is.lawful broken line (subst P (one_chart bytes has.read compiled.chart has.reads reads) has.first.broken))
+compiled_texts_have_no_fault bytes compiled (chart.NotYet line) reads is has =
+    let P : Chart → Type 0 = λ c. IsFirstUnserved c.lines line in
+    absurd (none_unserved compiled.chart.lines line is.served (subst P (one_chart bytes has.read compiled.chart has.reads reads) has.first))
+compiled_texts_have_no_fault bytes compiled chart.Memory reads is has = refl
+
+-- a deck of valid cards has no invalid one
+none_invalid : (of_cards : Chart) (cards : List (List ℕ)) (fault : RunFault) → All (IsValidCard of_cards) cards →
+    IsInvalidDeck of_cards cards fault → ⊥
+unfolding IsValidCard
+none_invalid of_cards cards fault valid invalid =
+    let first = invalid.first in
+    let on = at_place (IsValidCard of_cards) cards invalid.place invalid.card invalid.is_there valid in
+    first.invalid (on first.place (slice_get_within _ first.place first.field first.is_there) first.field first.is_there)
+
+pub runnable_decks_have_no_fault : RunnableDecksHaveNoFault
+runnable_decks_have_no_fault of_cards cards deck.TooManyCards is has = absurd (omega (arith, is.deck.long, has))
+runnable_decks_have_no_fault of_cards cards (deck.NotText number column) is has = absurd (none_invalid of_cards cards _ is.deck.valid has.1)
+runnable_decks_have_no_fault of_cards cards (deck.NotAmount number column) is has = absurd (none_invalid of_cards cards _ is.deck.valid has.1)
+runnable_decks_have_no_fault of_cards cards deck.TooLong is has = absurd (omega (arith, is.one_page, has.1))
+runnable_decks_have_no_fault of_cards cards deck.Memory is has = refl
