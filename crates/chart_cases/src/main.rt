@@ -41,7 +41,7 @@ impl From<RuleFault> for Answer {
     }
 }
 
-fn answer(alloc: Global, text: &[u8]) -> Answer {
+fn answer_to(alloc: Global, text: &[u8]) -> Answer {
     let raw = match read_chart(alloc, text) {
         Ok(raw) => raw,
         Err(fault) => return fault.into(),
@@ -52,21 +52,21 @@ fn answer(alloc: Global, text: &[u8]) -> Answer {
     }
 }
 
-fn write_answer<W: Write>(out: &mut W, name: &str, answer: &Answer) -> Result<()> {
+fn write_answer<W: Write>(out: &mut W, name: &str, told: Answer) -> Result<()> {
     let mut buffer = Buffer::new();
     out.write_all(name.as_bytes())?;
-    match answer {
+    match told {
         Answer::Good => out.write_all(b" ok")?,
         Answer::Memory => out.write_all(b" fault memory")?,
         Answer::Fault(number) => {
             out.write_all(b" fault ")?;
-            out.write_all(buffer.format(*number).as_bytes())?;
+            out.write_all(buffer.format(number).as_bytes())?;
         }
         Answer::FaultAt(number, line) => {
             out.write_all(b" fault ")?;
-            out.write_all(buffer.format(*number).as_bytes())?;
+            out.write_all(buffer.format(number).as_bytes())?;
             out.write_all(b" line ")?;
-            out.write_all(buffer.format(*line).as_bytes())?;
+            out.write_all(buffer.format(line).as_bytes())?;
         }
     }
     out.write_all(b"\n")?;
@@ -80,8 +80,7 @@ fn main(rt: HostRuntime) -> Result<()> {
     for name in index.as_str().lines() {
         let path = format!(in alloc; "{name}.chart")?;
         let text = fs::read(&rt, &path)?;
-        let answer = answer(alloc, text.as_slice());
-        write_answer(&mut out, name, &answer)?;
+        write_answer(&mut out, name, answer_to(alloc, text.as_slice()))?;
     }
     out.flush()?;
     Ok(())

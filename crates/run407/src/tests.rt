@@ -81,9 +81,15 @@ fn tells_each_charts_fault(rt: HostRuntime) -> Result<(), Fail> {
         assert_eq!(rt; served.told.as_slice(), told.as_bytes(), "chart {chart}");
         assert_eq!(rt; served.status, 3);
     }
-    for (chart, told) in charts::TEXTS {
-        let served = serve_texts(rt.alloc(), "check", chart, "")?;
-        assert_eq!(rt; served.told.as_slice(), told.as_bytes(), "text {chart}");
+    Ok(())
+}
+
+#[test]
+fn tells_each_texts_fault(rt: HostRuntime) -> Result<(), Fail> {
+    for (text, told) in charts::TEXTS {
+        let served = serve_texts(rt.alloc(), "check", text, "")?;
+        assert_eq!(rt; served.told.as_slice(), told.as_bytes(), "text {text}");
+        assert_eq!(rt; served.status, 3);
     }
     Ok(())
 }
