@@ -6,6 +6,7 @@ mod charts;
 use crate::input::chart_and_deck;
 use crate::serve::serve;
 use cases::{BOLTS, BOLTS_DECK, Served, chart_of, serve_texts, text_of};
+use std::alloc::{AllocError, Global};
 use std::io;
 use std::io::{ErrorKind, Read, Write};
 use std::test::Fail;
@@ -73,14 +74,99 @@ fn refuses_decks(rt: HostRuntime) -> Result<(), Fail> {
     Ok(())
 }
 
-#[test]
-fn tells_each_charts_fault(rt: HostRuntime) -> Result<(), Fail> {
-    for (chart, told) in charts::CHARTS {
-        let text = text_of(rt.alloc(), chart)?;
-        let served = serve_texts(rt.alloc(), "check", text.as_str(), "")?;
-        assert_eq!(rt; served.told.as_slice(), told.as_bytes(), "chart {chart}");
-        assert_eq!(rt; served.status, 3);
+// The first chart of a table, from 0, of which something else is told than the table says.
+fn first_wrong(alloc: Global, charts: &[(&str, &str)]) -> Result<Option<usize>, AllocError> {
+    for (place, (chart, told)) in charts.iter().enumerate() {
+        let text = text_of(alloc, chart)?;
+        let served = serve_texts(alloc, "check", text.as_str(), "")?;
+        if served.told.as_slice() != told.as_bytes() || served.status != 3 {
+            return Ok(Some(place));
+        }
     }
+    Ok(None)
+}
+
+#[test]
+fn tells_each_charts_fault_1(rt: HostRuntime) -> Result<(), Fail> {
+    assert_eq!(rt; first_wrong(rt.alloc(), &charts::CHARTS_1)?, None);
+    Ok(())
+}
+
+#[test]
+fn tells_each_charts_fault_2(rt: HostRuntime) -> Result<(), Fail> {
+    assert_eq!(rt; first_wrong(rt.alloc(), &charts::CHARTS_2)?, None);
+    Ok(())
+}
+
+#[test]
+fn tells_each_charts_fault_3(rt: HostRuntime) -> Result<(), Fail> {
+    assert_eq!(rt; first_wrong(rt.alloc(), &charts::CHARTS_3)?, None);
+    Ok(())
+}
+
+#[test]
+fn tells_each_charts_fault_4(rt: HostRuntime) -> Result<(), Fail> {
+    assert_eq!(rt; first_wrong(rt.alloc(), &charts::CHARTS_4)?, None);
+    Ok(())
+}
+
+#[test]
+fn tells_each_charts_fault_5(rt: HostRuntime) -> Result<(), Fail> {
+    assert_eq!(rt; first_wrong(rt.alloc(), &charts::CHARTS_5)?, None);
+    Ok(())
+}
+
+#[test]
+fn tells_each_charts_fault_6(rt: HostRuntime) -> Result<(), Fail> {
+    assert_eq!(rt; first_wrong(rt.alloc(), &charts::CHARTS_6)?, None);
+    Ok(())
+}
+
+#[test]
+fn tells_each_charts_fault_7(rt: HostRuntime) -> Result<(), Fail> {
+    assert_eq!(rt; first_wrong(rt.alloc(), &charts::CHARTS_7)?, None);
+    Ok(())
+}
+
+#[test]
+fn tells_each_charts_fault_8(rt: HostRuntime) -> Result<(), Fail> {
+    assert_eq!(rt; first_wrong(rt.alloc(), &charts::CHARTS_8)?, None);
+    Ok(())
+}
+
+#[test]
+fn tells_each_charts_fault_9(rt: HostRuntime) -> Result<(), Fail> {
+    assert_eq!(rt; first_wrong(rt.alloc(), &charts::CHARTS_9)?, None);
+    Ok(())
+}
+
+#[test]
+fn tells_each_charts_fault_10(rt: HostRuntime) -> Result<(), Fail> {
+    assert_eq!(rt; first_wrong(rt.alloc(), &charts::CHARTS_10)?, None);
+    Ok(())
+}
+
+#[test]
+fn tells_each_charts_fault_11(rt: HostRuntime) -> Result<(), Fail> {
+    assert_eq!(rt; first_wrong(rt.alloc(), &charts::CHARTS_11)?, None);
+    Ok(())
+}
+
+#[test]
+fn tells_each_charts_fault_12(rt: HostRuntime) -> Result<(), Fail> {
+    assert_eq!(rt; first_wrong(rt.alloc(), &charts::CHARTS_12)?, None);
+    Ok(())
+}
+
+#[test]
+fn tells_each_charts_fault_13(rt: HostRuntime) -> Result<(), Fail> {
+    assert_eq!(rt; first_wrong(rt.alloc(), &charts::CHARTS_13)?, None);
+    Ok(())
+}
+
+#[test]
+fn tells_each_charts_fault_14(rt: HostRuntime) -> Result<(), Fail> {
+    assert_eq!(rt; first_wrong(rt.alloc(), &charts::CHARTS_14)?, None);
     Ok(())
 }
 
