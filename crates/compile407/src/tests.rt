@@ -18,6 +18,10 @@ const WHOLE_CARD: &[u8] =
 const LAST_COLUMN: &[u8] =
     b"CHART407 1\nFIELD N TEXT 80 80\nPRINT DETAIL\nDETAIL 3 N\nFORM 4 1 2\nEND\n";
 
+// The same columns twice, by two fields: a name stands on the line of a card once.
+const PRINTED_TWICE: &[u8] =
+    b"CHART407 1\nFIELD A TEXT 1 3\nFIELD B TEXT 1 3\nPRINT DETAIL\nDETAIL 1 A\nDETAIL 6 B\nFORM 4 1 2\nEND\n";
+
 // What a deck gives by a chart.
 fn pages_of(alloc: Global, chart: &[u8], deck: &[u8]) -> Result<Vec<u8>, Fail> {
     let compiled = compile(alloc, chart)?;
@@ -27,7 +31,8 @@ fn pages_of(alloc: Global, chart: &[u8], deck: &[u8]) -> Result<Vec<u8>, Fail> {
 
 #[test]
 fn reports(rt: HostRuntime) -> Result<(), Fail> {
-    let rows: [(&[u8], &[u8], &[u8]); 5] = [
+    let rows: [(&[u8], &[u8], &[u8]); 6] = [
+        (PRINTED_TWICE, b"N12", b"\nN12  N12\n\n\n\x0c"),
         (
             BOLTS,
             b"BOLT   A01\nNUT    B22\nWASHER C30\n",
