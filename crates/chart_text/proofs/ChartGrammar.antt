@@ -7,10 +7,11 @@ use Rattle.std.specs.List.{AllByRecursion, list_any}
 use Rattle.std.specs.Str.{bytes_eq}
 use Rattle.card_code.specs.Lines.{lines_of}
 use Rattle.chart_text.specs.Chart.{Chart}
-use Rattle.chart_text.specs.Tokens.{HasTokens}
+use Rattle.tokens.specs.Tokens.{HasTokens}
 use Rattle.chart_text.specs.ChartText.{IsEmptyLine, IsEndLine, IsFirstLine, IsFormLine, IsTooLarge, ReadsFrom, empty_line, form_line, end_line, Reads}
 use Rattle.chart_text.specs.TextFaults.{line_at, IsBehindFirst, HasFirstLine, IsBehindEnd, IsNoForm, IsMisplaced, IsLowestMisplaced, LacksEnd, HasFault, HaveFault}
-use Rattle.chart_text.specs.Reading.{tokens_of, statement_of}
+use Rattle.tokens.specs.Dividing.{tokens_of}
+use Rattle.chart_text.specs.Reading.{statement_of}
 use Rattle.chart_text.specs.TextReading.{form_content, tokens_content, divided_content, content_of, is_first, is_long, is_large, with_lines, line_then, chart_from, chart_of_lines, chart_of}
 use Rattle.chart_text.specs.declared.chart.Line.{Line}
 use Rattle.chart_text.specs.declared.statement.Statement.{Statement}
@@ -18,9 +19,9 @@ use Rattle.chart_text.specs.declared.read.Content.{Content}
 use Rattle.chart_text.specs.declared.read.Content.TheVariants.{Empty, End, Form, NoForm}
 use Rattle.chart_text.specs.declared.fault.TextFault.{TextFault}
 use Rattle.chart_text.specs.declared.fault.TextFault.TheVariants.{TooLarge, NoFirstLine, NotALine, NoEnd, Memory}
-use Rattle.chart_text.proofs.TokenGrammar.{has_what_is_read, read_what_it_has}
+use Rattle.tokens.proofs.TokenGrammar.{has_what_is_read, read_what_it_has}
 use Rattle.chart_text.proofs.FormGrammar.{says_what_is_read, read_what_it_says}
-use Rattle.chart_text.proofs.WordGrammar.{is_word}
+use Rattle.tokens.proofs.TokenWord.{is_word}
 
 -- what a line is
 abbrev IsContent : List ℕ → Content → Type 0
@@ -101,11 +102,11 @@ unfolding content_of
 is_content line content read = content_is line content (tokens_of line) refl read
 
 -- an empty line, END and a form are read as such
-empty_read : (line : List ℕ) → IsEmptyLine line → content_of line ≡ Empty
+pub empty_read : (line : List ℕ) → IsEmptyLine line → content_of line ≡ Empty
 unfolding content_of
 empty_read line has = ap divided_content (read_what_it_has has)
 
-end_read : (line : List ℕ) → IsEndLine line → content_of line ≡ End
+pub end_read : (line : List ℕ) → IsEndLine line → content_of line ≡ End
 unfolding content_of
 end_read line has = ap divided_content (read_what_it_has has)
 
@@ -123,7 +124,7 @@ form_of_tokens (word ∷ []) statement read = by_test (bytes_eq word (codes "END
     by_test false e = ap form_content read
 form_of_tokens (word ∷ next ∷ others) statement read = ap form_content read
 
-form_read : (line : List ℕ) (statement : Statement) → IsFormLine line statement → content_of line ≡ Form statement
+pub form_read : (line : List ℕ) (statement : Statement) → IsFormLine line statement → content_of line ≡ Form statement
 unfolding content_of
 form_read line statement is = ap divided_content (read_what_it_has is.divided)
     ∙ form_of_tokens is.tokens statement (read_what_it_says is.said)

@@ -3,11 +3,15 @@ use Rattle.std.proofs.Common.{◌≡◌, ℕ, Bool, true, false, cond, leb, ◌&
 use Rattle.std.proofs.lemmas.Bool.{and_parts, leb-true, le-leb}
 use Rattle.std.proofs.lemmas.Option.{same_Some, cond_some}
 use Rattle.std.specs.Str.{bytes_eq}
-use Rattle.chart_text.specs.Number.{IsNumber}
+use Rattle.tokens.specs.Number.{IsNumber}
 use Rattle.chart_text.specs.Name.{IsName}
 use Rattle.chart_text.specs.Forms.{SaysSign, unsigned, by_row, by_absence, SaysMark, unmarked, total_marked, SaysOption, as_it_is, indicated, item_marked, SaysKind, detail_line, total_line, Says, text_field, amount_field, control, print_detail, print_group, head, detail_literal, detail_field, total_literal, total_text, total_amount, space, page_after, skip_after, form, tape}
-use Rattle.chart_text.specs.Reading.{number_of, number_to, numbers_of, stops_of, name_of, literal_of, mark_of, keyword_of, sign_of, total_mark_of, option_of, kind_of, field_kind_of, field_of, control_of, print_of, head_of, detail_literal_of, detail_field_of, detail_item_of, detail_of, total_literal_of, total_field_of, total_item_of, total_of, spacing_of, space_of, follower_of, after_of, form_of, tape_of, said_behind, statement_of}
-use Rattle.chart_text.proofs.WordGrammar.{bound, granted, is_word, number_is, number_read, number_to_is, number_to_read, numbers_are, numbers_read, as_many_numbers, name_is, name_read, literal_is, literal_read, name_no_literal, mark_is, mark_read}
+use Rattle.tokens.specs.NumberReading.{number_of, number_to, numbers_of}
+use Rattle.chart_text.specs.Reading.{stops_of, name_of, literal_of, mark_of, keyword_of, sign_of, total_mark_of, option_of, kind_of, field_kind_of, field_of, control_of, print_of, head_of, detail_literal_of, detail_field_of, detail_item_of, detail_of, total_literal_of, total_field_of, total_item_of, total_of, spacing_of, space_of, follower_of, after_of, form_of, tape_of, said_behind, statement_of}
+use Rattle.tokens.proofs.Steps.{bound, granted}
+use Rattle.tokens.proofs.TokenWord.{is_word}
+use Rattle.tokens.proofs.NumberGrammar.{number_is, number_read, number_to_is, number_to_read, numbers_are, numbers_read, as_many_numbers}
+use Rattle.chart_text.proofs.WordGrammar.{name_is, name_read, literal_is, literal_read, name_no_literal, mark_is, mark_read}
 use Rattle.chart_text.specs.declared.statement.SignRule.{SignRule}
 use Rattle.chart_text.specs.declared.statement.SignRule.TheVariants.{X, NX}
 use Rattle.chart_text.specs.declared.statement.FieldKind.{FieldKind}
@@ -455,6 +459,3 @@ read_what_it_says (tape {channel} {stops} {c} {numbers} is are some few) =
           (length stops) 10 (omega (arith, as_many_numbers are)),
       numbers_read are,
     ) refl
-
-pub probe : ℕ
-probe = 0

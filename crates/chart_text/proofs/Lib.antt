@@ -1,10 +1,9 @@
 pub mod Fronts
 pub mod Numbers
-pub mod Dividing
-pub mod TokenGrammar
 pub mod Size
 pub mod LineSteps
 pub mod WordGrammar
 pub mod FormGrammar
 pub mod ChartGrammar
 pub mod Answered
+pub mod OneReading

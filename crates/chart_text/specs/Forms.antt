@@ -1,6 +1,6 @@
 -- The forms of a chart: what the tokens of a line say.
 use Rattle.std.specs.Prelude.{ℕ, ◌≤◌, List, [], ◌∷◌, ◌++◌, length, Option, Some, None, codes}
-use Rattle.chart_text.specs.Number.{IsNumber, IsNumberTo, AreNumbers}
+use Rattle.tokens.specs.Number.{IsNumber, IsNumberTo, AreNumbers}
 use Rattle.chart_text.specs.Name.{IsName}
 use Rattle.chart_text.specs.Literal.{IsLiteral}
 use Rattle.chart_text.specs.declared.statement.SignRule.{SignRule}

@@ -3,8 +3,6 @@ pub mod ChartText
 pub mod Forms
 pub mod Literal
 pub mod Name
-pub mod Number
 pub mod Reading
-pub mod Tokens
 pub mod TextFaults
 pub mod TextReading

@@ -1,11 +1,10 @@
--- What the readers of lines answer, as functions of lists: the tokens of a line, and what tokens say.
--- These are steps between the code and the grammar: read_chart promises the relations of Tokens and Forms.
-use Rattle.std.specs.Prelude.{ℕ, ◌+◌, ◌-◌, ◌*◌, ◌==◌, ◌&&◌, Bool, true, List, [], ◌∷◌, ◌++◌, length, Option, Some, None, option_and_then, option_map, if◌then◌else◌, nat_le, map, slice_index, slice_range, replicate, codes}
+-- What the readers of tokens answer, as functions of lists: names, literals, marks, forms.
+-- These are steps between the code and the grammar: read_chart promises the relations of Forms.
+use Rattle.std.specs.Prelude.{ℕ, ◌-◌, ◌==◌, ◌&&◌, Bool, List, [], ◌∷◌, ◌++◌, length, Option, Some, None, if◌then◌else◌, nat_le, slice_index, slice_range, replicate, codes}
 use Rattle.std.specs.List.{list_all}
 use Rattle.std.specs.Str.{bytes_eq}
-use denote.Ref.{Bor}
-use Rattle.card_code.specs.Lines.{onto}
-use Rattle.chart_text.specs.Number.{is_digit}
+use Rattle.tokens.specs.NumberReading.{number_of, number_to, numbers_of}
+use Rattle.tokens.specs.Steps.{◌>>=◌}
 use Rattle.chart_text.specs.Name.{begins_with_letter}
 use Rattle.chart_text.specs.Literal.{is_printable}
 use Rattle.chart_text.specs.declared.statement.SignRule.{SignRule}
@@ -24,82 +23,6 @@ use Rattle.chart_text.specs.declared.statement.Statement.{Statement}
 use Rattle.chart_text.specs.declared.statement.Statement.TheVariants as says
 use Rattle.chart_text.specs.declared.words.Keyword.{Keyword}
 use Rattle.chart_text.specs.declared.words.Keyword.TheVariants as words
-
--- what lists of tokens that lie in a text say
-abbrev pub texts : List (Bor (List ℕ)) → List (List ℕ)
-texts tokens = map (λ token. token.now) tokens
-
-infixl 10 ◌>>=◌
-abbrev pub ◌>>=◌ : {A B : Type 0} → Option A → (A → Option B) → Option B
-o >>= f = option_and_then f o
-
--- where in a line a byte stands: between tokens, in a plain token, in a literal, or behind its second apostrophe
-pub data Place : Type 0 where
-  between in_plain in_literal closed : Place
-
--- a token before the others
-abbrev pub before : List ℕ → List (List ℕ) → List (List ℕ)
-before token tokens = token ∷ tokens
-
--- the tokens from a byte on, the first one being the rest of a token that is begun
-unfoldable pub tokens_from : Place → List ℕ → Option (List (List ℕ))
-tokens_from between [] = Some []
-tokens_from between (b ∷ bs) =
-    if b == 32 then tokens_from between bs
-    else (if b == 39 then option_map (onto b) (tokens_from in_literal bs) else option_map (onto b)
-    (tokens_from in_plain bs))
-tokens_from in_plain [] = Some ([] ∷ [])
-tokens_from in_plain (b ∷ bs) =
-    if b == 32 then option_map (before []) (tokens_from between bs)
-    else (if b == 39 then None else option_map (onto b) (tokens_from in_plain bs))
-tokens_from in_literal [] = None
-tokens_from in_literal (b ∷ bs) =
-    if b == 39 then option_map (onto b) (tokens_from closed bs) else option_map (onto b) (tokens_from in_literal bs)
-tokens_from closed [] = Some ([] ∷ [])
-tokens_from closed (b ∷ bs) = if b == 32 then option_map (before []) (tokens_from between bs) else None
-
--- the tokens of a line
-abbrev pub tokens_of : List ℕ → Option (List (List ℕ))
-tokens_of line = tokens_from between line
-
--- a space
-abbrev pub is_space : ℕ → Bool
-is_space byte = byte == 32
-
--- nothing, or a space first
-abbrev pub is_apart : List ℕ → Bool
-is_apart [] = true
-is_apart (b ∷ bs) = b == 32
-
--- the tokens of a line that is cut behind its first token, or that begins with none
-abbrev pub first_then : Option (Bor (List ℕ) × Bor (List ℕ)) → Option (List (List ℕ))
-first_then None = None
-first_then (Some cut) = option_map (before cut.0.now) (tokens_of cut.1.now)
-
--- the digit of a byte
-abbrev pub digit_of : ℕ → Option ℕ
-digit_of byte = if is_digit byte then Some (byte - 48) else None
-
--- the number that a token is
-unfoldable pub number_of : List ℕ → Option ℕ
-number_of [] = None
-number_of (a ∷ []) = digit_of a
-number_of (a ∷ b ∷ []) = if a == 48 then None else (do
-  tens ← digit_of a
-  units ← digit_of b
-  Some (10 * tens + units))
-number_of (a ∷ b ∷ c ∷ []) = if a == 48 then None else (do
-  hundreds ← digit_of a
-  tens ← digit_of b
-  units ← digit_of c
-  Some (100 * hundreds + 10 * tens + units))
-number_of (a ∷ b ∷ c ∷ d ∷ bytes) = None
-
--- the number that a token is, where it is 1 to the greatest
-unfoldable pub number_to : ℕ → List ℕ → Option ℕ
-number_to greatest token = do
-  number ← number_of token
-  if nat_le 1 number && nat_le number greatest then Some number else None
 
 -- the name that a token is
 unfoldable pub name_of : List ℕ → Option (List ℕ)
@@ -184,14 +107,6 @@ kind_of (word ∷ level ∷ others) =
     else (if bytes_eq word (codes "TOTAL") then (do
       l ← number_to 4 level
       Some (lines.Total l, others)) else None)
-
--- the numbers that tokens are
-abbrev pub numbers_of : List (List ℕ) → Option (List ℕ)
-numbers_of [] = Some []
-numbers_of (token ∷ tokens) = do
-  number ← number_of token
-  numbers ← numbers_of tokens
-  Some (number ∷ numbers)
 
 -- what the columns of a field hold
 unfoldable pub field_kind_of : List ℕ → List (List ℕ) → Option FieldKind

@@ -5,7 +5,8 @@ use Rattle.std.specs.List.{list_any}
 use Rattle.std.specs.Str.{bytes_eq}
 use Rattle.card_code.specs.Lines.{lines_of}
 use Rattle.chart_text.specs.Chart.{Chart}
-use Rattle.chart_text.specs.Reading.{tokens_of, statement_of}
+use Rattle.tokens.specs.Dividing.{tokens_of}
+use Rattle.chart_text.specs.Reading.{statement_of}
 use Rattle.chart_text.specs.declared.chart.Line.{Line}
 use Rattle.chart_text.specs.declared.statement.Statement.{Statement}
 use Rattle.chart_text.specs.declared.read.Content.{Content}

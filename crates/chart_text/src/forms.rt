@@ -2,16 +2,17 @@
 
 ghost use Rattle.std.specs.Prelude.{◌≡◌, ℕ, length, IfOk, IfSome, Some, None, map, option_map, ◌++◌};
 ghost use Rattle.std.specs.Str.{bytes_eq};
-ghost use Rattle.chart_text.specs.Reading.{texts, sign_of, total_mark_of, option_of, kind_of, numbers_of, stops_of, field_kind_of, field_of, control_of, print_of, head_of, detail_literal_of, detail_field_of, detail_of, total_literal_of, total_field_of, total_of, spacing_of, space_of, follower_of, after_of, form_of, tape_of, said_behind, statement_of};
+ghost use Rattle.tokens.specs.Dividing.{texts};
+ghost use Rattle.tokens.specs.NumberReading.{numbers_of};
+ghost use Rattle.chart_text.specs.Reading.{sign_of, total_mark_of, option_of, kind_of, stops_of, field_kind_of, field_of, control_of, print_of, head_of, detail_literal_of, detail_field_of, detail_of, total_literal_of, total_field_of, total_of, spacing_of, space_of, follower_of, after_of, form_of, tape_of, said_behind, statement_of};
 
 use crate::statement::{
     After, BodyLine, DetailOption, Field, FieldKind, Literal, MAX_STOPS, Mark, Printing, SignRule,
     Statement, Stops,
 };
-use crate::words::{
-    Keyword, is, read_keyword, read_literal, read_mark, read_name, read_number, read_number_to,
-};
+use crate::words::{Keyword, read_keyword, read_literal, read_mark, read_name};
 use std::alloc::{AllocError, Global};
+use tokens::{is, read_number, read_number_to};
 
 /// What the tokens of a line say, or `None` where they are no form.
 #[tactic(auto, unfolding(crate::specs::Reading::statement_of))]

@@ -2,14 +2,17 @@
 
 ghost use Rattle.std.specs.Prelude.{◌≡◌, ℕ, List};
 ghost use Rattle.chart_text.specs.Chart.{Chart};
-ghost use Rattle.chart_text.specs.Tokens.{HasTokens};
-ghost use Rattle.chart_text.specs.ChartText.{Reads};
+ghost use Rattle.chart_text.specs.ChartText.{IsEmptyLine, IsEndLine, IsFormLine, Reads};
 ghost use Rattle.chart_text.specs.TextFaults.{HasFault};
+ghost use Rattle.chart_text.specs.declared.statement.Statement.{Statement};
 ghost use Rattle.chart_text.specs.declared.fault.TextFault.{TextFault};
 
-/// A line has one list of tokens at most.
+/// A line says one thing at most: what one form says, or END, or nothing.
 pub fn line_is_unambiguous()
-    ensures { (line : List ℕ) (one other : List (List ℕ)) → HasTokens line one → HasTokens line other → one ≡ other }
+    ensures one_statement { (line : List ℕ) (one other : Statement) → IsFormLine line one → IsFormLine line other → one ≡ other }
+    ensures end_is_no_form { (line : List ℕ) (statement : Statement) → IsEndLine line → ¬ IsFormLine line statement }
+    ensures empty_is_no_form { (line : List ℕ) (statement : Statement) → IsEmptyLine line → ¬ IsFormLine line statement }
+    ensures empty_is_no_end { (line : List ℕ) → IsEmptyLine line → ¬ IsEndLine line }
 {}
 
 /// One chart at most fits a text. A text whose text rules are broken has no chart, and one fault.

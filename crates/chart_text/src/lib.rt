@@ -18,7 +18,6 @@ mod read;
 mod statement;
 #[cfg(test)]
 mod tests;
-mod tokens;
 mod words;
 
 pub use chart::{Line, RawChart};

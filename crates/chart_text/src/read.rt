@@ -2,7 +2,7 @@
 
 ghost use Rattle.std.specs.Prelude.{◌≡◌, ◌+◌, ◌<◌, ◌≤◌, ℕ, length, IfOk, IfErr, IfSome, OnOk, None, unwrap_or, ◌⊎◌};
 ghost use Rattle.card_code.specs.Lines.{lines_of};
-ghost use Rattle.chart_text.specs.Reading.{texts, tokens_of};
+ghost use Rattle.tokens.specs.Dividing.{texts, tokens_of};
 ghost use Rattle.chart_text.specs.Chart.{Chart, NumbersRise};
 ghost use Rattle.chart_text.specs.ChartText.{Reads};
 ghost use Rattle.chart_text.specs.TextFaults.{HasFault};
@@ -12,10 +12,9 @@ use crate::chart::{Line, RawChart};
 use crate::fault::TextFault;
 use crate::forms::read_statement;
 use crate::statement::Statement;
-use crate::tokens::split_line;
-use crate::words::is;
 use card_code::next_line;
 use std::alloc::{AllocError, Global};
+use tokens::{is, split_line};
 
 /// How many lines a chart has at most.
 const MAX_LINES: u16 = 500;

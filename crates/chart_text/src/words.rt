@@ -1,9 +1,9 @@
-//! What single tokens are: numbers, names, the characters of literals, marks.
+//! What single tokens are: names, the characters of literals, marks, words.
 
 ghost use Rattle.std.specs.Prelude.{◌≡◌, ◌+◌, ◌-◌, ◌*◌, ◌<◌, ◌≤◌, ℕ, length, IfSome, IfNone, IfOk, IsTrue, map, option_map, fold};
 ghost use Rattle.std.specs.List.{list_all};
 ghost use Rattle.std.specs.Str.{bytes_eq};
-ghost use Rattle.chart_text.specs.Reading.{digit_of, number_of, number_to, name_of, literal_of, is_literal_text, mark_of, keyword_of};
+ghost use Rattle.chart_text.specs.Reading.{name_of, literal_of, is_literal_text, mark_of, keyword_of};
 ghost use Rattle.chart_text.specs.Name.{begins_with_letter, is_letter, is_letter_or_digit};
 ghost use Rattle.chart_text.specs.Literal.{is_printable};
 
@@ -11,6 +11,7 @@ use crate::name::Name;
 use crate::statement::{Literal, MAX_LITERAL, Mark};
 use card_code::Column;
 use std::alloc::{AllocError, Global};
+use tokens::is;
 
 /// The words that forms begin with.
 #[derive(Clone, Copy, Debug, PartialEq, Eq)]
@@ -25,55 +26,6 @@ pub(crate) enum Keyword {
     After,
     Form,
     Tape,
-}
-
-/// Whether a token is a word of the language.
-pub(crate) fn is(token: &[u8], word: &[u8]) -> bool
-    ensures { result ≡ bytes_eq token.now word.now }
-{
-    token == word
-}
-
-/// The digit of a byte.
-fn read_digit(byte: u8) -> Option<u16>
-    ensures value { result ≡ digit_of byte }
-    ensures small { IfSome result (λ digit. digit < 10) }
-{
-    if byte.is_ascii_digit() {
-        Some(u16::from(byte - b'0'))
-    } else {
-        None
-    }
-}
-
-/// The number that a token is: `0`, or 1 to 3 digits of which the first is no 0.
-#[tactic(auto, unfolding(crate::specs::Reading::number_of))]
-pub(crate) fn read_number(token: &[u8]) -> Option<u16>
-    ensures value { result ≡ number_of token.now }
-    ensures small { IfSome result (λ number. number < 1000) }
-{
-    match token {
-        [only] => read_digit(*only),
-        [b'0', ..] => None,
-        [tens, units] => Some(10 * read_digit(*tens)? + read_digit(*units)?),
-        [hundreds, tens, units] => {
-            Some(100 * read_digit(*hundreds)? + 10 * read_digit(*tens)? + read_digit(*units)?)
-        }
-        _ => None,
-    }
-}
-
-/// The number that a token is, where it is one of 1 to the greatest.
-#[tactic(auto, unfolding(crate::specs::Reading::number_to))]
-pub(crate) fn read_number_to(greatest: u8, token: &[u8]) -> Option<u8>
-    ensures value { result ≡ number_to greatest token.now }
-{
-    let number = read_number(token)?;
-    if 1 <= number && number <= u16::from(greatest) {
-        Some(number as u8)
-    } else {
-        None
-    }
 }
 
 /// Whether a byte is a capital letter or a digit.

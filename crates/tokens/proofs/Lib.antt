@@ -1,0 +1,6 @@
+pub mod Answered
+pub mod Dividing
+pub mod NumberGrammar
+pub mod Steps
+pub mod TokenGrammar
+pub mod TokenWord

@@ -1,0 +1,5 @@
+pub mod Dividing
+pub mod Number
+pub mod NumberReading
+pub mod Steps
+pub mod Tokens

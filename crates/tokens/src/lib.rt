@@ -1,0 +1,22 @@
+//! The tokens of a line, for text formats whose lines are words, numbers and literals.
+//!
+//! [`split_line`] divides a line into its tokens: only a space divides, and a token may stand between
+//! apostrophes, spaces and all. [`read_number`] and [`read_number_to`] answer the number that a token
+//! is, and [`is`] whether it is a given word. It stands on nothing but std.
+//!
+//! `specs/` has the grammar apart from any scanner: `HasTokens`, `IsNumber` and `IsNumberTo` are relations,
+//! and what a reader answers is exactly what is related. That a line has one list of tokens at most, and
+//! a token is one number at most, is a law of them.
+#![tactic(auto)]
+
+mod laws;
+mod line;
+mod number;
+#[cfg(test)]
+mod tests;
+mod word;
+
+pub use laws::tokens_are_unambiguous;
+pub use line::split_line;
+pub use number::{read_number, read_number_to};
+pub use word::is;
