@@ -1,5 +1,5 @@
 -- A text that compiles has no fault, and a deck that can be run has none.
-use Rattle.std.proofs.Common.{◌≡◌, ℕ, List, true, false, Some, get_or, slice_get, refl, sym, ap, subst, ◌∙◌, arith}
+use Rattle.std.proofs.Common.{◌≡◌, ℕ, List, true, false, Some, slice_get, refl, subst, arith}
 use Rattle.std.specs.List.{All}
 use Rattle.std.proofs.lemmas.List.Elements.{All-get_or}
 use Rattle.std.proofs.lemmas.Option.{slice_get_within, get_or_from_slice_get}

@@ -1,13 +1,13 @@
 -- What a wheel's hub receives at the point of a row: the row, where the columns wired to the wheel hold it.
-use Rattle.std.proofs.Common.{◌≡◌, ◌⊎◌, ℕ, ◌+◌, ◌-◌, ◌<◌, ◌≤◌, Bool, true, false, cond, List, Some, None, inl, inr, refl, sym, ap, subst, ◌∙◌, arith}
+use Rattle.std.proofs.Common.{◌≡◌, ◌⊎◌, ℕ, ◌+◌, ◌-◌, ◌<◌, ◌≤◌, Bool, true, false, List, Some, inl, inr, refl, sym, ap, subst, ◌∙◌, arith}
 use Rattle.std.specs.List.{Contains}
 use Rattle.std.proofs.lemmas.List.Elements.{All-contains}
-use Rattle.std.proofs.lemmas.Bool.Decides.{nat_tests}
 use Rattle.std.proofs.lemmas.Nat.Bits.{bit_at-zero}
 use Rattle.card_code.specs.CardCode.{has_row}
 use Rattle.hubs.specs.declared.hub.Hub.{Hub}
 use Rattle.hubs.specs.declared.hub.Hub.TheVariants.{SR, W}
-use Rattle.hubs.specs.Hubs.{number_of, is_within}
+use Rattle.hubs.specs.Hubs.{number_of}
+use Rattle.hubs.proofs.HubLemmas.{SR-number, W-number, number_of-SR, number_of-W}
 use Rattle.hubs.specs.Wiring.{Wiring}
 use Rattle.net.specs.Impulsed.{Impulsed, emitted, led, IsPicture}
 use Rattle.chart_text.specs.Chart.{Chart}
@@ -17,40 +17,6 @@ use Rattle.compile407.specs.Listing.{IsOnCard, IsListing}
 use Rattle.compile407.specs.WiredFor.{WiresOf, text, WiredFor}
 use Rattle.compile407.proofs.Sets.{set_at, set_at-covered, set_at_source}
 use Rattle.compile407.proofs.NumberTests.{same_bools}
-
--- a wheel's number tells its hub
-wheel_number : (w v : ℕ) → number_of (W w) ≡ Some (1798 + v) → w ≡ v
-wheel_number w v is = by (is_within w 120) is
-  where
-    by : (b : Bool) → cond b (Some (1798 + w)) None ≡ Some (1798 + v) → w ≡ v
-    by true same = let sum : 1798 + w ≡ 1798 + v = cc in omega arith
-    by false same = cc
-
--- the number of a wheel's hub lies above those of the columns
-wheel_above : (w g : ℕ) → number_of (W w) ≡ Some g → 1798 ≤ g
-wheel_above w g is = by (is_within w 120) is
-  where
-    by : (b : Bool) → cond b (Some (1798 + w)) None ≡ Some g → 1798 ≤ g
-    by true same = let sum : 1798 + w ≡ g = cc in omega arith
-    by false same = cc
-
--- a column's number tells its hub, and lies within the columns
-column_number : (c g : ℕ) → number_of (SR c) ≡ Some g → (g ≡ 80 + c) × (1 ≤ c) × (c ≤ 80)
-column_number c g is = by (is_within c 80) refl is
-  where
-    by : (b : Bool) → is_within c 80 ≡ b → cond b (Some (80 + c)) None ≡ Some g → (g ≡ 80 + c) × (1 ≤ c) × (c ≤ 80)
-    by true on same = (cc, grind (arith, nat_tests), grind (arith, nat_tests))
-    by false on same = cc
-
-column_numbered : (c : ℕ) → 1 ≤ c → c ≤ 80 → number_of (SR c) ≡ Some (80 + c)
-column_numbered c low high =
-    let on : is_within c 80 ≡ true = grind (arith, nat_tests) in
-    ap (λ b. cond b (Some (80 + c)) None) on
-
-wheel_numbered : (v : ℕ) → 1 ≤ v → v ≤ 120 → number_of (W v) ≡ Some (1798 + v)
-wheel_numbered v low high =
-    let on : is_within v 120 ≡ true = grind (arith, nat_tests) in
-    ap (λ b. cond b (Some (1798 + v)) None) on
 
 -- no rows hold no row
 nothing_held : (row : ℕ) → has_row 0 row ≡ false
@@ -69,7 +35,7 @@ from_column chart wiring exits closed wired (led f g before (inl wire)) low =
     at_wheel ((wired.wires wire.exit wire.entry).0 wire.wire).wire wire.entry_number
   where
     at_wheel : {item : Item} {exit entry : Hub} → WiresOf item exit entry → number_of entry ≡ Some g → exits g ≡ true
-    at_wheel (text wheel first count j less) number = absurd (omega (arith, wheel_above (wheel + j) g number))
+    at_wheel (text wheel first count j less) number = (let above : g ≡ 1798 + (wheel + j) = (W-number (wheel + j) g number).0 in absurd (omega arith))
 from_column chart wiring exits closed wired (led f g before (inr contact)) low = let no : false ≡ true = contact.0 in cc
 
 -- A wheel's hub is impulsed exactly where the set of the wheel has the row.
@@ -85,8 +51,9 @@ wheel_impulsed chart wiring exits closed picture card row v wired listing is_pic
         number_of exit ≡ Some g → number_of entry ≡ Some (1798 + v) → Impulsed wiring exits closed g →
         has_row (set_at (items_of chart.lines) card v) row ≡ true
     along {g = g} listed (text wheel first count j less) exit_number entry_number on =
-        let at_v : wheel + j ≡ v = wheel_number (wheel + j) v entry_number in
-        let column = column_number (first + j) g exit_number in
+        let is_v : 1798 + v ≡ 1798 + (wheel + j) = (W-number (wheel + j) (1798 + v) entry_number).0 in
+        let at_v : wheel + j ≡ v = omega (arith, is_v) in
+        let column = SR-number (first + j) g exit_number in
         let emitting : exits g ≡ true =
         from_column chart wiring exits closed wired on (omega (arith, column.0, column.2)) in
         let held : has_row (column_of card (first + j)) row ≡ true =
@@ -128,6 +95,6 @@ wheel_impulsed chart wiring exits closed picture card row v wired listing is_pic
           exit = SR c;
           entry = W v;
           wire = (wired.wires (SR c) (W v)).1 (record { item = Text wheel first count; listed = listed; wire = wire });
-          exit_number = column_numbered c c_low c_high;
-          entry_number = wheel_numbered v low high;
+          exit_number = number_of-SR c c_low c_high;
+          entry_number = number_of-W v low high;
         }))

@@ -1,20 +1,24 @@
 -- What wiring adds step by step: the columns of a text one by one, and the items of a chart one by one.
-use Rattle.std.proofs.Common.{◌≡◌, ℕ, zero, suc, ◌+◌, ◌<◌, List, [], ◌∷◌, ◌++◌, take, length, ◌⊎◌, inl, inr, ◌↔◌, refl, sym, ap, ◌∙◌, subst, arith, Some, None, Option, get_or, Bool, true, false}
+use Rattle.std.proofs.Common.{◌≡◌, ℕ, zero, suc, ◌+◌, ◌-◌, ◌<◌, List, [], ◌∷◌, ◌++◌, take, length, ◌⊎◌, inl, inr, ◌↔◌, refl, sym, ap, ◌∙◌, subst, arith, Some, None, Option, get_or, Bool, true, false, ◌||◌}
 use Rattle.std.specs.Prelude.{All, IfSome}
 use Rattle.std.specs.List.{filter_map, cons_option}
-use Rattle.std.proofs.lemmas.Bool.{cases_lt}
+use Rattle.std.proofs.lemmas.Bool.{cases_lt, or_right}
 use Rattle.std.proofs.lemmas.List.{take_more}
 use Rattle.std.proofs.lemmas.List.Elements.{filter_map-append, Contains-append_left, Contains-append_right, Contains-append_cases}
 use Rattle.chart_text.specs.declared.chart.Line.{Line}
+use Rattle.chart_text.specs.declared.statement.Field.{Field}
+use Rattle.chart_text.specs.declared.statement.FieldKind.{FieldKind}
+use Rattle.chart_text.specs.declared.statement.FieldKind.TheVariants as holds
 use Rattle.hubs.specs.declared.hub.Hub.{Hub}
 use Rattle.hubs.specs.declared.hub.Hub.TheVariants.{SR, W}
+use Rattle.hubs.specs.Jacks.{is_same_jack}
 use Rattle.hubs.specs.declared.jack.Jack.{Jack}
 use Rattle.hubs.specs.declared.jack.Jack.TheVariants as jacks
 use Rattle.hubs.specs.Tapes.{Form, has_stop, HasStops}
-use Rattle.hubs.specs.Wiring.{Wiring, HasJack, is_plugged, AddsWire, SameJacks}
+use Rattle.hubs.specs.Wiring.{Wiring, HasJack, is_plugged, AddsJack, AddsWire, SameJacks}
 use Rattle.chart_text.specs.Chart.{Chart}
 use Rattle.compile407.specs.ChartForm.{prints_details}
-use Rattle.compile407.specs.Items.{Item, Text, item_of, items_of}
+use Rattle.compile407.specs.Items.{Item, Text, item_of, item_of_field, item_of_kind, items_of}
 use Rattle.compile407.specs.AddedWires.{AddsWires, IsBareFor, listed, items_among}
 use Rattle.compile407.specs.WiredFor.{WiredFor, WiresOf, text, WiresOfSome, JacksOf, list}
 
@@ -182,6 +186,15 @@ item-alone item old new =
     let P : Item → Type 0 = λ other. WiresOf other exit entry in
     subst P (sym same) some.wire)
 
+-- the columns of a field of text are its item
+pub field-wired : (wheel count : ℕ) (field : Field) (old new : Wiring) → field.kind ≡ holds.Text
+    → count ≡ field.last + 1 - field.first → AddsWires (WiresOf (Text wheel field.first count)) old new
+    → AddsWires (WiresOfSome (listed (item_of_field wheel field))) old new
+field-wired wheel count field old new is_text counted added =
+    let P : FieldKind → Type 0 = λ kind.
+    AddsWires (WiresOfSome (listed (item_of_kind kind wheel field.first (field.last + 1 - field.first)))) old new in
+    subst P (sym is_text) (rw counted at (item-alone (Text wheel field.first count) old new added))
+
 -- what all kept, the first of them keeps, if there is one
 first_keeps : (P : Item → Type 0) (found : Option Item) (items : List Item) → All P (cons_option found items) →
     IfSome found P
@@ -210,13 +223,29 @@ item-keeps P lines place line at all =
     let Q : Line → Type 0 = λ l. IfSome (item_of lines l.statement) P in
     subst Q (sym at.is) (found_keeps P (λ l. item_of lines l.statement) lines place line at.within all)
 
--- the jacks of a chart are those that are plugged, where LIST is plugged for lines of cards alone
-jacks_for : (lines : List Line) (setup : Wiring) → is_plugged setup jacks.List ≡ prints_details lines →
-    (jack : Jack) → HasJack setup jack ↔ JacksOf lines jack
-jacks_for lines setup same jacks.List = (λ plugged. list (sym same ∙ plugged), λ due. by due)
-  where
-    by : JacksOf lines jacks.List → is_plugged setup jacks.List ≡ true
-    by (list prints) = same ∙ prints
+-- LIST alone is a jack of a chart, where the report has a line for each card
+only_list : {lines : List Line} {jack : Jack} → JacksOf lines jack → (jack ≡ jacks.List) × (prints_details lines ≡ true)
+only_list (list prints) = (refl, prints)
+
+same_as_list : (jack : Jack) → is_same_jack jack jacks.List ≡ true → jack ≡ jacks.List
+same_as_list jacks.List same = refl
+same_as_list (jacks.Total level) same = cc
+same_as_list (jacks.Head heading) same = cc
+same_as_list (jacks.Link wheel) same = cc
+same_as_list (jacks.Suppress wheel) same = cc
+same_as_list (jacks.Symbol wheel) same = cc
+
+-- a setup with LIST alone has the jacks of a chart that has a line for each card
+pub jacks-list : (lines : List Line) (bare setup : Wiring) → ((jack : Jack) → is_plugged bare jack ≡ false) →
+    AddsJack bare setup jacks.List → prints_details lines ≡ true → (jack : Jack) → HasJack setup jack ↔ JacksOf lines jack
+jacks-list lines bare setup none adds prints jack = (
+  λ plugged.
+      let P : Jack → Type 0 = λ other. JacksOf lines other in
+      let same : is_same_jack jack jacks.List ≡ true =
+      ap (λ before. before || is_same_jack jack jacks.List) (sym (none jack)) ∙ sym (adds jack) ∙ plugged in
+      subst P (sym (same_as_list jack same)) (list prints),
+  λ due. adds jack ∙ or_right _ _ (ap (λ other. is_same_jack other jacks.List) (only_list due).0),
+)
 
 -- no stop is there where the list of stops is empty
 no_stop : (form : Form) → HasStops form [] → (channel line : ℕ) → has_stop form channel line ≡ false
@@ -235,7 +264,10 @@ wired-from-bare chart bare setup is added = record {
         [ inl before ↦ absurd (is.wires exit entry before) | inr some ↦ some ],
     λ some. (added.wires exit entry).1 (inr some),
   );
-  jacks = jacks_for chart.lines setup (added.jacks jacks.List ∙ is.list);
+  jacks = λ jack. (
+    λ plugged. (is.jacks jack).0 (sym (added.jacks jack) ∙ plugged),
+    λ due. added.jacks jack ∙ (is.jacks jack).1 due,
+  );
   lines = ap (λ tape. tape.lines) added.tape ∙ is.lines;
   first = ap (λ tape. tape.first) added.tape ∙ is.first;
   overflow = ap (λ tape. tape.overflow) added.tape ∙ is.overflow;

@@ -1,4 +1,6 @@
 pub mod HubLemmas
+pub mod KindLemmas
+pub mod PlaceLemmas
 pub mod RowLemmas
 pub mod StopLemmas
 pub mod WiringLemmas

@@ -20,7 +20,7 @@ pub stops_after : (stops : List (List Bool)) (row : List Bool) (channel line c l
 stops_after stops row channel line c l in_stops in_row = grind (arith, nat_tests, common_steps)
 
 -- a row of no hole has none at any line
-blank_row : (row : List Bool) → list_all not row ≡ true → (l : ℕ) → get_or row l false ≡ false
+pub blank_row : (row : List Bool) → list_all not row ≡ true → (l : ℕ) → get_or row l false ≡ false
 blank_row [] blank l = refl
 blank_row (false ∷ row) blank zero = refl
 blank_row (false ∷ row) blank (suc l) = blank_row row blank l

@@ -1,6 +1,8 @@
 pub mod Fields
+pub mod HubTable
 pub mod Hubs
 pub mod Jacks
+pub mod Places
 pub mod Ranges
 pub mod Rows
 pub mod Tapes

@@ -1,26 +1,28 @@
 -- A setup of the panel: a set of wires, a set of jacks and a carriage tape.
-use Rattle.std.specs.Prelude.{◌≡◌, ℕ, List, [], Contains, Bool, true, false, Some, ◌⊎◌, ◌↔◌, ◌||◌, slice_index_or}
-use Rattle.hubs.specs.Hubs.{number_of, is_exit_hub, is_entry_hub}
-use Rattle.hubs.specs.Jacks.{jack_place, is_same_jack}
+use Rattle.std.specs.Prelude.{◌≡◌, ℕ, ◌≤◌, List, [], All, Contains, Bool, true, false, Some, ◌⊎◌, ◌↔◌, ◌&&◌, ◌||◌, slice_index_or}
+use Rattle.hubs.specs.Hubs.{number_of, is_exit_hub, is_entry_hub, keeps_ring}
+use Rattle.hubs.specs.Jacks.{jack_place, is_jack_in_range, is_same_jack}
 use Rattle.hubs.specs.Tapes.{Form}
 use Rattle.hubs.specs.declared.hub.Hub.{Hub}
 use Rattle.hubs.specs.declared.jack.Jack.{Jack}
 
 -- What a setup holds. Read its wires and jacks through HasWire, is_plugged and HasJack alone.
 pub record Wiring : Type 0 where
-  pub wires : List (List Hub)
+  pub wires : List (List ℕ)
   pub jacks : List Bool
   pub tape : Form
 
--- A wire leads from the exit to the entry: the entry stands among those at the exit's number.
+-- A wire leads from the exit to the entry: the entry's number stands among those at the exit's number.
 pub record HasWire (wiring : Wiring) (exit entry : Hub) : Type 0 where
   pub number : ℕ
+  pub to : ℕ
   pub numbered : number_of exit ≡ Some number
-  pub listed : Contains (slice_index_or wiring.wires number []) entry
+  pub entry_numbered : number_of entry ≡ Some to
+  pub listed : Contains (slice_index_or wiring.wires number []) to
 
--- whether the jack is plugged
+-- whether the jack is plugged; none out of range is
 abbrev pub is_plugged : Wiring → Jack → Bool
-is_plugged wiring jack = slice_index_or wiring.jacks (jack_place jack) false
+is_plugged wiring jack = is_jack_in_range jack && slice_index_or wiring.jacks (jack_place jack) false
 
 -- the jack is plugged
 abbrev pub HasJack : Wiring → Jack → Type 0
@@ -31,7 +33,29 @@ abbrev pub LeadsToEntries : Wiring → Type 0
 LeadsToEntries wiring =
     (exit entry : Hub) → HasWire wiring exit entry → (is_exit_hub exit ≡ true) × (is_entry_hub entry ≡ true)
 
--- the same wires, the same jacks and the same tape
+-- every wire from or to a carry hub closes the ring of one counter group
+abbrev pub KeepsRings : Wiring → Type 0
+KeepsRings wiring = (exit entry : Hub) → HasWire wiring exit entry → keeps_ring exit entry ≡ true
+
+-- a set of wires that the panel can have
+pub record IsLawfulWiring (wiring : Wiring) : Type 0 where
+  pub leads : LeadsToEntries wiring
+  pub rings : KeepsRings wiring
+
+-- the numbers of the entries are 1041 to 1936
+abbrev pub IsEntryNumber : ℕ → Type 0
+IsEntryNumber number = (1041 ≤ number) × (number ≤ 1936)
+
+-- what stands at a number are numbers of entries
+abbrev pub ListsEntries : Wiring → Type 0
+ListsEntries wiring = (number : ℕ) → All IsEntryNumber (slice_index_or wiring.wires number [])
+
+-- the wires of a setup: they are lawful, and what is listed are numbers of entries
+pub record IsLawfulSetup (wiring : Wiring) : Type 0 where
+  pub lawful : IsLawfulWiring wiring
+  pub listed : ListsEntries wiring
+
+-- the same wires
 abbrev pub SameWires : Wiring → Wiring → Type 0
 SameWires old new = (exit entry : Hub) → HasWire new exit entry ↔ HasWire old exit entry
 

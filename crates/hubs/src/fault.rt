@@ -15,6 +15,10 @@ pub enum SetupFault {
     /// A wire's second hub is no entry in range, and its first is an exit: fault 52.
     #[error("the second hub of the wire is no entry")]
     NotEntry,
+    /// A wire of a carry: a carry exit leads to the carry entry of its own group alone, and a carry entry is fed by the
+    /// carry exit of its own group alone, and the hubs are an exit and an entry: fault 53.
+    #[error("a carry leads to its own counter group alone")]
+    CarryRing,
     /// A carriage tape with a number out of range, or with a stop twice: fault 54.
     #[error("no carriage tape has these lines and stops")]
     TapeFault,

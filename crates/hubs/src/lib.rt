@@ -6,13 +6,19 @@
 mod fault;
 mod hub;
 mod jack;
+mod laws;
+mod letters;
 mod setup;
+mod shape;
 mod tape;
 
 pub use fault::SetupFault;
-pub use hub::Hub;
-pub use jack::Jack;
+pub use hub::{Group, Hub};
+pub use jack::{JACKS, Jack};
+pub use laws::{hub_table_is_unbroken, hubs_and_numbers_are_one_to_one};
+pub use letters::{KINDS, Letters};
 pub use setup::Setup;
+pub use shape::{Numbers, Shape};
 pub use tape::Tape;
 
 #[cfg(test)]

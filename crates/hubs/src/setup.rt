@@ -1,10 +1,11 @@
 //! Setups of the panel.
 
-ghost use Rattle.std.specs.Prelude.{◌<◌, OnOk, OnErr, vec_len};
+ghost use Rattle.std.specs.Prelude.{◌≡◌, ◌<◌, OnOk, OnErr, vec_len};
 ghost use Rattle.hubs.specs.Rows.{SameRows, RowGains};
+ghost use Rattle.hubs.specs.Hubs.{carry_into, carry_out_of, keeps_ring};
 
 use crate::fault::SetupFault;
-use crate::hub::Hub;
+use crate::hub::{Group, Hub};
 use crate::jack::{JACKS, Jack};
 use crate::tape::Tape;
 use smallvec::SmallVec;
@@ -13,17 +14,18 @@ use std::marker::Model;
 
 /// A setup of the panel: its wires, its plugged jacks and its carriage tape.
 ///
-/// A wire leads from an exit to an entry, both in range. Any number of wires may start or end at a hub.
+/// A wire leads from an exit to an entry, both in range. Any number of wires may start or end at a hub, but for carries: a
+/// carry exit leads to the carry entry of its own counter group alone, and nothing else leads there.
 #[derive(Drop)]
 pub struct Setup {
     tape: Tape,
     jacks: [bool; JACKS],
-    // The entries that the wires of an exit lead to, by the exit's number.
-    wires: Vec<SmallVec<Hub, 4>>,
+    // The numbers of the entries that the wires of an exit lead to, by the exit's number.
+    wires: Vec<SmallVec<u16, 4>>,
 }
 
 impl Model for Setup {
-    ghost use Rattle.hubs.specs.Wiring.{Wiring, LeadsToEntries};
+    ghost use Rattle.hubs.specs.Wiring.{Wiring, IsLawfulSetup};
 
     ghost Value = { Wiring };
 
@@ -31,15 +33,16 @@ impl Model for Setup {
 
     ghost view = { wiring_of };
 
-    ghost invariant = { λ setup. LeadsToEntries (wiring_of setup) };
+    ghost invariant = { λ setup. IsLawfulSetup (wiring_of setup) };
 }
 
 impl Setup {
-    ghost use Rattle.std.specs.Prelude.{◌≡◌, ◌↔◌, true, false, not, Contains, IsTrue};
-    ghost use Rattle.std.specs.Prelude.{Ok, IsErrOf, IsOkUnless, OnOk, OnErr};
-    ghost use Rattle.hubs.specs.Hubs.{is_exit_hub, is_entry_hub};
+    ghost use Rattle.std.specs.Prelude.{◌≡◌, ◌≤◌, ◌↔◌, ℕ, true, false, not, All, Some, Contains, IsTrue};
+    ghost use Rattle.std.specs.Prelude.{Ok, IsOk, IsErrOf, IfErr, IsOkUnless, OnOk, OnErr};
+    ghost use Rattle.hubs.specs.Hubs.{number_of, is_exit_hub, is_entry_hub, keeps_ring};
     ghost use Rattle.hubs.specs.Jacks.{is_jack_in_range};
-    ghost use Rattle.hubs.specs.Wiring.{HasWire, is_plugged, LeadsToEntries, SameWires, SameJacks, AddsWire, AddsJack};
+    ghost use Rattle.hubs.specs.Tapes.{has_stop, IsStop, AddsStop, IsForm};
+    ghost use Rattle.hubs.specs.Wiring.{HasWire, is_plugged, IsEntryNumber, IsLawfulWiring, SameWires, SameJacks, AddsWire, AddsJack};
     ghost use Rattle.hubs.specs.declared.hub.Hub.{Hub};
     ghost use Rattle.hubs.specs.declared.jack.Jack.{Jack};
 
@@ -59,7 +62,8 @@ impl Setup {
     /// Adds the wire from an exit to an entry, and answers false where it was there.
     ///
     /// Refused with `NotExit` where the first hub is no exit in range, else with `NotEntry` where the second is no
-    /// entry in range, else with `Memory` where no memory is left. A refusal leaves the setup as it was.
+    /// entry in range, else with `CarryRing` where one of them is a carry hub and the other not that of the same group,
+    /// else with `Memory` where no memory is left. A refusal leaves the setup as it was.
     pub fn add(&mut self, exit: Hub, entry: Hub) -> Result<bool, SetupFault>
         ensures wires { OnOk result (AddsWire self.old self.new exit entry) }
         ensures was_there { (result ≡ Ok false) ↔ HasWire self.old exit entry }
@@ -69,7 +73,10 @@ impl Setup {
         ensures not_exit { IsErrOf result SetupFault.NotExit ↔ (is_exit_hub exit ≡ false) }
         ensures not_entry { IsErrOf result SetupFault.NotEntry
             ↔ ((is_exit_hub exit ≡ true) × (is_entry_hub entry ≡ false)) }
-        ensures memory { is_exit_hub exit ≡ true → is_entry_hub entry ≡ true → IsOkUnless result SetupFault.Memory }
+        ensures carry { IsErrOf result SetupFault.CarryRing
+            ↔ ((is_exit_hub exit ≡ true) × (is_entry_hub entry ≡ true) × (keeps_ring exit entry ≡ false)) }
+        ensures memory { is_exit_hub exit ≡ true → is_entry_hub entry ≡ true → keeps_ring exit entry ≡ true
+            → IsOkUnless result SetupFault.Memory }
         ensures refused { OnErr result (SameWires self.old self.new) }
     {
         if self.has(exit, entry) {
@@ -81,10 +88,16 @@ impl Setup {
         if !exit.is_exit() {
             return Err(SetupFault::NotExit);
         }
+        let Some(to) = entry.number() else {
+            return Err(SetupFault::NotEntry);
+        };
         if !entry.is_entry() {
             return Err(SetupFault::NotEntry);
         }
-        push_entry(&mut self.wires, number as usize, entry)?;
+        if !keeps_ring(exit, entry) {
+            return Err(SetupFault::CarryRing);
+        }
+        push_entry(&mut self.wires, number as usize, to as u16)?;
         Ok(true)
     }
 
@@ -102,18 +115,39 @@ impl Setup {
         !was_plugged
     }
 
+    /// Punches a stop of a channel into the carriage tape, and answers false where it was there.
+    ///
+    /// Refused with `TapeFault` unless the channel is 2 to 11 and the line one of the form. A refusal leaves the setup as it was.
+    pub fn punch(&mut self, channel: u8, line: u8) -> Result<bool, SetupFault>
+        ensures stops { OnOk result (AddsStop self.old.tape self.new.tape channel line) }
+        ensures was_there { (result ≡ Ok false) ↔ (has_stop self.old.tape channel line ≡ true) }
+        ensures refused { IfErr result (λ fault. fault ≡ SetupFault.TapeFault) }
+        ensures good { IsOk result ↔ IsStop self.old.tape.lines channel line }
+        ensures unchanged { OnErr result (self.new.tape ≡ self.old.tape) }
+        ensures wires { SameWires self.old self.new }
+        ensures jacks { SameJacks self.old self.new }
+    {
+        self.tape.punch(channel, line)
+    }
+
     /// Whether a wire leads from the exit to the entry.
     pub fn has(&self, exit: Hub, entry: Hub) -> bool
         ensures value { IsTrue result ↔ HasWire self.now exit entry }
-        ensures lawful { LeadsToEntries self.now }
+        ensures lawful { IsLawfulWiring self.now }
     {
-        self.entries_of(exit).contains(&entry)
+        let entries = self.entries_of(exit);
+        match entry.number() {
+            Some(number) => entries.contains(&(number as u16)),
+            None => false,
+        }
     }
 
-    /// The entries that the wires of an exit lead to; none for a hub that is no exit.
-    pub fn entries_of(&self, exit: Hub) -> &[Hub]
-        ensures value { (entry : Hub) → Contains result.now entry ↔ HasWire self.now exit entry }
-        ensures lawful { LeadsToEntries self.now }
+    /// The numbers of the entries that the wires of an exit lead to, in no stated order; none for a hub that is no exit.
+    pub fn entries_of(&self, exit: Hub) -> &[u16]
+        ensures value { (entry : Hub) (number : ℕ) → number_of entry ≡ Some number
+            → Contains result.now number ↔ HasWire self.now exit entry }
+        ensures entries { All IsEntryNumber result.now }
+        ensures lawful { IsLawfulWiring self.now }
     {
         match exit.number() {
             Some(number) if (number as usize) < self.wires.len() =>
@@ -131,14 +165,42 @@ impl Setup {
 
     /// The carriage tape.
     pub fn tape(&self) -> &Tape
-        ensures { result.now ≡ self.now.tape }
+        ensures value { result.now ≡ self.now.tape }
+        ensures form { IsForm self.now.tape }
     {
-        &self.tape
+        self.tape.known()
+    }
+}
+
+// Whether a wire may lead from the exit to the entry as far as carries go.
+fn keeps_ring(exit: Hub, entry: Hub) -> bool
+    ensures { result ≡ keeps_ring exit entry }
+{
+    carry_out_of(exit) == carry_into(entry)
+}
+
+// The counter group whose carry leaves here.
+fn carry_out_of(hub: Hub) -> Option<Group>
+    ensures { result ≡ carry_out_of hub }
+{
+    match hub {
+        Hub::CO(group) => Some(group),
+        _ => None,
+    }
+}
+
+// The counter group whose carry enters here.
+fn carry_into(hub: Hub) -> Option<Group>
+    ensures { result ≡ carry_into hub }
+{
+    match hub {
+        Hub::CI(group) => Some(group),
+        _ => None,
     }
 }
 
 // Makes places up to the given one, those that are new without an entry. Where memory runs out, some of them are made.
-fn make_places(wires: &mut Vec<SmallVec<Hub, 4>>, place: usize) -> Result<(), AllocError>
+fn make_places(wires: &mut Vec<SmallVec<u16, 4>>, place: usize) -> Result<(), AllocError>
     ensures made { OnOk result (place < vec_len wires.new) }
     ensures same { SameRows wires.old.items wires.new.items }
 {
@@ -149,8 +211,8 @@ fn make_places(wires: &mut Vec<SmallVec<Hub, 4>>, place: usize) -> Result<(), Al
     Ok(())
 }
 
-// Writes an entry at a place. Where memory runs out, the entries are as they were.
-fn push_entry(wires: &mut Vec<SmallVec<Hub, 4>>, place: usize, entry: Hub) -> Result<(), AllocError>
+// Writes an entry's number at a place. Where memory runs out, the numbers are as they were.
+fn push_entry(wires: &mut Vec<SmallVec<u16, 4>>, place: usize, entry: u16) -> Result<(), AllocError>
     ensures gained { OnOk result (RowGains wires.old.items wires.new.items place entry) }
     ensures refused { OnErr result (SameRows wires.old.items wires.new.items) }
 {

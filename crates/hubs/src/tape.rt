@@ -38,7 +38,7 @@ impl Model for Tape {
 }
 
 impl Tape {
-    ghost use Rattle.std.specs.Prelude.{◌≡◌, ◌↔◌, false, IsTrue, IsOk, IfOk, IfErr};
+    ghost use Rattle.std.specs.Prelude.{◌≡◌, ◌↔◌, true, false, IsTrue, Ok, IsOk, IfOk, IfErr, OnOk, OnErr};
     ghost use Rattle.hubs.specs.Tapes.{has_stop, IsForm, IsStop, IsTape, AddsStop, HasStops};
     ghost use Rattle.hubs.specs.declared.fault.SetupFault.{SetupFault};
     ghost use Rattle.std.specs.Bool.{OnTrue, OnFalse};
@@ -74,6 +74,31 @@ impl Tape {
         Ok(tape)
     }
 
+    /// Punches a stop of a channel, and answers false where it was there.
+    ///
+    /// Refused with `TapeFault` unless the channel is 2 to 11 and the line one of the form. A refusal leaves the tape as it was.
+    pub fn punch(&mut self, channel: u8, line: u8) -> Result<bool, SetupFault>
+        ensures stops { OnOk result (AddsStop self.old self.new channel line) }
+        ensures was_there { (result ≡ Ok false) ↔ (has_stop self.old channel line ≡ true) }
+        ensures refused { IfErr result (λ fault. fault ≡ SetupFault.TapeFault) }
+        ensures good { IsOk result ↔ IsStop self.old.lines channel line }
+        ensures unchanged { OnErr result (self.new ≡ self.old) }
+    {
+        if !is_stop(self.lines, channel, line) {
+            return Err(SetupFault::TapeFault);
+        }
+        Ok(self.add_stop(channel, line))
+    }
+
+    // The tape, and what is known of every tape.
+    pub(crate) fn known(&self) -> &Tape
+        ensures value { result.now ≡ self.now }
+        ensures form { IsForm self.now }
+    {
+        let _lines = self.lines;
+        self
+    }
+
     // Adds a stop of the form, and tells whether it could: a stop that is there already, or that is no stop of the
     // form, changes nothing.
     fn add_stop(&mut self, channel: u8, line: u8) -> bool
@@ -85,7 +110,7 @@ impl Tape {
         if !is_stop(self.lines, channel, line) || self.has_stop(channel, line) {
             return false;
         }
-        punch(&mut self.stops[channel as usize], line);
+        punch_row(&mut self.stops[channel as usize], line);
         true
     }
 
@@ -137,7 +162,7 @@ fn is_stop(lines: u8, channel: u8, line: u8) -> bool
 }
 
 // Punches a channel at a line.
-fn punch(row: &mut [bool; LINES], line: u8)
+fn punch_row(row: &mut [bool; LINES], line: u8)
     requires { line < LINES }
     ensures { (l : ℕ) → slice_index_or row.new l false ≡ (slice_index_or row.old l false || nat_eq l line) }
 {

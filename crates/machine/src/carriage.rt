@@ -44,11 +44,8 @@ impl Carriage {
         ensures start { result ≡ carriage_at_start setup.now }
         ensures form { 1 ≤ setup.now.tape.lines }
     {
-        let tape = *setup.tape();
-        // Only the tape's readers tell the proof that a form has lines.
-        let _ = tape.lines();
         Carriage {
-            tape,
+            tape: *setup.tape(),
             prints_cards: setup.has_jack(Jack::List),
             page: 0,
             line: 0,

@@ -1,9 +1,6 @@
 -- Laws of impulsed hubs, for those who show hubs impulsed or not.
-use Rattle.std.proofs.Common.{◌≡◌, ℕ, ◌≤◌, Bool, true, ◌↔◌, Some, inl, inr, arith}
-use Rattle.std.proofs.lemmas.Bool.Decides.{nat_tests}
-use Rattle.hubs.specs.declared.hub.Hub.{Hub}
-use Rattle.hubs.specs.declared.hub.Hub.TheVariants.{SR, W}
-use Rattle.hubs.specs.Hubs.{number_of, is_exit_hub, is_entry_hub}
+use Rattle.std.proofs.Common.{◌≡◌, ℕ, ◌≤◌, Bool, true, ◌↔◌, inl, inr, arith}
+use Rattle.hubs.proofs.HubLemmas.{is_exit-number, is_entry-number}
 use Rattle.hubs.specs.Wiring.{LeadsToEntries, Wiring}
 use Rattle.net.specs.Impulsed.{Impulsed, IsPicture, IsWired}
 use Rattle.net.specs.Impulsed.Impulsed.{emitted, led}
@@ -25,21 +22,13 @@ impulsed_least wiring exits closed = record {
   within = λ set holds follows h at. impulsed_within wiring exits closed set holds follows at;
 }
 
--- the exits come first in the numbers of the hubs
-exit_number : (exit : Hub) (g : ℕ) → is_exit_hub exit ≡ true → number_of exit ≡ Some g → g ≤ 1040
-exit_number (SR column) g is_exit numbered = grind (arith, nat_tests)
-exit_number (W wheel) g is_exit numbered = cc
-
--- then come the entries
-entry_number : (entry : Hub) (g : ℕ) → is_entry_hub entry ≡ true → number_of entry ≡ Some g → 1041 ≤ g
-entry_number (SR column) g is_entry numbered = cc
-entry_number (W wheel) g is_entry numbered = grind (arith, nat_tests)
-
 -- where each wire leads from an exit to an entry, no hub has both a wire that ends and one that starts there
 no_onward_wire : (wiring : Wiring) (f g h : ℕ) → LeadsToEntries wiring → IsWired wiring f g → IsWired wiring g h → ⊥
 no_onward_wire wiring f g h to_entries before after =
-    let low = exit_number after.exit g (to_entries after.exit after.entry after.wire).0 after.exit_number in
-    let high = entry_number before.entry g (to_entries before.exit before.entry before.wire).1 before.entry_number in
+    let low : g ≤ 1040 =
+    (is_exit-number after.exit g after.exit_number).0 (to_entries after.exit after.entry after.wire).0 in
+    let high : 1041 ≤ g =
+    (is_entry-number before.entry g before.entry_number).0 (to_entries before.exit before.entry before.wire).1 in
     omega arith
 
 -- there an impulsed hub emits or is fed

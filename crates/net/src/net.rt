@@ -59,15 +59,12 @@ impl Net {
     }
 }
 
-// Adds a wire from the hub with the number `from` to each of the entries that has a number.
-fn add_wires(wires: &mut Vec<Wire>, from: u16, entries: &[Hub]) -> Result<(), AllocError>
+// Adds a wire from the hub with the number `from` to each of the hubs with the numbers `entries`.
+fn add_wires(wires: &mut Vec<Wire>, from: u16, entries: &[u16]) -> Result<(), AllocError>
     ensures { OnOk result (wires.new.items ≡ wires.old.items ++ wires_from from entries.now) }
 {
-    for entry in entries {
-        if let Some(to) = entry.number() {
-            let to = to as u16;
-            wires.push(Wire { from, to })?;
-        }
+    for &to in entries {
+        wires.push(Wire { from, to })?;
     }
     Ok(())
 }

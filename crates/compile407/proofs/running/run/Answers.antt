@@ -27,7 +27,7 @@ returns-clause-report c =
     c.in_ok-check_cards.ensures.valid
     c.in_ok-lines.ensures.lines in
     let long = c.from.ensures ∙ c.lines-long.ensures.value
-    ∙ ap (λ t. t.lines) (c.tape.ensures ∙ ap (λ s. s.tape) c.setup-2.ensures.value)
+    ∙ ap (λ t. t.lines) (c.tape.ensures.value ∙ ap (λ s. s.tape) c.setup-2.ensures.value)
     ∙ c.chart.ensures.compiled.wired.lines in
     c.in_ok-bytes.ensures ∙ ap (λ l. Pages l c.from.result) (c.deref-2.ensures.value ∙ lines)
     ∙ ap (Pages (report_lines c.args.compiled.now.chart c.args.cards.now)) long

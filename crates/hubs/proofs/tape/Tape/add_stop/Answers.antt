@@ -10,5 +10,5 @@ returns-clause-added c =
       overflow = refl;
       stops =
           λ other l.
-          stops_after _ _ _ _ other l (omega (arith, c.if-not-is_stop.ensures.0 refl)) (c.punch.ensures l);
+          stops_after _ _ _ _ other l (omega (arith, c.if-not-is_stop.ensures.0 refl)) (c.punch_row.ensures l);
     })
