@@ -3,6 +3,10 @@ use Rattle.std.proofs.Common.{◌≡◌, ℕ, List, true, false, Some, slice_get
 use Rattle.std.specs.List.{All}
 use Rattle.std.proofs.lemmas.List.Elements.{All-get_or}
 use Rattle.std.proofs.lemmas.Option.{slice_get_within, get_or_from_slice_get}
+use Rattle.allocate.proofs.Exclusions.{fitting_charts_have_no_fault}
+use Rattle.allocate.specs.Exceeded.{HasFault as Exceeds}
+use Rattle.allocate.specs.Wanted.{wanted_of}
+use Rattle.capacity.specs.Capacities.{standard}
 use Rattle.chart_text.specs.Chart.{Chart}
 use Rattle.chart_text.specs.declared.chart.Line.{Line}
 use Rattle.chart_text.specs.declared.fault.TextFault.TheVariants as text
@@ -43,6 +47,10 @@ compiled_texts_have_no_fault bytes compiled (chart.Rule broken line) reads is ha
 compiled_texts_have_no_fault bytes compiled (chart.NotYet line) reads is has =
     let P : Chart → Type 0 = λ c. IsFirstUnserved c.lines line in
     absurd (none_unserved compiled.chart.lines line is.served (subst P (one_chart bytes has.read compiled.chart has.reads reads) has.first))
+compiled_texts_have_no_fault bytes compiled (chart.Capacity fault) reads is has =
+    let P : Chart → Type 0 = λ c. Exceeds (wanted_of c.lines) standard fault in
+    let exceeds = subst P (one_chart bytes has.read compiled.chart has.reads reads) has.exceeds in
+    absurd (has.is_cause (fitting_charts_have_no_fault (wanted_of compiled.chart.lines) standard fault is.fits exceeds))
 compiled_texts_have_no_fault bytes compiled chart.Memory reads is has = refl
 
 -- a deck of valid cards has no invalid one

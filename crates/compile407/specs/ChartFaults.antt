@@ -1,5 +1,10 @@
 -- What a fault says of the text of a chart.
-use Rattle.std.specs.Prelude.{ℕ, List}
+use Rattle.std.specs.Prelude.{◌≢◌, ℕ, List}
+use Rattle.allocate.specs.Exceeded.{HasFault as Exceeds}
+use Rattle.allocate.specs.Wanted.{wanted_of}
+use Rattle.allocate.specs.declared.fault.CapacityFault.{CapacityFault}
+use Rattle.allocate.specs.declared.fault.CapacityFault.TheVariants as capacity
+use Rattle.capacity.specs.Capacities.{standard}
 use Rattle.chart_text.specs.Chart.{Chart}
 use Rattle.chart_text.specs.ChartText.{Reads}
 use Rattle.chart_text.specs.TextFaults.{HasFault}
@@ -11,7 +16,7 @@ use Rattle.chart_rules.specs.declared.fault.RuleFault.{RuleFault}
 use Rattle.chart_rules.specs.declared.fault.RuleFault.TheVariants as rule
 use Rattle.compile407.specs.declared.fault.ChartFault.{ChartFault}
 use Rattle.compile407.specs.declared.fault.ChartFault.TheVariants as chart
-use Rattle.compile407.specs.Served.{IsFirstUnserved}
+use Rattle.compile407.specs.Served.{IsServed, IsFirstUnserved}
 
 -- the fault of a text, as one of a chart
 abbrev pub of_text : TextFault → ChartFault
@@ -39,6 +44,20 @@ pub record IsUnserved (bytes : List ℕ) (line : ℕ) : Type 0 where
   pub lawful : IsLawful read
   pub first : IsFirstUnserved read.lines line
 
+-- the text reads as a chart that breaks no rule, is served, and exceeds a capacity of the standard machine as the fault says
+pub record IsTooGreat (bytes : List ℕ) (fault : CapacityFault) : Type 0 where
+  pub read : Chart
+  pub reads : Reads bytes read
+  pub lawful : IsLawful read
+  pub served : IsServed read
+  pub is_cause : fault ≢ capacity.Memory
+  pub exceeds : Exceeds (wanted_of read.lines) standard fault
+
+-- the fault of a chart that the machine is too small for, as one of a chart
+abbrev pub of_capacity : CapacityFault → ChartFault
+of_capacity capacity.Memory = chart.Memory
+of_capacity other = chart.Capacity other
+
 -- What a fault says of the text of a chart; want of memory says nothing of it.
 abbrev pub HasChartFault : List ℕ → ChartFault → Type 0
 HasChartFault bytes chart.TooLarge = HasFault bytes text.TooLarge
@@ -47,4 +66,5 @@ HasChartFault bytes (chart.NotALine line) = HasFault bytes (text.NotALine line)
 HasChartFault bytes chart.NoEnd = HasFault bytes text.NoEnd
 HasChartFault bytes (chart.Rule broken line) = BreaksRule bytes broken line
 HasChartFault bytes (chart.NotYet line) = IsUnserved bytes line
+HasChartFault bytes (chart.Capacity fault) = IsTooGreat bytes fault
 HasChartFault bytes chart.Memory = Unit {0}

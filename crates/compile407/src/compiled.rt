@@ -1,16 +1,20 @@
 //! Charts with the setups that are wired for them.
 
+use allocate::Plan;
 use chart_rules::Chart;
 use hubs::Setup;
 use std::marker::Model;
 
-/// A planning chart with the setup of the panel that is wired for it.
+/// A planning chart with its plan, which says what of the machine serves what of the chart, and the setup of the panel that is
+/// wired for it.
 ///
-/// Contracts see it as the chart and the setup. The chart breaks no rule, its forms are served, and the setup has the
-/// chart's wires, jacks and tape, and no others.
+/// Contracts see it as the chart, the plan and the setup. The chart breaks no rule, its forms are served, it exceeds no
+/// capacity of the standard machine, the plan is the one that the rule of allocation gives, and the setup has the chart's wires, jacks
+/// and tape, and no others.
 #[derive(Drop)]
 pub struct Compiled {
     chart: Chart,
+    plan: Plan,
     setup: Setup,
 }
 
@@ -19,21 +23,22 @@ impl Model for Compiled {
 
     ghost Value = { Compilation };
 
-    ghost view = { λ compiled. record { chart = compiled.chart; setup = compiled.setup } };
+    ghost view = { λ compiled. record { chart = compiled.chart; plan = compiled.plan; setup = compiled.setup } };
 
-    ghost invariant = { λ compiled. IsCompiled (record { chart = compiled.chart; setup = compiled.setup }) };
+    ghost invariant = { λ compiled. IsCompiled
+        (record { chart = compiled.chart; plan = compiled.plan; setup = compiled.setup }) };
 }
 
 impl Compiled {
     ghost use Rattle.std.specs.Prelude.{◌≡◌};
     ghost use Rattle.compile407.specs.Compilation.{IsCompiled};
 
-    // A chart and the setup that was wired for it.
-    pub(crate) fn of(chart: Chart, setup: Setup) -> Compiled
-        requires { IsCompiled (record { chart = chart; setup = setup }) }
-        ensures { result ≡ record { chart = chart; setup = setup } }
+    // A chart, its plan and the setup that was wired for it.
+    pub(crate) fn of(chart: Chart, plan: Plan, setup: Setup) -> Compiled
+        requires { IsCompiled (record { chart = chart; plan = plan; setup = setup }) }
+        ensures { result ≡ record { chart = chart; plan = plan; setup = setup } }
     {
-        Compiled { chart, setup }
+        Compiled { chart, plan, setup }
     }
 
     /// The chart.
@@ -42,6 +47,14 @@ impl Compiled {
         ensures compiled { IsCompiled self.now }
     {
         &self.chart
+    }
+
+    /// What of the machine serves what of the chart.
+    pub fn plan(&self) -> &Plan
+        ensures value { result.now ≡ self.now.plan }
+        ensures compiled { IsCompiled self.now }
+    {
+        &self.plan
     }
 
     /// The setup of the panel that is wired for the chart.

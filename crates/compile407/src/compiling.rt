@@ -10,11 +10,13 @@ use crate::compiled::Compiled;
 use crate::fault::ChartFault;
 use crate::served::first_unserved;
 use crate::wiring::wire;
+use allocate::allocate;
+use capacity::Profile;
 use chart_rules::check;
 use chart_text::read_chart;
 use std::alloc::Global;
 
-/// The chart of a text with the setup that is wired for it.
+/// The chart of a text with its plan on the standard machine and the setup that is wired for it.
 ///
 /// For every deck of at most 999,999 valid cards, the pages that the machine prints in that setup are the chart's
 /// report.
@@ -22,7 +24,8 @@ use std::alloc::Global;
 /// # Errors
 ///
 /// `TooLarge`, `NoFirstLine`, `NotALine` or `NoEnd` where the text is no chart, else `Rule` where the chart breaks a
-/// rule, else `NotYet` where a line's form is not served yet; `Memory` where a growth was refused.
+/// rule, else `NotYet` where a line's form is not served yet, else `Capacity` where the machine has too little of something for the
+/// chart; `Memory` where a growth was refused.
 pub fn compile(alloc: Global, bytes: &[u8]) -> Result<Compiled, ChartFault>
     ensures read { IfOk result (λ compiled. Reads bytes.now compiled.chart) }
     ensures compiled { IfOk result IsCompiled }
@@ -34,6 +37,7 @@ pub fn compile(alloc: Global, bytes: &[u8]) -> Result<Compiled, ChartFault>
     if let Some(line) = first_unserved(chart.lines()) {
         return Err(ChartFault::NotYet { line });
     }
+    let plan = allocate(alloc, &chart, &Profile::standard())?;
     let setup = wire(alloc, &chart)?;
-    Ok(Compiled::of(chart, setup))
+    Ok(Compiled::of(chart, plan, setup))
 }

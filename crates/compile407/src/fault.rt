@@ -4,6 +4,7 @@ ghost use Rattle.std.specs.Prelude.{◌≡◌};
 ghost use Rattle.compile407.specs.declared.fault.ChartFault.TheVariants as chart;
 ghost use Rattle.compile407.specs.declared.fault.RunFault.TheVariants as deck;
 
+use allocate::CapacityFault;
 use chart_rules::{Rule, RuleFault};
 use chart_text::TextFault;
 use std::alloc::AllocError;
@@ -40,6 +41,12 @@ pub enum ChartFault {
     NotYet {
         /// The number of the line.
         line: u16,
+    },
+    /// The chart is good and its forms are served, and the machine has too little of something for it.
+    #[error("{fault}")]
+    Capacity {
+        /// The first capacity that it exceeds.
+        fault: CapacityFault,
     },
     /// A growth was refused.
     #[error("out of memory")]
@@ -79,6 +86,19 @@ impl From<RuleFault> for ChartFault {
         match fault {
             RuleFault::Rule { rule, line } => ChartFault::Rule { rule, line },
             RuleFault::Memory => ChartFault::Memory,
+        }
+    }
+}
+
+impl From<CapacityFault> for ChartFault {
+    ghost use Rattle.compile407.specs.ChartFaults.{of_capacity};
+
+    ghost from_gives = { λ exceeded fault. fault ≡ of_capacity exceeded };
+
+    fn from(fault: CapacityFault) -> ChartFault {
+        match fault {
+            CapacityFault::Memory => ChartFault::Memory,
+            other => ChartFault::Capacity { fault: other },
         }
     }
 }

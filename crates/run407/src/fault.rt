@@ -1,5 +1,6 @@
 //! What the program says on standard error, and the status that it ends with.
 
+use allocate::CapacityFault;
 use card_code::DeckFault;
 use compile407::{ChartFault, RunFault};
 use itoa::Buffer;
@@ -16,6 +17,12 @@ pub enum Fault<'a> {
     Card(u8, u32),
     /// A numbered fault of a card and its column.
     Column(u8, u32, u32),
+    /// The counter groups of a width and wider ones are too few: the width, how many are wanted, and how many are there.
+    Counters(u8, usize, u32),
+    /// A numbered capacity of the machine that the chart exceeds: how many are wanted, and how many are there.
+    Capacity(u8, usize, u32),
+    /// The indicate positions of a level are too few: the level, how many are wanted, and how many are there.
+    Indicate(u8, usize, u32),
     /// A line of the chart that is good but has a form that the compiler does not serve yet.
     NotYet(u32),
     /// The report has more than one page.
@@ -53,6 +60,7 @@ impl From<ChartFault> for Fault<'_> {
             ChartFault::NoEnd => Fault::Whole(14),
             ChartFault::Rule { rule, line } => Fault::Line(rule.number(), u32::from(line)),
             ChartFault::NotYet { line } => Fault::NotYet(u32::from(line)),
+            ChartFault::Capacity { fault } => fault.into(),
             ChartFault::Memory => Fault::Memory,
         }
     }
@@ -81,6 +89,39 @@ impl From<RunFault> for Fault<'_> {
     }
 }
 
+impl From<CapacityFault> for Fault<'_> {
+    fn from(fault: CapacityFault) -> Self {
+        match fault {
+            CapacityFault::Counters {
+                width,
+                wanted,
+                there,
+            } => Fault::Counters(width, wanted, there),
+            CapacityFault::Pilots { wanted, there } => Fault::Capacity(62, wanted, there),
+            CapacityFault::Comparing { wanted, there } => Fault::Capacity(63, wanted, there),
+            CapacityFault::StorageWidth { line } => Fault::Line(64, u32::from(line)),
+            CapacityFault::StorageUnits { wanted, there } => Fault::Capacity(65, wanted, there),
+            CapacityFault::Splits { wanted, there } => Fault::Capacity(66, wanted, there),
+            CapacityFault::Indicate {
+                level,
+                wanted,
+                there,
+            } => Fault::Indicate(level, wanted, there),
+            CapacityFault::Memory => Fault::Memory,
+        }
+    }
+}
+
+fn write_counts<W: fmt::Write>(
+    f: &mut fmt::Formatter<W>,
+    wanted: usize,
+    there: u32,
+) -> fmt::Result {
+    f.write_str(" wanted ")?;
+    f.write_str(Buffer::new().format(wanted))?;
+    write_number(f, " there ", there)
+}
+
 fn write_number<W: fmt::Write>(
     f: &mut fmt::Formatter<W>,
     before: &str,
@@ -106,6 +147,18 @@ impl fmt::Display for Fault<'_> {
                 write_number(f, "fault ", u32::from(*number))?;
                 write_number(f, " card ", *card)?;
                 write_number(f, " column ", *column)
+            }
+            Fault::Counters(width, wanted, there) => {
+                write_number(f, "fault 61 width ", u32::from(*width))?;
+                write_counts(f, *wanted, *there)
+            }
+            Fault::Capacity(number, wanted, there) => {
+                write_number(f, "fault ", u32::from(*number))?;
+                write_counts(f, *wanted, *there)
+            }
+            Fault::Indicate(level, wanted, there) => {
+                write_number(f, "fault 67 level ", u32::from(*level))?;
+                write_counts(f, *wanted, *there)
             }
             Fault::NotYet(line) => write_number(f, "fault notyet line ", *line),
             Fault::TooLong => f.write_str("fault toolong"),

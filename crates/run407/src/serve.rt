@@ -6,10 +6,20 @@ use card_code::read_deck;
 use compile407::{compile, run};
 use std::alloc::Global;
 use std::io::{Read, Write};
+use wire_chart::write_setup;
 
 fn check<'a>(alloc: Global, text: &[u8]) -> Result<(), Fault<'a>> {
     compile(alloc, text)?;
     Ok(())
+}
+
+// The wiring chart of a chart.
+fn wiring_chart<'a>(alloc: Global, text: &[u8]) -> Result<String, Fault<'a>> {
+    let compiled = compile(alloc, text)?;
+    let Ok(written) = write_setup(alloc, compiled.setup()) else {
+        return Err(Fault::Memory);
+    };
+    Ok(written)
 }
 
 // The pages of a chart and a deck.
@@ -45,14 +55,18 @@ fn carry_out<'a, R: Read + Drop, W: Write>(
         check(alloc, text)?;
         return put(out, b"ok\n");
     }
+    if command == "wire" {
+        let written = wiring_chart(alloc, text)?;
+        return put(out, written.as_bytes());
+    }
     let bytes = pages(alloc, text, path, deck)?;
     put(out, bytes.as_slice())
 }
 
 /// Does one command and answers the program's status.
 ///
-/// The command is `check`, which compiles the chart `text` and prints `ok`, or `run`, which prints the pages of the
-/// deck. A fault is told on one line of `faults`; `path` names the deck in it. The statuses are 0 done, 3 refused
+/// The command is `check`, which compiles the chart `text` and prints `ok`, `wire`, which prints its wiring chart, or `run`,
+/// which prints the pages of the deck. A fault is told on one line of `faults`; `path` names the deck in it. The statuses are 0 done, 3 refused
 /// input, 4 file fault, 5 memory.
 pub fn serve<R: Read + Drop, W: Write, V: Write>(
     alloc: Global,

@@ -3,13 +3,16 @@
 mod cases;
 mod charts;
 
+use crate::fault::Fault;
 use crate::input::chart_and_deck;
-use crate::serve::serve;
+use crate::serve::{serve, tell};
+use allocate::CapacityFault;
 use cases::{BOLTS, BOLTS_DECK, Served, chart_of, serve_texts, text_of};
 use std::alloc::{AllocError, Global};
 use std::io;
 use std::io::{ErrorKind, Read, Write};
 use std::test::Fail;
+use wire_chart::{read_setup, write_setup};
 
 #[test]
 fn cuts_standard_input_behind_end(rt: HostRuntime) -> Result<(), Fail> {
@@ -44,6 +47,93 @@ fn prints_the_bolts_listing(rt: HostRuntime) -> Result<(), Fail> {
     let checked = serve_texts(rt.alloc(), "check", BOLTS, "")?;
     assert_eq!(rt; checked.status, 0);
     assert_eq!(rt; checked.pages.as_slice(), b"ok\n".as_slice());
+    Ok(())
+}
+
+// The wiring chart of the bolts listing.
+const BOLTS_WIRING: &str =
+    "WIRING407 1\nFORM 12 1 9\nJACK LIST\nWIRE SR.1 W.1\nWIRE SR.2 W.2\nWIRE SR.3 W.3\nWIRE SR.4 W.4\nWIRE SR.5 W.5\nWIRE SR.6 W.6\nWIRE SR.8 W.9\nWIRE SR.9 W.10\nWIRE SR.10 W.11\nEND\n";
+
+#[test]
+fn prints_the_wiring_chart_of_the_bolts_listing(rt: HostRuntime) -> Result<(), Fail> {
+    let wired = serve_texts(rt.alloc(), "wire", BOLTS, "")?;
+    assert_eq!(rt; wired.status, 0);
+    assert_eq!(rt; wired.pages.as_slice(), BOLTS_WIRING.as_bytes());
+    Ok(())
+}
+
+// The same wiring chart with its stops, jacks and wires in other orders.
+const OTHER_ORDERS: [&str; 2] = [
+    "WIRING407 1\nFORM 12 1 9\nWIRE SR.10 W.11\nWIRE SR.9 W.10\nWIRE SR.8 W.9\nWIRE SR.6 W.6\nWIRE SR.5 W.5\nWIRE SR.4 W.4\nWIRE SR.3 W.3\nWIRE SR.2 W.2\nWIRE SR.1 W.1\nJACK LIST\nEND\n",
+    "WIRING407 1\nFORM 12 1 9\nWIRE SR.4 W.4\nWIRE SR.9 W.10\nWIRE SR.2 W.2\nJACK LIST\nWIRE SR.6 W.6\nWIRE SR.1 W.1\nWIRE SR.10 W.11\nWIRE SR.5 W.5\nWIRE SR.8 W.9\nWIRE SR.3 W.3\nEND\n",
+];
+
+#[test]
+fn reads_the_wiring_chart_in_any_order(rt: HostRuntime) -> Result<(), Fail> {
+    for text in OTHER_ORDERS {
+        let setup = read_setup(rt.alloc(), text.as_bytes())
+            .ok()
+            .ok_or("a setup")?;
+        assert_eq!(rt; write_setup(rt.alloc(), &setup)?.as_str(), BOLTS_WIRING);
+    }
+    Ok(())
+}
+
+#[test]
+fn tells_of_capacities(rt: HostRuntime) -> Result<(), Fail> {
+    let faults = [
+        (
+            CapacityFault::Counters {
+                width: 8,
+                wanted: 9,
+                there: 8,
+            },
+            "fault 61 width 8 wanted 9 there 8\n",
+        ),
+        (
+            CapacityFault::Pilots {
+                wanted: 17,
+                there: 16,
+            },
+            "fault 62 wanted 17 there 16\n",
+        ),
+        (
+            CapacityFault::Comparing {
+                wanted: 31,
+                there: 30,
+            },
+            "fault 63 wanted 31 there 30\n",
+        ),
+        (CapacityFault::StorageWidth { line: 6 }, "fault 64 line 6\n"),
+        (
+            CapacityFault::StorageUnits {
+                wanted: 5,
+                there: 4,
+            },
+            "fault 65 wanted 5 there 4\n",
+        ),
+        (
+            CapacityFault::Splits {
+                wanted: 17,
+                there: 16,
+            },
+            "fault 66 wanted 17 there 16\n",
+        ),
+        (
+            CapacityFault::Indicate {
+                level: 3,
+                wanted: 46,
+                there: 30,
+            },
+            "fault 67 level 3 wanted 46 there 30\n",
+        ),
+    ];
+    for (fault, line) in faults {
+        let mut told = Vec::new(rt.alloc());
+        let status = tell(&Fault::from(fault), &mut told);
+        assert_eq!(rt; told.as_slice(), line.as_bytes());
+        assert_eq!(rt; status, 3);
+    }
     Ok(())
 }
 

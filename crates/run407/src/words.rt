@@ -7,30 +7,35 @@ use clap::{Arg, ArgMatches, Command, Error};
 use std::alloc::Global;
 use std::{fs, io};
 
+// The word for the chart, a file.
+fn chart_word<'a>(alloc: Global) -> Arg<'a> {
+    Arg::new(alloc, "CHART")
+        .help("the planning chart, a file")
+        .required(true)
+}
+
 // The words that the program takes.
 fn command<'a>(alloc: Global) -> Result<Command<'a>, Error> {
-    let chart = Arg::new(alloc, "CHART")
-        .help("the planning chart, a file")
-        .required(true);
     let deck = Arg::new(alloc, "DECK")
         .help("the deck of cards, a file")
         .required(true);
-    let checked = Arg::new(alloc, "CHART")
-        .help("the planning chart, a file")
-        .required(true);
     let run = Command::new(alloc, "run")
         .about("Prints the pages of a deck")
-        .arg(chart)?
+        .arg(chart_word(alloc))?
         .arg(deck)?;
     let check = Command::new(alloc, "check")
         .about("Checks a planning chart")
-        .arg(checked)?;
+        .arg(chart_word(alloc))?;
+    let wire = Command::new(alloc, "wire")
+        .about("Prints the wiring chart of a planning chart")
+        .arg(chart_word(alloc))?;
     let whole = Command::new(alloc, "run407")
         .about(
             "Compiles planning charts and runs decks on a simulated IBM 407. Without a command it reads a chart and then its deck from standard input, and prints the pages.",
         )
         .subcommand(run)?
-        .subcommand(check)?;
+        .subcommand(check)?
+        .subcommand(wire)?;
     Ok(whole)
 }
 
@@ -58,7 +63,8 @@ fn run_files(rt: &HostRuntime, chart: &str, deck: &str) -> u8 {
     )
 }
 
-fn check_file(rt: &HostRuntime, chart: &str) -> u8 {
+// Does a command that reads a chart alone.
+fn serve_chart(rt: &HostRuntime, command: &str, chart: &str) -> u8 {
     let mut faults = rt.stderr();
     let Ok(text) = fs::open(rt, chart) else {
         return tell(&Fault::File(chart), &mut faults);
@@ -70,7 +76,7 @@ fn check_file(rt: &HostRuntime, chart: &str) -> u8 {
     let mut out = rt.stdout();
     serve(
         rt.alloc(),
-        "check",
+        command,
         text.as_slice(),
         "-",
         b"".as_slice(),
@@ -103,7 +109,7 @@ fn obey(rt: &HostRuntime, matches: &ArgMatches) -> u8 {
             given.get_str("CHART").unwrap_or(""),
             given.get_str("DECK").unwrap_or(""),
         ),
-        Some((_, given)) => check_file(rt, given.get_str("CHART").unwrap_or("")),
+        Some((command, given)) => serve_chart(rt, command, given.get_str("CHART").unwrap_or("")),
         None => run_standard_input(rt),
     }
 }

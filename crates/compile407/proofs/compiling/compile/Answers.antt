@@ -1,7 +1,14 @@
 use Rattle.std.proofs.Common.{subst, sym}
+use Rattle.std.proofs.lemmas.Result.{err_from_is_err_and}
+use Rattle.allocate.specs.Exceeded.{HasFault as Exceeds}
+use Rattle.allocate.specs.Wanted.{wanted_of}
+use Rattle.capacity.specs.Capacities.{Capacities}
+use Rattle.chart_text.specs.ChartText.{Reads}
+use Rattle.compile407.specs.ChartFaults.{HasChartFault}
 use Rattle.compile407.specs.Compilation.{Compilation}
 use Rattle.compile407.specs.Headline.{PrintsReport}
 use Rattle.compile407.specs.Served.{AreServed}
+use Rattle.compile407.proofs.CapacityTold.{capacity_told}
 use Rattle.compile407.proofs.Headline.{wired_setups_print_reports}
 use Rattle.compile407.proofs.Lawful.{listing_of}
 use Rattle.compile407.proofs.compiling.compile.Goals as goal
@@ -16,3 +23,17 @@ returns-clause-prints c =
     subst P (sym c.of.ensures)
     (wired_setups_print_reports c.in_ok-chart.chart c.in_ok-setup.setup c.lines.ensures.lawful
     (subst AreServed c.lines.ensures.value c.in_default.ensures.none) c.in_ok-setup.ensures)
+
+pub returns-in_err-plan-clause-refused : goal.returns-in_err-plan-clause-refused
+returns-in_err-plan-clause-refused c =
+    let bytes = c.args.bytes.now in
+    let read = c.in_ok-chart.chart in
+    let fault = c.in_err-plan.field-0.0 in
+    let Exceeding : Capacities → Type 0 = λ machine. Exceeds (wanted_of read.lines) machine fault in
+    let refusal = err_from_is_err_and c.from_residual-in_err-plan.result c.from_residual-in_err-plan.ensures.1 in
+    let told = capacity_told bytes read fault
+    (subst (Reads bytes) (sym c.in_ok-chart.ensures.same) c.in_ok-raw.ensures.read)
+    c.lines.ensures.lawful
+    (subst AreServed c.lines.ensures.value c.in_default.ensures.none)
+    (subst Exceeding c.standard.ensures c.in_err-plan.ensures.refused) in
+    rw refusal.1 (subst (HasChartFault bytes) (sym refusal.2) told)

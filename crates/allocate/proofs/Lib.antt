@@ -1,0 +1,16 @@
+pub mod Assignments
+pub mod Columns
+pub mod Counting
+pub mod Enough
+pub mod Exclusions
+pub mod GroupPlaces
+pub mod Lowest
+pub mod Needs
+pub mod OneList
+pub mod Order
+pub mod Orders
+pub mod Plans
+pub mod Reading
+pub mod Single
+pub mod Taking
+pub mod WideTexts

@@ -1,0 +1,92 @@
+-- Plans that are for a chart.
+use Rattle.std.proofs.Common.{◌≡◌, ℕ, ◌+◌, ◌<◌, ◌≤◌, ◌&&◌, Bool, true, false, IsTrue, List, [], ◌∷◌, length, refl, sym, ap, ◌∙◌, arith, ◌↔◌}
+use Rattle.chart_text.specs.declared.chart.Line.{Line}
+use Rattle.capacity.specs.Capacities.{Capacities, standard, IsAtMost}
+use Rattle.allocate.specs.declared.exceeded.Capacity.TheVariants as of
+use Rattle.allocate.specs.Exceeded.{IsOver, Fits}
+use Rattle.allocate.specs.Totals.{HasGroupsFor}
+use Rattle.allocate.specs.Groups.{IsAssignment}
+use Rattle.allocate.specs.Plans.{Lists, IsWithinMachine, Serves, IsFor}
+use Rattle.allocate.specs.Wanted.{Parts, Wanted, wanted_of}
+use Rattle.allocate.proofs.Assignments.{HasGroupsFor-from, IsAssignment-standard}
+use Rattle.allocate.proofs.Order.{NotOver, NotOver-fits}
+
+-- a plan within the machine that has groups for the totals, and no text that is too wide
+pub Serves-from : (wanted : Wanted) (plan : Lists) → IsWithinMachine plan.parts → IsAssignment wanted.totals standard plan.groups
+    → plan.parts ≡ wanted.parts → [] ≡ wanted.wide_texts → Serves wanted plan
+Serves-from wanted plan within assigned same narrow =
+    let pilots = ap (λ (p : Parts). length p.pilots) same in
+    let comparing = ap (λ (p : Parts). length p.comparing) same in
+    let storage = ap (λ (p : Parts). length p.storage) same in
+    let splits = ap (λ (p : Parts). length p.splits) same in
+    let minor = ap (λ (p : Parts). length p.minor) same in
+    let intermediate = ap (λ (p : Parts). length p.intermediate) same in
+    let major = ap (λ (p : Parts). length p.major) same in
+    let width = ap length narrow in
+    record {
+      groups = assigned;
+      parts = same;
+      pilots = λ over. omega arith;
+      comparing = λ over. omega arith;
+      storage_width = λ over. omega arith;
+      storage_units = λ over. omega arith;
+      splits = λ over. omega arith;
+      minor = λ over. omega arith;
+      intermediate = λ over. omega arith;
+      major = λ over. omega arith;
+    }
+
+-- no text is too wide where none exceeds the width of a storage unit
+wide_texts-none : (lines : List ℕ) → ¬ (0 < length lines) → [] ≡ lines
+wide_texts-none [] none = refl
+wide_texts-none (line ∷ lines) none = absurd (none (omega arith))
+
+-- the tests of a plan for a chart
+pub IsFor-tests : (lines : List Line) (plan : Lists) (assigned same narrow : Bool) → IsWithinMachine plan.parts
+    → IsTrue assigned ↔ IsAssignment (wanted_of lines).totals standard plan.groups
+    → IsTrue same ↔ (plan.parts ≡ (wanted_of lines).parts) → IsTrue narrow ↔ ([] ≡ (wanted_of lines).wide_texts)
+    → IsTrue ((assigned && same) && narrow) ↔ IsFor lines plan
+IsFor-tests lines plan true true narrow within groups parts width = (
+  (λ yes. Serves-from (wanted_of lines) plan within (groups.0 refl) (parts.0 refl) (width.0 yes)),
+  (λ serves. width.1 (wide_texts-none (wanted_of lines).wide_texts serves.storage_width)),
+)
+IsFor-tests lines plan false same narrow within groups parts width = (
+  (λ yes. absurd (let no : false ≡ true = yes in cc)),
+  (λ serves. groups.1 serves.groups),
+)
+IsFor-tests lines plan true false narrow within groups parts width = (
+  (λ yes. absurd (let no : false ≡ true = yes in cc)),
+  (λ serves. parts.1 serves.parts),
+)
+
+-- where what is wanted fits a machine, what its parts serve is within the standard machine
+pub IsWithinMachine-fits : (wanted : Wanted) (machine : Capacities) → Fits wanted machine → IsAtMost machine standard → IsWithinMachine wanted.parts
+IsWithinMachine-fits wanted machine fits most =
+    let not = NotOver-fits wanted machine fits in
+    let below : (m n : ℕ) → ¬ (m < n) → n ≤ m = λ m n h. omega arith in
+    record {
+      pilots = omega (arith, below _ _ not.pilots, most.pilots);
+      comparing = omega (arith, below _ _ not.comparing, most.comparing);
+      storage = omega (arith, below _ _ not.storage_units, most.storage);
+      splits = omega (arith, below _ _ not.splits, most.splits);
+      minor = omega (arith, below _ _ not.minor, most.indicate);
+      intermediate = omega (arith, below _ _ not.intermediate, most.indicate);
+      major = omega (arith, below _ _ not.major, most.indicate);
+    }
+
+-- where what is wanted fits, no total text is too wide
+pub wide_texts-fits : (wanted : Wanted) (machine : Capacities) → Fits wanted machine → [] ≡ wanted.wide_texts
+wide_texts-fits wanted machine fits = wide_texts-none wanted.wide_texts (NotOver-fits wanted machine fits).storage_width
+
+-- where what is wanted fits, there are counter groups enough
+pub HasGroupsFor-fits : (wanted : Wanted) (machine : Capacities) → Fits wanted machine → HasGroupsFor machine wanted.totals
+HasGroupsFor-fits wanted machine fits =
+    let not = NotOver-fits wanted machine fits in
+    HasGroupsFor-from wanted.totals machine not.eights not.sixes not.fours not.threes
+
+-- a plan that serves all where what is wanted fits a machine
+pub Serves-fits : (wanted : Wanted) (machine : Capacities) (plan : Lists) → Fits wanted machine → IsAtMost machine standard
+    → IsAssignment wanted.totals machine plan.groups → plan.parts ≡ wanted.parts → Serves wanted plan
+Serves-fits wanted machine plan fits most assigned same =
+    Serves-from wanted plan (rw same (IsWithinMachine-fits wanted machine fits most))
+    (IsAssignment-standard wanted.totals machine plan.groups assigned most) same (wide_texts-fits wanted machine fits)

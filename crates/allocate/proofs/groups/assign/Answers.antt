@@ -1,0 +1,30 @@
+use Rattle.std.proofs.Common.{◌∙◌}
+use Rattle.std.proofs.lemmas.Result.{IfOk-weaker}
+use Rattle.allocate.proofs.Taking.{partly-more, some_free, partly-all, IsAssignment-by_rule}
+use Rattle.allocate.proofs.groups.assign.Goals as goal
+
+pub unreachable-requires : goal.unreachable-requires
+unreachable-requires c =
+    some_free c.args.totals.now c.args.profile.now c.loop-place.taken.items c.in-Some.place c.requires.needs
+    c.requires.enough c.loop-place.invariant (rw c.deref.ensures.value at c.in-Some.ensures)
+    (rw c.deref-in-Some.ensures.value at c.in_default-lowest_free.ensures)
+
+pub loop-place-preserved : goal.loop-place-preserved
+loop-place-preserved c =
+    partly-more c.args.totals.now c.args.profile.now c.loop-place.taken.items c.in-Some.place
+    c.in-Some-lowest_free.group c.loop-place.invariant (rw c.deref.ensures.value at c.in-Some.ensures)
+    (rw c.deref-in-Some.ensures.value at c.in-Some-lowest_free.ensures)
+
+pub returns-clause-rule : goal.returns-clause-rule
+returns-clause-rule c =
+    IfOk-weaker c.all_taken.result _ _
+    (λ groups all.
+    partly-all c.args.totals.now c.args.profile.now c.loop-place.taken.items groups.items c.loop-place.invariant
+    (all ∙ c.deref-2.ensures.value))
+    c.all_taken.ensures
+
+pub returns-clause-own : goal.returns-clause-own
+returns-clause-own c =
+    IfOk-weaker c.all_taken.result _ _
+    (λ groups rule. IsAssignment-by_rule c.args.totals.now c.args.profile.now groups.items rule)
+    (returns-clause-rule c)

@@ -1,0 +1,29 @@
+use Rattle.std.proofs.Common.{◌≡◌, ◌++◌, ◌∙◌, sym, ap}
+use Rattle.chart_text.specs.declared.chart.Line.{Line}
+use Rattle.allocate.specs.Positions.{field_used, positions_for, positions_of}
+use Rattle.allocate.proofs.Reading.{IsTrue-ended, IsTrue-differs, IsReadTo-nothing, IsReadTo-front, IsReadTo-fails, IsReadTo-end}
+use Rattle.allocate.proofs.Columns.{positions_for-none}
+use Rattle.allocate.proofs.position.are_positions_of.Goals as goal
+use Rattle.allocate.proofs.position.are_positions_of.Goals.{in-Some+in-Some-behind_columns, in_default}
+
+pub loop-line-preserved : goal.loop-line-preserved
+loop-line-preserved c =
+    let f = λ (line : Line). positions_for line.number (field_used c.args.chart.now.lines c.args.columns line.statement) in
+    elim c.match-field_used.branch [
+      | in-Some+in-Some-behind_columns w ↦
+          rw w.rest-is
+          (IsReadTo-front f c.lines-lines.result.now c.args.list.now c.loop-line.rest.now c.loop-line.line-index c.line-item.result c.loop-line-test.true c.line-item.is c.loop-line.invariant
+          w.in-Some-behind_columns.behind.now
+          (w.in-Some-behind_columns.ensures ∙ ap (λ field. positions_for c.line-item.result.number field ++ w.in-Some-behind_columns.behind.now) w.in-Some.ensures))
+      | in_default w ↦
+          rw w.rest-is
+          (IsReadTo-nothing f c.lines-lines.result.now c.args.list.now c.loop-line.rest.now c.loop-line.line-index c.line-item.result c.loop-line-test.true c.line-item.is c.loop-line.invariant
+          (positions_for-none c.line-item.result.number (field_used c.args.chart.now.lines c.args.columns c.line-item.result.statement) (sym w.in_default.is ∙ c.field_used.ensures)))
+    ]
+
+pub returns : goal.returns
+returns c =
+    let f = λ (line : Line). positions_for line.number (field_used c.args.chart.now.lines c.args.columns line.statement) in
+    IsTrue-ended c.loop-line.rest.now (c.args.list.now ≡ positions_of c.args.chart.now.lines c.args.columns) c.is_empty.result c.is_empty.ensures
+    (rw c.lines-lines.ensures.value at
+    (IsReadTo-end f c.lines-lines.result.now c.args.list.now c.loop-line.rest.now c.loop-line.line-index c.loop-line-test.false c.loop-line.invariant))

@@ -1,0 +1,86 @@
+-- The capacities of a machine, in the order in which they are asked, and the first that a chart exceeds. Each is a
+-- comparison of two counts: what the chart wants, and what is there.
+use Rattle.std.specs.Prelude.{◌≡◌, ℕ, ◌<◌, ◌≤◌, List, [], ◌∷◌, Some, length, slice_get, Contains}
+use Rattle.capacity.specs.Capacities.{Capacities, groups_at_least}
+use Rattle.allocate.specs.declared.exceeded.Capacity.{Capacity}
+use Rattle.allocate.specs.declared.exceeded.Capacity.TheVariants as of
+use Rattle.allocate.specs.declared.fault.CapacityFault.{CapacityFault}
+use Rattle.allocate.specs.declared.fault.CapacityFault.TheVariants as fault
+use Rattle.allocate.specs.Totals.{wanted_at}
+use Rattle.allocate.specs.Wanted.{Wanted, indicate_at}
+
+-- How many are wanted: at a width of counter groups, the totals of that class or a wider one; a pilot for each signed
+-- amount that is shown; a comparing position for each column of each CONTROL line; a storage unit wider than 16 columns for
+-- each total text that is; a storage unit for each total text; a split for each DETAIL amount with its sign column inside;
+-- an indicate position of a level for each column of each INDICATE item.
+abbrev pub count_wanted : Capacity → Wanted → ℕ
+count_wanted (of.Counters width) wanted = wanted_at width wanted.totals
+count_wanted of.Pilots wanted = length wanted.parts.pilots
+count_wanted of.Comparing wanted = length wanted.parts.comparing
+count_wanted of.StorageWidth wanted = length wanted.wide_texts
+count_wanted of.StorageUnits wanted = length wanted.parts.storage
+count_wanted of.Splits wanted = length wanted.parts.splits
+count_wanted (of.Indicate level) wanted = length (indicate_at wanted.parts level)
+
+-- how many a machine has: at a width, the counter groups of that width or a greater one; no storage unit is wider than 16
+abbrev pub count_there : Capacity → Capacities → ℕ
+count_there (of.Counters width) machine = groups_at_least machine width
+count_there of.Pilots machine = machine.pilots
+count_there of.Comparing machine = machine.comparing
+count_there of.StorageWidth machine = 0
+count_there of.StorageUnits machine = machine.storage
+count_there of.Splits machine = machine.splits
+count_there (of.Indicate level) machine = machine.indicate
+
+-- a capacity is exceeded: more are wanted than are there
+abbrev pub IsOver : Capacity → Wanted → Capacities → Type 0
+IsOver capacity wanted machine = count_there capacity machine < count_wanted capacity wanted
+
+-- the capacities in the order in which they are asked: 61 from the widest counter groups on, 62 to 66, 67 by level
+unfoldable pub in_order : List Capacity
+in_order =
+    of.Counters 8 ∷ of.Counters 6 ∷ of.Counters 4 ∷ of.Counters 3 ∷ of.Pilots ∷ of.Comparing ∷ of.StorageWidth
+    ∷ of.StorageUnits ∷ of.Splits ∷ of.Indicate 1 ∷ of.Indicate 2 ∷ of.Indicate 3 ∷ []
+
+-- none of the first capacities of a list is exceeded
+abbrev pub NoneIsOver : List Capacity → ℕ → Wanted → Capacities → Type 0
+NoneIsOver capacities count wanted machine =
+    (place : ℕ) (capacity : Capacity) → place < count → slice_get capacities place ≡ Some capacity → ¬ IsOver capacity wanted machine
+
+-- no capacity is exceeded: all that is wanted fits the machine
+unfoldable pub Fits : Wanted → Capacities → Type 0
+Fits wanted machine = NoneIsOver in_order (length in_order) wanted machine
+
+-- a capacity is the first of a list that is exceeded
+pub record IsFirstAmong (capacities : List Capacity) (first : Capacity) (wanted : Wanted) (machine : Capacities) : Type 0 where
+  pub place : ℕ
+  pub is_there : slice_get capacities place ≡ Some first
+  pub none_before : NoneIsOver capacities place wanted machine
+  pub over : IsOver first wanted machine
+
+-- a capacity is the first that is exceeded
+unfoldable pub IsFirstOver : Capacity → Wanted → Capacities → Type 0
+IsFirstOver first wanted machine = IsFirstAmong in_order first wanted machine
+
+-- a capacity is the first that is exceeded, and these are the counts of what is wanted and of what is there
+pub record IsExceeded (first : Capacity) (count there : ℕ) (wanted : Wanted) (machine : Capacities) : Type 0 where
+  pub first_over : IsFirstOver first wanted machine
+  pub count_is : count ≡ count_wanted first wanted
+  pub there_is : there ≡ count_there first machine
+
+-- a line is the lowest of some
+pub record IsLowestOf (lines : List ℕ) (line : ℕ) : Type 0 where
+  pub among : Contains lines line
+  pub lowest : (other : ℕ) → Contains lines other → line ≤ other
+
+-- The fault of what a chart wants on a machine: the first capacity that it exceeds, with what is wanted and what is there,
+-- or the lowest line of a total text that is too wide. That memory was refused is no fault of a chart.
+abbrev pub HasFault : Wanted → Capacities → CapacityFault → Type 0
+HasFault wanted machine (fault.Counters width count there) = IsExceeded (of.Counters width) count there wanted machine
+HasFault wanted machine (fault.Pilots count there) = IsExceeded of.Pilots count there wanted machine
+HasFault wanted machine (fault.Comparing count there) = IsExceeded of.Comparing count there wanted machine
+HasFault wanted machine (fault.StorageWidth line) = IsFirstOver of.StorageWidth wanted machine × IsLowestOf wanted.wide_texts line
+HasFault wanted machine (fault.StorageUnits count there) = IsExceeded of.StorageUnits count there wanted machine
+HasFault wanted machine (fault.Splits count there) = IsExceeded of.Splits count there wanted machine
+HasFault wanted machine (fault.Indicate level count there) = IsExceeded (of.Indicate level) count there wanted machine
+HasFault wanted machine fault.Memory = Unit {0}

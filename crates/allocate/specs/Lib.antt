@@ -1,0 +1,13 @@
+pub mod Behind
+pub mod ChartTotals
+pub mod Enough
+pub mod Exceeded
+pub mod Groups
+pub mod Laws
+pub mod Pilots
+pub mod Plans
+pub mod Positions
+pub mod Taking
+pub mod Totals
+pub mod Units
+pub mod Wanted

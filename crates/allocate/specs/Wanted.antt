@@ -1,0 +1,48 @@
+-- All that a chart asks of the machine.
+use Rattle.std.specs.Prelude.{ℕ, ◌==◌, List, [], if◌then◌else◌}
+use Rattle.chart_text.specs.declared.chart.Line.{Line}
+use Rattle.allocate.specs.declared.total.Total.{Total}
+use Rattle.allocate.specs.declared.position.Position.{Position}
+use Rattle.allocate.specs.ChartTotals.{totals_of}
+use Rattle.allocate.specs.Pilots.{pilots_of}
+use Rattle.allocate.specs.Positions.{comparing_of, indicate_of}
+use Rattle.allocate.specs.Units.{storage_of, wide_texts_of, splits_of}
+
+-- What the parts of the machine other than the counter groups serve, each list in the order of their numbers, from 1; the
+-- indicate positions by level: 1 (minor), 2 (intermediate) and 3 (major).
+pub record Parts : Type 0 where
+  pub pilots : List (List ℕ)
+  pub comparing : List Position
+  pub storage : List ℕ
+  pub splits : List ℕ
+  pub minor : List Position
+  pub intermediate : List Position
+  pub major : List Position
+
+-- the indicate positions of a level
+abbrev pub indicate_at : Parts → ℕ → List Position
+indicate_at parts level =
+    if level == 1 then parts.minor else if level == 2 then parts.intermediate else if level == 3 then parts.major else []
+
+-- what these parts serve for a chart
+abbrev pub parts_of : List Line → Parts
+parts_of lines =
+    record {
+      pilots = pilots_of lines;
+      comparing = comparing_of lines;
+      storage = storage_of lines;
+      splits = splits_of lines;
+      minor = indicate_of 1 lines;
+      intermediate = indicate_of 2 lines;
+      major = indicate_of 3 lines;
+    }
+
+-- the totals, in the order of their lines, the lines of the total texts that are too wide, and what the other parts serve
+pub record Wanted : Type 0 where
+  pub totals : List Total
+  pub wide_texts : List ℕ
+  pub parts : Parts
+
+-- what a chart asks for
+abbrev pub wanted_of : List Line → Wanted
+wanted_of lines = record { totals = totals_of lines; wide_texts = wide_texts_of lines; parts = parts_of lines }

@@ -1,0 +1,44 @@
+//! Allocation.
+
+ghost use Rattle.std.specs.Prelude.{IfOk, IfErr, OnOk};
+ghost use Rattle.allocate.specs.Exceeded.{Fits, HasFault};
+ghost use Rattle.allocate.specs.Plans.{IsPlanOf, IsFor};
+ghost use Rattle.allocate.specs.Wanted.{wanted_of};
+
+use crate::exceeded::fault_on;
+use crate::fault::CapacityFault;
+use crate::groups::assign;
+use crate::plan::Plan;
+use crate::wanted::Wanted;
+use capacity::Profile;
+use chart_rules::Chart;
+use std::alloc::Global;
+
+/// The plan of a chart on a machine.
+///
+/// The totals are taken by need, the greatest first, then by level, then by line; each has the counter group of the lowest
+/// number that is free of the smallest width that is enough and still has a free one. The other parts of the machine
+/// serve what the chart asks for in its order: pilots the signed amounts of DETAIL and TOTAL lines by their FIELD lines,
+/// comparing positions the columns of the CONTROL lines' fields, storage units the texts of total lines, splits the DETAIL
+/// amounts with their sign column inside, indicate positions the columns of the INDICATE items of their level.
+///
+/// # Errors
+///
+/// The first capacity that the chart exceeds: 61 `Counters` by width, 8 first, then 62 to 66, then 67 `Indicate` by level.
+/// `Memory` where a growth was refused.
+pub fn allocate(alloc: Global, chart: &Chart, profile: &Profile) -> Result<Plan, CapacityFault>
+    ensures plan { IfOk result (IsPlanOf (wanted_of chart.now.lines) profile.now) }
+    ensures serves { IfOk result (IsFor chart.now.lines) }
+    ensures fits { OnOk result (Fits (wanted_of chart.now.lines) profile.now) }
+    ensures refused { IfErr result (HasFault (wanted_of chart.now.lines) profile.now) }
+{
+    let wanted = Wanted::of(alloc, chart)?;
+    if let Some(fault) = fault_on(&wanted, profile) {
+        return Err(fault);
+    }
+    // Whatever fits a profile fits the standard machine, since no profile has more.
+    let pilots = profile.pilots();
+    prove!(pilots <= 16);
+    let groups = assign(alloc, wanted.totals(), profile)?;
+    Ok(Plan::of(groups, wanted.into_parts()))
+}

@@ -1,0 +1,231 @@
+//! Charts with the plan that they have, or the first capacity that they exceed, on the standard machine and on smaller ones.
+
+use crate::{CapacityFault, Plan, Position, allocate};
+use capacity::{CounterGroup, Profile};
+use chart_rules::{Chart, check};
+use chart_text::read_chart;
+use std::alloc::Global;
+use std::test::Fail;
+
+const NO_PILOTS: CapacityFault = CapacityFault::Pilots {
+    wanted: 1,
+    there: 0,
+};
+
+const FEW_COMPARING: CapacityFault = CapacityFault::Comparing {
+    wanted: 3,
+    there: 2,
+};
+
+const NO_STORAGE: CapacityFault = CapacityFault::StorageUnits {
+    wanted: 1,
+    there: 0,
+};
+
+const NO_SPLITS: CapacityFault = CapacityFault::Splits {
+    wanted: 1,
+    there: 0,
+};
+
+const NO_INDICATE: CapacityFault = CapacityFault::Indicate {
+    level: 3,
+    wanted: 1,
+    there: 0,
+};
+
+/// Eight totals of 8 digits, and what makes them nine.
+#[rattlefmt::skip]
+static EIGHTS: &[u8] = b"PRINT GROUP\nFORM 12 1 9\nFIELD Q1 AMOUNT 1 8 0\nTOTAL 4 1 Q1 8\nFIELD Q2 AMOUNT 9 16 0\nTOTAL 4 9 Q2 8\nFIELD Q3 AMOUNT 17 24 0\nTOTAL 4 17 Q3 8\nFIELD Q4 AMOUNT 25 32 0\nTOTAL 4 25 Q4 8\nFIELD Q5 AMOUNT 33 40 0\nTOTAL 4 33 Q5 8\nFIELD Q6 AMOUNT 41 48 0\nTOTAL 4 41 Q6 8\nFIELD Q7 AMOUNT 49 56 0\nTOTAL 4 49 Q7 8\nFIELD Q8 AMOUNT 57 64 0\nTOTAL 4 57 Q8 8\n";
+
+static NINTH: &[u8] = b"FIELD Q9 AMOUNT 65 72 0\nTOTAL 4 65 Q9 8\n";
+
+/// Totals of 2 digits, 24 of them.
+#[rattlefmt::skip]
+static TWOS: &[u8] = b"FIELD P1 AMOUNT 80 80 0\nTOTAL 4 65 P1 2\nFIELD P2 AMOUNT 80 80 0\nTOTAL 4 67 P2 2\nFIELD P3 AMOUNT 80 80 0\nTOTAL 4 69 P3 2\nFIELD P4 AMOUNT 80 80 0\nTOTAL 4 71 P4 2\nFIELD P5 AMOUNT 80 80 0\nTOTAL 4 73 P5 2\nFIELD P6 AMOUNT 80 80 0\nTOTAL 4 75 P6 2\nFIELD P7 AMOUNT 80 80 0\nTOTAL 4 77 P7 2\nFIELD P8 AMOUNT 80 80 0\nTOTAL 4 79 P8 2\nFIELD P9 AMOUNT 80 80 0\nTOTAL 4 81 P9 2\nFIELD P10 AMOUNT 80 80 0\nTOTAL 4 83 P10 2\nFIELD P11 AMOUNT 80 80 0\nTOTAL 4 85 P11 2\nFIELD P12 AMOUNT 80 80 0\nTOTAL 4 87 P12 2\nFIELD P13 AMOUNT 80 80 0\nTOTAL 4 89 P13 2\nFIELD P14 AMOUNT 80 80 0\nTOTAL 4 91 P14 2\nFIELD P15 AMOUNT 80 80 0\nTOTAL 4 93 P15 2\nFIELD P16 AMOUNT 80 80 0\nTOTAL 4 95 P16 2\nFIELD P17 AMOUNT 80 80 0\nTOTAL 4 97 P17 2\nFIELD P18 AMOUNT 80 80 0\nTOTAL 4 99 P18 2\nFIELD P19 AMOUNT 80 80 0\nTOTAL 4 101 P19 2\nFIELD P20 AMOUNT 80 80 0\nTOTAL 4 103 P20 2\nFIELD P21 AMOUNT 80 80 0\nTOTAL 4 105 P21 2\nFIELD P22 AMOUNT 80 80 0\nTOTAL 4 107 P22 2\nFIELD P23 AMOUNT 80 80 0\nTOTAL 4 109 P23 2\nFIELD P24 AMOUNT 80 80 0\nTOTAL 4 111 P24 2\n";
+
+/// Two unsigned totals of 3 digits, and what makes them three.
+#[rattlefmt::skip]
+static THREES: &[u8] = b"PRINT GROUP\nFORM 12 1 9\nFIELD Q1 AMOUNT 1 3 0\nTOTAL 4 3 Q1 3\nFIELD Q2 AMOUNT 1 3 0\nTOTAL 4 6 Q2 3\n";
+
+static THIRD: &[u8] = b"FIELD Q3 AMOUNT 1 3 0\nTOTAL 4 9 Q3 3\n";
+
+/// A signed total alone.
+const BALANCE: &[u8] =
+    b"FIELD AMT AMOUNT 1 2 0 X 3\nPRINT GROUP\nTOTAL 4 1 AMT 2 MARK CR\nFORM 12 1 9\n";
+
+/// Totals of four levels, with three control fields, one of them shown on the first card of its group.
+#[rattlefmt::skip]
+const LEVELS: &[u8] = b"FIELD MAJ TEXT 1 1\nFIELD INT TEXT 2 2\nFIELD MIN TEXT 3 3\nFIELD QTY AMOUNT 4 5 0\nCONTROL 3 MAJ\nCONTROL 2 INT\nCONTROL 1 MIN\nPRINT DETAIL\nDETAIL 1 MAJ INDICATE 3\nDETAIL 3 QTY\nTOTAL 1 3 QTY 2\nTOTAL 1 8 'MIN'\nTOTAL 2 3 QTY 2\nTOTAL 2 8 'INT'\nTOTAL 3 3 QTY 2\nTOTAL 3 8 'MAJ'\nTOTAL 4 3 QTY 2\nTOTAL 4 8 'ALL'\nFORM 30 1 25\n";
+
+/// A control field's text on a total line.
+#[rattlefmt::skip]
+const DEPARTMENTS: &[u8] = b"FIELD DEPT TEXT 1 2\nFIELD QTY AMOUNT 3 4 0\nCONTROL 1 DEPT\nPRINT GROUP\nTOTAL 1 1 DEPT\nTOTAL 1 5 QTY 3\nAFTER TOTAL 1 PAGE\nFORM 12 1 9\n";
+
+/// The same with a text of 17 columns.
+#[rattlefmt::skip]
+const WIDE_DEPARTMENTS: &[u8] = b"FIELD DEPT TEXT 1 17\nFIELD QTY AMOUNT 18 19 0\nCONTROL 1 DEPT\nPRINT GROUP\nTOTAL 1 1 DEPT\nTOTAL 1 20 QTY 3\nAFTER TOTAL 1 PAGE\nFORM 12 1 9\n";
+
+/// An amount with its sign over its own last column.
+const OVERPUNCHED: &[u8] =
+    b"FIELD AMT AMOUNT 1 2 0 X 2\nFIELD T TEXT 3 3\nPRINT DETAIL\nDETAIL 1 AMT MARK -\nDETAIL 5 T\nFORM 12 1 9\n";
+
+/// Charts on machines with these pilots, comparing positions, storage units, splits and indicate positions, and the fault
+/// of each.
+#[rattlefmt::skip]
+static SMALLER: [(&[u8], [u8; 5], CapacityFault); 6] = [
+    (BALANCE, [0, 30, 4, 16, 30], NO_PILOTS),
+    (LEVELS, [16, 2, 4, 16, 30], FEW_COMPARING),
+    (DEPARTMENTS, [16, 30, 0, 16, 30], NO_STORAGE),
+    (WIDE_DEPARTMENTS, [16, 30, 4, 16, 30], CapacityFault::StorageWidth { line: 6 }),
+    (OVERPUNCHED, [16, 30, 4, 0, 30], NO_SPLITS),
+    (LEVELS, [16, 30, 4, 16, 0], NO_INDICATE),
+];
+
+/// A chart on a machine with these pilots, comparing positions, storage units, splits and indicate positions, and its fault.
+fn smaller_at(row: usize) -> Option<(&'static [u8], [u8; 5], CapacityFault)> {
+    SMALLER.get(row).copied()
+}
+
+// A text behind a call keeps its bytes out of the proofs of the tests.
+fn eights() -> &'static [u8] {
+    EIGHTS
+}
+
+fn ninth() -> &'static [u8] {
+    NINTH
+}
+
+fn twos() -> &'static [u8] {
+    TWOS
+}
+
+fn threes() -> &'static [u8] {
+    THREES
+}
+
+fn third() -> &'static [u8] {
+    THIRD
+}
+
+fn levels() -> &'static [u8] {
+    LEVELS
+}
+
+fn departments() -> &'static [u8] {
+    DEPARTMENTS
+}
+
+fn overpunched() -> &'static [u8] {
+    OVERPUNCHED
+}
+
+/// The chart of some lines and some more, which stand between the first line and END.
+fn chart_of(alloc: Global, lines: &[u8], more: &[u8]) -> Result<Chart, Fail> {
+    let mut text = b"CHART407 1\n".to_vec(alloc)?;
+    text.extend_from_slice(lines)?;
+    text.extend_from_slice(more)?;
+    text.extend_from_slice(b"END\n")?;
+    Ok(check(alloc, read_chart(alloc, text.as_slice())?)?)
+}
+
+/// The plan of a chart that fits the standard machine.
+fn plan_of(alloc: Global, chart: &Chart) -> Result<Plan, Fail> {
+    Ok(allocate(alloc, chart, &Profile::standard())?)
+}
+
+/// Why a chart does not fit a machine, if it does not.
+fn fault_of(alloc: Global, chart: &Chart, profile: &Profile) -> Option<CapacityFault> {
+    match allocate(alloc, chart, profile) {
+        Ok(_plan) => None,
+        Err(fault) => Some(fault),
+    }
+}
+
+fn group(width: u8, number: u8) -> CounterGroup {
+    CounterGroup { width, number }
+}
+
+#[test]
+fn nine_totals_of_eight(rt: HostRuntime) -> Result<(), Fail> {
+    let chart = chart_of(rt.alloc(), eights(), ninth())?;
+    let wanted = CapacityFault::Counters {
+        width: 8,
+        wanted: 9,
+        there: 8,
+    };
+    assert_eq!(rt;
+        fault_of(rt.alloc(), &chart, &Profile::standard()),
+        Some(wanted)
+    );
+    Ok(())
+}
+
+#[test]
+fn all_groups_in_use(rt: HostRuntime) -> Result<(), Fail> {
+    let chart = chart_of(rt.alloc(), eights(), twos())?;
+    let plan = plan_of(rt.alloc(), &chart)?;
+    assert_eq!(rt; plan.groups().len(), 32);
+    assert!(rt; plan.is_for(&chart));
+    Ok(())
+}
+
+#[test]
+fn smaller_machines(rt: HostRuntime) -> Result<(), Fail> {
+    for row in 0..6 {
+        let (lines, numbers, wanted) = smaller_at(row).ok_or("row")?;
+        let [pilots, comparing, storage, splits, indicate] = numbers;
+        let profile = Profile::smaller([8; 4], pilots, comparing, storage, splits, indicate);
+        let chart = chart_of(rt.alloc(), lines, b"")?;
+        let fault = fault_of(rt.alloc(), &chart, &profile.ok_or("profile")?);
+        assert_eq!(rt; fault, Some(wanted));
+    }
+    Ok(())
+}
+
+#[test]
+fn one_group_of_three_and_one_of_four(rt: HostRuntime) -> Result<(), Fail> {
+    let profile = Profile::smaller([1, 1, 0, 0], 16, 30, 4, 16, 30).ok_or("profile")?;
+    let plan = allocate(rt.alloc(), &chart_of(rt.alloc(), threes(), b"")?, &profile)?;
+    assert!(rt; plan.groups() == [group(3, 1), group(4, 1)].as_slice());
+    let chart = chart_of(rt.alloc(), threes(), third())?;
+    let wanted = CapacityFault::Counters {
+        width: 3,
+        wanted: 3,
+        there: 2,
+    };
+    assert_eq!(rt; fault_of(rt.alloc(), &chart, &profile), Some(wanted));
+    Ok(())
+}
+
+#[test]
+fn numbers_of_a_plan(rt: HostRuntime) -> Result<(), Fail> {
+    let chart = chart_of(rt.alloc(), levels(), b"")?;
+    let plan = plan_of(rt.alloc(), &chart)?;
+    assert_eq!(rt; plan.group_on(&chart, 16), Some(group(3, 3)));
+    assert_eq!(rt; plan.group_on(&chart, 17), None);
+    let of_line = Position { line: 7, column: 2 };
+    assert_eq!(rt; plan.comparing_position(of_line), Some(2));
+    let of_item = Position {
+        line: 10,
+        column: 1,
+    };
+    assert_eq!(rt; plan.indicate_position(3, of_item), Some(1));
+    assert_eq!(rt; plan.indicate_position(2, of_item), None);
+    Ok(())
+}
+
+#[test]
+fn storage_units_and_splits_of_a_plan(rt: HostRuntime) -> Result<(), Fail> {
+    let texts = chart_of(rt.alloc(), departments(), b"")?;
+    let signs = chart_of(rt.alloc(), overpunched(), b"")?;
+    let plan = plan_of(rt.alloc(), &texts)?;
+    assert!(rt; !plan.is_for(&signs));
+    assert_eq!(rt; plan.storage_unit(6), Some(1));
+    let plan = plan_of(rt.alloc(), &signs)?;
+    assert_eq!(rt; plan.split_on(5), Some(1));
+    for field in signs.fields() {
+        let number = if field.first == 1 { Some(1) } else { None };
+        assert_eq!(rt; plan.pilot_of(field.name), number);
+    }
+    Ok(())
+}

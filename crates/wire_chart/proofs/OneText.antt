@@ -1,0 +1,82 @@
+-- A setup has one text.
+use Rattle.std.proofs.Common.{◌≡◌, inl, inr, ℕ, ◌<◌, List, refl, sym, ap, ◌∙◌, subst, arith}
+use Rattle.std.proofs.lemmas.Option.{same_Some}
+use Rattle.hubs.specs.Tapes.{Form}
+use Rattle.hubs.specs.Wiring.{Wiring}
+use Rattle.hubs.specs.declared.hub.Hub.{Hub}
+use Rattle.hubs.specs.declared.jack.Jack.{Jack}
+use Rattle.wire_chart.specs.Laws.{IsSameSetup}
+use Rattle.wire_chart.specs.WrittenText.{IsWritten, IsStopBefore, IsJackBefore, IsHubBefore, IsWireBefore, text_of}
+use Rattle.wire_chart.proofs.Ordered.{IsOneWay, same_list}
+
+pub stops_one_way : IsOneWay IsStopBefore
+stops_one_way x y one other =
+    elim one [
+      | inl a ↦ elim other [ inl b ↦ absurd (omega arith) | inr b ↦ absurd (omega (arith, b.0)) ]
+      | inr a ↦ elim other [ inl b ↦ absurd (omega (arith, a.0)) | inr b ↦ absurd (omega (arith, a.1, b.1)) ]
+    ]
+
+pub jacks_one_way : IsOneWay IsJackBefore
+jacks_one_way x y one other = omega (arith, one, other)
+
+hubs_one_way : IsOneWay IsHubBefore
+hubs_one_way x y one other =
+    let first : one.number ≡ other.other_number = same_Some one.number other.other_number (sym one.numbered ∙ other.other_numbered) in
+    let second : one.other_number ≡ other.number = same_Some one.other_number other.number (sym one.other_numbered ∙ other.numbered) in
+    let below : one.number < one.other_number = one.before in
+    let above : other.number < other.other_number = other.before in
+    omega arith
+
+hub_not_before : (x y : Hub) → x ≡ y → IsHubBefore x y → ⊥
+hub_not_before x y e before =
+    let itself : IsHubBefore y y = subst (λ z. IsHubBefore z y) e before in
+    hubs_one_way y y itself itself
+
+pub wires_one_way : IsOneWay IsWireBefore
+wires_one_way x y one other =
+    elim one [
+      | inl a ↦ elim other [ inl b ↦ hubs_one_way x.0 y.0 a b | inr b ↦ hub_not_before x.0 y.0 (sym b.0) a ]
+      | inr a ↦ elim other [ inl b ↦ hub_not_before y.0 x.0 (sym a.0) b | inr b ↦ hubs_one_way x.1 y.1 a.1 b.1 ]
+    ]
+
+-- the same members of two lists by what they are
+same_stops : (one other : Wiring) (text words : List ℕ) → IsSameSetup one other → (first : IsWritten one text)
+    → (second : IsWritten other words) → first.stops ≡ second.stops
+same_stops one other text words same first second =
+    same_list IsStopBefore first.stops second.stops stops_one_way first.stops_in_order second.stops_in_order
+    (λ a has. (second.all_stops a.0 a.1).0 (same.stops a.0 a.1 ∙ (first.all_stops a.0 a.1).1 has))
+    (λ a has. (first.all_stops a.0 a.1).0 (sym (same.stops a.0 a.1) ∙ (second.all_stops a.0 a.1).1 has))
+
+same_jacks : (one other : Wiring) (text words : List ℕ) → IsSameSetup one other → (first : IsWritten one text)
+    → (second : IsWritten other words) → first.jacks ≡ second.jacks
+same_jacks one other text words same first second =
+    same_list IsJackBefore first.jacks second.jacks jacks_one_way first.jacks_in_order second.jacks_in_order
+    (λ a has. (second.all_jacks a).0 (same.jacks a ∙ (first.all_jacks a).1 has))
+    (λ a has. (first.all_jacks a).0 (sym (same.jacks a) ∙ (second.all_jacks a).1 has))
+
+same_wires : (one other : Wiring) (text words : List ℕ) → IsSameSetup one other → (first : IsWritten one text)
+    → (second : IsWritten other words) → first.wires ≡ second.wires
+same_wires one other text words same first second =
+    same_list IsWireBefore first.wires second.wires wires_one_way first.wires_in_order second.wires_in_order
+    (λ a has. (second.all_wires a.0 a.1).0 ((same.wires a.0 a.1).1 ((first.all_wires a.0 a.1).1 has)))
+    (λ a has. (first.all_wires a.0 a.1).0 ((same.wires a.0 a.1).0 ((second.all_wires a.0 a.1).1 has)))
+
+-- a form is written by its numbers alone
+same_text : (one other : Form) (stops : List (ℕ × ℕ)) (jacks : List Jack) (wires : List (Hub × Hub))
+    → other.lines ≡ one.lines → other.first ≡ one.first → other.overflow ≡ one.overflow
+    → text_of one stops jacks wires ≡ text_of other stops jacks wires
+same_text one other stops jacks wires lines first overflow = rw (lines, first, overflow) refl
+
+-- The same setups have one text.
+pub one_text : (one other : Wiring) (text words : List ℕ) → IsSameSetup one other → IsWritten one text → IsWritten other words
+    → text ≡ words
+one_text one other text words same first second =
+    first.spelled
+    ∙ ap (λ (stops : List (ℕ × ℕ)). text_of one.tape stops first.jacks first.wires)
+    (same_stops one other text words same first second)
+    ∙ ap (λ (jacks : List Jack). text_of one.tape second.stops jacks first.wires)
+    (same_jacks one other text words same first second)
+    ∙ ap (λ (wires : List (Hub × Hub)). text_of one.tape second.stops second.jacks wires)
+    (same_wires one other text words same first second)
+    ∙ same_text one.tape other.tape second.stops second.jacks second.wires same.lines same.first same.overflow
+    ∙ sym second.spelled

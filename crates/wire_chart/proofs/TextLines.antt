@@ -1,0 +1,110 @@
+-- The lines of a text that is written, and what they say.
+use Rattle.std.proofs.Common.{◌≡◌, ℕ, ◌≤◌, List, [], ◌∷◌, ◌++◌, refl, sym, ap, ◌∙◌, subst, arith, append_assoc, codes}
+use Rattle.std.specs.Prelude.{map}
+use Rattle.std.specs.List.{flat_map}
+use Rattle.card_code.specs.Lines.{lines_of}
+use Rattle.hubs.specs.Tapes.{Form, IsFormed}
+use Rattle.hubs.specs.Wiring.{Wiring}
+use Rattle.hubs.specs.declared.hub.Hub.{Hub}
+use Rattle.hubs.specs.declared.jack.Jack.{Jack}
+use Rattle.wire_chart.specs.WiringText.{FormNumbers, IsFormLine, SaysLines, end_line}
+use Rattle.wire_chart.specs.WrittenText.{IsWritten, ended, number_text, form_line, stop_line, jack_line, wire_line}
+use Rattle.wire_chart.specs.declared.statement.Statement.{Statement}
+use Rattle.wire_chart.specs.declared.statement.Statement.TheVariants.{Plug}
+use Rattle.wire_chart.proofs.WrittenBytes.{IsWrittenLine, words_line, line_of_words, ended_line, ended_lines, no_lines}
+use Rattle.wire_chart.proofs.WrittenSaid.{jack_said}
+use Rattle.wire_chart.proofs.WrittenWords.{number_written, number_word}
+use Rattle.std.proofs.Common.{append-nil}
+use Rattle.wire_chart.proofs.WrittenLines.{IsText, stop_statement, wire_statement, lines_said, lines_inner, stops_said, each_jack, wires_said}
+
+-- the line of the form
+abbrev pub form_numbers : Form → FormNumbers
+form_numbers form = record { lines = form.lines; first = form.first; overflow = form.overflow }
+
+three_words : (word a b c : List ℕ)
+    → word ++ (32 ∷ a) ++ (32 ∷ b) ++ (32 ∷ c) ≡ word ++ words_line (a ∷ b ∷ c ∷ [])
+three_words word a b c = simp (append_assoc, append-nil)
+
+pub form_written : (form : Form) → IsFormed form.lines form.first form.overflow
+    → IsWrittenLine (form_line form) (codes "FORM" ∷ number_text form.lines ∷ number_text form.first ∷ number_text form.overflow ∷ [])
+form_written form formed =
+    let tokens : List (List ℕ) = number_text form.lines ∷ number_text form.first ∷ number_text form.overflow ∷ [] in
+    let to : form.lines ≤ 144 = formed.lines_to in
+    subst (λ (l : List ℕ). IsWrittenLine l (codes "FORM" ∷ tokens))
+    (sym (three_words (codes "FORM") (number_text form.lines) (number_text form.first) (number_text form.overflow)))
+    (line_of_words (codes "FORM") tokens (record { some = omega arith; few = omega arith; high = refl }) (omega arith) (
+      number_word form.lines (omega arith),
+      (
+        number_word form.first (omega (arith, formed.first_to)),
+        (number_word form.overflow (omega (arith, formed.overflow_to)), tt),
+      ),
+    )
+    (omega arith))
+
+pub form_is : (form : Form) → IsFormed form.lines form.first form.overflow → IsFormLine (form_line form) (form_numbers form)
+form_is form formed =
+    let to : form.lines ≤ 144 = formed.lines_to in
+    record {
+      size = number_text form.lines;
+      top = number_text form.first;
+      bottom = number_text form.overflow;
+      divided = (form_written form formed).divided;
+      lines = number_written form.lines (omega arith);
+      first = number_written form.first (omega (arith, formed.first_to));
+      overflow = number_written form.overflow (omega (arith, formed.overflow_to));
+    }
+
+-- the first line and the last
+pub first_written : IsWrittenLine (codes "WIRING407 1") (codes "WIRING407" ∷ codes "1" ∷ [])
+first_written =
+    line_of_words (codes "WIRING407") (codes "1" ∷ [])
+    (record { some = omega arith; few = omega arith; high = refl }) (omega arith)
+    (record { some = omega arith; few = omega arith; high = refl }, tt) (omega arith)
+
+pub end_written : IsWrittenLine (codes "END") (codes "END" ∷ [])
+end_written =
+    line_of_words (codes "END") [] (record { some = omega arith; few = omega arith; high = refl }) (omega arith) tt (omega arith)
+
+-- the lines behind the form, and what they say
+abbrev pub lines_behind : List (ℕ × ℕ) → List Jack → List (Hub × Hub) → List (List ℕ)
+lines_behind stops jacks wires =
+    map stop_line stops ++ (map jack_line jacks ++ (map wire_line wires ++ (codes "END" ∷ [])))
+
+abbrev pub statements_of : List (ℕ × ℕ) → List Jack → List (Hub × Hub) → List Statement
+statements_of stops jacks wires = map stop_statement stops ++ (map Plug jacks ++ (map wire_statement wires ++ []))
+
+regroup : (a b c d e f : List ℕ) → a ++ b ++ c ++ d ++ e ++ f ≡ a ++ (b ++ (c ++ (d ++ (e ++ f))))
+regroup a b c d e f = simp append_assoc
+
+-- the lines of the text
+pub text_lines : (wiring : Wiring) (text : List ℕ) → (is : IsText wiring text) → lines_of text
+    ≡ codes "WIRING407 1" ∷ form_line wiring.tape ∷ lines_behind is.written.stops is.written.jacks is.written.wires
+text_lines wiring text is =
+    let w : IsWritten wiring text = is.written in
+    let stops : List ℕ = flat_map (λ stop. ended (stop_line stop)) w.stops in
+    let jacks : List ℕ = flat_map (λ jack. ended (jack_line jack)) w.jacks in
+    let wires : List ℕ = flat_map (λ wire. ended (wire_line wire)) w.wires in
+    let end : List ℕ = ended (codes "END") in
+    ap lines_of (w.spelled ∙ regroup (ended (codes "WIRING407 1")) (ended (form_line wiring.tape)) stops jacks wires end)
+    ∙ ended_line (codes "WIRING407 1") (ended (form_line wiring.tape) ++ (stops ++ (jacks ++ (wires ++ end)))) first_written.inner
+    ∙ ap (λ (ls : List (List ℕ)). codes "WIRING407 1" ∷ ls)
+    (ended_line (form_line wiring.tape) (stops ++ (jacks ++ (wires ++ end))) (form_written wiring.tape is.setup.form.formed).inner
+    ∙ ap (λ (ls : List (List ℕ)). form_line wiring.tape ∷ ls)
+    (ended_lines stop_line w.stops (jacks ++ (wires ++ end)) (lines_inner stop_line stop_statement w.stops (stops_said wiring text is))
+    ∙ ap (λ (ls : List (List ℕ)). map stop_line w.stops ++ ls)
+    (ended_lines jack_line w.jacks (wires ++ end)
+    (lines_inner jack_line Plug w.jacks (λ jack has. jack_said jack (each_jack wiring text is jack has)))
+    ∙ ap (λ (ls : List (List ℕ)). map jack_line w.jacks ++ ls)
+    (ended_lines wire_line w.wires end (lines_inner wire_line wire_statement w.wires (wires_said wiring text is))
+    ∙ ap (λ (ls : List (List ℕ)). map wire_line w.wires ++ ls)
+    (ended_line (codes "END") [] refl ∙ ap (λ (ls : List (List ℕ)). codes "END" ∷ ls) no_lines)))))
+
+pub text_said : (wiring : Wiring) (text : List ℕ) → (is : IsText wiring text)
+    → SaysLines (lines_behind is.written.stops is.written.jacks is.written.wires)
+    (statements_of is.written.stops is.written.jacks is.written.wires)
+text_said wiring text is =
+    let w : IsWritten wiring text = is.written in
+    lines_said stop_line stop_statement w.stops _ _ (stops_said wiring text is)
+    (lines_said jack_line Plug w.jacks _ _ (λ jack has. jack_said jack (each_jack wiring text is jack has))
+    (lines_said wire_line wire_statement w.wires _ _ (wires_said wiring text is)
+    (end_line end_written.divided tt)))

@@ -1,0 +1,458 @@
+-- A text is a wiring chart exactly where it is read as one, and has exactly the fault that is read.
+use Rattle.std.proofs.Common.{◌≡◌, ◌⊎◌, ℕ, ◌<◌, ◌≤◌, Bool, true, false, cond, ltb, ◌||◌, List, [], ◌∷◌, length, Option, Some, None, Result, Ok, Err, refl, ap, sym, ◌∙◌, subst, inl, inr, arith}
+use Rattle.std.proofs.lemmas.Bool.{ltb-true, lt-ltb, or_cases, cases_order, both_ways}
+use Rattle.std.proofs.lemmas.List.Folds.{Any-from_list_any, list_any-from_Any}
+use Rattle.std.proofs.lemmas.Option.{same_Some}
+use Rattle.std.specs.List.{list_any}
+use Rattle.card_code.specs.Lines.{lines_of}
+use Rattle.hubs.specs.Tapes.{IsFormed}
+use Rattle.hubs.specs.declared.fault.SetupFault.{SetupFault}
+use Rattle.hubs.specs.declared.fault.SetupFault.TheVariants.{TapeFault}
+use Rattle.tokens.specs.Dividing.{tokens_of}
+use Rattle.wire_chart.specs.Statements.{statement_fault}
+use Rattle.wire_chart.specs.TextReading.{Told, divided_form, formed_lines, headed_lines, is_first, is_formed, is_large, is_long, lines_from, lines_told, start, text_told, with_form}
+use Rattle.wire_chart.specs.WiringFaults.{line_at, HasHead, IsMisplaced, IsRepeated, IsUnfitLine, IsUnfitForm, IsUnfit, IsAtFault, misplaced, repeated, unfit, AreGoodBefore, LacksEnd, IsBegun, HaveFault, HasFault}
+use Rattle.wire_chart.specs.WiringText.{FormNumbers, IsTooLarge, IsWiringChart, SaysLines}
+use Rattle.wire_chart.specs.declared.fault.WiringFault.{WiringFault}
+use Rattle.wire_chart.specs.declared.fault.WiringFault.TheVariants.{TooLarge, NoFirstLine, NotALine, LineTwice, Unfit, NoEnd, Memory}
+use Rattle.wire_chart.specs.declared.statement.Statement.{Statement}
+use Rattle.wire_chart.proofs.LineGrammar.{begun_is, begun_read, said_read}
+use Rattle.wire_chart.proofs.LinesGrammar.{lines_read, reads_what_is_read}
+use Rattle.wire_chart.proofs.LineOutcomes.{Outcome, outcome}
+use Rattle.wire_chart.proofs.LinePlaces.{same_said}
+use Rattle.wire_chart.proofs.NewSetup.{formed_is, formed_read}
+use Rattle.wire_chart.proofs.StatementGrammar.{form_is, form_read}
+
+-- the size
+or_true : (b c : Bool) → c ≡ true → (b || c) ≡ true
+or_true true c e = refl
+or_true false c e = e
+
+or_first : (b c : Bool) → b ≡ true → (b || c) ≡ true
+or_first b c e = rw e refl
+
+large_is : (lines : List (List ℕ)) → is_large lines ≡ true → IsTooLarge lines
+large_is lines test = by_cause (or_cases (ltb 1000000 (length lines)) (list_any is_long lines) test)
+  where
+    by_cause : (ltb 1000000 (length lines) ≡ true) ⊎ (list_any is_long lines ≡ true) → IsTooLarge lines
+    by_cause (inl e) = inl (ltb-true 1000000 (length lines) e)
+    by_cause (inr e) =
+        let long = Any-from_list_any is_long lines e in
+        inr (long.0, long.1, long.2, long.3, ltb-true 60 (length long.1) long.4)
+
+large_read : (lines : List (List ℕ)) → IsTooLarge lines → is_large lines ≡ true
+large_read lines (inl many) = or_first (ltb 1000000 (length lines)) (list_any is_long lines)
+    (lt-ltb 1000000 (length lines) many)
+large_read lines (inr long) =
+    or_true (ltb 1000000 (length lines)) (list_any is_long lines)
+    (list_any-from_Any is_long lines (long.0, long.1, long.2, long.3, lt-ltb 60 (length long.1) long.4))
+
+not_large : (lines : List (List ℕ)) → is_large lines ≡ false → IsTooLarge lines → ⊥
+not_large lines test large = both_ways (is_large lines) test (large_read lines large)
+
+small : (lines : List (List ℕ)) → (IsTooLarge lines → ⊥) → is_large lines ≡ false
+small lines is = by_test (is_large lines) refl
+  where
+    by_test : (b : Bool) → is_large lines ≡ b → is_large lines ≡ false
+    by_test true e = absurd (is (large_is lines e))
+    by_test false e = e
+
+-- answers
+abbrev failed : WiringFault → Result Told WiringFault
+failed fault = Err fault
+
+same_fault : (a b : WiringFault) → failed a ≡ failed b → a ≡ b
+same_fault a b e = cc
+
+abbrev read_fault : WiringFault → Result (List Statement) WiringFault
+read_fault fault = Err fault
+
+abbrev told : Told → Result Told WiringFault
+told what = Ok what
+
+same_told : (a b : Told) → told a ≡ told b → a ≡ b
+same_told a b e = cc
+
+form_fault : (form : FormNumbers) (read : Result (List Statement) WiringFault) (fault : WiringFault)
+    → with_form form read ≡ Err fault → read ≡ Err fault
+form_fault form (Ok said) fault e = cc
+form_fault form (Err other) fault e = ap read_fault (same_fault other fault e)
+
+-- what is told behind a form
+record IsTold (form : FormNumbers) (read : Result (List Statement) WiringFault) (what : Told) : Type 0 where
+  form_is : form ≡ what.form
+  read_is : read ≡ Ok what.statements
+
+form_told : (form : FormNumbers) (read : Result (List Statement) WiringFault) (what : Told) → with_form form read ≡ Ok what
+    → IsTold form read what
+form_told form (Ok said) what e =
+    let same = same_told (record { form = form; statements = said }) what e in
+    record { form_is = ap (λ w. w.form) same; read_is = ap (λ w. Ok w.statements) same }
+form_told form (Err fault) what e = cc
+
+-- the fault of lines with a good size and good first lines
+begun_fault : (lines : List (List ℕ)) (form : FormNumbers) (fault : WiringFault) → (IsTooLarge lines → ⊥) → HasHead lines form
+    → Outcome lines form (Err fault) → HaveFault lines fault
+begun_fault lines form TooLarge size head is = absurd is
+begun_fault lines form NoFirstLine size head is = absurd is
+begun_fault lines form (NotALine n) size head is = (record { size = size; form = form; head = head }, is.1, is.0)
+begun_fault lines form (LineTwice n) size head is = (record { size = size; form = form; head = head }, is.1, is.0)
+begun_fault lines form (Unfit n f) size head is = (record { size = size; form = form; head = head }, is.1, is.0)
+begun_fault lines form NoEnd size head is = (record { size = size; form = form; head = head }, is.0, is.1)
+begun_fault lines form Memory size head is = absurd is
+
+-- the first two lines
+has_head : (first second : List ℕ) (others : List (List ℕ)) (form : FormNumbers) → is_first (tokens_of first) ≡ true
+    → divided_form (tokens_of second) ≡ Some form → HasHead (first ∷ second ∷ others) form
+has_head first second others form begun formed =
+    record { there = omega arith; begun = begun_is first begun; formed = form_is second form formed }
+
+head_read : (first second : List ℕ) (others : List (List ℕ)) (form : FormNumbers) → HasHead (first ∷ second ∷ others) form
+    → (is_first (tokens_of first) ≡ true) × (divided_form (tokens_of second) ≡ Some form)
+head_read first second others form has = (begun_read first has.begun, form_read second form has.formed)
+
+-- a form that no tape can have
+unformed : (form : FormNumbers) → is_formed form ≡ false → IsFormed form.lines form.first form.overflow → ⊥
+unformed form test is = both_ways (is_formed form) test (formed_read form is)
+
+none_below_form : (lines : List (List ℕ)) (form : FormNumbers) → AreGoodBefore lines form 2
+none_below_form lines form n below (misplaced is) = absurd (omega (arith, below, is.there.from))
+none_below_form lines form n below (repeated is) = absurd (omega (arith, below, is.said.there.from))
+none_below_form lines form n below (unfit fault (inl is)) = absurd (omega (arith, below, is.second))
+none_below_form lines form n below (unfit fault (inr is)) = absurd (omega (arith, below, is.said.there.from))
+
+formed_fault : (first second : List ℕ) (others : List (List ℕ)) (form : FormNumbers) (fault : WiringFault) (test : Bool)
+    → (IsTooLarge (first ∷ second ∷ others) → ⊥) → HasHead (first ∷ second ∷ others) form → is_formed form ≡ test
+    → cond test (with_form form (lines_from form.lines 3 start others)) (Err (Unfit 2 TapeFault)) ≡ Err fault
+    → HaveFault (first ∷ second ∷ others) fault
+formed_fault first second others form fault true size head formed read =
+    begun_fault (first ∷ second ∷ others) form fault size head
+    (subst (Outcome (first ∷ second ∷ others) form)
+    (form_fault form (lines_from form.lines 3 start others) fault read)
+    (outcome first second others form (formed_is form formed)))
+formed_fault first second others form fault false size head formed read =
+    subst (HaveFault (first ∷ second ∷ others)) (same_fault (Unfit 2 TapeFault) fault read) (
+      record { size = size; form = form; head = head },
+      none_below_form (first ∷ second ∷ others) form,
+      inl (record { second = refl; unfit = unformed form formed; is_tape = refl }),
+    )
+
+headed_fault : (first second : List ℕ) (others : List (List ℕ)) (fault : WiringFault) (test : Bool) (form : Option FormNumbers)
+    → (IsTooLarge (first ∷ second ∷ others) → ⊥) → is_first (tokens_of first) ≡ test → divided_form (tokens_of second) ≡ form
+    → headed_lines test form others ≡ Err fault → HaveFault (first ∷ second ∷ others) fault
+headed_fault first second others fault true (Some form) size begun formed read =
+    formed_fault first second others form fault (is_formed form) size (has_head first second others form begun formed) refl read
+headed_fault first second others fault true None size begun formed read =
+    subst (HaveFault (first ∷ second ∷ others)) (same_fault NoFirstLine fault read)
+    (size, λ form has. clash form (head_read first second others form has).1)
+  where
+    clash : (form : FormNumbers) → divided_form (tokens_of second) ≡ Some form → ⊥
+    clash form e = cc
+headed_fault first second others fault false form size begun formed read =
+    subst (HaveFault (first ∷ second ∷ others)) (same_fault NoFirstLine fault read)
+    (size, λ form has. both_ways (is_first (tokens_of first)) begun (head_read first second others form has).0)
+
+sized_fault : (lines : List (List ℕ)) (fault : WiringFault) (test : Bool) → is_large lines ≡ test
+    → cond test (Err TooLarge) (lines_told lines) ≡ Err fault → HaveFault lines fault
+sized_fault lines fault true size read = subst (HaveFault lines) (same_fault TooLarge fault read) (large_is lines size)
+sized_fault [] fault false size read =
+    subst (HaveFault []) (same_fault NoFirstLine fault read)
+    (not_large [] size, λ form has. absurd (omega (arith, has.there)))
+sized_fault (first ∷ []) fault false size read =
+    subst (HaveFault (first ∷ [])) (same_fault NoFirstLine fault read)
+    (not_large (first ∷ []) size, λ form has. absurd (omega (arith, has.there)))
+sized_fault (first ∷ second ∷ others) fault false size read =
+    headed_fault first second others fault (is_first (tokens_of first)) (divided_form (tokens_of second))
+    (not_large (first ∷ second ∷ others) size) refl refl read
+
+-- the fault that is read is the one of the text
+pub fault_is : (bytes : List ℕ) (fault : WiringFault) → text_told bytes ≡ Err fault → HasFault bytes fault
+unfolding text_told
+fault_is bytes fault read = sized_fault (lines_of bytes) fault (is_large (lines_of bytes)) refl read
+
+-- two lowest lines at fault are the same
+same_number : (lines : List (List ℕ)) (form : FormNumbers) (m n : ℕ) → IsAtFault lines form m → AreGoodBefore lines form m
+    → IsAtFault lines form n → AreGoodBefore lines form n → m ≡ n
+same_number lines form m n is good also well = by_order (cases_order m n)
+  where
+    by_order : (m ≡ n) ⊎ ((m < n) ⊎ (n < m)) → m ≡ n
+    by_order (inl same) = same
+    by_order (inr (inl lower)) = absurd (well m lower is)
+    by_order (inr (inr lower)) = absurd (good n lower also)
+
+-- what is read of lines whose form a tape can have
+misplaced_read : (lines : List (List ℕ)) (form : FormNumbers) (n : ℕ) (read : Result (List Statement) WiringFault)
+    → IsFormed form.lines form.first form.overflow → IsMisplaced lines n → AreGoodBefore lines form n → Outcome lines form read
+    → read ≡ Err (NotALine n)
+misplaced_read lines form n (Ok said) formed is good says = absurd (says.0 n (misplaced is))
+misplaced_read lines form n (Err (NotALine m)) formed is good says =
+    ap (λ k. Err (NotALine k)) (same_number lines form m n (misplaced says.0) says.1 (misplaced is) good)
+misplaced_read lines form n (Err (LineTwice m)) formed is good says =
+    let same = same_number lines form m n (repeated says.0) says.1 (misplaced is) good in
+    absurd (says.0.said.placed (subst (IsMisplaced lines) (sym same) is))
+misplaced_read lines form n (Err (Unfit m fault)) formed is good says = absurd (by_part says.0)
+  where
+    same : m ≡ n
+    same = same_number lines form m n (unfit fault says.0) says.1 (misplaced is) good
+
+    by_part : IsUnfit lines form m fault → ⊥
+    by_part (inl f) = f.unfit formed
+    by_part (inr l) = l.said.placed (subst (IsMisplaced lines) (sym same) is)
+misplaced_read lines form n (Err NoEnd) formed is good says = absurd (says.0 n (misplaced is))
+misplaced_read lines form n (Err TooLarge) formed is good says = absurd says
+misplaced_read lines form n (Err NoFirstLine) formed is good says = absurd says
+misplaced_read lines form n (Err Memory) formed is good says = absurd says
+
+repeated_read : (lines : List (List ℕ)) (form : FormNumbers) (n : ℕ) (read : Result (List Statement) WiringFault)
+    → IsFormed form.lines form.first form.overflow → IsRepeated lines n → AreGoodBefore lines form n → Outcome lines form read
+    → read ≡ Err (LineTwice n)
+repeated_read lines form n (Ok said) formed is good says = absurd (says.0 n (repeated is))
+repeated_read lines form n (Err (NotALine m)) formed is good says =
+    let same = same_number lines form m n (misplaced says.0) says.1 (repeated is) good in
+    absurd (is.said.placed (subst (IsMisplaced lines) same says.0))
+repeated_read lines form n (Err (LineTwice m)) formed is good says =
+    ap (λ k. Err (LineTwice k)) (same_number lines form m n (repeated says.0) says.1 (repeated is) good)
+repeated_read lines form n (Err (Unfit m fault)) formed is good says = absurd (by_part says.0)
+  where
+    same : m ≡ n
+    same = same_number lines form m n (unfit fault says.0) says.1 (repeated is) good
+
+    by_part : IsUnfit lines form m fault → ⊥
+    by_part (inl f) = f.unfit formed
+    by_part (inr l) = l.new (subst (IsRepeated lines) (sym same) is)
+repeated_read lines form n (Err NoEnd) formed is good says = absurd (says.0 n (repeated is))
+repeated_read lines form n (Err TooLarge) formed is good says = absurd says
+repeated_read lines form n (Err NoFirstLine) formed is good says = absurd says
+repeated_read lines form n (Err Memory) formed is good says = absurd says
+
+-- a line is unfit for one cause
+same_cause : (lines : List (List ℕ)) (form : FormNumbers) (n : ℕ) (f g : SetupFault) → IsUnfitLine lines form n f
+    → IsUnfitLine lines form n g → f ≡ g
+same_cause lines form n f g is also =
+    let same = same_said lines n is.statement also.statement
+    (said_read (line_at lines n) is.statement is.said.said) also.said.said in
+    same_Some f g (sym is.unfit ∙ ap (statement_fault form.lines) (sym same) ∙ also.unfit)
+
+unfit_read : (lines : List (List ℕ)) (form : FormNumbers) (n : ℕ) (fault : SetupFault) (read : Result (List Statement) WiringFault)
+    → IsFormed form.lines form.first form.overflow → IsUnfitLine lines form n fault → AreGoodBefore lines form n
+    → Outcome lines form read → read ≡ Err (Unfit n fault)
+unfit_read lines form n fault (Ok said) formed is good says = absurd (says.0 n (unfit fault (inr is)))
+unfit_read lines form n fault (Err (NotALine m)) formed is good says =
+    let same = same_number lines form m n (misplaced says.0) says.1 (unfit fault (inr is)) good in
+    absurd (is.said.placed (subst (IsMisplaced lines) same says.0))
+unfit_read lines form n fault (Err (LineTwice m)) formed is good says =
+    let same = same_number lines form m n (repeated says.0) says.1 (unfit fault (inr is)) good in
+    absurd (is.new (subst (IsRepeated lines) same says.0))
+unfit_read lines form n fault (Err (Unfit m other)) formed is good says = by_part says.0
+  where
+    same : m ≡ n
+    same = same_number lines form m n (unfit other says.0) says.1 (unfit fault (inr is)) good
+
+    by_part : IsUnfit lines form m other → read_fault (Unfit m other) ≡ Err (Unfit n fault)
+    by_part (inl f) = absurd (f.unfit formed)
+    by_part (inr l) =
+        ap (λ k. Err (Unfit k other)) same
+        ∙ ap (λ f. Err (Unfit n f)) (same_cause lines form n other fault
+        (subst (λ (k : ℕ). IsUnfitLine lines form k other) same l) is)
+unfit_read lines form n fault (Err NoEnd) formed is good says = absurd (says.0 n (unfit fault (inr is)))
+unfit_read lines form n fault (Err TooLarge) formed is good says = absurd says
+unfit_read lines form n fault (Err NoFirstLine) formed is good says = absurd says
+unfit_read lines form n fault (Err Memory) formed is good says = absurd says
+
+no_end_read : (lines : List (List ℕ)) (form : FormNumbers) (read : Result (List Statement) WiringFault)
+    → ((n : ℕ) → IsAtFault lines form n → ⊥) → LacksEnd lines → Outcome lines form read → read ≡ Err NoEnd
+no_end_read lines form (Ok said) good lacks says = absurd (says.1 lacks)
+no_end_read lines form (Err (NotALine m)) good lacks says = absurd (good m (misplaced says.0))
+no_end_read lines form (Err (LineTwice m)) good lacks says = absurd (good m (repeated says.0))
+no_end_read lines form (Err (Unfit m fault)) good lacks says = absurd (good m (unfit fault says.0))
+no_end_read lines form (Err NoEnd) good lacks says = refl
+no_end_read lines form (Err TooLarge) good lacks says = absurd says
+no_end_read lines form (Err NoFirstLine) good lacks says = absurd says
+no_end_read lines form (Err Memory) good lacks says = absurd says
+
+-- a form at fault
+form_at_fault : (lines : List (List ℕ)) (form : FormNumbers) → (IsFormed form.lines form.first form.overflow → ⊥)
+    → IsAtFault lines form 2
+form_at_fault lines form not_formed =
+    unfit TapeFault (inl (record { second = refl; unfit = not_formed; is_tape = refl }))
+
+-- the fault of lines behind good first lines is read
+formed_read_fault : (first second : List ℕ) (others : List (List ℕ)) (form : FormNumbers) (fault : WiringFault)
+    → IsFormed form.lines form.first form.overflow
+    → lines_from form.lines 3 start others ≡ Err fault → formed_lines form others ≡ Err fault
+formed_read_fault first second others form fault formed read =
+    ap (λ t. cond t (with_form form (lines_from form.lines 3 start others)) (Err (Unfit 2 TapeFault))) (formed_read form formed)
+    ∙ ap (with_form form) read
+
+-- the form of lines of which one behind it is the lowest at fault
+good_form : (lines : List (List ℕ)) (form : FormNumbers) (n : ℕ) → 3 ≤ n → AreGoodBefore lines form n
+    → IsFormed form.lines form.first form.overflow
+good_form lines form n from good = by_test (is_formed form) refl
+  where
+    by_test : (b : Bool) → is_formed form ≡ b → IsFormed form.lines form.first form.overflow
+    by_test true e = formed_is form e
+    by_test false e = absurd (good 2 (omega (arith, from)) (form_at_fault lines form (unformed form e)))
+
+faultless_form : (lines : List (List ℕ)) (form : FormNumbers) → ((n : ℕ) → IsAtFault lines form n → ⊥)
+    → IsFormed form.lines form.first form.overflow
+faultless_form lines form good = good_form lines form 3 (omega arith) (λ n below. good n)
+
+unfit_form_read : (first second : List ℕ) (others : List (List ℕ)) (form : FormNumbers) (n : ℕ) (fault : SetupFault)
+    → IsUnfitForm form n fault → formed_lines form others ≡ Err (Unfit n fault)
+unfit_form_read first second others form n fault is = by_test (is_formed form) refl
+  where
+    by_test : (b : Bool) → is_formed form ≡ b
+        → cond b (with_form form (lines_from form.lines 3 start others)) (Err (Unfit 2 TapeFault)) ≡ Err (Unfit n fault)
+    by_test true e = absurd (is.unfit (formed_is form e))
+    by_test false e =
+        ap (λ k. failed (Unfit k TapeFault)) (sym is.second) ∙ ap (λ f. failed (Unfit n f)) (sym is.is_tape)
+
+begun_read_fault : (first second : List ℕ) (others : List (List ℕ)) (form : FormNumbers) (n : ℕ) (fault : SetupFault)
+    → AreGoodBefore (first ∷ second ∷ others) form n → IsUnfit (first ∷ second ∷ others) form n fault
+    → formed_lines form others ≡ Err (Unfit n fault)
+begun_read_fault first second others form n fault good (inl is) = unfit_form_read first second others form n fault is
+begun_read_fault first second others form n fault good (inr is) =
+    let formed = good_form (first ∷ second ∷ others) form n is.said.there.from good in
+    formed_read_fault first second others form (Unfit n fault) formed
+    (unfit_read (first ∷ second ∷ others) form n fault (lines_from form.lines 3 start others) formed is good
+    (outcome first second others form formed))
+
+-- what is read behind good first lines
+past_head : (first second : List ℕ) (others : List (List ℕ)) (form : FormNumbers) → HasHead (first ∷ second ∷ others) form
+    → lines_told (first ∷ second ∷ others) ≡ formed_lines form others
+past_head first second others form has =
+    let read = head_read first second others form has in
+    ap (λ b. headed_lines b (divided_form (tokens_of second)) others) read.0
+    ∙ ap (λ f. headed_lines true f others) read.1
+
+-- lines by their size
+abbrev sized : List (List ℕ) → Result Told WiringFault
+sized lines = cond (is_large lines) (Err TooLarge) (lines_told lines)
+
+past_size : (lines : List (List ℕ)) → (IsTooLarge lines → ⊥) → sized lines ≡ lines_told lines
+past_size lines size = ap (λ b. cond b (failed TooLarge) (lines_told lines)) (small lines size)
+
+past_both : (first second : List ℕ) (others : List (List ℕ)) (begun : IsBegun (first ∷ second ∷ others))
+    → sized (first ∷ second ∷ others) ≡ formed_lines begun.form others
+past_both first second others begun =
+    past_size (first ∷ second ∷ others) begun.size ∙ past_head first second others begun.form begun.head
+
+no_head_read : (first second : List ℕ) (others : List (List ℕ)) (test : Bool) (form : Option FormNumbers)
+    → is_first (tokens_of first) ≡ test → divided_form (tokens_of second) ≡ form
+    → ((f : FormNumbers) → HasHead (first ∷ second ∷ others) f → ⊥) → headed_lines test form others ≡ Err NoFirstLine
+no_head_read first second others true (Some form) begun formed none =
+    absurd (none form (has_head first second others form begun formed))
+no_head_read first second others true None begun formed none = refl
+no_head_read first second others false form begun formed none = refl
+
+fault_read_all : (lines : List (List ℕ)) (fault : WiringFault) → HaveFault lines fault → sized lines ≡ Err fault
+fault_read_all lines TooLarge has = ap (λ b. cond b (failed TooLarge) (lines_told lines)) (large_read lines has)
+fault_read_all [] NoFirstLine has = past_size [] has.0
+fault_read_all (first ∷ []) NoFirstLine has = past_size (first ∷ []) has.0
+fault_read_all (first ∷ second ∷ others) NoFirstLine has =
+    past_size (first ∷ second ∷ others) has.0
+    ∙ no_head_read first second others (is_first (tokens_of first)) (divided_form (tokens_of second)) refl refl has.1
+fault_read_all [] (NotALine n) has = absurd (omega (arith, has.0.head.there))
+fault_read_all (first ∷ []) (NotALine n) has = absurd (omega (arith, has.0.head.there))
+fault_read_all (first ∷ second ∷ others) (NotALine n) has =
+    let form = has.0.form in
+    let formed = good_form (first ∷ second ∷ others) form n has.2.there.from has.1 in
+    past_both first second others has.0
+    ∙ formed_read_fault first second others form (NotALine n) formed
+    (misplaced_read (first ∷ second ∷ others) form n (lines_from form.lines 3 start others) formed has.2 has.1
+    (outcome first second others form formed))
+fault_read_all [] (LineTwice n) has = absurd (omega (arith, has.0.head.there))
+fault_read_all (first ∷ []) (LineTwice n) has = absurd (omega (arith, has.0.head.there))
+fault_read_all (first ∷ second ∷ others) (LineTwice n) has =
+    let form = has.0.form in
+    let formed = good_form (first ∷ second ∷ others) form n has.2.said.there.from has.1 in
+    past_both first second others has.0
+    ∙ formed_read_fault first second others form (LineTwice n) formed
+    (repeated_read (first ∷ second ∷ others) form n (lines_from form.lines 3 start others) formed has.2 has.1
+    (outcome first second others form formed))
+fault_read_all [] (Unfit n fault) has = absurd (omega (arith, has.0.head.there))
+fault_read_all (first ∷ []) (Unfit n fault) has = absurd (omega (arith, has.0.head.there))
+fault_read_all (first ∷ second ∷ others) (Unfit n fault) has =
+    past_both first second others has.0 ∙ begun_read_fault first second others has.0.form n fault has.1 has.2
+fault_read_all [] NoEnd has = absurd (omega (arith, has.0.head.there))
+fault_read_all (first ∷ []) NoEnd has = absurd (omega (arith, has.0.head.there))
+fault_read_all (first ∷ second ∷ others) NoEnd has =
+    let form = has.0.form in
+    let formed = faultless_form (first ∷ second ∷ others) form has.1 in
+    past_both first second others has.0
+    ∙ formed_read_fault first second others form NoEnd formed
+    (no_end_read (first ∷ second ∷ others) form (lines_from form.lines 3 start others) has.1 has.2
+    (outcome first second others form formed))
+fault_read_all lines Memory has = absurd has
+
+-- the fault of a text is read
+pub fault_read : (bytes : List ℕ) (fault : WiringFault) → HasFault bytes fault → text_told bytes ≡ Err fault
+unfolding text_told
+fault_read bytes fault has = fault_read_all (lines_of bytes) fault has
+
+-- what is told of a text is a wiring chart
+formed_chart : (bytes first second : List ℕ) (others : List (List ℕ)) (form : FormNumbers) (what : Told) (test : Bool)
+    → lines_of bytes ≡ first ∷ second ∷ others → (IsTooLarge (lines_of bytes) → ⊥)
+    → is_first (tokens_of first) ≡ true → divided_form (tokens_of second) ≡ Some form → is_formed form ≡ test
+    → cond test (with_form form (lines_from form.lines 3 start others)) (Err (Unfit 2 TapeFault)) ≡ Ok what
+    → IsWiringChart bytes what.form what.statements
+formed_chart bytes first second others form what true lines size begun formed test read =
+    let is = form_told form (lines_from form.lines 3 start others) what read in
+    let said = reads_what_is_read others form.lines 3 [] what.statements is.read_is in
+    subst (λ (f : FormNumbers). IsWiringChart bytes f what.statements) is.form_is
+    (record {
+      reads = record {
+        size = size;
+        first = first;
+        second = second;
+        others = others;
+        lines = lines;
+        begun = begun_is first begun;
+        formed = form_is second form formed;
+        said = subst (λ (s : List Statement). SaysLines others s) (sym said.is) said.says;
+      };
+      formed = formed_is form test;
+      once = said.once (λ i j d below within. absurd (omega (arith, within)));
+      fit = said.fit (λ k d within. absurd (omega (arith, within)));
+    })
+formed_chart bytes first second others form what false lines size begun formed test read = cc
+
+headed_chart : (bytes first second : List ℕ) (others : List (List ℕ)) (what : Told) (test : Bool) (form : Option FormNumbers)
+    → lines_of bytes ≡ first ∷ second ∷ others → (IsTooLarge (lines_of bytes) → ⊥) → is_first (tokens_of first) ≡ test
+    → divided_form (tokens_of second) ≡ form → headed_lines test form others ≡ Ok what
+    → IsWiringChart bytes what.form what.statements
+headed_chart bytes first second others what true (Some form) lines size begun formed read =
+    formed_chart bytes first second others form what (is_formed form) lines size begun formed refl read
+headed_chart bytes first second others what true None lines size begun formed read = cc
+headed_chart bytes first second others what false form lines size begun formed read = cc
+
+lines_chart : (bytes : List ℕ) (lines : List (List ℕ)) (what : Told) → lines_of bytes ≡ lines
+    → (IsTooLarge (lines_of bytes) → ⊥) → lines_told lines ≡ Ok what → IsWiringChart bytes what.form what.statements
+lines_chart bytes [] what same size read = cc
+lines_chart bytes (first ∷ []) what same size read = cc
+lines_chart bytes (first ∷ second ∷ others) what same size read =
+    headed_chart bytes first second others what (is_first (tokens_of first)) (divided_form (tokens_of second)) same size refl refl
+    read
+
+sized_chart : (bytes : List ℕ) (what : Told) (test : Bool) → is_large (lines_of bytes) ≡ test
+    → cond test (Err TooLarge) (lines_told (lines_of bytes)) ≡ Ok what → IsWiringChart bytes what.form what.statements
+sized_chart bytes what true size read = cc
+sized_chart bytes what false size read = lines_chart bytes (lines_of bytes) what refl (not_large (lines_of bytes) size) read
+
+pub chart_is : (bytes : List ℕ) (what : Told) → text_told bytes ≡ Ok what → IsWiringChart bytes what.form what.statements
+unfolding text_told
+chart_is bytes what read = sized_chart bytes what (is_large (lines_of bytes)) refl read
+
+-- a wiring chart is told
+pub chart_read : (bytes : List ℕ) (form : FormNumbers) (statements : List Statement) → IsWiringChart bytes form statements
+    → text_told bytes ≡ Ok (record { form = form; statements = statements })
+unfolding text_told
+chart_read bytes form statements is =
+    let r = is.reads in
+    ap (λ b. cond b (failed TooLarge) (lines_told (lines_of bytes))) (small (lines_of bytes) r.size)
+    ∙ ap lines_told r.lines
+    ∙ ap (λ b. headed_lines b (divided_form (tokens_of r.second)) r.others) (begun_read r.first r.begun)
+    ∙ ap (λ f. headed_lines true f r.others) (form_read r.second form r.formed)
+    ∙ ap (λ t. cond t (with_form form (lines_from form.lines 3 start r.others)) (Err (Unfit 2 TapeFault)))
+    (formed_read form is.formed)
+    ∙ ap (with_form form) (lines_read r.said form.lines 3 [] is.once is.fit)

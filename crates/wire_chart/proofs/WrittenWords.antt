@@ -1,0 +1,151 @@
+-- Numbers and hubs as they are written are numbers and hubs' names.
+use Rattle.std.proofs.Common.{◌≡◌, ℕ, ◌+◌, ◌*◌, ◌/◌, ◌%◌, ◌<◌, ◌≤◌, List, ◌++◌, length, Bool, true, false, ◌&&◌, cond, Some, refl, arith, leb, length-append}
+use Rattle.std.specs.List.{list_all}
+use Rattle.std.specs.Prelude.{nat_lt, nat_le}
+use Rattle.std.proofs.lemmas.Bool.{and_parts, ltb-true, lt-ltb, leb-true}
+use Rattle.std.proofs.lemmas.Bool.Decides.{nat_tests}
+use Rattle.hubs.specs.HubTable.{row_of}
+use Rattle.hubs.specs.Hubs.{letters_of, numbers_of, number_of}
+use Rattle.hubs.specs.declared.hub.Hub.{Hub}
+use Rattle.hubs.specs.declared.shape.Numbers.{Numbers}
+use Rattle.hubs.specs.declared.shape.Numbers.TheVariants.{Bare, One, Two, Three}
+use Rattle.tokens.specs.Number.{IsNumber, is_digit}
+use Rattle.wire_chart.specs.HubNames.{IsPointed, IsDotted, bare, one, two, three, IsHubName, name_of}
+use Rattle.wire_chart.specs.Writing.{AreSmall}
+use Rattle.wire_chart.specs.WrittenText.{digit_text, number_text, pointed, numbers_text, hub_text}
+use Rattle.wire_chart.proofs.RowLemmas.{good_letters, numbered_small}
+use Rattle.wire_chart.proofs.WrittenBytes.{is_high, IsWord, both, all_weaker, append_true}
+
+digit_is : (d : ℕ) → d < 10 → is_digit (48 + d) ≡ true
+digit_is d h = grind (arith, nat_tests)
+
+number_one : (n : ℕ) → n < 10 → IsNumber (digit_text n) n
+number_one n h = record {
+  some = omega arith;
+  few = omega arith;
+  digits = both (is_digit (48 + n)) true (digit_is n h) refl;
+  leading = tt;
+  value = omega arith;
+}
+
+number_two : (a b n : ℕ) → 1 ≤ a → a < 10 → b < 10 → n ≡ 10 * a + b → IsNumber (digit_text a ++ digit_text b) n
+number_two a b n some h k e = record {
+  some = omega arith;
+  few = omega arith;
+  digits = both (is_digit (48 + a)) (is_digit (48 + b) && true) (digit_is a h)
+      (both (is_digit (48 + b)) true (digit_is b k) refl);
+  leading = omega arith;
+  value = omega arith;
+}
+
+number_three : (a b c n : ℕ) → 1 ≤ a → a < 10 → b < 10 → c < 10 → n ≡ 100 * a + 10 * b + c
+    → IsNumber (digit_text a ++ digit_text b ++ digit_text c) n
+number_three a b c n some h k l e = record {
+  some = omega arith;
+  few = omega arith;
+  digits = both (is_digit (48 + a)) (is_digit (48 + b) && (is_digit (48 + c) && true)) (digit_is a h)
+      (both (is_digit (48 + b)) (is_digit (48 + c) && true) (digit_is b k)
+      (both (is_digit (48 + c)) true (digit_is c l) refl));
+  leading = omega arith;
+  value = omega arith;
+}
+
+not_below : (n m : ℕ) → nat_lt n m ≡ false → m ≤ n
+not_below n m h = grind (arith, nat_tests)
+
+-- a number as it is written is that number
+pub number_written : (n : ℕ) → n < 1000 → IsNumber (number_text n) n
+number_written n small = at (nat_lt n 10) (nat_lt n 100) refl refl
+  where
+    at : (b c : Bool) → nat_lt n 10 ≡ b → nat_lt n 100 ≡ c
+        → IsNumber (cond b (digit_text n) (cond c (digit_text (n / 10) ++ digit_text (n % 10))
+        (digit_text (n / 100) ++ digit_text (n / 10 % 10) ++ digit_text (n % 10)))) n
+    at true c e f = number_one n (ltb-true n 10 e)
+    at false true e f =
+        let below : n < 100 = ltb-true n 100 f in
+        let from : 10 ≤ n = not_below n 10 e in
+        number_two (n / 10) (n % 10) n (omega arith) (omega arith) (omega arith) (omega arith)
+    at false false e f =
+        let from : 100 ≤ n = not_below n 100 f in
+        number_three (n / 100) (n / 10 % 10) (n % 10) n (omega arith) (omega arith) (omega arith) (omega arith) (omega arith)
+
+digit_high : (b : ℕ) → is_digit b ≡ true → is_high b ≡ true
+digit_high b h =
+    let from : 48 ≤ b = leb-true 48 b (and_parts (leb 48 b) (leb b 57) h).0 in
+    lt-ltb 39 b (omega arith)
+
+number_high : (n : ℕ) → n < 1000 → list_all is_high (number_text n) ≡ true
+number_high n small = all_weaker is_digit is_high digit_high (number_text n) (number_written n small).digits
+
+pub number_word : (n : ℕ) → n < 1000 → IsWord (number_text n)
+number_word n small =
+    let is : IsNumber (number_text n) n = number_written n small in
+    record { some = is.some; few = omega (arith, is.few); high = number_high n small }
+
+-- a point and a number
+pointed_written : (n : ℕ) → n < 1000 → IsPointed (pointed n) n
+pointed_written n small = record { digits = number_text n; spelled = refl; value = number_written n small }
+
+pointed_high : (n : ℕ) → n < 1000 → list_all is_high (pointed n) ≡ true
+pointed_high n small = both true (list_all is_high (number_text n)) refl (number_high n small)
+
+pointed_length : (n : ℕ) → n < 1000 → length (pointed n) ≤ 4
+pointed_length n small = let is : IsNumber (number_text n) n = number_written n small in omega (arith, is.few)
+
+-- the numbers of a hub
+numbers_written : (numbers : Numbers) → AreSmall numbers → IsDotted (numbers_text numbers) numbers
+numbers_written Bare small = bare
+numbers_written (One n) small = one (pointed_written n small)
+numbers_written (Two m n) small = two (pointed_written m small.0) (pointed_written n small.1)
+numbers_written (Three l m n) small = three (pointed_written l small.0) (pointed_written m small.1) (pointed_written n small.2)
+
+numbers_high : (numbers : Numbers) → AreSmall numbers → list_all is_high (numbers_text numbers) ≡ true
+numbers_high Bare small = refl
+numbers_high (One n) small = pointed_high n small
+numbers_high (Two m n) small =
+    append_true is_high (pointed m) (pointed n) (pointed_high m small.0) (pointed_high n small.1)
+numbers_high (Three l m n) small =
+    append_true is_high (pointed l ++ pointed m) (pointed n)
+    (append_true is_high (pointed l) (pointed m) (pointed_high l small.0) (pointed_high m small.1)) (pointed_high n small.2)
+
+numbers_length : (numbers : Numbers) → AreSmall numbers → length (numbers_text numbers) ≤ 12
+numbers_length Bare small = omega arith
+numbers_length (One n) small = omega (arith, pointed_length n small)
+numbers_length (Two m n) small =
+    omega (arith, length-append (pointed m) (pointed n), pointed_length m small.0, pointed_length n small.1)
+numbers_length (Three l m n) small =
+    omega (
+      arith,
+      length-append (pointed l ++ pointed m) (pointed n),
+      length-append (pointed l) (pointed m),
+      pointed_length l small.0,
+      pointed_length m small.1,
+      pointed_length n small.2,
+    )
+
+-- a hub as it is written is its name
+pub hub_written : (hub : Hub) (number : ℕ) → number_of hub ≡ Some number → IsHubName (hub_text hub) (name_of hub)
+hub_written hub number e =
+    let small = numbered_small hub number e in
+    record {
+      dotted = numbers_text (numbers_of hub);
+      spelled = refl;
+      numbers = numbers_written (numbers_of hub) small.0;
+      as_many = small.1;
+    }
+
+pub hub_word : (hub : Hub) (number : ℕ) → number_of hub ≡ Some number → IsWord (hub_text hub)
+hub_word hub number e =
+    let small = (numbered_small hub number e).0 in
+    let spelled : List ℕ = (row_of (letters_of hub)).spelled in
+    let dotted : List ℕ = numbers_text (numbers_of hub) in
+    let good = and_parts (list_all is_high spelled) (nat_le 1 (length spelled) && nat_le (length spelled) 3)
+    (good_letters (letters_of hub)) in
+    let counted = and_parts (nat_le 1 (length spelled)) (nat_le (length spelled) 3) good.1 in
+    let some : 1 ≤ length spelled = leb-true 1 (length spelled) counted.0 in
+    let few : length spelled ≤ 3 = leb-true (length spelled) 3 counted.1 in
+    record {
+      some = omega (arith, length-append spelled dotted, some);
+      few = omega (arith, length-append spelled dotted, few, numbers_length (numbers_of hub) small);
+      high = append_true is_high spelled dotted good.0 (numbers_high (numbers_of hub) small);
+    }

@@ -1,0 +1,42 @@
+-- Laws of wiring charts: a setup has one text, that text reads as the setup, and a text reads as one setup at most.
+use Rattle.std.specs.Prelude.{◌≡◌, ℕ, List}
+use Rattle.hubs.specs.Tapes.{IsForm, has_stop}
+use Rattle.hubs.specs.Wiring.{Wiring, IsLawfulWiring, SameWires, SameJacks}
+use Rattle.wire_chart.specs.WiringText.{ReadsAs}
+use Rattle.wire_chart.specs.WiringFaults.{HasFault}
+use Rattle.wire_chart.specs.WrittenText.{IsWritten}
+use Rattle.wire_chart.specs.declared.fault.WiringFault.{WiringFault}
+
+-- what every setup is: wires that the panel can have, and a form that a tape can have
+pub record IsSetup (wiring : Wiring) : Type 0 where
+  pub wires : IsLawfulWiring wiring
+  pub form : IsForm wiring.tape
+
+-- two setups are the same: the same wires, jacks, form and stops
+pub record IsSameSetup (one other : Wiring) : Type 0 where
+  pub wires : SameWires one other
+  pub jacks : SameJacks one other
+  pub lines : other.tape.lines ≡ one.tape.lines
+  pub first : other.tape.first ≡ one.tape.first
+  pub overflow : other.tape.overflow ≡ one.tape.overflow
+  pub stops : (channel line : ℕ) → has_stop other.tape channel line ≡ has_stop one.tape channel line
+
+-- What is written of a setup reads as that setup.
+abbrev pub WrittenTextsReadBack : Type 0
+WrittenTextsReadBack = (wiring : Wiring) (text : List ℕ) → IsSetup wiring → IsWritten wiring text → ReadsAs text wiring
+
+-- A text reads as one setup at most.
+abbrev pub TextsReadAsOneSetup : Type 0
+TextsReadAsOneSetup = (text : List ℕ) (one other : Wiring) → ReadsAs text one → ReadsAs text other → IsSameSetup one other
+
+-- The same setups have one text.
+abbrev pub SetupsHaveOneText : Type 0
+SetupsHaveOneText =
+    (one other : Wiring) (text words : List ℕ) → IsSameSetup one other → IsWritten one text → IsWritten other words → text ≡ words
+
+-- A text that reads as a setup has no fault, and a text has one fault at most.
+abbrev pub ReadTextsHaveNoFault : Type 0
+ReadTextsHaveNoFault = (text : List ℕ) (wiring : Wiring) (fault : WiringFault) → ReadsAs text wiring → ¬ HasFault text fault
+
+abbrev pub TextsHaveOneFault : Type 0
+TextsHaveOneFault = (text : List ℕ) (one other : WiringFault) → HasFault text one → HasFault text other → one ≡ other

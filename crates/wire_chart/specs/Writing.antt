@@ -1,0 +1,111 @@
+-- Writing a setup part by part: what a text gains by lines, one for each thing that is so. These are steps between the code
+-- and WrittenText, which says what a whole text is.
+use Rattle.std.specs.Prelude.{◌≡◌, ◌↔◌, ℕ, ◌<◌, true, List, ◌++◌, AllPairs, Contains, Some}
+use Rattle.std.specs.List.{flat_map}
+use Rattle.hubs.specs.Hubs.{number_of}
+use Rattle.hubs.specs.Jacks.{jack_place}
+use Rattle.hubs.specs.Tapes.{Form, has_stop}
+use Rattle.hubs.specs.Wiring.{Wiring, HasWire, HasJack}
+use Rattle.hubs.specs.declared.hub.Hub.{Hub}
+use Rattle.hubs.specs.declared.jack.Jack.{Jack}
+use Rattle.hubs.specs.declared.shape.Numbers.{Numbers}
+use Rattle.hubs.specs.declared.shape.Numbers.TheVariants.{Bare, One, Two, Three}
+use Rattle.wire_chart.specs.WrittenText.{ended, stop_line, jack_line, wire_line, IsStopBefore, IsJackBefore, IsWireBefore}
+
+-- each number is below 1,000
+abbrev pub AreSmall : Numbers → Type 0
+AreSmall Bare = Unit {0}
+AreSmall (One n) = n < 1000
+AreSmall (Two m n) = (m < 1000) × (n < 1000)
+AreSmall (Three l m n) = (l < 1000) × (m < 1000) × (n < 1000)
+
+-- new is old with a line behind for each thing that is so, in order
+pub record GainsLines {A : Type 0} (Is : A → Type 0) (Before : A → A → Type 0) (line_of : A → List ℕ) (old new : List ℕ)
+    : Type 0 where
+  pub things : List A
+  pub all : (thing : A) → Is thing ↔ Contains things thing
+  pub in_order : AllPairs Before things
+  pub gained : new ≡ old ++ flat_map (λ thing. ended (line_of thing)) things
+
+-- the same for stops, jacks and wires
+abbrev pub GainsStops : (ℕ × ℕ → Type 0) → List ℕ → List ℕ → Type 0
+GainsStops Is old new = GainsLines Is IsStopBefore stop_line old new
+
+abbrev pub GainsJacks : (Jack → Type 0) → List ℕ → List ℕ → Type 0
+GainsJacks Is old new = GainsLines Is IsJackBefore jack_line old new
+
+abbrev pub GainsWires : (Hub × Hub → Type 0) → List ℕ → List ℕ → Type 0
+GainsWires Is old new = GainsLines Is IsWireBefore wire_line old new
+
+-- a stop of the form
+abbrev pub IsStopOf : Form → ℕ × ℕ → Type 0
+IsStopOf form stop = has_stop form stop.0 stop.1 ≡ true
+
+-- a stop of the form at this channel and line
+pub record IsStopAt (form : Form) (channel line : ℕ) (stop : ℕ × ℕ) : Type 0 where
+  pub there : IsStopOf form stop
+  pub channel_is : stop.0 ≡ channel
+  pub line_is : stop.1 ≡ line
+
+-- a stop of the form in this channel, at a line below this one
+pub record IsStopAbove (form : Form) (channel line : ℕ) (stop : ℕ × ℕ) : Type 0 where
+  pub there : IsStopOf form stop
+  pub channel_is : stop.0 ≡ channel
+  pub line_below : stop.1 < line
+
+-- a stop of the form in this channel
+pub record IsStopIn (form : Form) (channel : ℕ) (stop : ℕ × ℕ) : Type 0 where
+  pub there : IsStopOf form stop
+  pub channel_is : stop.0 ≡ channel
+
+-- a stop of the form in a lower channel
+pub record IsStopBelow (form : Form) (channel : ℕ) (stop : ℕ × ℕ) : Type 0 where
+  pub there : IsStopOf form stop
+  pub channel_below : stop.0 < channel
+
+-- a plugged jack at this place of the panel
+pub record IsJackAt (wiring : Wiring) (place : ℕ) (jack : Jack) : Type 0 where
+  pub there : HasJack wiring jack
+  pub place_is : jack_place jack ≡ place
+
+-- a plugged jack at a lower place
+pub record IsJackBelow (wiring : Wiring) (place : ℕ) (jack : Jack) : Type 0 where
+  pub there : HasJack wiring jack
+  pub place_below : jack_place jack < place
+
+-- the hub's number is this one, and among the numbers
+pub record IsListedAt (numbers : List ℕ) (number : ℕ) (hub : Hub) : Type 0 where
+  pub numbered : number_of hub ≡ Some number
+  pub listed : Contains numbers number
+
+-- a wire from this exit to the entry of this number, if it is among the entries
+pub record IsWireTo (exit : Hub) (entries : List ℕ) (number : ℕ) (wire : Hub × Hub) : Type 0 where
+  pub exit_is : wire.0 ≡ exit
+  pub entry : IsListedAt entries number wire.1
+
+-- a wire from this exit to one of the entries, of a lower number than this one
+pub record IsWireToBelow (exit : Hub) (entries : List ℕ) (number : ℕ) (wire : Hub × Hub) : Type 0 where
+  pub exit_is : wire.0 ≡ exit
+  pub to : ℕ
+  pub entry : IsListedAt entries to wire.1
+  pub below : to < number
+
+-- a wire from this exit to one of the entries
+pub record IsWireToAny (exit : Hub) (entries : List ℕ) (wire : Hub × Hub) : Type 0 where
+  pub exit_is : wire.0 ≡ exit
+  pub to : ℕ
+  pub entry : IsListedAt entries to wire.1
+
+-- a wire of the setup
+abbrev pub IsWireOf : Wiring → Hub × Hub → Type 0
+IsWireOf wiring wire = HasWire wiring wire.0 wire.1
+
+-- a wire of the setup from the exit of this number
+pub record IsWireFrom (wiring : Wiring) (number : ℕ) (wire : Hub × Hub) : Type 0 where
+  pub there : IsWireOf wiring wire
+  pub numbered : number_of wire.0 ≡ Some number
+
+-- a wire of the setup from an exit of a lower number
+pub record IsWireFromBelow (wiring : Wiring) (number : ℕ) (wire : Hub × Hub) : Type 0 where
+  pub there : IsWireOf wiring wire
+  pub below : there.number < number

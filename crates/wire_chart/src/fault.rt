@@ -1,0 +1,61 @@
+//! Why a wiring chart is refused.
+
+ghost use Rattle.std.specs.Prelude.{◌≡◌};
+ghost use Rattle.wire_chart.specs.declared.fault.WiringFault.TheVariants.{Memory};
+
+use hubs::SetupFault;
+use std::alloc::{AllocError, AllocFailed};
+use thiserror::Error;
+
+/// Why a text is no wiring chart. Lines are numbered from 1.
+#[derive(Clone, Copy, Debug, PartialEq, Eq, Error)]
+pub enum WiringFault {
+    /// More than 1,000,000 lines, or a line of more than 60 bytes: fault 71.
+    #[error("the text is too large")]
+    TooLarge,
+    /// Line 1 is not `WIRING407 1`, or line 2 not `FORM` with three numbers: fault 72.
+    #[error("the text does not begin as a wiring chart")]
+    NoFirstLine,
+    /// The lowest line at fault is none of a wiring chart, or stands behind END: fault 73.
+    #[error("line {line} is no line of a wiring chart")]
+    NotALine {
+        /// Its number.
+        line: u32,
+    },
+    /// The lowest line at fault says again what a line before it said: fault 74.
+    #[error("line {line} stood before")]
+    LineTwice {
+        /// Its number.
+        line: u32,
+    },
+    /// The lowest line at fault names a wire, a stop or a form that the panel can't have: fault 75.
+    #[error("line {line} can't be wired")]
+    Unfit {
+        /// Its number.
+        line: u32,
+        /// Why: `NotExit`, `NotEntry`, `CarryRing` or `TapeFault`.
+        fault: SetupFault,
+    },
+    /// No line is END: fault 76.
+    #[error("the text has no END")]
+    NoEnd,
+    /// No memory was left.
+    #[error("out of memory")]
+    Memory,
+}
+
+impl From<AllocError> for WiringFault {
+    ghost from_gives = { λ _ fault. fault ≡ Memory };
+
+    fn from(_failed: AllocError) -> WiringFault {
+        WiringFault::Memory
+    }
+}
+
+impl<T: Drop> From<AllocFailed<T>> for WiringFault {
+    ghost from_gives = { λ _ fault. fault ≡ Memory };
+
+    fn from(_failed: AllocFailed<T>) -> WiringFault {
+        WiringFault::Memory
+    }
+}

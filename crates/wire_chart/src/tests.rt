@@ -1,0 +1,4 @@
+//! Wiring charts with ample memory.
+
+mod reading;
+mod writing;

@@ -1,0 +1,89 @@
+//! Wiring charts read, and their faults.
+
+use super::writing::COUNTED;
+use crate::{WiringFault, read_setup, write_setup};
+use hubs::SetupFault;
+use std::alloc::Global;
+use std::test::Fail;
+
+const BY_HAND: &str =
+    "WIRING407 1\nFORM 12 1 9\nJACK LIST\nJACK TOTAL 4\nWIRE SR.1 W.1\nWIRE SR.2 W.1\nWIRE SR.3 GE.3.1.1\n\
+WIRE CC PL.3.1\nWIRE CC PIC.1.1\nWIRE PIN.1.1 PIC.2.1\nWIRE PIN.2.1 PIC.1.1\nWIRE PX.4.2 RO.3.1\nWIRE PX.4.2 MI.3.1\n\
+WIRE PX.4.3 RO.3.1\nWIRE GX.3.1.1 GE.3.1.1\nWIRE GX.3.1.2 GE.3.1.2\nWIRE GX.3.1.3 GE.3.1.3\nWIRE GX.3.1.1 W.5\n\
+WIRE GX.3.1.2 W.4\nWIRE GX.3.1.3 W.3\nEND\n";
+
+const IN_ORDER: &str =
+    "WIRING407 1\nFORM 12 1 9\nJACK LIST\nJACK TOTAL 4\nWIRE SR.1 W.1\nWIRE SR.2 W.1\nWIRE SR.3 GE.3.1.1\n\
+WIRE GX.3.1.1 GE.3.1.1\nWIRE GX.3.1.1 W.5\nWIRE GX.3.1.2 GE.3.1.2\nWIRE GX.3.1.2 W.4\nWIRE GX.3.1.3 GE.3.1.3\n\
+WIRE GX.3.1.3 W.3\nWIRE PIN.1.1 PIC.2.1\nWIRE PIN.2.1 PIC.1.1\nWIRE CC PL.3.1\nWIRE CC PIC.1.1\nWIRE PX.4.2 MI.3.1\n\
+WIRE PX.4.2 RO.3.1\nWIRE PX.4.3 RO.3.1\nEND\n";
+
+/// What is written of the setup that a text reads as.
+fn written_again(alloc: Global, text: &str) -> Result<String, Fail> {
+    let setup = read_setup(alloc, text.as_bytes()).ok().ok_or("a setup")?;
+    Ok(write_setup(alloc, &setup)?)
+}
+
+#[test]
+fn wiring_charts_are_read_and_written(rt: HostRuntime) -> Result<(), Fail> {
+    let again = written_again(rt.alloc(), COUNTED)?;
+    assert_eq!(rt; again.as_str(), COUNTED);
+    let in_order = written_again(rt.alloc(), BY_HAND)?;
+    assert_eq!(rt; in_order.as_str(), IN_ORDER);
+    Ok(())
+}
+
+/// Lines put in the place of one line of a wiring chart, and the fault that it has then.
+#[rattlefmt::skip]
+static FAULTS: [(usize, &str, WiringFault); 10] = [
+    (17, "WIRE CC PL.4.1\nWIRE CC PL.4.1", WiringFault::LineTwice { line: 18 }),
+    (10, "WIRE W.1 SR.1", WiringFault::Unfit { line: 10, fault: SetupFault::NotExit }),
+    (10, "WIRE SR.1 W.0", WiringFault::Unfit { line: 10, fault: SetupFault::NotEntry }),
+    (10, "WIRE CO.4.1 CI.4.2", WiringFault::Unfit { line: 10, fault: SetupFault::CarryRing }),
+    (2, "FORM 2 1 1\nWIRE", WiringFault::Unfit { line: 2, fault: SetupFault::TapeFault }),
+    (3, "STOP 2 13", WiringFault::Unfit { line: 3, fault: SetupFault::TapeFault }),
+    (5, "JACK LINK 121", WiringFault::NotALine { line: 5 }),
+    (19, "END\n\nJACK LIST", WiringFault::NotALine { line: 21 }),
+    (1, "WIRING407 2", WiringFault::NoFirstLine),
+    (19, "  ", WiringFault::NoEnd),
+];
+
+/// The text of `COUNTED` with other lines in the place of one, or `None` where it has no such line.
+fn with_lines(alloc: Global, number: usize, others: &str) -> Result<Vec<u8>, Fail> {
+    let mut text = Vec::new(alloc);
+    let mut at = 1;
+    for line in COUNTED.lines() {
+        let line = if at == number { others } else { line };
+        text.extend_from_slice(line.as_bytes())?;
+        text.push(b'\n')?;
+        at = at.wrapping_add(1);
+    }
+    Ok(text)
+}
+
+#[test]
+fn the_lowest_fault_is_told(rt: HostRuntime) -> Result<(), Fail> {
+    for (number, others, fault) in FAULTS {
+        let text = with_lines(rt.alloc(), number, others)?;
+        let found = read_setup(rt.alloc(), text.as_slice()).err();
+        assert_eq!(rt; found, Some(fault), "{others}");
+    }
+    Ok(())
+}
+
+#[test]
+fn sizes_are_limited(rt: HostRuntime) -> Result<(), Fail> {
+    let spaces = "                                                        ";
+    let fits = format!(in rt.alloc(); "WIRING407 1\nFORM 3 1 1\n {spaces}END\r\n")?;
+    assert!(rt; read_setup(rt.alloc(), fits.as_bytes()).is_ok());
+    let long = format!(in rt.alloc(); "x\n  {spaces}END")?;
+    let found = read_setup(rt.alloc(), long.as_bytes()).err();
+    assert_eq!(rt; found, Some(WiringFault::TooLarge));
+    let mut lines = vec![in rt.alloc(); b'\n'; 1_000_000]?;
+    let most = read_setup(rt.alloc(), lines.as_slice()).err();
+    assert_eq!(rt; most, Some(WiringFault::NoFirstLine));
+    lines.push(b'\n')?;
+    let more = read_setup(rt.alloc(), lines.as_slice()).err();
+    assert_eq!(rt; more, Some(WiringFault::TooLarge));
+    Ok(())
+}

@@ -1,0 +1,189 @@
+//! Writing a setup as a wiring chart.
+
+ghost use Rattle.std.specs.Prelude.{◌≡◌, ◌↔◌, ◌++◌, ◌<◌, ◌≤◌, true, All, Contains, Some, IfOk, IsTrue, OnOk, codes};
+ghost use Rattle.std.specs.String.{string_bytes};
+ghost use Rattle.hubs.specs.Hubs.{is_hub_in_range, number_of};
+ghost use Rattle.hubs.specs.Jacks.{is_jack_in_range};
+ghost use Rattle.hubs.specs.Tapes.{IsForm};
+ghost use Rattle.hubs.specs.Wiring.{HasJack};
+ghost use Rattle.wire_chart.specs.WrittenText.{IsWritten, ended, form_line, stop_line, jack_line, wire_line};
+ghost use Rattle.wire_chart.specs.Writing.{GainsStops, GainsJacks, GainsWires, IsStopOf, IsStopAt, IsStopIn, IsJackAt, IsWireTo, IsWireToAny, IsWireFrom, IsWireOf};
+
+use crate::words::{write_jack_words, write_number, write_spaced_hub, write_spaced_number};
+use hubs::{Hub, JACKS, Jack, Setup, Tape};
+use std::alloc::{AllocError, Global};
+
+/// The wiring chart of a setup: `WIRING407 1`, the form, the stops by channel and line, the jacks in the order LIST, TOTAL, HEAD, LINK,
+/// SUPPRESS and SYMBOL, each by number, the wires by the exit's hub number and then the entry's, and END; single spaces, and
+/// LF after each line.
+///
+/// Fails only where memory was refused.
+pub fn write_setup(alloc: Global, setup: &Setup) -> Result<String, AllocError>
+    ensures { IfOk result (λ text. IsWritten setup.now (string_bytes text)) }
+{
+    let mut text = String::from_str(alloc, "WIRING407 1\n")?;
+    write_form(&mut text, setup.tape())?;
+    write_stops(&mut text, setup.tape())?;
+    write_jacks(&mut text, setup)?;
+    write_wires(&mut text, setup)?;
+    text.push_str("END\n")?;
+    Ok(text)
+}
+
+// The line of the form.
+fn write_form(text: &mut String, tape: &Tape) -> Result<(), AllocError>
+    ensures { OnOk result (string_bytes text.new ≡ string_bytes text.old ++ ended (form_line tape.now)) }
+{
+    text.push_str("FORM")?;
+    write_spaced_number(text, u16::from(tape.lines()))?;
+    write_spaced_number(text, u16::from(tape.first()))?;
+    write_spaced_number(text, u16::from(tape.overflow()))?;
+    text.push_str("\n")
+}
+
+// The stops, by channel and then by line.
+fn write_stops(text: &mut String, tape: &Tape) -> Result<(), AllocError>
+    requires form { IsForm tape.now }
+    ensures { OnOk result (GainsStops (IsStopOf tape.now) (string_bytes text.old) (string_bytes text.new)) }
+{
+    for channel in 2..12 {
+        write_channel(text, tape, channel)?;
+    }
+    Ok(())
+}
+
+// The stops of a channel, by line.
+fn write_channel(text: &mut String, tape: &Tape, channel: u8) -> Result<(), AllocError>
+    requires form { IsForm tape.now }
+    ensures { OnOk result (GainsStops (IsStopIn tape.now channel) (string_bytes text.old) (string_bytes text.new)) }
+{
+    for line in 1..tape.lines() + 1 {
+        write_stop(text, tape, channel, line)?;
+    }
+    Ok(())
+}
+
+// The stop of a channel at a line, if there is one.
+fn write_stop(text: &mut String, tape: &Tape, channel: u8, line: u8) -> Result<(), AllocError>
+    ensures { OnOk result (GainsStops (IsStopAt tape.now channel line) (string_bytes text.old) (string_bytes text.new)) }
+{
+    if tape.has_stop(channel, line) {
+        write_stop_line(text, channel, line)
+    } else {
+        Ok(())
+    }
+}
+
+// The line of a stop.
+fn write_stop_line(text: &mut String, channel: u8, line: u8) -> Result<(), AllocError>
+    ensures { OnOk result (string_bytes text.new ≡ string_bytes text.old ++ ended (stop_line (channel, line))) }
+{
+    text.push_str("STOP")?;
+    write_spaced_number(text, u16::from(channel))?;
+    write_spaced_number(text, u16::from(line))?;
+    text.push_str("\n")
+}
+
+// The plugged jacks, in the order of the panel.
+fn write_jacks(text: &mut String, setup: &Setup) -> Result<(), AllocError>
+    ensures { OnOk result (GainsJacks (HasJack setup.now) (string_bytes text.old) (string_bytes text.new)) }
+{
+    for place in 0..JACKS {
+        write_jack_at(text, setup, place)?;
+    }
+    Ok(())
+}
+
+// The jack at a place of the panel, if it is plugged.
+fn write_jack_at(text: &mut String, setup: &Setup, place: usize) -> Result<(), AllocError>
+    ensures { OnOk result (GainsJacks (IsJackAt setup.now place) (string_bytes text.old) (string_bytes text.new)) }
+{
+    match Jack::at(place) {
+        Some(jack) if setup.has_jack(jack) => write_jack_line(text, jack),
+        _ => Ok(()),
+    }
+}
+
+// The line of a jack.
+fn write_jack_line(text: &mut String, jack: Jack) -> Result<(), AllocError>
+    requires given { is_jack_in_range jack ≡ true }
+    ensures { OnOk result (string_bytes text.new ≡ string_bytes text.old ++ ended (jack_line jack)) }
+{
+    text.push_str("JACK ")?;
+    write_jack_words(text, jack)?;
+    text.push_str("\n")
+}
+
+// The wires, by the number of the exit and then that of the entry. No wire leads from a hub that is no exit.
+fn write_wires(text: &mut String, setup: &Setup) -> Result<(), AllocError>
+    ensures { OnOk result (GainsWires (IsWireOf setup.now) (string_bytes text.old) (string_bytes text.new)) }
+{
+    for number in 1..1937 {
+        write_wires_from(text, setup, number)?;
+    }
+    Ok(())
+}
+
+// The wires from the hub of a number, by the number of the entry.
+fn write_wires_from(text: &mut String, setup: &Setup, number: u32) -> Result<(), AllocError>
+    ensures { OnOk result (GainsWires (IsWireFrom setup.now number) (string_bytes text.old) (string_bytes text.new)) }
+{
+    let Some(exit) = Hub::of_number(number) else {
+        return Ok(());
+    };
+    let entries = setup.entries_of(exit);
+    if entries.is_empty() {
+        return Ok(());
+    }
+    write_wires_to(text, exit, entries)
+}
+
+// The wires from an exit to the entries of these numbers.
+fn write_wires_to(text: &mut String, exit: Hub, entries: &[u16]) -> Result<(), AllocError>
+    requires exit { is_hub_in_range exit ≡ true }
+    requires entries { All (λ number. (1041 ≤ number) × (number ≤ 1936)) entries.now }
+    ensures { OnOk result (GainsWires (IsWireToAny exit entries.now) (string_bytes text.old) (string_bytes text.new)) }
+{
+    for number in 1041..1937 {
+        write_wire_to(text, exit, entries, number)?;
+    }
+    Ok(())
+}
+
+// The wire from an exit to the entry of a number, if that is among the entries.
+fn write_wire_to(
+    text: &mut String,
+    exit: Hub,
+    entries: &[u16],
+    number: u16,
+) -> Result<(), AllocError>
+    requires exit { is_hub_in_range exit ≡ true }
+    ensures { OnOk result (GainsWires (IsWireTo exit entries.now number) (string_bytes text.old) (string_bytes text.new)) }
+{
+    if !is_listed(entries, number) {
+        return Ok(());
+    }
+    match Hub::of_number(u32::from(number)) {
+        Some(entry) => write_wire_line(text, exit, entry),
+        None => Ok(()),
+    }
+}
+
+// Whether a number is among the numbers.
+fn is_listed(numbers: &[u16], number: u16) -> bool
+    ensures { IsTrue result ↔ Contains numbers.now number }
+{
+    numbers.contains(&number)
+}
+
+// The line of a wire.
+fn write_wire_line(text: &mut String, exit: Hub, entry: Hub) -> Result<(), AllocError>
+    requires exit { is_hub_in_range exit ≡ true }
+    requires entry { is_hub_in_range entry ≡ true }
+    ensures { OnOk result (string_bytes text.new ≡ string_bytes text.old ++ ended (wire_line (exit, entry))) }
+{
+    text.push_str("WIRE")?;
+    write_spaced_hub(text, exit)?;
+    write_spaced_hub(text, entry)?;
+    text.push_str("\n")
+}

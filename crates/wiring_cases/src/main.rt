@@ -1,0 +1,156 @@
+//! Reads the wiring charts of the folder `data`, and tells of each which fault it has, or writes it again.
+//!
+//! The file `index` names the charts, one a line; what this program must print is the list of their answers, and how many of
+//! the texts that `by_hand.wiring` begins with have each of them.
+#![tactic(auto)]
+
+use anyhow::Result;
+use hubs::{Setup, SetupFault};
+use itoa::Buffer;
+use std::alloc::Global;
+use std::fs;
+use std::io::{BufWriter, Write};
+use wire_chart::{WiringFault, read_setup, write_setup};
+
+// A fault's number and, where it has them, its line and its cause.
+#[derive(Clone, Copy)]
+enum Told {
+    Fault(u8),
+    FaultAt(u8, u32),
+    FaultFor(u8, u32, u8),
+    Memory,
+}
+
+impl From<WiringFault> for Told {
+    fn from(fault: WiringFault) -> Self {
+        match fault {
+            WiringFault::TooLarge => Told::Fault(71),
+            WiringFault::NoFirstLine => Told::Fault(72),
+            WiringFault::NotALine { line } => Told::FaultAt(73, line),
+            WiringFault::LineTwice { line } => Told::FaultAt(74, line),
+            WiringFault::Unfit { line, fault } => match cause_number(fault) {
+                Some(cause) => Told::FaultFor(75, line, cause),
+                None => Told::Memory,
+            },
+            WiringFault::NoEnd => Told::Fault(76),
+            WiringFault::Memory => Told::Memory,
+        }
+    }
+}
+
+fn cause_number(fault: SetupFault) -> Option<u8> {
+    match fault {
+        SetupFault::NotExit => Some(51),
+        SetupFault::NotEntry => Some(52),
+        SetupFault::CarryRing => Some(53),
+        SetupFault::TapeFault => Some(54),
+        SetupFault::Memory => None,
+    }
+}
+
+fn write_number<W: Write>(out: &mut W, before: &[u8], number: u32) -> Result<()> {
+    let mut buffer = Buffer::new();
+    out.write_all(before)?;
+    out.write_all(buffer.format(number).as_bytes())?;
+    Ok(())
+}
+
+fn write_fault<W: Write>(out: &mut W, told: Told) -> Result<()> {
+    match told {
+        Told::Memory => out.write_all(b" fault memory")?,
+        Told::Fault(number) => write_number(out, b" fault ", u32::from(number))?,
+        Told::FaultAt(number, line) => {
+            write_number(out, b" fault ", u32::from(number))?;
+            write_number(out, b" line ", line)?;
+        }
+        Told::FaultFor(number, line, cause) => {
+            write_number(out, b" fault ", u32::from(number))?;
+            write_number(out, b" line ", line)?;
+            write_number(out, b" cause ", u32::from(cause))?;
+        }
+    }
+    out.write_all(b"\n")?;
+    Ok(())
+}
+
+fn write_answer<W: Write>(
+    alloc: Global,
+    out: &mut W,
+    name: &str,
+    read: Result<Setup, WiringFault>,
+) -> Result<()> {
+    out.write_all(name.as_bytes())?;
+    match read {
+        Ok(setup) => {
+            out.write_all(b" ok\n")?;
+            out.write_all(write_setup(alloc, &setup)?.as_bytes())?;
+        }
+        Err(fault) => write_fault(out, fault.into())?,
+    }
+    Ok(())
+}
+
+// How many texts have each answer.
+#[derive(Clone, Copy)]
+struct Counts {
+    no_first_line: u32,
+    not_a_line: u32,
+    no_end: u32,
+    good: u32,
+    others: u32,
+}
+
+fn count(counts: &mut Counts, read: Result<Setup, WiringFault>) {
+    let place = match read {
+        Err(WiringFault::NoFirstLine) => &mut counts.no_first_line,
+        Err(WiringFault::NotALine { .. }) => &mut counts.not_a_line,
+        Err(WiringFault::NoEnd) => &mut counts.no_end,
+        Ok(_) => &mut counts.good,
+        Err(_) => &mut counts.others,
+    };
+    *place = place.wrapping_add(1);
+}
+
+// Counts the answers to a text that is cut after each byte, before the first and behind the last among them.
+fn count_cuts(alloc: Global, text: &[u8]) -> Counts {
+    let mut counts = Counts {
+        no_first_line: 0,
+        not_a_line: 0,
+        no_end: 0,
+        good: 0,
+        others: 0,
+    };
+    for (end, _) in text.iter().enumerate() {
+        count(&mut counts, read_setup(alloc, &text[..end]));
+    }
+    count(&mut counts, read_setup(alloc, text));
+    counts
+}
+
+fn write_counts<W: Write>(out: &mut W, counts: Counts) -> Result<()> {
+    write_number(out, b"by_hand cut after each byte: ", counts.no_first_line)?;
+    write_number(out, b" fault 72, ", counts.not_a_line)?;
+    write_number(out, b" fault 73, ", counts.no_end)?;
+    write_number(out, b" fault 76, ", counts.good)?;
+    out.write_all(b" ok")?;
+    if counts.others > 0 {
+        write_number(out, b", others ", counts.others)?;
+    }
+    out.write_all(b"\n")?;
+    Ok(())
+}
+
+fn main(rt: HostRuntime) -> Result<()> {
+    let alloc = rt.alloc();
+    let index = fs::read_to_string(&rt, "index")?;
+    let mut out = BufWriter::new(alloc, rt.stdout())?;
+    for name in index.as_str().lines() {
+        let path = format!(in alloc; "{name}.wiring")?;
+        let text = fs::read(&rt, &path)?;
+        write_answer(alloc, &mut out, name, read_setup(alloc, text.as_slice()))?;
+    }
+    let by_hand = fs::read(&rt, "by_hand.wiring")?;
+    write_counts(&mut out, count_cuts(alloc, by_hand.as_slice()))?;
+    out.flush()?;
+    Ok(())
+}
