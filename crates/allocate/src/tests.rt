@@ -81,44 +81,6 @@ static SMALLER: [(&[u8], [u8; 5], CapacityFault); 6] = [
     (LEVELS, [16, 30, 4, 16, 0], NO_INDICATE),
 ];
 
-/// A chart on a machine with these pilots, comparing positions, storage units, splits and indicate positions, and its fault.
-fn smaller_at(row: usize) -> Option<(&'static [u8], [u8; 5], CapacityFault)> {
-    SMALLER.get(row).copied()
-}
-
-// A text behind a call keeps its bytes out of the proofs of the tests.
-fn eights() -> &'static [u8] {
-    EIGHTS
-}
-
-fn ninth() -> &'static [u8] {
-    NINTH
-}
-
-fn twos() -> &'static [u8] {
-    TWOS
-}
-
-fn threes() -> &'static [u8] {
-    THREES
-}
-
-fn third() -> &'static [u8] {
-    THIRD
-}
-
-fn levels() -> &'static [u8] {
-    LEVELS
-}
-
-fn departments() -> &'static [u8] {
-    DEPARTMENTS
-}
-
-fn overpunched() -> &'static [u8] {
-    OVERPUNCHED
-}
-
 /// The chart of some lines and some more, which stand between the first line and END.
 fn chart_of(alloc: Global, lines: &[u8], more: &[u8]) -> Result<Chart, Fail> {
     let mut text = b"CHART407 1\n".to_vec(alloc)?;
@@ -133,50 +95,109 @@ fn plan_of(alloc: Global, chart: &Chart) -> Result<Plan, Fail> {
     Ok(allocate(alloc, chart, &Profile::standard())?)
 }
 
-/// Why a chart does not fit a machine, if it does not.
-fn fault_of(alloc: Global, chart: &Chart, profile: &Profile) -> Option<CapacityFault> {
-    match allocate(alloc, chart, profile) {
-        Ok(_plan) => None,
-        Err(fault) => Some(fault),
+/// What the chart of some lines exceeds on a machine, if it does not fit.
+fn fault_of(
+    alloc: Global,
+    lines: &[u8],
+    more: &[u8],
+    profile: &Profile,
+) -> Result<Option<CapacityFault>, Fail> {
+    let chart = chart_of(alloc, lines, more)?;
+    match allocate(alloc, &chart, profile) {
+        Ok(_plan) => Ok(None),
+        Err(fault) => Ok(Some(fault)),
     }
 }
 
-fn group(width: u8, number: u8) -> CounterGroup {
-    CounterGroup { width, number }
+/// How many counter groups the totals of some lines take on a machine, and the first and the last.
+fn groups_of(
+    alloc: Global,
+    lines: &[u8],
+    more: &[u8],
+    profile: &Profile,
+) -> Result<(usize, Option<CounterGroup>, Option<CounterGroup>), Fail> {
+    let chart = chart_of(alloc, lines, more)?;
+    let plan = allocate(alloc, &chart, profile)?;
+    let groups = plan.groups();
+    Ok((
+        groups.len(),
+        groups.first().copied(),
+        groups.last().copied(),
+    ))
+}
+
+/// Whether the plan of some lines is one for the chart of others.
+fn is_for(alloc: Global, lines: &[u8], others: &[u8]) -> Result<bool, Fail> {
+    let plan = plan_of(alloc, &chart_of(alloc, lines, b"")?)?;
+    Ok(plan.is_for(&chart_of(alloc, others, b"")?))
+}
+
+/// The number of the counter group, of the storage unit and of the split of a line.
+fn numbers_on(
+    alloc: Global,
+    lines: &[u8],
+    line: u16,
+) -> Result<(Option<u8>, Option<u8>, Option<u8>), Fail> {
+    let chart = chart_of(alloc, lines, b"")?;
+    let plan = plan_of(alloc, &chart)?;
+    let group = plan.group_on(&chart, line).map(|group| group.number);
+    Ok((group, plan.storage_unit(line), plan.split_on(line)))
+}
+
+/// The number of the comparing position, and of the indicate position of level 3, for a column that a line names.
+fn numbers_at(alloc: Global, lines: &[u8], at: Position) -> Result<(Option<u8>, Option<u8>), Fail> {
+    let plan = plan_of(alloc, &chart_of(alloc, lines, b"")?)?;
+    Ok((plan.comparing_position(at), plan.indicate_position(3, at)))
+}
+
+/// The number of the pilot of the first field.
+fn first_pilot(alloc: Global, lines: &[u8]) -> Result<Option<u8>, Fail> {
+    let chart = chart_of(alloc, lines, b"")?;
+    let plan = plan_of(alloc, &chart)?;
+    let field = chart.fields().first().copied().ok_or("field")?;
+    Ok(plan.pilot_of(field.name))
+}
+
+/// A standard machine but for its pilots, comparing positions, storage units, splits and indicate positions.
+fn machine(numbers: [u8; 5]) -> Profile {
+    let [pilots, comparing, storage, splits, indicate] = numbers;
+    Profile::smaller([8; 4], pilots, comparing, storage, splits, indicate).unwrap_or(
+        Profile::standard(),
+    )
+}
+
+/// A machine with one counter group of 3 positions and one of 4.
+fn two_groups() -> Profile {
+    Profile::smaller([1, 1, 0, 0], 16, 30, 4, 16, 30).unwrap_or(Profile::standard())
+}
+
+fn group(width: u8, number: u8) -> Option<CounterGroup> {
+    Some(CounterGroup { width, number })
 }
 
 #[test]
 fn nine_totals_of_eight(rt: HostRuntime) -> Result<(), Fail> {
-    let chart = chart_of(rt.alloc(), eights(), ninth())?;
     let wanted = CapacityFault::Counters {
         width: 8,
         wanted: 9,
         there: 8,
     };
-    assert_eq!(rt;
-        fault_of(rt.alloc(), &chart, &Profile::standard()),
-        Some(wanted)
-    );
+    let fault = fault_of(rt.alloc(), EIGHTS, NINTH, &Profile::standard())?;
+    assert_eq!(rt; fault, Some(wanted));
     Ok(())
 }
 
 #[test]
 fn all_groups_in_use(rt: HostRuntime) -> Result<(), Fail> {
-    let chart = chart_of(rt.alloc(), eights(), twos())?;
-    let plan = plan_of(rt.alloc(), &chart)?;
-    assert_eq!(rt; plan.groups().len(), 32);
-    assert!(rt; plan.is_for(&chart));
+    let groups = groups_of(rt.alloc(), EIGHTS, TWOS, &Profile::standard())?;
+    assert!(rt; groups == (32, group(8, 1), group(6, 8)));
     Ok(())
 }
 
 #[test]
 fn smaller_machines(rt: HostRuntime) -> Result<(), Fail> {
-    for row in 0..6 {
-        let (lines, numbers, wanted) = smaller_at(row).ok_or("row")?;
-        let [pilots, comparing, storage, splits, indicate] = numbers;
-        let profile = Profile::smaller([8; 4], pilots, comparing, storage, splits, indicate);
-        let chart = chart_of(rt.alloc(), lines, b"")?;
-        let fault = fault_of(rt.alloc(), &chart, &profile.ok_or("profile")?);
+    for (lines, numbers, wanted) in SMALLER {
+        let fault = fault_of(rt.alloc(), lines, b"", &machine(numbers))?;
         assert_eq!(rt; fault, Some(wanted));
     }
     Ok(())
@@ -184,48 +205,38 @@ fn smaller_machines(rt: HostRuntime) -> Result<(), Fail> {
 
 #[test]
 fn one_group_of_three_and_one_of_four(rt: HostRuntime) -> Result<(), Fail> {
-    let profile = Profile::smaller([1, 1, 0, 0], 16, 30, 4, 16, 30).ok_or("profile")?;
-    let plan = allocate(rt.alloc(), &chart_of(rt.alloc(), threes(), b"")?, &profile)?;
-    assert!(rt; plan.groups() == [group(3, 1), group(4, 1)].as_slice());
-    let chart = chart_of(rt.alloc(), threes(), third())?;
+    let groups = groups_of(rt.alloc(), THREES, b"", &two_groups())?;
+    assert!(rt; groups == (2, group(3, 1), group(4, 1)));
     let wanted = CapacityFault::Counters {
         width: 3,
         wanted: 3,
         there: 2,
     };
-    assert_eq!(rt; fault_of(rt.alloc(), &chart, &profile), Some(wanted));
+    let fault = fault_of(rt.alloc(), THREES, THIRD, &two_groups())?;
+    assert_eq!(rt; fault, Some(wanted));
     Ok(())
 }
 
 #[test]
-fn numbers_of_a_plan(rt: HostRuntime) -> Result<(), Fail> {
-    let chart = chart_of(rt.alloc(), levels(), b"")?;
-    let plan = plan_of(rt.alloc(), &chart)?;
-    assert_eq!(rt; plan.group_on(&chart, 16), Some(group(3, 3)));
-    assert_eq!(rt; plan.group_on(&chart, 17), None);
-    let of_line = Position { line: 7, column: 2 };
-    assert_eq!(rt; plan.comparing_position(of_line), Some(2));
+fn numbers_of_plans(rt: HostRuntime) -> Result<(), Fail> {
+    assert!(rt; numbers_on(rt.alloc(), LEVELS, 16)? == (Some(3), None, None));
+    assert!(rt; numbers_on(rt.alloc(), DEPARTMENTS, 6)? == (None, Some(1), None));
+    assert!(rt; numbers_on(rt.alloc(), OVERPUNCHED, 5)? == (None, None, Some(1)));
+    let of_control = Position { line: 7, column: 2 };
+    assert!(rt; numbers_at(rt.alloc(), LEVELS, of_control)? == (Some(2), None));
     let of_item = Position {
         line: 10,
         column: 1,
     };
-    assert_eq!(rt; plan.indicate_position(3, of_item), Some(1));
-    assert_eq!(rt; plan.indicate_position(2, of_item), None);
+    assert!(rt; numbers_at(rt.alloc(), LEVELS, of_item)? == (None, Some(1)));
+    assert!(rt; first_pilot(rt.alloc(), BALANCE)? == Some(1));
+    assert!(rt; first_pilot(rt.alloc(), LEVELS)? == None);
     Ok(())
 }
 
 #[test]
-fn storage_units_and_splits_of_a_plan(rt: HostRuntime) -> Result<(), Fail> {
-    let texts = chart_of(rt.alloc(), departments(), b"")?;
-    let signs = chart_of(rt.alloc(), overpunched(), b"")?;
-    let plan = plan_of(rt.alloc(), &texts)?;
-    assert!(rt; !plan.is_for(&signs));
-    assert_eq!(rt; plan.storage_unit(6), Some(1));
-    let plan = plan_of(rt.alloc(), &signs)?;
-    assert_eq!(rt; plan.split_on(5), Some(1));
-    for field in signs.fields() {
-        let number = if field.first == 1 { Some(1) } else { None };
-        assert_eq!(rt; plan.pilot_of(field.name), number);
-    }
+fn plans_are_for_their_own_charts(rt: HostRuntime) -> Result<(), Fail> {
+    assert!(rt; is_for(rt.alloc(), DEPARTMENTS, DEPARTMENTS)?);
+    assert!(rt; !is_for(rt.alloc(), DEPARTMENTS, OVERPUNCHED)?);
     Ok(())
 }

@@ -8,7 +8,7 @@ use Rattle.capacity.specs.Capacities.{standard}
 use Rattle.chart_rules.specs.Rules.{IsLawful}
 use Rattle.chart_text.specs.Chart.{Chart}
 use Rattle.chart_text.specs.ChartText.{Reads}
-use Rattle.compile407.specs.ChartFaults.{HasChartFault, IsTooGreat, of_capacity}
+use Rattle.compile407.specs.ChartFaults.{HasChartFault, of_capacity}
 use Rattle.compile407.specs.Served.{IsServed}
 
 -- where a chart that is read, lawful and served exceeds a capacity, the fault of the capacity is the chart's

@@ -12,6 +12,7 @@ pub mod NewSetup
 pub mod LinesGrammar
 pub mod LinePlaces
 pub mod LineOutcomes
+pub mod LowestFaults
 pub mod WiringGrammar
 pub mod Answered
 pub mod Gains

@@ -1,25 +1,23 @@
 -- A text is a wiring chart exactly where it is read as one, and has exactly the fault that is read.
-use Rattle.std.proofs.Common.{◌≡◌, ◌⊎◌, ℕ, ◌<◌, ◌≤◌, Bool, true, false, cond, ltb, ◌||◌, List, [], ◌∷◌, length, Option, Some, None, Result, Ok, Err, refl, ap, sym, ◌∙◌, subst, inl, inr, arith}
-use Rattle.std.proofs.lemmas.Bool.{ltb-true, lt-ltb, or_cases, cases_order, both_ways}
+use Rattle.std.proofs.Common.{◌≡◌, ◌⊎◌, ℕ, ◌≤◌, Bool, true, false, cond, ltb, ◌||◌, List, [], ◌∷◌, length, Option, Some, None, Result, Ok, Err, refl, ap, sym, ◌∙◌, subst, inl, inr, arith}
+use Rattle.std.proofs.lemmas.Bool.{ltb-true, lt-ltb, or_cases, both_ways}
 use Rattle.std.proofs.lemmas.List.Folds.{Any-from_list_any, list_any-from_Any}
-use Rattle.std.proofs.lemmas.Option.{same_Some}
 use Rattle.std.specs.List.{list_any}
 use Rattle.card_code.specs.Lines.{lines_of}
 use Rattle.hubs.specs.Tapes.{IsFormed}
 use Rattle.hubs.specs.declared.fault.SetupFault.{SetupFault}
 use Rattle.hubs.specs.declared.fault.SetupFault.TheVariants.{TapeFault}
 use Rattle.tokens.specs.Dividing.{tokens_of}
-use Rattle.wire_chart.specs.Statements.{statement_fault}
 use Rattle.wire_chart.specs.TextReading.{Told, divided_form, formed_lines, headed_lines, is_first, is_formed, is_large, is_long, lines_from, lines_told, start, text_told, with_form}
-use Rattle.wire_chart.specs.WiringFaults.{line_at, HasHead, IsMisplaced, IsRepeated, IsUnfitLine, IsUnfitForm, IsUnfit, IsAtFault, misplaced, repeated, unfit, AreGoodBefore, LacksEnd, IsBegun, HaveFault, HasFault}
+use Rattle.wire_chart.specs.WiringFaults.{HasHead, IsUnfitForm, IsUnfit, IsAtFault, misplaced, repeated, unfit, AreGoodBefore, IsBegun, HaveFault, HasFault}
 use Rattle.wire_chart.specs.WiringText.{FormNumbers, IsTooLarge, IsWiringChart, SaysLines}
 use Rattle.wire_chart.specs.declared.fault.WiringFault.{WiringFault}
 use Rattle.wire_chart.specs.declared.fault.WiringFault.TheVariants.{TooLarge, NoFirstLine, NotALine, LineTwice, Unfit, NoEnd, Memory}
 use Rattle.wire_chart.specs.declared.statement.Statement.{Statement}
-use Rattle.wire_chart.proofs.LineGrammar.{begun_is, begun_read, said_read}
+use Rattle.wire_chart.proofs.LineGrammar.{begun_is, begun_read}
 use Rattle.wire_chart.proofs.LinesGrammar.{lines_read, reads_what_is_read}
 use Rattle.wire_chart.proofs.LineOutcomes.{Outcome, outcome}
-use Rattle.wire_chart.proofs.LinePlaces.{same_said}
+use Rattle.wire_chart.proofs.LowestFaults.{misplaced_read, repeated_read, unfit_read, no_end_read}
 use Rattle.wire_chart.proofs.NewSetup.{formed_is, formed_read}
 use Rattle.wire_chart.proofs.StatementGrammar.{form_is, form_read}
 
@@ -169,106 +167,6 @@ sized_fault (first ∷ second ∷ others) fault false size read =
 pub fault_is : (bytes : List ℕ) (fault : WiringFault) → text_told bytes ≡ Err fault → HasFault bytes fault
 unfolding text_told
 fault_is bytes fault read = sized_fault (lines_of bytes) fault (is_large (lines_of bytes)) refl read
-
--- two lowest lines at fault are the same
-same_number : (lines : List (List ℕ)) (form : FormNumbers) (m n : ℕ) → IsAtFault lines form m → AreGoodBefore lines form m
-    → IsAtFault lines form n → AreGoodBefore lines form n → m ≡ n
-same_number lines form m n is good also well = by_order (cases_order m n)
-  where
-    by_order : (m ≡ n) ⊎ ((m < n) ⊎ (n < m)) → m ≡ n
-    by_order (inl same) = same
-    by_order (inr (inl lower)) = absurd (well m lower is)
-    by_order (inr (inr lower)) = absurd (good n lower also)
-
--- what is read of lines whose form a tape can have
-misplaced_read : (lines : List (List ℕ)) (form : FormNumbers) (n : ℕ) (read : Result (List Statement) WiringFault)
-    → IsFormed form.lines form.first form.overflow → IsMisplaced lines n → AreGoodBefore lines form n → Outcome lines form read
-    → read ≡ Err (NotALine n)
-misplaced_read lines form n (Ok said) formed is good says = absurd (says.0 n (misplaced is))
-misplaced_read lines form n (Err (NotALine m)) formed is good says =
-    ap (λ k. Err (NotALine k)) (same_number lines form m n (misplaced says.0) says.1 (misplaced is) good)
-misplaced_read lines form n (Err (LineTwice m)) formed is good says =
-    let same = same_number lines form m n (repeated says.0) says.1 (misplaced is) good in
-    absurd (says.0.said.placed (subst (IsMisplaced lines) (sym same) is))
-misplaced_read lines form n (Err (Unfit m fault)) formed is good says = absurd (by_part says.0)
-  where
-    same : m ≡ n
-    same = same_number lines form m n (unfit fault says.0) says.1 (misplaced is) good
-
-    by_part : IsUnfit lines form m fault → ⊥
-    by_part (inl f) = f.unfit formed
-    by_part (inr l) = l.said.placed (subst (IsMisplaced lines) (sym same) is)
-misplaced_read lines form n (Err NoEnd) formed is good says = absurd (says.0 n (misplaced is))
-misplaced_read lines form n (Err TooLarge) formed is good says = absurd says
-misplaced_read lines form n (Err NoFirstLine) formed is good says = absurd says
-misplaced_read lines form n (Err Memory) formed is good says = absurd says
-
-repeated_read : (lines : List (List ℕ)) (form : FormNumbers) (n : ℕ) (read : Result (List Statement) WiringFault)
-    → IsFormed form.lines form.first form.overflow → IsRepeated lines n → AreGoodBefore lines form n → Outcome lines form read
-    → read ≡ Err (LineTwice n)
-repeated_read lines form n (Ok said) formed is good says = absurd (says.0 n (repeated is))
-repeated_read lines form n (Err (NotALine m)) formed is good says =
-    let same = same_number lines form m n (misplaced says.0) says.1 (repeated is) good in
-    absurd (is.said.placed (subst (IsMisplaced lines) same says.0))
-repeated_read lines form n (Err (LineTwice m)) formed is good says =
-    ap (λ k. Err (LineTwice k)) (same_number lines form m n (repeated says.0) says.1 (repeated is) good)
-repeated_read lines form n (Err (Unfit m fault)) formed is good says = absurd (by_part says.0)
-  where
-    same : m ≡ n
-    same = same_number lines form m n (unfit fault says.0) says.1 (repeated is) good
-
-    by_part : IsUnfit lines form m fault → ⊥
-    by_part (inl f) = f.unfit formed
-    by_part (inr l) = l.new (subst (IsRepeated lines) (sym same) is)
-repeated_read lines form n (Err NoEnd) formed is good says = absurd (says.0 n (repeated is))
-repeated_read lines form n (Err TooLarge) formed is good says = absurd says
-repeated_read lines form n (Err NoFirstLine) formed is good says = absurd says
-repeated_read lines form n (Err Memory) formed is good says = absurd says
-
--- a line is unfit for one cause
-same_cause : (lines : List (List ℕ)) (form : FormNumbers) (n : ℕ) (f g : SetupFault) → IsUnfitLine lines form n f
-    → IsUnfitLine lines form n g → f ≡ g
-same_cause lines form n f g is also =
-    let same = same_said lines n is.statement also.statement
-    (said_read (line_at lines n) is.statement is.said.said) also.said.said in
-    same_Some f g (sym is.unfit ∙ ap (statement_fault form.lines) (sym same) ∙ also.unfit)
-
-unfit_read : (lines : List (List ℕ)) (form : FormNumbers) (n : ℕ) (fault : SetupFault) (read : Result (List Statement) WiringFault)
-    → IsFormed form.lines form.first form.overflow → IsUnfitLine lines form n fault → AreGoodBefore lines form n
-    → Outcome lines form read → read ≡ Err (Unfit n fault)
-unfit_read lines form n fault (Ok said) formed is good says = absurd (says.0 n (unfit fault (inr is)))
-unfit_read lines form n fault (Err (NotALine m)) formed is good says =
-    let same = same_number lines form m n (misplaced says.0) says.1 (unfit fault (inr is)) good in
-    absurd (is.said.placed (subst (IsMisplaced lines) same says.0))
-unfit_read lines form n fault (Err (LineTwice m)) formed is good says =
-    let same = same_number lines form m n (repeated says.0) says.1 (unfit fault (inr is)) good in
-    absurd (is.new (subst (IsRepeated lines) same says.0))
-unfit_read lines form n fault (Err (Unfit m other)) formed is good says = by_part says.0
-  where
-    same : m ≡ n
-    same = same_number lines form m n (unfit other says.0) says.1 (unfit fault (inr is)) good
-
-    by_part : IsUnfit lines form m other → read_fault (Unfit m other) ≡ Err (Unfit n fault)
-    by_part (inl f) = absurd (f.unfit formed)
-    by_part (inr l) =
-        ap (λ k. Err (Unfit k other)) same
-        ∙ ap (λ f. Err (Unfit n f)) (same_cause lines form n other fault
-        (subst (λ (k : ℕ). IsUnfitLine lines form k other) same l) is)
-unfit_read lines form n fault (Err NoEnd) formed is good says = absurd (says.0 n (unfit fault (inr is)))
-unfit_read lines form n fault (Err TooLarge) formed is good says = absurd says
-unfit_read lines form n fault (Err NoFirstLine) formed is good says = absurd says
-unfit_read lines form n fault (Err Memory) formed is good says = absurd says
-
-no_end_read : (lines : List (List ℕ)) (form : FormNumbers) (read : Result (List Statement) WiringFault)
-    → ((n : ℕ) → IsAtFault lines form n → ⊥) → LacksEnd lines → Outcome lines form read → read ≡ Err NoEnd
-no_end_read lines form (Ok said) good lacks says = absurd (says.1 lacks)
-no_end_read lines form (Err (NotALine m)) good lacks says = absurd (good m (misplaced says.0))
-no_end_read lines form (Err (LineTwice m)) good lacks says = absurd (good m (repeated says.0))
-no_end_read lines form (Err (Unfit m fault)) good lacks says = absurd (good m (unfit fault says.0))
-no_end_read lines form (Err NoEnd) good lacks says = refl
-no_end_read lines form (Err TooLarge) good lacks says = absurd says
-no_end_read lines form (Err NoFirstLine) good lacks says = absurd says
-no_end_read lines form (Err Memory) good lacks says = absurd says
 
 -- a form at fault
 form_at_fault : (lines : List (List ℕ)) (form : FormNumbers) → (IsFormed form.lines form.first form.overflow → ⊥)

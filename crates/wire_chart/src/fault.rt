@@ -4,7 +4,7 @@ ghost use Rattle.std.specs.Prelude.{◌≡◌};
 ghost use Rattle.wire_chart.specs.declared.fault.WiringFault.TheVariants.{Memory};
 
 use hubs::SetupFault;
-use std::alloc::{AllocError, AllocFailed};
+use std::alloc::AllocError;
 use thiserror::Error;
 
 /// Why a text is no wiring chart. Lines are numbered from 1.
@@ -48,14 +48,6 @@ impl From<AllocError> for WiringFault {
     ghost from_gives = { λ _ fault. fault ≡ Memory };
 
     fn from(_failed: AllocError) -> WiringFault {
-        WiringFault::Memory
-    }
-}
-
-impl<T: Drop> From<AllocFailed<T>> for WiringFault {
-    ghost from_gives = { λ _ fault. fault ≡ Memory };
-
-    fn from(_failed: AllocFailed<T>) -> WiringFault {
         WiringFault::Memory
     }
 }

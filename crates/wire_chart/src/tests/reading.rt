@@ -18,6 +18,14 @@ WIRE GX.3.1.1 GE.3.1.1\nWIRE GX.3.1.1 W.5\nWIRE GX.3.1.2 GE.3.1.2\nWIRE GX.3.1.2
 WIRE GX.3.1.3 W.3\nWIRE PIN.1.1 PIC.2.1\nWIRE PIN.2.1 PIC.1.1\nWIRE CC PL.3.1\nWIRE CC PIC.1.1\nWIRE PX.4.2 MI.3.1\n\
 WIRE PX.4.2 RO.3.1\nWIRE PX.4.3 RO.3.1\nEND\n";
 
+const LISTED: &str =
+    "WIRING407 1\nFORM 12 1 9\nJACK LIST\nWIRE SR.1 W.1\nWIRE SR.2 W.2\nWIRE SR.3 W.3\nWIRE SR.4 W.4\nWIRE SR.5 W.5\n\
+WIRE SR.6 W.6\nWIRE SR.8 W.9\nWIRE SR.9 W.10\nWIRE SR.10 W.11\nEND\n";
+
+const SHUFFLED: &str =
+    "  WIRING407  1\r\nFORM 12 1 9\nWIRE SR.10 W.11\n\nWIRE SR.2 W.2\nWIRE SR.9 W.10\nWIRE SR.1 W.1\nWIRE SR.5 W.5\n\
+WIRE SR.4 W.4\nJACK  LIST \nWIRE SR.6 W.6\nWIRE SR.3 W.3\nWIRE SR.8 W.9\nEND\n\n   ";
+
 /// What is written of the setup that a text reads as.
 fn written_again(alloc: Global, text: &str) -> Result<String, Fail> {
     let setup = read_setup(alloc, text.as_bytes()).ok().ok_or("a setup")?;
@@ -30,6 +38,8 @@ fn wiring_charts_are_read_and_written(rt: HostRuntime) -> Result<(), Fail> {
     assert_eq!(rt; again.as_str(), COUNTED);
     let in_order = written_again(rt.alloc(), BY_HAND)?;
     assert_eq!(rt; in_order.as_str(), IN_ORDER);
+    let listed = written_again(rt.alloc(), SHUFFLED)?;
+    assert_eq!(rt; listed.as_str(), LISTED);
     Ok(())
 }
 
