@@ -1,11 +1,10 @@
 -- The positions of a field's columns.
-use Rattle.std.proofs.Common.{◌≡◌, ℕ, suc, ◌+◌, ◌<◌, ◌≤◌, List, [], ◌∷◌, ◌++◌, map, length, Option, Some, None, slice_get, get_or, take, drop, refl, sym, ap, ◌∙◌, arith, append_assoc, length-append, EachIndex, ◌≢◌, ◌↔◌}
+use Rattle.std.proofs.Common.{◌≡◌, ℕ, suc, ◌+◌, ◌<◌, ◌≤◌, List, [], ◌∷◌, ◌++◌, map, length, Option, Some, None, slice_get, take, drop, refl, sym, ap, ◌∙◌, arith, append_assoc, length-append, EachIndex, ◌≢◌}
 use Rattle.std.proofs.Math.Seq.{take-append_seam}
 use Rattle.std.proofs.lemmas.List.{length-take-le, take-append-drop}
 use Rattle.std.proofs.lemmas.Option.{slice_get-get_or}
 use Rattle.std.specs.List.{range_with_len}
 use Rattle.std.proofs.lemmas.List.FromFn.{map-range_with_len_more, length-map-range_with_len, get_or-map-range_with_len}
-use Rattle.std.proofs.lemmas.Grind.{common_steps}
 use Rattle.chart_text.specs.declared.statement.Field.{Field}
 use Rattle.chart_rules.specs.Fields.{columns_of}
 use Rattle.allocate.specs.declared.position.Position.{Position}

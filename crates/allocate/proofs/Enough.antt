@@ -1,5 +1,5 @@
 -- Counter groups that are enough for totals.
-use Rattle.std.proofs.Common.{◌≡◌, ℕ, suc, zero, ◌+◌, ◌<◌, ◌≤◌, ◌==◌, ◌&&◌, Bool, true, false, IsTrue, List, [], ◌∷◌, Option, Some, None, length, slice_get, get_or, drop, nat_le, refl, sym, ap, ◌∙◌, arith, ◌↔◌, filter_map}
+use Rattle.std.proofs.Common.{◌≡◌, ℕ, suc, zero, ◌≤◌, ◌&&◌, Bool, true, false, IsTrue, List, [], ◌∷◌, Some, length, slice_get, nat_le, refl, sym, ap, ◌∙◌, arith, ◌↔◌}
 use Rattle.std.proofs.lemmas.Bool.Decides.{nat_tests}
 use Rattle.capacity.specs.declared.group.CounterGroup.{CounterGroup}
 use Rattle.allocate.specs.declared.total.Total.{Total}

@@ -2,6 +2,7 @@ pub mod Assignments
 pub mod Columns
 pub mod Counting
 pub mod Enough
+pub mod Exclusions
 pub mod GroupPlaces
 pub mod Lowest
 pub mod Needs

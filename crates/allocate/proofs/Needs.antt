@@ -1,5 +1,5 @@
 -- The totals of a lawful chart need 8 positions at most.
-use Rattle.std.proofs.Common.{◌≡◌, ℕ, ◌+◌, ◌<◌, ◌≤◌, ◌&&◌, ◌||◌, Bool, true, false, cond, List, [], ◌∷◌, ◌++◌, Option, Some, None, is_some, is_none, nat_lt, refl, sym, ap, ◌∙◌, arith, append_assoc, filter_map, All}
+use Rattle.std.proofs.Common.{◌≡◌, ℕ, ◌+◌, ◌≤◌, ◌&&◌, ◌||◌, Bool, true, false, cond, List, [], ◌∷◌, ◌++◌, Option, Some, None, is_some, is_none, nat_lt, refl, sym, ◌∙◌, arith, append_assoc, filter_map}
 use Rattle.std.specs.List.{cons_option}
 use Rattle.std.proofs.lemmas.Bool.Decides.{nat_tests}
 use Rattle.std.proofs.lemmas.List.Elements.{All-cons, All-nil}
@@ -9,14 +9,14 @@ use Rattle.chart_text.specs.declared.statement.Field.{Field}
 use Rattle.chart_text.specs.declared.statement.Statement.{Statement}
 use Rattle.chart_text.specs.declared.statement.Statement.TheVariants as says
 use Rattle.chart_rules.specs.declared.rule.Rule.TheVariants as rule
-use Rattle.chart_rules.specs.Fields.{fields_of, first_named, field_named, sign_column, columns_of}
+use Rattle.chart_rules.specs.Fields.{fields_of, field_named, sign_column, columns_of}
 use Rattle.chart_rules.specs.Names.{breaks_unknown_name}
 use Rattle.chart_rules.specs.Digits.{is_out_of_digits, breaks_digits_range}
 use Rattle.chart_rules.specs.Rules.{IsLawful}
 use Rattle.chart_rules.proofs.Laws.{breaks-lawful}
 use Rattle.allocate.specs.declared.total.Total.{Total}
 use Rattle.allocate.specs.Totals.{NeedsFit}
-use Rattle.allocate.specs.ChartTotals.{names_signed, need_of, total_of, totals_of}
+use Rattle.allocate.specs.ChartTotals.{need_of, total_of, totals_of}
 
 -- a total whose digits are in range needs 8 positions at most
 need-fits : (field : Option Field) (digits : ℕ) → is_none field ≡ false → is_out_of_digits field digits ≡ false → need_of field digits ≤ 8

@@ -1,5 +1,5 @@
 -- The capacities in the order in which they are asked.
-use Rattle.std.proofs.Common.{◌≡◌, ℕ, ◌<◌, ◌≤◌, List, length, Option, Some, None, slice_get, IfNone, IfSome, refl, arith}
+use Rattle.std.proofs.Common.{length, Option, IfNone, IfSome, refl, arith}
 use Rattle.capacity.specs.Capacities.{Capacities}
 use Rattle.allocate.specs.declared.exceeded.Capacity.{Capacity}
 use Rattle.allocate.specs.declared.exceeded.Capacity.TheVariants as of

@@ -1,15 +1,14 @@
 -- Plans that are for a chart.
-use Rattle.std.proofs.Common.{◌≡◌, ℕ, ◌+◌, ◌<◌, ◌≤◌, ◌&&◌, Bool, true, false, IsTrue, List, [], ◌∷◌, length, refl, sym, ap, ◌∙◌, arith, ◌↔◌}
+use Rattle.std.proofs.Common.{◌≡◌, ℕ, ◌<◌, ◌≤◌, ◌&&◌, Bool, true, false, IsTrue, List, [], ◌∷◌, length, refl, ap, arith, ◌↔◌}
 use Rattle.chart_text.specs.declared.chart.Line.{Line}
 use Rattle.capacity.specs.Capacities.{Capacities, standard, IsAtMost}
-use Rattle.allocate.specs.declared.exceeded.Capacity.TheVariants as of
-use Rattle.allocate.specs.Exceeded.{IsOver, Fits}
+use Rattle.allocate.specs.Exceeded.{Fits}
 use Rattle.allocate.specs.Totals.{HasGroupsFor}
 use Rattle.allocate.specs.Groups.{IsAssignment}
 use Rattle.allocate.specs.Plans.{Lists, IsWithinMachine, Serves, IsFor}
 use Rattle.allocate.specs.Wanted.{Parts, Wanted, wanted_of}
 use Rattle.allocate.proofs.Assignments.{HasGroupsFor-from, IsAssignment-standard}
-use Rattle.allocate.proofs.Order.{NotOver, NotOver-fits}
+use Rattle.allocate.proofs.Order.{NotOver-fits}
 
 -- a plan within the machine that has groups for the totals, and no text that is too wide
 pub Serves-from : (wanted : Wanted) (plan : Lists) → IsWithinMachine plan.parts → IsAssignment wanted.totals standard plan.groups

@@ -1,10 +1,9 @@
 -- Reading a list piece by piece against the pieces that the elements of another list give.
-use Rattle.std.proofs.Common.{◌≡◌, ℕ, suc, ◌+◌, ◌==◌, IsTrue, ◌<◌, ◌≤◌, Bool, true, false, cond, List, [], ◌∷◌, ◌++◌, map, length, get_or, take, drop, flat_map, filter, refl, sym, ap, ◌∙◌, arith, add-one, ◌↔◌, ◌≢◌, Option, Some, None}
+use Rattle.std.proofs.Common.{◌≡◌, ℕ, suc, ◌+◌, ◌==◌, IsTrue, ◌<◌, ◌≤◌, Bool, true, false, cond, List, [], ◌∷◌, ◌++◌, map, length, get_or, take, drop, flat_map, filter, refl, sym, ap, ◌∙◌, arith, add-one, ◌↔◌, ◌≢◌}
 use Rattle.std.proofs.Math.Seq.{drop-cons}
 use Rattle.std.proofs.lemmas.List.{append_cancel_left, append-nil, take_more}
 use Rattle.std.proofs.lemmas.Grind.{common_steps, flat_map-append}
 use Rattle.std.proofs.lemmas.Bool.Decides.{nat_tests}
-use Rattle.allocate.specs.Behind.{IsBehind}
 
 -- what stands from a place on begins with what stands there
 pub drop-here : {X : Type 0} (xs : List X) (i : ℕ) (x : X) → i < length xs → x ≡ get_or xs i x → drop i xs ≡ x ∷ drop (i + 1) xs

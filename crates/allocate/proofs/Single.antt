@@ -1,8 +1,7 @@
 -- Groups none of which stands twice.
-use Rattle.std.proofs.Common.{◌≡◌, ◌≢◌, ℕ, ◌+◌, ◌<◌, ◌≤◌, Bool, true, false, List, length, Option, Some, slice_get, get_or, take, nat_lt, refl, sym, ap, ◌∙◌, arith, Contains, length-take}
+use Rattle.std.proofs.Common.{◌≡◌, ℕ, ◌+◌, ◌<◌, ◌≤◌, Bool, true, false, List, length, Some, slice_get, take, nat_lt, refl, sym, ap, ◌∙◌, arith, Contains}
 use Rattle.std.proofs.lemmas.Bool.Decides.{nat_tests}
-use Rattle.std.proofs.lemmas.Grind.{common_steps}
-use Rattle.std.proofs.lemmas.Option.{slice_get_within, get_or_from_slice_get, slice_get_read}
+use Rattle.std.proofs.lemmas.Option.{slice_get_within, get_or_from_slice_get}
 use Rattle.std.proofs.lemmas.List.{get_or-take, length-take-le}
 use Rattle.capacity.specs.declared.group.CounterGroup.{CounterGroup}
 use Rattle.allocate.specs.Enough.{AreSingle}
@@ -37,17 +36,6 @@ module _ (groups : List CounterGroup) (i : ℕ) (group : CounterGroup) (within :
           let same : one ≡ i = grind (arith, nat_tests) in
           let is : each ≡ group = let e : Some each ≡ Some group = sym here ∙ ap (slice_get groups) same ∙ at in cc in
           absurd (new (Contains-before groups i other group (grind (arith, nat_tests)) (omega arith) (there ∙ ap Some is)))
-
-  -- a group that stands before stands twice
-  pub AreSingle-not : Contains (take i groups) group → ¬ AreSingle groups
-  AreSingle-not found single = not_same found.0 found.1 found.2
-    where
-      not_same : (one : ℕ) → one < length (take i groups) → get_or (take i groups) one group ≡ group → ⊥
-      not_same one lt here =
-          let below : one < i = omega (arith, length-take-le i groups (omega arith)) in
-          let there : slice_get groups one ≡ Some group = slice_get_read groups (length groups) one group refl (omega arith) (grind (arith, common_steps)) in
-          let same : one ≡ i = single one i group there at in
-          omega arith
 
 -- where no place is left
 pub AreSingle-all : (groups : List CounterGroup) (count : ℕ) → length groups ≤ count → AreSingleBelow groups count → AreSingle groups

@@ -1,5 +1,5 @@
 -- The total texts that are too wide for a storage unit: their lines rise, so the first is the lowest.
-use Rattle.std.proofs.Common.{◌≡◌, ℕ, zero, suc, ◌+◌, ◌<◌, ◌≤◌, Bool, true, false, cond, List, [], ◌∷◌, map, filter, length, get_or, refl, sym, ap, ◌∙◌, arith, Contains}
+use Rattle.std.proofs.Common.{◌≡◌, ℕ, zero, suc, ◌<◌, ◌≤◌, Bool, true, false, cond, List, [], ◌∷◌, map, filter, length, get_or, sym, arith}
 use Rattle.std.proofs.lemmas.Grind.{common_steps}
 use Rattle.chart_text.specs.Chart.{NumbersRise}
 use Rattle.chart_text.specs.declared.chart.Line.{Line}

@@ -1,5 +1,4 @@
-use Rattle.std.proofs.Common.{◌≡◌, sym, ap, ◌∙◌}
-use Rattle.allocate.specs.Wanted.{wanted_of}
+use Rattle.std.proofs.Common.{◌∙◌}
 use Rattle.allocate.proofs.Plans.{HasGroupsFor-fits, IsWithinMachine-fits, Serves-fits}
 use Rattle.allocate.proofs.allocation.allocate.Goals as goal
 

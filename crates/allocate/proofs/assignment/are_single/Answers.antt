@@ -1,6 +1,6 @@
-use Rattle.std.proofs.Common.{◌≡◌, true, false, get_or, refl}
+use Rattle.std.proofs.Common.{◌≡◌, true, get_or, refl}
 use Rattle.std.proofs.lemmas.Option.{slice_get-get_or}
-use Rattle.allocate.proofs.Single.{AreSingleBelow-more, AreSingle-not, AreSingle-all, no_group}
+use Rattle.allocate.proofs.Single.{AreSingleBelow-more, AreSingle-all, no_group}
 use Rattle.allocate.proofs.assignment.are_single.Goals as goal
 
 pub loop-place-preserved : goal.loop-place-preserved

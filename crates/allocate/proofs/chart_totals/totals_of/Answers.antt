@@ -1,4 +1,3 @@
-use Rattle.allocate.specs.Totals.{NeedsFit}
 use Rattle.allocate.proofs.Needs.{NeedsFit-lawful}
 use Rattle.allocate.proofs.chart_totals.totals_of.Goals as goal
 

@@ -1,4 +1,4 @@
-use Rattle.std.proofs.Common.{◌≡◌, ◌↔◌, sym, ◌∙◌}
+use Rattle.std.proofs.Common.{◌≡◌, sym, ◌∙◌}
 use Rattle.allocate.specs.Pilots.{wants_pilot, pilots_of}
 use Rattle.allocate.proofs.Reading.{IsTrue-ended, IsTrue-differs, IsReadTo-end_filter, IsReadTo-fails_filter}
 use Rattle.allocate.proofs.pilot.are_pilots.Goals as goal

@@ -1,7 +1,7 @@
 use Rattle.std.proofs.Common.{◌≡◌, ◌++◌, ◌∙◌, sym, ap}
 use Rattle.chart_text.specs.declared.chart.Line.{Line}
 use Rattle.allocate.specs.Positions.{field_used, positions_for, positions_of}
-use Rattle.allocate.proofs.Reading.{IsTrue-ended, IsTrue-differs, IsReadTo-nothing, IsReadTo-front, IsReadTo-fails, IsReadTo-end}
+use Rattle.allocate.proofs.Reading.{IsTrue-ended, IsReadTo-nothing, IsReadTo-front, IsReadTo-end}
 use Rattle.allocate.proofs.Columns.{positions_for-none}
 use Rattle.allocate.proofs.position.are_positions_of.Goals as goal
 use Rattle.allocate.proofs.position.are_positions_of.Goals.{in-Some+in-Some-behind_columns, in_default}

@@ -1,4 +1,4 @@
-use Rattle.std.proofs.Common.{◌≡◌, ◌++◌, ◌∙◌, sym, ap}
+use Rattle.std.proofs.Common.{◌++◌, ◌∙◌, sym, ap}
 use Rattle.chart_text.specs.declared.chart.Line.{Line}
 use Rattle.allocate.specs.Positions.{field_used, positions_for}
 use Rattle.allocate.proofs.Reading.{pieces-more, pieces-same}

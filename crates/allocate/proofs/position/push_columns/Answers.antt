@@ -1,5 +1,4 @@
-use Rattle.std.proofs.Common.{◌+◌, ◌≡◌, arith}
-use Rattle.chart_rules.specs.Fields.{columns_of}
+use Rattle.std.proofs.Common.{◌+◌, arith}
 use Rattle.allocate.proofs.Columns.{columns-more, columns-all}
 use Rattle.allocate.proofs.position.push_columns.Goals as goal
 

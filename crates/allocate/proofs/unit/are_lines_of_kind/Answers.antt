@@ -1,4 +1,4 @@
-use Rattle.std.proofs.Common.{◌≡◌, ◌↔◌, sym, ◌∙◌}
+use Rattle.std.proofs.Common.{◌≡◌, sym, ◌∙◌}
 use Rattle.allocate.specs.Units.{is_of_kind, lines_of_kind}
 use Rattle.allocate.proofs.Reading.{IsTrue-ended, IsTrue-differs, IsReadTo-end_filter, IsReadTo-fails_filter}
 use Rattle.allocate.proofs.unit.are_lines_of_kind.Goals as goal

@@ -1,5 +1,4 @@
-use Rattle.std.proofs.Common.{sym}
-use Rattle.allocate.specs.Units.{is_of_kind, FirstIsLowest}
+use Rattle.allocate.specs.Units.{is_of_kind}
 use Rattle.allocate.proofs.WideTexts.{FirstIsLowest-lines}
 use Rattle.allocate.proofs.unit.lines_of_kind.Goals as goal
 
