@@ -1,10 +1,17 @@
 -- A deck text: one card a line, each byte of the line a column punched by the card code.
-use Rattle.std.specs.Prelude.{◌≡◌, ℕ, ◌+◌, ◌-◌, ◌<◌, ◌≤◌, List, [], length, take, slice_index, slice_index_or, All, EachIndex, IsSome, Some, None}
+use Rattle.std.specs.Prelude.{◌≡◌, ℕ, ◌+◌, ◌-◌, ◌<◌, ◌≤◌, List, [], length, take, slice_index, slice_index_or, All, EachIndex, IsSome, Option, Some, None}
 use Rattle.std.specs.List.{AllZip}
 use Rattle.card_code.specs.CardCode.{rows_of}
 use Rattle.card_code.specs.Lines.{lines_of}
 use Rattle.card_code.specs.declared.deck.DeckFault.{DeckFault}
 use Rattle.card_code.specs.declared.deck.DeckFault.TheVariants.{CardTooLong, NoSuchCharacter, TooManyCards, Memory}
+
+-- the number of a fault in the catalogue of faults; want of memory has none
+abbrev pub fault_number : DeckFault → Option ℕ
+fault_number (CardTooLong line) = Some 1
+fault_number (NoSuchCharacter line column) = Some 2
+fault_number TooManyCards = Some 3
+fault_number Memory = None
 
 -- the card of a line: each byte is punched in its column, and the columns behind the line are blank
 pub record IsCardOf (line card : List ℕ) : Type 0 where

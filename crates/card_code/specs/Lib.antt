@@ -1,3 +1,4 @@
 pub mod CardCode
 pub mod Deck
 pub mod Lines
+pub mod Rows

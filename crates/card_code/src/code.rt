@@ -1,7 +1,8 @@
 //! The card code as a table, read both ways.
 
-ghost use Rattle.std.specs.Prelude.{◌≡◌, ◌↔◌, ℕ, length, Contains, IsTrue};
+ghost use Rattle.std.specs.Prelude.{◌≡◌, ◌↔◌, ℕ, length, true, Contains, IfSome, IsTrue};
 ghost use Rattle.card_code.specs.CardCode.{character_in, code, deck_character, is_one_to_one, rows_in, rows_of};
+ghost use Rattle.card_code.specs.Rows.{is_row_set};
 
 /// Each deck character with its punched rows, bit `r` for row `r`.
 #[rattlefmt::skip]
@@ -34,7 +35,8 @@ pub fn code_is_one_to_one()
 
 /// The rows of a deck character, or `None` for a character that is none.
 pub fn rows_of_character(character: char) -> Option<u16>
-    ensures { result ≡ rows_of character }
+    ensures rows { result ≡ rows_of character }
+    ensures lawful { IfSome result (λ rows. is_row_set rows ≡ true) }
 {
     find_rows(&CODE, character)
 }

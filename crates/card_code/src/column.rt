@@ -2,11 +2,13 @@
 
 ghost use Rattle.std.specs.Prelude.{◌≡◌, ◌+◌, ◌^◌, ◌<◌, ◌↔◌, ℕ, IsTrue, true, false};
 ghost use Rattle.card_code.specs.CardCode.{has_row, with_row, rows_of, deck_character, print_character};
+ghost use Rattle.card_code.specs.Rows.{row_number, is_row_set};
 
 use crate::code::{character_of_rows, rows_of_character};
+use crate::row::Row;
 use std::marker::Model;
 
-/// The set of rows punched in one column. A card has the rows 0 to 9, 11 and 12.
+/// The set of rows punched in one column, any of the twelve.
 ///
 /// Contracts see a column as a number in which bit `r` tells of row `r`.
 #[derive(Clone, Copy, Debug, Default, PartialEq, Eq)]
@@ -18,6 +20,8 @@ impl Model for Column {
     ghost Value = { ℕ };
 
     ghost view = { λ column. column.rows };
+
+    ghost invariant = { λ column. is_row_set column.rows ≡ true };
 
     ghost inverse = { λ rows. record { rows = rows } };
 }
@@ -34,7 +38,10 @@ impl Column {
     pub fn of_char(character: char) -> Option<Self>
         ensures { result ≡ rows_of character }
     {
-        rows_of_character(character).map(|rows| Column { rows })
+        match rows_of_character(character) {
+            Some(rows) => Some(Column { rows }),
+            None => None,
+        }
     }
 
     /// The deck character of the punched rows, or `None` where no character has exactly these.
@@ -57,20 +64,18 @@ impl Column {
     }
 
     /// Whether row `row` is punched.
-    pub fn has_row(self, row: u8) -> bool
-        requires { row < 16 }
-        ensures { result ≡ has_row self row }
+    pub fn has_row(self, row: Row) -> bool
+        ensures { result ≡ has_row self (row_number row) }
     {
-        self.rows >> row & 1 == 1
+        self.rows >> row.number() & 1 == 1
     }
 
     /// This column with row `row` punched too.
-    pub fn with_row(self, row: u8) -> Self
-        requires { row < 16 }
-        ensures { result ≡ with_row self row }
+    pub fn with_row(self, row: Row) -> Self
+        ensures { result ≡ with_row self (row_number row) }
     {
         Column {
-            rows: self.rows | 1 << row,
+            rows: self.rows | 1 << row.number(),
         }
     }
 }

@@ -33,6 +33,23 @@ pub enum DeckFault {
     Memory,
 }
 
+impl DeckFault {
+    ghost use Rattle.std.specs.Prelude.{◌≡◌};
+    ghost use Rattle.card_code.specs.Deck.{fault_number};
+
+    /// Its number in the catalogue of faults, 1 to 3; want of memory has none.
+    pub fn number(self) -> Option<u8>
+        ensures { result ≡ fault_number self }
+    {
+        match self {
+            DeckFault::CardTooLong { .. } => Some(1),
+            DeckFault::NoSuchCharacter { .. } => Some(2),
+            DeckFault::TooManyCards => Some(3),
+            DeckFault::Memory => None,
+        }
+    }
+}
+
 impl<T: Drop> From<AllocFailed<T>> for DeckFault {
     ghost from_gives = { λ _ fault. fault ≡ Memory };
 

@@ -18,6 +18,7 @@ mod code;
 mod column;
 mod deck;
 mod lines;
+mod row;
 #[cfg(test)]
 mod tests;
 
@@ -26,3 +27,4 @@ pub use code::code_is_one_to_one;
 pub use column::Column;
 pub use deck::{DeckFault, MOST_CARDS, deck_text_is_unambiguous, read_deck};
 pub use lines::next_line;
+pub use row::{ROWS, Row};

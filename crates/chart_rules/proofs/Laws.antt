@@ -11,7 +11,7 @@ use Rattle.chart_rules.specs.declared.rule.Rule.{Rule}
 use Rattle.chart_rules.specs.declared.rule.Rule.TheVariants as rule
 use Rattle.chart_rules.specs.Columns.{breaks_columns}
 use Rattle.chart_rules.specs.Fields.{field_of, fields_of}
-use Rattle.chart_rules.specs.OnCard.{IsOnCard, AreOnCard}
+use Rattle.chart_rules.specs.HelperOnCard.{IsOnCard, AreOnCard}
 use Rattle.chart_rules.specs.Rules.{breaks, by_line, IsKept, IsLawful}
 
 -- a line of a chart that keeps a rule doesn't break it

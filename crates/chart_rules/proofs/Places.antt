@@ -12,8 +12,9 @@ use Rattle.std.proofs.lemmas.Option.{slice_get_past, slice_get_read, slice_get_c
 use Rattle.std.proofs.lemmas.List.Sums.{prefix_len-le-length}
 use Rattle.chart_text.specs.declared.statement.Field.{Field}
 use Rattle.indexmap.specs.IndexMap.{get}
-use Rattle.chart_rules.specs.Fields.{is_same_name, field_of, fields_of, first_named, first_place}
-use Rattle.chart_rules.specs.Index.{Places, IsIndexOf}
+use Rattle.chart_rules.specs.Fields.{field_of, fields_of, first_named, first_place}
+use Rattle.chart_text.specs.Name.{is_same_name}
+use Rattle.chart_rules.specs.HelperIndex.{Places, IsIndexOf}
 
 -- the first element that passes is the one at the first place that passes
 pub find_at_position : {X : Type 0} (p : X → Bool) (xs : List X) → find p xs ≡ option_and_then (slice_get xs) (position p xs)

@@ -4,7 +4,7 @@ use Rattle.chart_text.specs.declared.statement.FieldKind.{FieldKind}
 use Rattle.chart_text.specs.declared.statement.FieldKind.TheVariants as holds
 use Rattle.chart_text.specs.declared.statement.Statement.{Statement}
 use Rattle.chart_text.specs.declared.statement.Statement.TheVariants as says
-use Rattle.chart_rules.specs.Fields.{sign_column, columns_of}
+use Rattle.chart_text.specs.Field.{sign_column, columns_of}
 
 -- whether a number is that of a column of the card
 abbrev pub is_column : ℕ → Bool

@@ -1,35 +1,34 @@
 -- Rules on control levels: a total or an indicated field has its level controlled, and a text on a total line controls it.
-use Rattle.std.specs.Prelude.{ℕ, Bool, false, List, Option, Some, None, not, ◌&&◌, ◌==◌, nat_le, if◌then◌else◌}
+use Rattle.std.specs.Prelude.{ℕ, Bool, false, List, Option, Some, None, not, ◌&&◌, ◌==◌, nat_le}
 use Rattle.std.specs.List.{list_any}
+use Rattle.chart_text.specs.Levels.{control_level, control_number, level_number}
 use Rattle.chart_text.specs.declared.chart.Line.{Line}
+use Rattle.chart_text.specs.declared.level.ControlLevel.{ControlLevel}
+use Rattle.chart_text.specs.declared.level.Level.{Level}
 use Rattle.chart_text.specs.declared.statement.DetailOption.TheVariants as shown
 use Rattle.chart_text.specs.declared.statement.Statement.{Statement}
 use Rattle.chart_text.specs.declared.statement.Statement.TheVariants as says
-use Rattle.chart_rules.specs.Fields.{is_same_name}
+use Rattle.chart_text.specs.Name.{is_same_name}
 
--- a level that needs to be controlled: 1 to 3, since level 4 is the whole deck
-abbrev pub below_final : ℕ → Option ℕ
-below_final level = if nat_le level 3 then Some level else None
-
--- the level that a line needs to be controlled, if it needs one
-abbrev pub level_needed : Statement → Option ℕ
+-- the level that a line needs to be controlled, if it needs one; level 4 is the whole deck, and needs none
+abbrev pub level_needed : Statement → Option ControlLevel
 level_needed (says.DetailField wheel name (shown.Indicated level)) = Some level
-level_needed (says.TotalLiteral level wheel literal) = below_final level
-level_needed (says.TotalText level wheel name) = below_final level
-level_needed (says.TotalAmount level wheel name digits mark) = below_final level
+level_needed (says.TotalLiteral level wheel literal) = control_level level
+level_needed (says.TotalText level wheel name) = control_level level
+level_needed (says.TotalAmount level wheel name digits mark) = control_level level
 level_needed other = None
 
 -- whether a line is CONTROL of a level
-abbrev pub controls : ℕ → Statement → Bool
-controls wanted (says.Control level name) = level == wanted
+abbrev pub controls : ControlLevel → Statement → Bool
+controls wanted (says.Control level name) = control_number level == control_number wanted
 controls wanted other = false
 
 -- whether a chart has a CONTROL line of a level
-abbrev pub is_controlled : List Line → ℕ → Bool
+abbrev pub is_controlled : List Line → ControlLevel → Bool
 is_controlled lines level = list_any (λ line. controls level line.statement) lines
 
 -- whether a level, if one is needed, has no CONTROL line
-abbrev pub is_uncontrolled : List Line → Option ℕ → Bool
+abbrev pub is_uncontrolled : List Line → Option ControlLevel → Bool
 is_uncontrolled lines (Some level) = not (is_controlled lines level)
 is_uncontrolled lines None = false
 
@@ -38,12 +37,12 @@ abbrev pub breaks_no_control : List Line → Statement → Bool
 breaks_no_control lines line = is_uncontrolled lines (level_needed line)
 
 -- whether a line makes a name a control field of a level or a higher one
-abbrev pub controls_by : ℕ → List ℕ → Statement → Bool
-controls_by lowest wanted (says.Control level name) = nat_le lowest level && is_same_name name wanted
+abbrev pub controls_by : Level → List ℕ → Statement → Bool
+controls_by lowest wanted (says.Control level name) = nat_le (level_number lowest) (control_number level) && is_same_name name wanted
 controls_by lowest wanted other = false
 
 -- whether a chart makes a name a control field of a level or a higher one
-abbrev pub is_controlled_by : List Line → ℕ → List ℕ → Bool
+abbrev pub is_controlled_by : List Line → Level → List ℕ → Bool
 is_controlled_by lines lowest name = list_any (λ line. controls_by lowest name line.statement) lines
 
 -- Total text not control: a text on a total line that is no control field of its level or higher.

@@ -3,7 +3,8 @@ use Rattle.std.specs.Prelude.{ℕ, Bool, false, List, Option, Some, None, is_som
 use Rattle.chart_text.specs.declared.statement.Field.{Field}
 use Rattle.chart_text.specs.declared.statement.Statement.{Statement}
 use Rattle.chart_text.specs.declared.statement.Statement.TheVariants as says
-use Rattle.chart_rules.specs.Fields.{first_named, sign_column, columns_of}
+use Rattle.chart_rules.specs.Fields.{first_named}
+use Rattle.chart_text.specs.Field.{sign_column, columns_of}
 
 -- whether a total of a field has fewer digits than the field, more than 8, or more than 7 with a sign column
 abbrev pub is_out_of_digits : Option Field → ℕ → Bool

@@ -1,13 +1,14 @@
 -- A rule on the form: its lines leave room for the heading lines and for the overflow.
 use Rattle.std.specs.Prelude.{ℕ, ◌+◌, ◌-◌, Bool, true, false, List, [], ◌∷◌, max, not, ◌&&◌, nat_lt, nat_le}
 use Rattle.std.specs.List.{list_any}
+use Rattle.chart_text.specs.Headings.{heading_number}
 use Rattle.chart_text.specs.declared.chart.Line.{Line}
 use Rattle.chart_text.specs.declared.statement.Statement.{Statement}
 use Rattle.chart_text.specs.declared.statement.Statement.TheVariants as says
 
 -- the number of the heading line that a HEAD line names, and 0 for other lines
 abbrev pub heading_of : Statement → ℕ
-heading_of (says.Head level wheel literal) = level
+heading_of (says.Head line wheel literal) = heading_number line
 heading_of other = 0
 
 -- how many heading lines a chart has: the highest that a HEAD line names, or 0

@@ -1,6 +1,8 @@
 -- The items of a chart: what its lines put on the lines of the report, and on which print wheels.
 use Rattle.std.specs.Prelude.{ℕ, ◌+◌, Bool, false, List, Option, Some, None, option_map, length, nat_lt, ◌==◌}
 use Rattle.std.specs.Prelude.{if◌then◌else◌}
+use Rattle.chart_text.specs.Headings.{heading_number}
+use Rattle.chart_text.specs.declared.level.Level.{Level}
 use Rattle.chart_text.specs.declared.statement.BodyLine.TheVariants as body
 use Rattle.chart_text.specs.declared.statement.DetailOption.{DetailOption}
 use Rattle.chart_text.specs.declared.statement.DetailOption.TheVariants as shown
@@ -15,12 +17,13 @@ use Rattle.chart_rules.specs.declared.items.Figure.{Figure}
 use Rattle.chart_rules.specs.declared.items.Item.{Item}
 use Rattle.chart_rules.specs.declared.items.PrintedLine.{PrintedLine}
 use Rattle.chart_rules.specs.declared.items.PrintedLine.TheVariants.{Heading, Body}
-use Rattle.chart_rules.specs.Fields.{first_named, columns_of, decimals_of}
+use Rattle.chart_rules.specs.Fields.{first_named}
+use Rattle.chart_text.specs.Field.{columns_of, decimals_of}
 use Rattle.chart_rules.specs.Repeats.{is_same_body}
 
 -- the line of the report that a line of the chart puts an item on, if it is an item
 abbrev pub printed_line_of : Statement → Option PrintedLine
-printed_line_of (says.Head level wheel literal) = Some (Heading level)
+printed_line_of (says.Head line wheel literal) = Some (Heading line)
 printed_line_of (says.DetailLiteral wheel literal) = Some (Body body.Detail)
 printed_line_of (says.DetailField wheel name shown) = Some (Body body.Detail)
 printed_line_of (says.TotalLiteral level wheel literal) = Some (Body (body.Total level))
@@ -30,7 +33,7 @@ printed_line_of other = None
 
 -- whether two lines of the report are the same
 abbrev pub is_same_line : PrintedLine → PrintedLine → Bool
-is_same_line (Heading one) (Heading other) = one == other
+is_same_line (Heading one) (Heading other) = heading_number one == heading_number other
 is_same_line (Body one) (Body other) = is_same_body one other
 is_same_line one other = false
 
@@ -65,14 +68,14 @@ detail_item wheel shown columns (holds.Amount decimals rule) =
     figure_item (Body body.Detail) wheel (record { digits = columns; decimals = decimals; mark = mark_shown shown })
 
 -- a total of an amount: its own digits, and the decimals of the amount
-abbrev pub total_item : ℕ → ℕ → ℕ → Option Mark → FieldKind → Item
+abbrev pub total_item : Level → ℕ → ℕ → Option Mark → FieldKind → Item
 total_item level wheel digits mark kind =
     figure_item (Body (body.Total level)) wheel (record { digits = digits; decimals = decimals_of kind; mark = mark })
 
 -- the item that a line of the chart is, if it is one: a literal has its characters, a text its columns, a total its
 -- digits
 abbrev pub item_of : List Field → Statement → Option Item
-item_of fields (says.Head level wheel literal) = Some (text_item (Heading level) wheel (length literal))
+item_of fields (says.Head line wheel literal) = Some (text_item (Heading line) wheel (length literal))
 item_of fields (says.DetailLiteral wheel literal) = Some (text_item (Body body.Detail) wheel (length literal))
 item_of fields (says.DetailField wheel name shown) =
     option_map (λ field. detail_item wheel shown (columns_of field) field.kind) (first_named fields name)

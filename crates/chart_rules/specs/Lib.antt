@@ -1,5 +1,4 @@
 pub mod Fields
-pub mod Index
 pub mod Names
 pub mod Columns
 pub mod Repeats
@@ -14,6 +13,8 @@ pub mod Forms
 pub mod Tapes
 pub mod Rules
 pub mod RuleFaults
-pub mod Lawful
-pub mod OnCard
 pub mod ValidCard
+pub mod HelperChecked
+pub mod HelperIndex
+pub mod HelperOnCard
+pub mod HelperOrder

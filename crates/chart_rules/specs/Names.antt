@@ -4,7 +4,8 @@ use Rattle.chart_text.specs.declared.statement.Field.{Field}
 use Rattle.chart_text.specs.declared.statement.DetailOption.TheVariants as shown
 use Rattle.chart_text.specs.declared.statement.Statement.{Statement}
 use Rattle.chart_text.specs.declared.statement.Statement.TheVariants as says
-use Rattle.chart_rules.specs.Fields.{first_named, is_amount}
+use Rattle.chart_rules.specs.Fields.{first_named}
+use Rattle.chart_text.specs.Field.{is_amount}
 
 -- Name twice: a FIELD whose name stands on an earlier FIELD.
 abbrev pub breaks_name_twice : List Field → Statement → Bool

@@ -1,10 +1,16 @@
--- What a fault says of a chart.
+-- What a fault says of a chart, and its number.
+use Rattle.std.specs.Prelude.{ℕ, Option, Some, None}
 use Rattle.chart_text.specs.Chart.{Chart}
 use Rattle.chart_rules.specs.declared.fault.RuleFault.{RuleFault}
 use Rattle.chart_rules.specs.declared.fault.RuleFault.TheVariants as fault
-use Rattle.chart_rules.specs.Rules.{IsFirstBroken}
+use Rattle.chart_rules.specs.Rules.{IsFirstBroken, rule_number}
 
--- A fault names the lowest rule that the chart breaks and the lowest line that breaks it; want of memory says nothing of the chart.
+-- the number of a fault in the catalogue of faults: that of the rule; want of memory has none
+abbrev pub fault_number : RuleFault → Option ℕ
+fault_number (fault.Rule first line) = Some (rule_number first)
+fault_number fault.Memory = None
+
+-- A fault names the lowest rule that the chart breaks and the lowest line that breaks it; no chart makes memory run out.
 abbrev pub IsTold : Chart → RuleFault → Type 0
 IsTold chart (fault.Rule first line) = IsFirstBroken chart first line
-IsTold chart fault.Memory = Unit {0}
+IsTold chart fault.Memory = ⊥

@@ -1,5 +1,5 @@
 -- The rules of a chart: which lines break which rule, and which charts are lawful.
-use Rattle.std.specs.Prelude.{◌≡◌, ℕ, ◌<◌, ◌≤◌, Bool, true, false, List, [], ◌∷◌, ◌++◌, Some, slice_get}
+use Rattle.std.specs.Prelude.{◌≡◌, ℕ, ◌<◌, ◌≤◌, Bool, true, false, List, ◌∷◌, ◌++◌}
 use Rattle.chart_text.specs.Chart.{Chart}
 use Rattle.chart_text.specs.declared.chart.Line.{Line}
 use Rattle.chart_text.specs.declared.statement.Statement.{Statement}
@@ -19,24 +19,24 @@ use Rattle.chart_rules.specs.Forms.{breaks_form, lacks_form}
 use Rattle.chart_rules.specs.Tapes.{breaks_tape}
 
 -- the number of a rule
-abbrev pub number_of : Rule → ℕ
-number_of rule.NameTwice = 21
-number_of rule.Columns = 22
-number_of rule.AmountSize = 23
-number_of rule.UnknownName = 24
-number_of rule.WrongKind = 25
-number_of rule.LineTwice = 26
-number_of rule.NoControl = 27
-number_of rule.TotalTextNotControl = 28
-number_of rule.DigitsRange = 29
-number_of rule.DigitsShrink = 30
-number_of rule.MarkMismatch = 31
-number_of rule.WheelRange = 32
-number_of rule.WheelOverlap = 33
-number_of rule.WheelClash = 34
-number_of rule.PrintKind = 35
-number_of rule.Form = 36
-number_of rule.Tape = 37
+abbrev pub rule_number : Rule → ℕ
+rule_number rule.NameTwice = 21
+rule_number rule.Columns = 22
+rule_number rule.AmountSize = 23
+rule_number rule.UnknownName = 24
+rule_number rule.WrongKind = 25
+rule_number rule.LineTwice = 26
+rule_number rule.NoControl = 27
+rule_number rule.TotalTextNotControl = 28
+rule_number rule.DigitsRange = 29
+rule_number rule.DigitsShrink = 30
+rule_number rule.MarkMismatch = 31
+rule_number rule.WheelRange = 32
+rule_number rule.WheelOverlap = 33
+rule_number rule.WheelClash = 34
+rule_number rule.PrintKind = 35
+rule_number rule.Form = 36
+rule_number rule.Tape = 37
 
 -- whether a line breaks a rule, by all lines of the chart, the lines before this one, and what it says
 abbrev pub breaks : Rule → List Line → List Line → Statement → Bool
@@ -80,24 +80,5 @@ IsLawful chart = (each : Rule) → IsKept each chart
 -- a rule is the lowest that a chart breaks, and a line is the lowest that breaks it
 pub record IsFirstBroken (chart : Chart) (first : Rule) (line : ℕ) : Type 0 where
   pub broken : Broken first chart line
-  pub lowest_rule : (lower : Rule) → number_of lower < number_of first → IsKept lower chart
-  pub lowest_line : (other : ℕ) → Broken first chart other → line ≤ other
-
--- the rules, from the lowest number on
-unfoldable pub in_order : List Rule
-in_order =
-    rule.NameTwice ∷ rule.Columns ∷ rule.AmountSize ∷ rule.UnknownName ∷ rule.WrongKind ∷ rule.LineTwice ∷ rule.NoControl
-    ∷ rule.TotalTextNotControl ∷ rule.DigitsRange ∷ rule.DigitsShrink ∷ rule.MarkMismatch ∷ rule.WheelRange ∷ rule.WheelOverlap
-    ∷ rule.WheelClash ∷ rule.PrintKind ∷ rule.Form ∷ rule.Tape ∷ []
-
--- no line breaks the first rules of a list
-abbrev pub AreKept : List Rule → ℕ → Chart → Type 0
-AreKept rules count chart = (place : ℕ) (kept : Rule) → place < count → slice_get rules place ≡ Some kept → IsKept kept chart
-
--- a rule is the first of a list that a chart breaks, and a line is the lowest that breaks it
-pub record IsFirstAmong (rules : List Rule) (chart : Chart) (first : Rule) (line : ℕ) : Type 0 where
-  pub place : ℕ
-  pub is_there : slice_get rules place ≡ Some first
-  pub kept : AreKept rules place chart
-  pub broken : Broken first chart line
+  pub lowest_rule : (lower : Rule) → rule_number lower < rule_number first → IsKept lower chart
   pub lowest_line : (other : ℕ) → Broken first chart other → line ≤ other

@@ -1,19 +1,21 @@
 -- A rule on the digits of a total and of the lower totals of the same amount.
 use Rattle.std.specs.Prelude.{ℕ, Bool, false, List, ◌&&◌, nat_lt}
 use Rattle.std.specs.List.{list_any}
+use Rattle.chart_text.specs.Levels.{level_number}
 use Rattle.chart_text.specs.declared.chart.Line.{Line}
+use Rattle.chart_text.specs.declared.level.Level.{Level}
 use Rattle.chart_text.specs.declared.statement.Statement.{Statement}
 use Rattle.chart_text.specs.declared.statement.Statement.TheVariants as says
-use Rattle.chart_rules.specs.Fields.{is_same_name}
+use Rattle.chart_text.specs.Name.{is_same_name}
 
 -- whether a line is a total of an amount at a lower level than a given one, and in more digits
-abbrev pub is_wider_below : ℕ → List ℕ → ℕ → Statement → Bool
+abbrev pub is_wider_below : Level → List ℕ → ℕ → Statement → Bool
 is_wider_below above wanted least (says.TotalAmount level wheel name digits mark) =
-    nat_lt level above && is_same_name name wanted && nat_lt least digits
+    nat_lt (level_number level) (level_number above) && is_same_name name wanted && nat_lt least digits
 is_wider_below above wanted least other = false
 
 -- whether a chart has a total of an amount at a lower level than a given one, and in more digits
-abbrev pub has_wider_below : List Line → ℕ → List ℕ → ℕ → Bool
+abbrev pub has_wider_below : List Line → Level → List ℕ → ℕ → Bool
 has_wider_below lines above wanted least = list_any (λ line. is_wider_below above wanted least line.statement) lines
 
 -- Digits shrink: a total in fewer digits than a total of the same amount at a lower level.

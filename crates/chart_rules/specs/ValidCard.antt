@@ -1,13 +1,17 @@
 -- The cards that are valid for a chart.
-use Rattle.std.specs.Prelude.{◌≡◌, ℕ, ◌+◌, ◌-◌, ◌<◌, ◌≤◌, ◌==◌, ◌⊎◌, Bool, true, false, List, Option, Some, None, not, ◌&&◌, ◌||◌, length, max, zero, suc, if◌then◌else◌, slice_get, slice_index}
+use Rattle.std.specs.Prelude.{◌≡◌, ℕ, ◌+◌, ◌-◌, ◌<◌, ◌≤◌, ◌==◌, ◌⊎◌, Bool, true, false, List, Option, Some, None, not, ◌&&◌, ◌||◌, length, max, [], ◌∷◌, count_by, slice_get, slice_index}
 use Rattle.card_code.specs.CardCode.{has_row, deck_character}
+use Rattle.card_code.specs.Rows.{row_number}
+use Rattle.card_code.specs.declared.row.Row.{Row}
+use Rattle.card_code.specs.declared.row.Row.TheVariants.{Zero, One, Two, Three, Four, Five, Six, Seven, Eight, Nine}
 use Rattle.chart_text.specs.Chart.{Chart}
 use Rattle.chart_text.specs.declared.statement.Field.{Field}
 use Rattle.chart_text.specs.declared.statement.FieldKind.{FieldKind}
 use Rattle.chart_text.specs.declared.statement.FieldKind.TheVariants as holds
 use Rattle.chart_rules.specs.declared.card.CardFault.{CardFault}
 use Rattle.chart_rules.specs.declared.card.CardFault.TheVariants as fault
-use Rattle.chart_rules.specs.Fields.{fields_of, sign_column, decimals_of}
+use Rattle.chart_rules.specs.Fields.{fields_of}
+use Rattle.chart_text.specs.Field.{sign_column, decimals_of}
 
 -- the rows punched in a column of a card
 abbrev pub column_of : List ℕ → ℕ → ℕ
@@ -26,14 +30,17 @@ is_printed None = false
 abbrev pub IsText : ℕ → ℕ → List ℕ → Type 0
 IsText first last card = EachColumn first last (λ column. is_printed (deck_character (column_of card column)) ≡ true)
 
--- how many of the rows below a row are punched in a column
-unfoldable pub punched_below : ℕ → ℕ → ℕ
-punched_below rows zero = 0
-punched_below rows (suc row) = punched_below rows row + (if has_row rows row then 1 else 0)
+-- the rows of the digits
+unfoldable pub digit_rows : List Row
+digit_rows = Zero ∷ One ∷ Two ∷ Three ∷ Four ∷ Five ∷ Six ∷ Seven ∷ Eight ∷ Nine ∷ []
+
+-- how many of some rows are punched in a column
+abbrev pub punched_among : List Row → ℕ → ℕ
+punched_among rows column = count_by (λ row. has_row column (row_number row)) rows
 
 -- how many of the rows 0 to 9 are punched in a column: none is a blank digit part, one is a digit
-abbrev pub digit_count : ℕ → ℕ
-digit_count rows = punched_below rows 10
+unfoldable pub digit_count : ℕ → ℕ
+digit_count column = punched_among digit_rows column
 
 -- the digit parts of the columns from one on and before another are blank
 abbrev pub AreBlank : ℕ → ℕ → List ℕ → Type 0
@@ -85,6 +92,11 @@ AreValid fields count card = (place : ℕ) → place < count → (field : Field)
 -- A card is valid for a chart where each field of the chart is valid on it.
 unfoldable pub IsValidCard : Chart → List ℕ → Type 0
 IsValidCard chart card = AreValid (fields_of chart.lines) (length (fields_of chart.lines)) card
+
+-- the number of a fault in the catalogue of faults
+abbrev pub fault_number : CardFault → ℕ
+fault_number (fault.NotText column) = 41
+fault_number (fault.NotAmount column) = 42
 
 -- what is told of a field that is not valid: its first column
 abbrev pub fault_of : FieldKind → ℕ → CardFault

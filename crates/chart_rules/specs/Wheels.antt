@@ -43,7 +43,7 @@ breaks_wheel_overlap fields earlier statement =
 -- whether a printed line is a body line
 abbrev pub is_body : PrintedLine → Bool
 is_body (Body kind) = true
-is_body (Heading level) = false
+is_body (Heading line) = false
 
 -- whether two marks are the same
 abbrev pub is_same_mark : Option Mark → Option Mark → Bool

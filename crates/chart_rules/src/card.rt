@@ -2,15 +2,21 @@
 
 ghost use Rattle.std.specs.Prelude.{◌≡◌, ◌+◌, ◌<◌, ◌≤◌, ◌↔◌, ℕ, IsTrue, IsOk, IfErr, length};
 ghost use Rattle.card_code.specs.CardCode.{deck_character};
-ghost use Rattle.chart_rules.specs.Fields.{fields_of, sign_column, decimals_of};
-ghost use Rattle.chart_rules.specs.OnCard.{IsOnCard, AreOnCard};
+ghost use Rattle.chart_rules.specs.Fields.{fields_of};
+ghost use Rattle.chart_text.specs.Field.{sign_column, decimals_of};
+ghost use Rattle.chart_rules.specs.HelperOnCard.{IsOnCard, AreOnCard};
 ghost use Rattle.chart_rules.specs.ValidCard as valid;
 
 use crate::chart::Chart;
-use crate::columns::sign_column;
-use card_code::{Card, Column};
+use card_code::{Card, Column, Row};
 use chart_text::{Field, FieldKind};
 use thiserror::Error;
+
+/// The rows of the digits.
+#[rattlefmt::skip]
+static DIGIT_ROWS: [Row; 10] = [
+    Row::Zero, Row::One, Row::Two, Row::Three, Row::Four, Row::Five, Row::Six, Row::Seven, Row::Eight, Row::Nine,
+];
 
 /// Why a card is not valid for a chart.
 #[derive(Clone, Copy, Debug, PartialEq, Eq, Error)]
@@ -27,6 +33,21 @@ pub enum CardFault {
         /// The first column of the amount, 1 to 80.
         column: u16,
     },
+}
+
+impl CardFault {
+    ghost use Rattle.std.specs.Prelude.{◌≡◌};
+    ghost use Rattle.chart_rules.specs.ValidCard.{fault_number};
+
+    /// Its number in the catalogue of faults, 41 or 42.
+    pub fn number(self) -> u8
+        ensures { result ≡ fault_number self }
+    {
+        match self {
+            CardFault::NotText { .. } => 41,
+            CardFault::NotAmount { .. } => 42,
+        }
+    }
 }
 
 /// Whether a card is valid for a chart: each text has print characters and blanks, and each amount is a number.
@@ -61,7 +82,7 @@ fn fault_of(kind: FieldKind, first: u16) -> CardFault
 {
     match kind {
         FieldKind::Text => CardFault::NotText { column: first },
-        FieldKind::Amount(_, _) => CardFault::NotAmount { column: first },
+        FieldKind::Amount { .. } => CardFault::NotAmount { column: first },
     }
 }
 
@@ -72,9 +93,9 @@ fn is_valid(field: Field, card: &Card) -> bool
 {
     match field.kind {
         FieldKind::Text => is_text(field.first, field.last, card),
-        FieldKind::Amount(decimals, _) => {
+        FieldKind::Amount { decimals, .. } => {
             let least = decimals.max(1);
-            let sign = sign_column(field.kind);
+            let sign = field.kind.sign_column();
             are_digits(field.first, field.last, least, card)
                 && have_good_zones(field.first, field.last, sign, card)
         }
@@ -114,15 +135,19 @@ fn is_text(first: u16, last: u16, card: &Card) -> bool
     true
 }
 
+/// How many of some rows are punched in a column.
+fn punched_among(rows: &[Row], column: Column) -> usize
+    ensures { result ≡ valid.punched_among rows.now column }
+{
+    rows.iter().filter(|row| column.has_row(**row)).count()
+}
+
 /// How many of the rows 0 to 9 are punched in a column.
+#[tactic(auto, unfolding(crate::specs::ValidCard::digit_count, crate::specs::ValidCard::digit_rows))]
 fn digit_count(column: Column) -> usize
     ensures { result ≡ valid.digit_count column }
 {
-    let mut count = 0;
-    for row in 0..10 {
-        count += usize::from(column.has_row(row));
-    }
-    count
+    punched_among(&DIGIT_ROWS, column)
 }
 
 /// The first of some columns that has a row 0 to 9, or the column behind them.
@@ -173,7 +198,7 @@ fn are_digits(first: u16, last: u16, least: u16, card: &Card) -> bool
 fn has_good_zone(sign: Option<u16>, number: u16, column: Column) -> bool
     ensures { result ≡ valid.has_good_zone sign number column }
 {
-    !column.has_row(12) && (!column.has_row(11) || sign == Some(number))
+    !column.has_row(Row::Twelve) && (!column.has_row(Row::Eleven) || sign == Some(number))
 }
 
 /// Whether each of the columns of an amount has a lawful zone.

@@ -16,7 +16,7 @@ pub struct Chart {
 
 impl Model for Chart {
     ghost use Rattle.chart_text.specs.Chart.{Chart as Lines};
-    ghost use Rattle.chart_rules.specs.Lawful.{IsChecked};
+    ghost use Rattle.chart_rules.specs.HelperChecked.{IsChecked};
 
     ghost Value = { Lines };
 
@@ -30,7 +30,7 @@ impl Chart {
     ghost use Rattle.chart_text.specs.Chart.{NumbersRise};
     ghost use Rattle.chart_rules.specs.Fields.{fields_of, field_named};
     ghost use Rattle.chart_rules.specs.Items.{item_of};
-    ghost use Rattle.chart_rules.specs.Lawful.{IsChecked};
+    ghost use Rattle.chart_rules.specs.HelperChecked.{IsChecked};
     ghost use Rattle.chart_rules.specs.Rules.{IsLawful};
 
     /// The chart of lines that break no rule, and of their fields.

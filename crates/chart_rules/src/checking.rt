@@ -1,26 +1,27 @@
 //! Checking a chart by the rules.
 
-ghost use Rattle.std.specs.Prelude.{◌≡◌, ◌<◌, ◌≤◌, ◌++◌, ℕ, List, Some, length, slice_get, MatchOption, IfSome, IfNone, IfOk, IfErr, OnOk};
+ghost use Rattle.std.specs.Prelude.{◌≡◌, ◌≢◌, ◌<◌, ◌≤◌, ◌++◌, ℕ, List, Some, length, slice_get, MatchOption, IfSome, IfNone, IfOk, IfErr, OnOk};
 ghost use Rattle.chart_text.specs.declared.statement.Field.{Field};
 ghost use Rattle.chart_rules.specs.Fields.{fields_of};
 ghost use Rattle.chart_rules.specs.RuleFaults.{IsTold};
 ghost use Rattle.chart_rules.specs.Rules as law;
+ghost use Rattle.chart_rules.specs.HelperOrder as order;
 
 use crate::chart::Chart;
-use crate::columns::{is_too_large_amount, leaves_card};
-use crate::control::{lacks_control, totals_other_text};
-use crate::digits::leaves_digits;
+use crate::columns::{breaks_amount_size, breaks_columns};
+use crate::control::{breaks_no_control, breaks_total_text_not_control};
+use crate::digits::breaks_digits_range;
 use crate::fault::RuleFault;
 use crate::fields::Fields;
-use crate::forms::{has_bad_form, has_no_form};
-use crate::marks::mismatches_mark;
-use crate::names::{mistakes_kind, repeats_name, uses_unknown_name};
-use crate::printing::{has_no_print, mismatches_printing};
-use crate::repeats::repeats_line;
+use crate::forms::{breaks_form, lacks_form};
+use crate::marks::breaks_mark_mismatch;
+use crate::names::{breaks_name_twice, breaks_unknown_name, breaks_wrong_kind};
+use crate::printing::{breaks_print_kind, lacks_print};
+use crate::repeats::breaks_line_twice;
 use crate::rule::Rule;
-use crate::shrink::shrinks_digits;
-use crate::tapes::has_bad_tape;
-use crate::wheels::{clashes, leaves_wheels, overlaps};
+use crate::shrink::breaks_digits_shrink;
+use crate::tapes::breaks_tape;
+use crate::wheels::{breaks_wheel_clash, breaks_wheel_overlap, breaks_wheel_range};
 use chart_text::{Line, RawChart, Statement};
 use std::alloc::Global;
 
@@ -54,7 +55,7 @@ static RULES: [Rule; 17] = [
 pub fn check(alloc: Global, raw: RawChart) -> Result<Chart, RuleFault>
     ensures same { IfOk result (λ chart. chart ≡ raw) }
     ensures lawful { OnOk result (law.IsLawful raw) }
-    ensures refused { IfErr result (IsTold raw) }
+    ensures refused { IfErr result (λ fault. fault ≢ RuleFault.Memory → IsTold raw fault) }
 {
     let fields = Fields::of(alloc, raw.lines())?;
     match first_broken(&fields, &raw) {
@@ -75,8 +76,8 @@ fn first_broken(fields: &Fields, raw: &RawChart) -> Option<(Rule, u16)>
 /// The first of some rules that a chart breaks, and the lowest line that breaks it.
 fn first_among(rules: &[Rule], fields: &Fields, raw: &RawChart) -> Option<(Rule, u16)>
     requires { fields.now ≡ fields_of raw.now.lines }
-    ensures none { IfNone result (law.AreKept rules.now (length rules.now) raw.now) }
-    ensures some { IfSome result (λ found. law.IsFirstAmong rules.now raw.now found.0 found.1) }
+    ensures none { IfNone result (order.AreKept rules.now (length rules.now) raw.now) }
+    ensures some { IfSome result (λ found. order.IsFirstAmong rules.now raw.now found.0 found.1) }
 {
     for rule in rules {
         if let Some(line) = lowest_line(*rule, fields, raw) {
@@ -119,23 +120,23 @@ fn breaks(
     ensures { result ≡ law.breaks rule lines.now earlier.now statement.now }
 {
     match rule {
-        Rule::NameTwice => repeats_name(fields, earlier, statement),
-        Rule::Columns => leaves_card(statement),
-        Rule::AmountSize => is_too_large_amount(statement),
-        Rule::UnknownName => uses_unknown_name(fields, statement),
-        Rule::WrongKind => mistakes_kind(fields, statement),
-        Rule::LineTwice => repeats_line(earlier, statement),
-        Rule::NoControl => lacks_control(lines, statement),
-        Rule::TotalTextNotControl => totals_other_text(lines, statement),
-        Rule::DigitsRange => leaves_digits(fields, statement),
-        Rule::DigitsShrink => shrinks_digits(lines, statement),
-        Rule::MarkMismatch => mismatches_mark(fields, statement),
-        Rule::WheelRange => leaves_wheels(fields, statement),
-        Rule::WheelOverlap => overlaps(fields, earlier, statement),
-        Rule::WheelClash => clashes(fields, earlier, statement),
-        Rule::PrintKind => mismatches_printing(lines, statement),
-        Rule::Form => has_bad_form(lines, statement),
-        Rule::Tape => has_bad_tape(lines, statement),
+        Rule::NameTwice => breaks_name_twice(fields, earlier, statement),
+        Rule::Columns => breaks_columns(statement),
+        Rule::AmountSize => breaks_amount_size(statement),
+        Rule::UnknownName => breaks_unknown_name(fields, statement),
+        Rule::WrongKind => breaks_wrong_kind(fields, statement),
+        Rule::LineTwice => breaks_line_twice(earlier, statement),
+        Rule::NoControl => breaks_no_control(lines, statement),
+        Rule::TotalTextNotControl => breaks_total_text_not_control(lines, statement),
+        Rule::DigitsRange => breaks_digits_range(fields, statement),
+        Rule::DigitsShrink => breaks_digits_shrink(lines, statement),
+        Rule::MarkMismatch => breaks_mark_mismatch(fields, statement),
+        Rule::WheelRange => breaks_wheel_range(fields, statement),
+        Rule::WheelOverlap => breaks_wheel_overlap(fields, earlier, statement),
+        Rule::WheelClash => breaks_wheel_clash(fields, earlier, statement),
+        Rule::PrintKind => breaks_print_kind(lines, statement),
+        Rule::Form => breaks_form(lines, statement),
+        Rule::Tape => breaks_tape(lines, statement),
     }
 }
 
@@ -144,8 +145,8 @@ fn lacks(rule: Rule, lines: &[Line]) -> bool
     ensures { result ≡ law.lacks rule lines.now }
 {
     match rule {
-        Rule::PrintKind => has_no_print(lines),
-        Rule::Form => has_no_form(lines),
+        Rule::PrintKind => lacks_print(lines),
+        Rule::Form => lacks_form(lines),
         _ => false,
     }
 }

@@ -3,48 +3,43 @@
 ghost use Rattle.std.specs.Prelude.{◌≡◌};
 ghost use Rattle.chart_rules.specs.Control as rule;
 
-use crate::names::is_same;
-use chart_text::{DetailOption, Line, Name, Statement};
-
-/// A level that needs to be controlled: 1 to 3, since level 4 is the whole deck.
-fn below_final(level: u8) -> Option<u8>
-    ensures { result ≡ rule.below_final level }
-{
-    if level <= 3 { Some(level) } else { None }
-}
+use chart_text::{ControlLevel, DetailOption, Level, Line, Name, Statement};
 
 /// The level that a line needs to be controlled, if it needs one.
-fn level_needed(statement: &Statement) -> Option<u8>
+fn level_needed(statement: &Statement) -> Option<ControlLevel>
     ensures { result ≡ rule.level_needed statement.now }
 {
     match statement {
-        Statement::DetailField(_, _, DetailOption::Indicated(level)) => Some(*level),
-        Statement::TotalLiteral(level, _, _)
-        | Statement::TotalText(level, _, _)
-        | Statement::TotalAmount(level, _, _, _, _) => below_final(*level),
+        Statement::DetailField {
+            shown: DetailOption::Indicated(level),
+            ..
+        } => Some(*level),
+        Statement::TotalLiteral { level, .. }
+        | Statement::TotalText { level, .. }
+        | Statement::TotalAmount { level, .. } => level.control(),
         _ => None,
     }
 }
 
 /// Whether a line is CONTROL of a level.
-fn controls(wanted: u8, statement: &Statement) -> bool
+fn controls(wanted: ControlLevel, statement: &Statement) -> bool
     ensures { result ≡ rule.controls wanted statement.now }
 {
     match statement {
-        Statement::Control(level, _) => *level == wanted,
+        Statement::Control { level, .. } => *level == wanted,
         _ => false,
     }
 }
 
 /// Whether a chart has a CONTROL line of a level.
-fn is_controlled(lines: &[Line], level: u8) -> bool
+fn is_controlled(lines: &[Line], level: ControlLevel) -> bool
     ensures { result ≡ rule.is_controlled lines.now level }
 {
     lines.iter().any(|line| controls(level, &line.statement))
 }
 
 /// Whether a line is TOTAL or INDICATE of a level 1 to 3 without CONTROL of that level.
-pub(crate) fn lacks_control(lines: &[Line], statement: &Statement) -> bool
+pub(crate) fn breaks_no_control(lines: &[Line], statement: &Statement) -> bool
     ensures { result ≡ rule.breaks_no_control lines.now statement.now }
 {
     match level_needed(statement) {
@@ -54,17 +49,19 @@ pub(crate) fn lacks_control(lines: &[Line], statement: &Statement) -> bool
 }
 
 /// Whether a line makes a name a control field of a level or a higher one.
-fn controls_by(lowest: u8, wanted: Name, statement: &Statement) -> bool
+fn controls_by(lowest: Level, wanted: Name, statement: &Statement) -> bool
     ensures { result ≡ rule.controls_by lowest wanted statement.now }
 {
     match statement {
-        Statement::Control(level, name) => lowest <= *level && is_same(*name, wanted),
+        Statement::Control { level, name } => {
+            lowest.number() <= level.number() && name.is(wanted)
+        },
         _ => false,
     }
 }
 
 /// Whether a chart makes a name a control field of a level or a higher one.
-fn is_controlled_by(lines: &[Line], lowest: u8, name: Name) -> bool
+fn is_controlled_by(lines: &[Line], lowest: Level, name: Name) -> bool
     ensures { result ≡ rule.is_controlled_by lines.now lowest name }
 {
     lines
@@ -73,11 +70,11 @@ fn is_controlled_by(lines: &[Line], lowest: u8, name: Name) -> bool
 }
 
 /// Whether a line is a text on a total line that is no control field of its level or a higher one.
-pub(crate) fn totals_other_text(lines: &[Line], statement: &Statement) -> bool
+pub(crate) fn breaks_total_text_not_control(lines: &[Line], statement: &Statement) -> bool
     ensures { result ≡ rule.breaks_total_text_not_control lines.now statement.now }
 {
     match statement {
-        Statement::TotalText(level, _, name) => !is_controlled_by(lines, *level, *name),
+        Statement::TotalText { level, name, .. } => !is_controlled_by(lines, *level, *name),
         _ => false,
     }
 }

@@ -8,7 +8,7 @@ use std::alloc::AllocError;
 use thiserror::Error;
 
 /// Why a chart is refused.
-#[derive(Debug, Drop, Error)]
+#[derive(Clone, Copy, Debug, PartialEq, Eq, Error)]
 pub enum RuleFault {
     /// A rule is broken.
     #[error("line {line} breaks the rule {rule:?}")]
@@ -21,6 +21,21 @@ pub enum RuleFault {
     /// Memory was refused.
     #[error("out of memory")]
     Memory,
+}
+
+impl RuleFault {
+    ghost use Rattle.std.specs.Prelude.{◌≡◌};
+    ghost use Rattle.chart_rules.specs.RuleFaults.{fault_number};
+
+    /// Its number in the catalogue of faults, that of the rule, 21 to 37; want of memory has none.
+    pub fn number(self) -> Option<u8>
+        ensures { result ≡ fault_number self }
+    {
+        match self {
+            RuleFault::Rule { rule, .. } => Some(rule.number()),
+            RuleFault::Memory => None,
+        }
+    }
 }
 
 impl From<AllocError> for RuleFault {

@@ -2,7 +2,7 @@
 
 ghost use Rattle.std.specs.Prelude.{◌≡◌, ◌++◌, [], ◌∷◌, length, IfOk, OnOk};
 ghost use Rattle.chart_rules.specs.Fields.{field_of, fields_of};
-ghost use Rattle.chart_rules.specs.Index.{IsIndexOf};
+ghost use Rattle.chart_rules.specs.HelperIndex.{IsIndexOf};
 
 use chart_text::{Field, Line, Name, Statement};
 use indexmap::IndexMap;
@@ -21,7 +21,7 @@ pub(crate) struct Fields {
 impl Model for Fields {
     ghost use Rattle.std.specs.Prelude.{List};
     ghost use Rattle.chart_text.specs.declared.statement.Field.{Field};
-    ghost use Rattle.chart_rules.specs.Index.{IsIndexOf};
+    ghost use Rattle.chart_rules.specs.HelperIndex.{IsIndexOf};
 
     ghost Value = { List Field };
 

@@ -10,7 +10,7 @@ fn heading_of(statement: &Statement) -> u8
     ensures { result ≡ rule.heading_of statement.now }
 {
     match statement {
-        Statement::Head(level, _, _) => *level,
+        Statement::Head { line, .. } => line.number(),
         _ => 0,
     }
 }
@@ -38,13 +38,15 @@ fn has_room(headings: u8, lines: u16, first: u16, overflow: u16) -> bool
 }
 
 /// Whether a line of a chart breaks the rule on the form.
-pub(crate) fn has_bad_form(chart: &[Line], statement: &Statement) -> bool
+pub(crate) fn breaks_form(chart: &[Line], statement: &Statement) -> bool
     ensures { result ≡ rule.breaks_form chart.now statement.now }
 {
     match statement {
-        Statement::Form(lines, first, overflow) => {
-            !has_room(heading_count(chart), *lines, *first, *overflow)
-        }
+        Statement::Form {
+            lines,
+            first,
+            overflow,
+        } => { !has_room(heading_count(chart), *lines, *first, *overflow) }
         _ => false,
     }
 }
@@ -53,7 +55,7 @@ pub(crate) fn has_bad_form(chart: &[Line], statement: &Statement) -> bool
 fn is_form(statement: &Statement) -> bool
     ensures { result ≡ rule.is_form statement.now }
 {
-    matches!(statement, Statement::Form(_, _, _))
+    matches!(statement, Statement::Form { .. })
 }
 
 /// Whether a chart has a FORM line.
@@ -64,7 +66,7 @@ fn has_form(chart: &[Line]) -> bool
 }
 
 /// Whether a chart has no FORM line.
-pub(crate) fn has_no_form(chart: &[Line]) -> bool
+pub(crate) fn lacks_form(chart: &[Line]) -> bool
     ensures { result ≡ rule.lacks_form chart.now }
 {
     !has_form(chart)

@@ -3,13 +3,15 @@
 ghost use Rattle.std.specs.Prelude.{◌≡◌, ◌+◌, ◌^◌, ◌<◌};
 
 use crate::fields::Fields;
-use chart_text::{BodyLine, DetailOption, Field, FieldKind, Literal, Mark, Statement};
+use chart_text::{
+    BodyLine, DetailOption, Field, FieldKind, HeadingLine, Level, Literal, Mark, Statement,
+};
 
 /// A line of the report that items stand on.
 #[derive(Clone, Copy, Debug, PartialEq, Eq)]
 pub enum PrintedLine {
-    /// A heading line, 1 to 3.
-    Heading(u8),
+    /// A heading line.
+    Heading(HeadingLine),
     /// A body line.
     Body(BodyLine),
 }
@@ -23,13 +25,13 @@ impl PrintedLine {
         ensures { result ≡ printed_line_of statement.now }
     {
         match statement {
-            Statement::Head(level, _, _) => Some(PrintedLine::Heading(*level)),
-            Statement::DetailLiteral(_, _) | Statement::DetailField(_, _, _) => {
+            Statement::Head { line, .. } => Some(PrintedLine::Heading(*line)),
+            Statement::DetailLiteral { .. } | Statement::DetailField { .. } => {
                 Some(PrintedLine::Body(BodyLine::Detail))
             }
-            Statement::TotalLiteral(level, _, _)
-            | Statement::TotalText(level, _, _)
-            | Statement::TotalAmount(level, _, _, _, _) => {
+            Statement::TotalLiteral { level, .. }
+            | Statement::TotalText { level, .. }
+            | Statement::TotalAmount { level, .. } => {
                 Some(PrintedLine::Body(BodyLine::Total(*level)))
             }
             _ => None,
@@ -91,31 +93,38 @@ impl Item {
         ensures { result ≡ item_of fields.now statement.now }
     {
         match statement {
-            Statement::Head(level, wheel, literal) => {
-                Some(literal_item(PrintedLine::Heading(*level), *wheel, literal))
-            }
-            Statement::DetailLiteral(wheel, literal) => {
+            Statement::Head {
+                line,
+                wheel,
+                literal,
+            } => Some(literal_item(PrintedLine::Heading(*line), *wheel, literal)),
+            Statement::DetailLiteral { wheel, literal } => {
                 Some(literal_item(PrintedLine::Body(BodyLine::Detail), *wheel, literal))
             }
-            Statement::DetailField(wheel, name, shown) => {
+            Statement::DetailField { wheel, name, shown } => {
                 let field = fields.get(*name)?;
                 Some(detail_item(*wheel, *shown, field))
             }
-            Statement::TotalLiteral(level, wheel, literal) => {
-                Some(literal_item(total_line(*level), *wheel, literal))
-            }
-            Statement::TotalText(level, wheel, name) => {
+            Statement::TotalLiteral {
+                level,
+                wheel,
+                literal,
+            } => Some(literal_item(total_line(*level), *wheel, literal)),
+            Statement::TotalText { level, wheel, name } => {
                 let field = fields.get(*name)?;
-                Some(text_item(total_line(*level), *wheel, columns_of(field)))
+                Some(text_item(total_line(*level), *wheel, field.columns()))
             }
-            Statement::TotalAmount(level, wheel, name, digits, mark) => {
-                let decimals = decimals_of(fields.get(*name)?.kind);
-                let digits = u32::from(*digits);
-                let mark = *mark;
+            Statement::TotalAmount {
+                level,
+                wheel,
+                name,
+                digits,
+                mark,
+            } => {
                 let figure = Figure {
-                    digits,
-                    decimals,
-                    mark,
+                    digits: u32::from(*digits),
+                    decimals: fields.get(*name)?.kind.decimals(),
+                    mark: *mark,
                 };
                 Some(figure_item(total_line(*level), *wheel, figure))
             }
@@ -126,7 +135,7 @@ impl Item {
 
 ghost use Rattle.std.specs.Prelude.{length};
 ghost use Rattle.chart_text.specs.declared.statement.BodyLine.TheVariants as body;
-ghost use Rattle.chart_rules.specs.Fields.{columns_of, decimals_of};
+ghost use Rattle.chart_text.specs.Field.{columns_of};
 ghost use Rattle.chart_rules.specs.Items as items;
 
 /// How many wheels a mark takes.
@@ -141,27 +150,10 @@ fn mark_width(mark: Option<Mark>) -> u8
 }
 
 /// The total line of a level.
-fn total_line(level: u8) -> PrintedLine
+fn total_line(level: Level) -> PrintedLine
     ensures { result ≡ PrintedLine.Body (body.Total level) }
 {
     PrintedLine::Body(BodyLine::Total(level))
-}
-
-/// How many columns a field has.
-pub(crate) fn columns_of(field: Field) -> u32
-    ensures { result ≡ columns_of field }
-{
-    (u32::from(field.last) + 1).saturating_sub(u32::from(field.first))
-}
-
-/// The decimals of an amount; a text has none.
-fn decimals_of(kind: FieldKind) -> u16
-    ensures { result ≡ decimals_of kind }
-{
-    match kind {
-        FieldKind::Text => 0,
-        FieldKind::Amount(decimals, _) => decimals,
-    }
 }
 
 /// The mark that an option of a field on the line of a card gives it.
@@ -222,10 +214,10 @@ fn detail_item(wheel: u16, shown: DetailOption, field: Field) -> Item
 {
     let line = PrintedLine::Body(BodyLine::Detail);
     let kind = field.kind;
-    let columns = columns_of(field);
+    let columns = field.columns();
     match kind {
         FieldKind::Text => text_item(line, wheel, columns),
-        FieldKind::Amount(decimals, _) => {
+        FieldKind::Amount { decimals, .. } => {
             let mark = mark_shown(shown);
             figure_item(
                 line,

@@ -13,7 +13,7 @@ fn is_mismatched(field: Option<Field>, mark: Option<Mark>) -> bool
 {
     match field {
         Some(field) => match field.kind {
-            FieldKind::Amount(_, rule) => mark.is_some() != rule.is_some(),
+            FieldKind::Amount { sign, .. } => mark.is_some() != sign.is_some(),
             FieldKind::Text => false,
         },
         None => false,
@@ -21,14 +21,14 @@ fn is_mismatched(field: Option<Field>, mark: Option<Mark>) -> bool
 }
 
 /// Whether a line of a chart is an amount item with a mark without a sign column, or the reverse.
-pub(crate) fn mismatches_mark(fields: &Fields, statement: &Statement) -> bool
+pub(crate) fn breaks_mark_mismatch(fields: &Fields, statement: &Statement) -> bool
     ensures { result ≡ rule.breaks_mark_mismatch fields.now statement.now }
 {
     match statement {
-        Statement::DetailField(_, name, shown) => {
+        Statement::DetailField { name, shown, .. } => {
             is_mismatched(fields.get(*name), mark_shown(*shown))
         }
-        Statement::TotalAmount(_, _, name, _, mark) => is_mismatched(fields.get(*name), *mark),
+        Statement::TotalAmount { name, mark, .. } => is_mismatched(fields.get(*name), *mark),
         _ => false,
     }
 }

@@ -2,18 +2,11 @@
 
 ghost use Rattle.std.specs.Prelude.{◌≡◌, ◌++◌, List, is_some};
 ghost use Rattle.chart_text.specs.declared.statement.Field.{Field};
-ghost use Rattle.chart_rules.specs.Fields.{fields_of, first_named, is_same_name, is_amount};
+ghost use Rattle.chart_rules.specs.Fields.{fields_of, first_named};
 ghost use Rattle.chart_rules.specs.Names as rule;
 
 use crate::fields::{Fields, described_by, field_count};
-use chart_text::{DetailOption, Field, FieldKind, Line, Name, Statement};
-
-/// Whether two names are the same.
-pub(crate) fn is_same(one: Name, other: Name) -> bool
-    ensures { result ≡ is_same_name one other }
-{
-    one == other
-}
+use chart_text::{DetailOption, Field, Line, Name, Statement};
 
 /// Whether a name stands on one of the FIELD lines among the first lines of a chart.
 fn stands_among(fields: &Fields, earlier: &[Line], name: Name) -> bool
@@ -27,7 +20,7 @@ fn stands_among(fields: &Fields, earlier: &[Line], name: Name) -> bool
 }
 
 /// Whether a line is a FIELD line whose name stands on an earlier FIELD line.
-pub(crate) fn repeats_name(fields: &Fields, earlier: &[Line], statement: &Statement) -> bool
+pub(crate) fn breaks_name_twice(fields: &Fields, earlier: &[Line], statement: &Statement) -> bool
     requires { (later : List Field) × (fields.now ≡ fields_of earlier.now ++ later) }
     ensures { result ≡ rule.breaks_name_twice (fields_of earlier.now) statement.now }
 {
@@ -42,16 +35,16 @@ fn name_used(statement: &Statement) -> Option<Name>
     ensures { result ≡ rule.name_used statement.now }
 {
     match statement {
-        Statement::Control(_, name)
-        | Statement::DetailField(_, name, _)
-        | Statement::TotalText(_, _, name)
-        | Statement::TotalAmount(_, _, name, _, _) => Some(*name),
+        Statement::Control { name, .. }
+        | Statement::DetailField { name, .. }
+        | Statement::TotalText { name, .. }
+        | Statement::TotalAmount { name, .. } => Some(*name),
         _ => None,
     }
 }
 
 /// Whether a line uses a name without a FIELD line.
-pub(crate) fn uses_unknown_name(fields: &Fields, statement: &Statement) -> bool
+pub(crate) fn breaks_unknown_name(fields: &Fields, statement: &Statement) -> bool
     ensures { result ≡ rule.breaks_unknown_name fields.now statement.now }
 {
     match name_used(statement) {
@@ -60,19 +53,12 @@ pub(crate) fn uses_unknown_name(fields: &Fields, statement: &Statement) -> bool
     }
 }
 
-/// Whether what a field holds is an amount.
-fn is_amount(kind: FieldKind) -> bool
-    ensures { result ≡ is_amount kind }
-{
-    matches!(kind, FieldKind::Amount(_, _))
-}
-
 /// Whether a name stands for an amount.
 fn names_amount(field: Option<Field>) -> bool
     ensures { result ≡ rule.names_amount field }
 {
     match field {
-        Some(field) => is_amount(field.kind),
+        Some(field) => field.kind.is_amount(),
         None => false,
     }
 }
@@ -82,21 +68,29 @@ fn names_text(field: Option<Field>) -> bool
     ensures { result ≡ rule.names_text field }
 {
     match field {
-        Some(field) => !is_amount(field.kind),
+        Some(field) => !field.kind.is_amount(),
         None => false,
     }
 }
 
 /// Whether a line names an amount where a text belongs, or a text where an amount belongs.
-pub(crate) fn mistakes_kind(fields: &Fields, statement: &Statement) -> bool
+pub(crate) fn breaks_wrong_kind(fields: &Fields, statement: &Statement) -> bool
     ensures { result ≡ rule.breaks_wrong_kind fields.now statement.now }
 {
     match statement {
-        Statement::Control(_, name)
-        | Statement::DetailField(_, name, DetailOption::Indicated(_))
-        | Statement::TotalText(_, _, name) => names_amount(fields.get(*name)),
-        Statement::DetailField(_, name, DetailOption::Marked(_))
-        | Statement::TotalAmount(_, _, name, _, _) => names_text(fields.get(*name)),
+        Statement::Control { name, .. }
+        | Statement::DetailField {
+            name,
+            shown: DetailOption::Indicated(_),
+            ..
+        }
+        | Statement::TotalText { name, .. } => names_amount(fields.get(*name)),
+        Statement::DetailField {
+            name,
+            shown: DetailOption::Marked(_),
+            ..
+        }
+        | Statement::TotalAmount { name, .. } => names_text(fields.get(*name)),
         _ => false,
     }
 }

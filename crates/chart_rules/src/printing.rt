@@ -70,20 +70,22 @@ fn has_print(lines: &[Line]) -> bool
 }
 
 /// Whether a line of a chart breaks the rule on what is printed.
-pub(crate) fn mismatches_printing(lines: &[Line], statement: &Statement) -> bool
+pub(crate) fn breaks_print_kind(lines: &[Line], statement: &Statement) -> bool
     ensures { result ≡ rule.breaks_print_kind lines.now statement.now }
 {
     match statement {
         Statement::Print(Printing::Detail) => !has_item_of(lines, BodyLine::Detail),
         Statement::Print(Printing::Group) => !has_total_item(lines),
-        Statement::DetailLiteral(_, _) | Statement::DetailField(_, _, _) => prints_group(lines),
-        Statement::Space(kind, _) | Statement::After(kind, _) => !has_item_of(lines, *kind),
+        Statement::DetailLiteral { .. } | Statement::DetailField { .. } => prints_group(lines),
+        Statement::Space { line, .. } | Statement::After { line, .. } => {
+            !has_item_of(lines, *line)
+        },
         _ => false,
     }
 }
 
 /// Whether a chart has no PRINT line.
-pub(crate) fn has_no_print(lines: &[Line]) -> bool
+pub(crate) fn lacks_print(lines: &[Line]) -> bool
     ensures { result ≡ rule.lacks_print lines.now }
 {
     !has_print(lines)

@@ -3,8 +3,7 @@
 ghost use Rattle.std.specs.Prelude.{◌≡◌};
 ghost use Rattle.chart_rules.specs.Repeats as rule;
 
-use crate::names::is_same;
-use chart_text::{BodyLine, Line, Name, Statement};
+use chart_text::{BodyLine, Level, Line, Name, Statement};
 
 /// Whether two kinds of body line are the same.
 fn is_same_body(one: BodyLine, other: BodyLine) -> bool
@@ -14,11 +13,11 @@ fn is_same_body(one: BodyLine, other: BodyLine) -> bool
 }
 
 /// The level and the name of a field on a total line, as a text or as an amount.
-fn total_field(statement: &Statement) -> Option<(u8, Name)>
+fn total_field(statement: &Statement) -> Option<(Level, Name)>
     ensures { result ≡ rule.total_field statement.now }
 {
     match statement {
-        Statement::TotalText(level, _, name) | Statement::TotalAmount(level, _, name, _, _) => {
+        Statement::TotalText { level, name, .. } | Statement::TotalAmount { level, name, .. } => {
             Some((*level, *name))
         }
         _ => None,
@@ -26,12 +25,12 @@ fn total_field(statement: &Statement) -> Option<(u8, Name)>
 }
 
 /// Whether two lines have a field of the same name on the total line of the same level.
-fn is_same_total(one: Option<(u8, Name)>, other: Option<(u8, Name)>) -> bool
+fn is_same_total(one: Option<(Level, Name)>, other: Option<(Level, Name)>) -> bool
     ensures { result ≡ rule.is_same_total one other }
 {
     match (one, other) {
         (Some((one_level, one_name)), Some((level, name))) => {
-            one_level == level && is_same(one_name, name)
+            one_level == level && one_name.is(name)
         }
         _ => false,
     }
@@ -43,26 +42,35 @@ fn repeats(one: &Statement, other: &Statement) -> bool
 {
     match (one, other) {
         (Statement::Print(_), Statement::Print(_)) => true,
-        (Statement::Form(_, _, _), Statement::Form(_, _, _)) => true,
-        (Statement::Control(one_level, one_name), Statement::Control(level, name)) => {
-            one_level == level && is_same(*one_name, *name)
+        (Statement::Form { .. }, Statement::Form { .. }) => true,
+        (
+            Statement::Control {
+                level: one_level,
+                name: one_name,
+            },
+            Statement::Control { level, name },
+        ) => one_level == level && one_name.is(*name),
+        (Statement::Space { line: one_line, .. }, Statement::Space { line, .. }) => {
+            is_same_body(*one_line, *line)
         }
-        (Statement::Space(one_kind, _), Statement::Space(kind, _)) => is_same_body(
-            *one_kind, *kind,
-        ),
-        (Statement::After(one_kind, _), Statement::After(kind, _)) => is_same_body(
-            *one_kind, *kind,
-        ),
-        (Statement::Tape(one_channel, _), Statement::Tape(channel, _)) => one_channel == channel,
-        (Statement::DetailField(_, one_name, _), Statement::DetailField(_, name, _)) => {
-            is_same(*one_name, *name)
+        (Statement::After { line: one_line, .. }, Statement::After { line, .. }) => {
+            is_same_body(*one_line, *line)
         }
+        (
+            Statement::Tape {
+                channel: one_channel,
+                ..
+            },
+            Statement::Tape { channel, .. },
+        ) => one_channel == channel,
+        (Statement::DetailField { name: one_name, .. }, Statement::DetailField { name, .. }) =>
+            one_name.is(*name),
         _ => is_same_total(total_field(one), total_field(other)),
     }
 }
 
 /// Whether a line says again what an earlier one said, where a chart says it once.
-pub(crate) fn repeats_line(earlier: &[Line], statement: &Statement) -> bool
+pub(crate) fn breaks_line_twice(earlier: &[Line], statement: &Statement) -> bool
     ensures { result ≡ rule.breaks_line_twice earlier.now statement.now }
 {
     earlier

@@ -41,11 +41,11 @@ pub enum Rule {
 
 impl Rule {
     ghost use Rattle.std.specs.Prelude.{◌≡◌};
-    ghost use Rattle.chart_rules.specs.Rules.{number_of};
+    ghost use Rattle.chart_rules.specs.Rules.{rule_number};
 
     /// The number of the rule, 21 to 37.
     pub fn number(self) -> u8
-        ensures { result ≡ number_of self }
+        ensures { result ≡ rule_number self }
     {
         match self {
             Rule::NameTwice => 21,

@@ -3,36 +3,41 @@
 ghost use Rattle.std.specs.Prelude.{◌≡◌};
 ghost use Rattle.chart_rules.specs.Shrink as rule;
 
-use crate::names::is_same;
-use chart_text::{Line, Name, Statement};
+use chart_text::{Level, Line, Name, Statement};
 
 /// Whether a line is a total of an amount at a lower level than a given one, and in more digits.
-fn is_wider_below(above: u8, wanted: Name, least: u16, statement: &Statement) -> bool
+fn is_wider_below(above: Level, wanted: Name, least: u16, statement: &Statement) -> bool
     ensures { result ≡ rule.is_wider_below above wanted least statement.now }
 {
     match statement {
-        Statement::TotalAmount(level, _, name, digits, _) => {
-            *level < above && is_same(*name, wanted) && least < *digits
-        }
+        Statement::TotalAmount {
+            level,
+            name,
+            digits,
+            ..
+        } => level.number() < above.number() && name.is(wanted) && least < *digits,
         _ => false,
     }
 }
 
 /// Whether a chart has a total of an amount at a lower level than a given one, and in more digits.
-fn has_wider_below(lines: &[Line], above: u8, wanted: Name, least: u16) -> bool
+fn has_wider_below(lines: &[Line], above: Level, wanted: Name, least: u16) -> bool
     ensures { result ≡ rule.has_wider_below lines.now above wanted least }
 {
     lines.iter().any(|line| is_wider_below(above, wanted, least, &line.statement))
 }
 
 /// Whether a line of a chart is a total in fewer digits than a total of the same amount at a lower level.
-pub(crate) fn shrinks_digits(lines: &[Line], statement: &Statement) -> bool
+pub(crate) fn breaks_digits_shrink(lines: &[Line], statement: &Statement) -> bool
     ensures { result ≡ rule.breaks_digits_shrink lines.now statement.now }
 {
     match statement {
-        Statement::TotalAmount(level, _, name, digits, _) => {
-            has_wider_below(lines, *level, *name, *digits)
-        }
+        Statement::TotalAmount {
+            level,
+            name,
+            digits,
+            ..
+        } => { has_wider_below(lines, *level, *name, *digits) }
         _ => false,
     }
 }

@@ -10,7 +10,7 @@ pub(crate) fn form_lines(chart: &[Line]) -> u16
     ensures { result ≡ rule.form_lines chart.now }
 {
     for line in chart {
-        if let Statement::Form(lines, _, _) = &line.statement {
+        if let Statement::Form { lines, .. } = &line.statement {
             return *lines;
         }
     }
@@ -50,7 +50,7 @@ fn is_tape_of(wanted: u16, statement: &Statement) -> bool
     ensures { result ≡ rule.is_tape_of wanted statement.now }
 {
     match statement {
-        Statement::Tape(channel, _) => *channel == wanted,
+        Statement::Tape { channel, .. } => *channel == wanted,
         _ => false,
     }
 }
@@ -65,14 +65,17 @@ fn has_tape(chart: &[Line], channel: u16) -> bool
 }
 
 /// Whether a line of a chart breaks the rule on the carriage tape.
-pub(crate) fn has_bad_tape(chart: &[Line], statement: &Statement) -> bool
+pub(crate) fn breaks_tape(chart: &[Line], statement: &Statement) -> bool
     ensures { result ≡ rule.breaks_tape chart.now statement.now }
 {
     match statement {
-        Statement::Tape(channel, stops) => {
+        Statement::Tape { channel, stops } => {
             !is_good_tape(form_lines(chart), *channel, stops.lines())
         }
-        Statement::After(_, After::Skip(channel)) => !has_tape(chart, *channel),
+        Statement::After {
+            action: After::Skip(channel),
+            ..
+        } => !has_tape(chart, *channel),
         _ => false,
     }
 }

@@ -41,8 +41,15 @@ fn answer(alloc: Global, lines: &[u8]) -> Result<(u8, u16), Fail> {
     let text = whole(alloc, lines)?;
     match check(alloc, read_chart(alloc, text.as_slice())?) {
         Ok(_) => Ok((0, 0)),
-        Err(RuleFault::Rule { rule, line }) => Ok((rule.number(), line)),
-        Err(fault) => Err(fault.into()),
+        Err(fault) => Ok((fault.number().unwrap_or(u8::MAX), line_named(fault))),
+    }
+}
+
+/// The line that a fault names, or 0.
+fn line_named(fault: RuleFault) -> u16 {
+    match fault {
+        RuleFault::Rule { line, .. } => line,
+        RuleFault::Memory => 0,
     }
 }
 

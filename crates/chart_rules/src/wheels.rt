@@ -8,7 +8,7 @@ use crate::items::{Figure, Item, PrintedLine};
 use chart_text::{Line, Mark, Statement};
 
 /// Whether a line of a chart is an item that is not within wheels 1 to 120.
-pub(crate) fn leaves_wheels(fields: &Fields, statement: &Statement) -> bool
+pub(crate) fn breaks_wheel_range(fields: &Fields, statement: &Statement) -> bool
     ensures { result ≡ rule.breaks_wheel_range fields.now statement.now }
 {
     match Item::of(fields, statement) {
@@ -36,7 +36,7 @@ fn overlap(one: Option<Item>, other: Option<Item>) -> bool
 }
 
 /// Whether a line of a chart is an item that meets an earlier one of the same printed line.
-pub(crate) fn overlaps(fields: &Fields, earlier: &[Line], statement: &Statement) -> bool
+pub(crate) fn breaks_wheel_overlap(fields: &Fields, earlier: &[Line], statement: &Statement) -> bool
     ensures { result ≡ rule.breaks_wheel_overlap fields.now earlier.now statement.now }
 {
     let item = Item::of(fields, statement);
@@ -95,8 +95,8 @@ fn clash(one: Option<Item>, other: Option<Item>) -> bool
     }
 }
 
-/// Whether a line of a chart is an item that clashes with an earlier one of another body line.
-pub(crate) fn clashes(fields: &Fields, earlier: &[Line], statement: &Statement) -> bool
+/// Whether a line of a chart is an item that breaks_wheel_clash with an earlier one of another body line.
+pub(crate) fn breaks_wheel_clash(fields: &Fields, earlier: &[Line], statement: &Statement) -> bool
     ensures { result ≡ rule.breaks_wheel_clash fields.now earlier.now statement.now }
 {
     let item = Item::of(fields, statement);

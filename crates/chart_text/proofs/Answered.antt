@@ -1,9 +1,9 @@
 -- What an answer of the reader says of a text.
-use Rattle.std.proofs.Common.{◌≡◌, ℕ, List, Result, Ok, Err, IfOk, IfErr, refl, sym, ◌∙◌, inl, inr, ◌⊎◌}
+use Rattle.std.proofs.Common.{◌≡◌, ◌≢◌, ℕ, List, Result, Ok, Err, IfOk, IfErr, refl, sym, ◌∙◌, inl, inr, ◌⊎◌}
 use Rattle.chart_text.specs.Chart.{Chart}
 use Rattle.chart_text.specs.ChartText.{Reads}
 use Rattle.chart_text.specs.TextFaults.{HasFault}
-use Rattle.chart_text.specs.TextReading.{chart_of, Answers}
+use Rattle.chart_text.specs.HelperText.{chart_of, Answers}
 use Rattle.chart_text.specs.declared.fault.TextFault.{TextFault}
 use Rattle.chart_text.specs.declared.fault.TextFault.TheVariants.{TooLarge, NoFirstLine, NotALine, NoEnd, Memory}
 use Rattle.chart_text.proofs.ChartGrammar.{fault_is, fault_read, reads_is, reads_read}
@@ -14,13 +14,13 @@ read_by text (Ok chart) read = reads_is text chart read
 read_by text (Err fault) read = tt
 
 pub fault_by : (text : List ℕ) (answer : Result Chart TextFault) → Answers answer (chart_of text)
-    → IfErr answer (λ fault. (fault ≡ Memory) ⊎ HasFault text fault)
+    → IfErr answer (λ fault. fault ≢ Memory → HasFault text fault)
 fault_by text (Ok chart) read = tt
-fault_by text (Err Memory) read = inl refl
-fault_by text (Err TooLarge) read = inr (fault_is text TooLarge read)
-fault_by text (Err NoFirstLine) read = inr (fault_is text NoFirstLine read)
-fault_by text (Err (NotALine line)) read = inr (fault_is text (NotALine line) read)
-fault_by text (Err NoEnd) read = inr (fault_is text NoEnd read)
+fault_by text (Err Memory) read = λ other. absurd (other refl)
+fault_by text (Err TooLarge) read = λ _. fault_is text TooLarge read
+fault_by text (Err NoFirstLine) read = λ _. fault_is text NoFirstLine read
+fault_by text (Err (NotALine line)) read = λ _. fault_is text (NotALine line) read
+fault_by text (Err NoEnd) read = λ _. fault_is text NoEnd read
 
 pub only_read : (text : List ℕ) (answer : Result Chart TextFault) → Answers answer (chart_of text)
     → (chart : Chart) → Reads text chart → (answer ≡ Ok chart) ⊎ (answer ≡ Err Memory)

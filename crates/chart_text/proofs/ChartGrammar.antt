@@ -11,8 +11,8 @@ use Rattle.tokens.specs.Tokens.{HasTokens}
 use Rattle.chart_text.specs.ChartText.{IsEmptyLine, IsEndLine, IsFirstLine, IsFormLine, IsTooLarge, ReadsFrom, empty_line, form_line, end_line, Reads}
 use Rattle.chart_text.specs.TextFaults.{line_at, IsBehindFirst, HasFirstLine, IsBehindEnd, IsNoForm, IsMisplaced, IsLowestMisplaced, LacksEnd, HasFault, HaveFault}
 use Rattle.tokens.specs.Dividing.{tokens_of}
-use Rattle.chart_text.specs.Reading.{statement_of}
-use Rattle.chart_text.specs.TextReading.{form_content, tokens_content, divided_content, content_of, is_first, is_long, is_large, with_lines, line_then, chart_from, chart_of_lines, chart_of}
+use Rattle.chart_text.specs.HelperForms.{statement_of}
+use Rattle.chart_text.specs.HelperText.{form_content, tokens_content, divided_content, content_of, is_first, is_long, is_large, with_lines, line_then, chart_from, chart_of_lines, chart_of}
 use Rattle.chart_text.specs.declared.chart.Line.{Line}
 use Rattle.chart_text.specs.declared.statement.Statement.{Statement}
 use Rattle.chart_text.specs.declared.read.Content.{Content}

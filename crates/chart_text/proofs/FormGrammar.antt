@@ -6,11 +6,13 @@ use Rattle.std.specs.Str.{bytes_eq}
 use Rattle.tokens.specs.Number.{IsNumber}
 use Rattle.chart_text.specs.Name.{IsName}
 use Rattle.chart_text.specs.Forms.{SaysSign, unsigned, by_row, by_absence, SaysMark, unmarked, total_marked, SaysOption, as_it_is, indicated, item_marked, SaysKind, detail_line, total_line, Says, text_field, amount_field, control, print_detail, print_group, head, detail_literal, detail_field, total_literal, total_text, total_amount, space, page_after, skip_after, form, tape}
-use Rattle.tokens.specs.NumberReading.{number_of, number_to, numbers_of}
-use Rattle.chart_text.specs.Reading.{stops_of, name_of, literal_of, mark_of, keyword_of, sign_of, total_mark_of, option_of, kind_of, field_kind_of, field_of, control_of, print_of, head_of, detail_literal_of, detail_field_of, detail_item_of, detail_of, total_literal_of, total_field_of, total_item_of, total_of, spacing_of, space_of, follower_of, after_of, form_of, tape_of, said_behind, statement_of}
+use Rattle.tokens.specs.NumberReading.{number_of, numbers_of}
+use Rattle.chart_text.specs.HelperWords.{name_of, literal_of, mark_of, keyword_of, level_of, control_level_of, heading_line_of, spacing_lines_of}
+use Rattle.chart_text.specs.HelperForms.{stops_of, sign_of, total_mark_of, option_of, kind_of, field_kind_of, field_of, control_of, print_of, head_of, detail_literal_of, detail_field_of, detail_item_of, detail_of, total_literal_of, total_field_of, total_item_of, total_of, spacing_of, space_of, follower_of, after_of, form_of, tape_of, said_behind, statement_of}
 use Rattle.tokens.proofs.Steps.{bound, granted}
 use Rattle.tokens.proofs.TokenWord.{is_word}
-use Rattle.tokens.proofs.NumberGrammar.{number_is, number_read, number_to_is, number_to_read, numbers_are, numbers_read, as_many_numbers}
+use Rattle.tokens.proofs.NumberGrammar.{number_is, number_read, numbers_are, numbers_read, as_many_numbers}
+use Rattle.chart_text.proofs.NumberedWords.{level_is, level_read, control_level_is, control_level_read, heading_line_is, heading_line_read, spacing_lines_is, spacing_lines_read}
 use Rattle.chart_text.proofs.WordGrammar.{name_is, name_read, literal_is, literal_read, name_no_literal, mark_is, mark_read}
 use Rattle.chart_text.specs.declared.statement.SignRule.{SignRule}
 use Rattle.chart_text.specs.declared.statement.SignRule.TheVariants.{X, NX}
@@ -88,10 +90,10 @@ option_is (word ∷ []) how read = cc
 option_is (word ∷ token ∷ []) how read =
     either word (codes "INDICATE") (codes "MARK") _ _ how (SaysOption (word ∷ token ∷ []) how) read
     (λ same r.
-    let l = bound (number_to 3 token) _ how r in
+    let l = bound (control_level_of token) _ how r in
     subst (λ (w : List ℕ). SaysOption (w ∷ token ∷ []) how) (sym same)
     (subst (SaysOption (codes "INDICATE" ∷ token ∷ [])) (same_Some (Indicated l.0) how l.2)
-    (indicated (number_to_is 3 token l.0 l.1))))
+    (indicated (control_level_is token l.0 l.1))))
     (λ same r.
     let m = bound (mark_of token) _ how r in
     subst (λ (w : List ℕ). SaysOption (w ∷ token ∷ []) how) (sym same)
@@ -102,7 +104,7 @@ option_is (word ∷ token ∷ next ∷ others) how read = cc
 option_read : {tokens : List (List ℕ)} {how : DetailOption} → SaysOption tokens how → option_of tokens ≡ Some how
 unfolding option_of
 option_read as_it_is = refl
-option_read (indicated {level} {l} is) = rw (number_to_read 3 level l is) refl
+option_read (indicated {level} {l} is) = rw (control_level_read level l is) refl
 option_read (item_marked is) = rw (mark_read is) refl
 
 -- a kind of body line, and the tokens behind it
@@ -134,20 +136,20 @@ kind_is (word ∷ level ∷ rest) line others read =
       said = subst (λ (p : BodyLine × List (List ℕ)). SaysKind (codes "DETAIL" ∷ []) p.0) same detail_line;
     })
     (λ is r.
-    let l = bound (number_to 4 level) _ (line, others) r in
+    let l = bound (level_of level) _ (line, others) r in
     let same = same_Some (lines.Total l.0, rest) (line, others) l.2 in
     record {
       kind = codes "TOTAL" ∷ level ∷ [];
       spelled = ap (λ w. w ∷ level ∷ rest) is ∙ ap (λ p. codes "TOTAL" ∷ level ∷ p.1) same;
       said = subst (λ (p : BodyLine × List (List ℕ)). SaysKind (codes "TOTAL" ∷ level ∷ []) p.0) same
-          (total_line (number_to_is 4 level l.0 l.1));
+          (total_line (level_is level l.0 l.1));
     })
 
 kind_read : {kind : List (List ℕ)} {line : BodyLine} → SaysKind kind line → (other : List ℕ) (others : List (List ℕ))
     → kind_of (kind ++ other ∷ others) ≡ Some (line, other ∷ others)
 unfolding kind_of
 kind_read detail_line other others = refl
-kind_read (total_line {level} {l} is) other others = rw (number_to_read 4 level l is) refl
+kind_read (total_line {level} {l} is) other others = rw (level_read level l is) refl
 
 -- what the columns of a field hold
 field_kind_is : (name first last n : List ℕ) (a b : ℕ) → IsName name n → IsNumber first a → IsNumber last b
@@ -196,10 +198,10 @@ unfolding control_of
 control_is [] s read = cc
 control_is (level ∷ []) s read = cc
 control_is (level ∷ name ∷ []) s read =
-    let l = bound (number_to 3 level) _ s read in
+    let l = bound (control_level_of level) _ s read in
     let n = bound (name_of name) _ s l.2 in
     subst (Says (codes "CONTROL" ∷ level ∷ name ∷ [])) (same_Some _ s n.2)
-    (control (number_to_is 3 level l.0 l.1) (name_is name n.0 n.1))
+    (control (control_level_is level l.0 l.1) (name_is name n.0 n.1))
 control_is (level ∷ name ∷ next ∷ others) s read = cc
 
 print_is : (operands : List (List ℕ)) (s : Statement) → print_of operands ≡ Some s → Says (codes "PRINT" ∷ operands) s
@@ -219,11 +221,11 @@ head_is [] s read = cc
 head_is (line ∷ []) s read = cc
 head_is (line ∷ wheel ∷ []) s read = cc
 head_is (line ∷ wheel ∷ literal ∷ []) s read =
-    let h = bound (number_to 3 line) _ s read in
+    let h = bound (heading_line_of line) _ s read in
     let w = bound (number_of wheel) _ s h.2 in
     let cs = bound (literal_of literal) _ s w.2 in
     subst (Says (codes "HEAD" ∷ line ∷ wheel ∷ literal ∷ [])) (same_Some _ s cs.2)
-    (head (number_to_is 3 line h.0 h.1) (number_is wheel w.0 w.1) (literal_is literal cs.0 cs.1))
+    (head (heading_line_is line h.0 h.1) (number_is wheel w.0 w.1) (literal_is literal cs.0 cs.1))
 head_is (line ∷ wheel ∷ literal ∷ next ∷ others) s read = cc
 
 detail_item_is : (wheel item : List ℕ) (others : List (List ℕ)) (s : Statement) (characters : Option (List ℕ))
@@ -254,25 +256,25 @@ total_item_is : (level wheel item : List ℕ) (others : List (List ℕ)) (s : St
     → total_item_of level wheel item others characters ≡ Some s → Says (codes "TOTAL" ∷ level ∷ wheel ∷ item ∷ others) s
 unfolding total_literal_of total_field_of
 total_item_is level wheel item [] s (Some characters) found read =
-    let l = bound (number_to 4 level) _ s read in
+    let l = bound (level_of level) _ s read in
     let w = bound (number_of wheel) _ s l.2 in
     subst (Says (codes "TOTAL" ∷ level ∷ wheel ∷ item ∷ [])) (same_Some _ s w.2)
-    (total_literal (number_to_is 4 level l.0 l.1) (number_is wheel w.0 w.1) (literal_is item characters found))
+    (total_literal (level_is level l.0 l.1) (number_is wheel w.0 w.1) (literal_is item characters found))
 total_item_is level wheel item (next ∷ others) s (Some characters) found read = cc
 total_item_is level wheel item [] s None found read =
-    let l = bound (number_to 4 level) _ s read in
+    let l = bound (level_of level) _ s read in
     let w = bound (number_of wheel) _ s l.2 in
     let n = bound (name_of item) _ s w.2 in
     subst (Says (codes "TOTAL" ∷ level ∷ wheel ∷ item ∷ [])) (same_Some _ s n.2)
-    (total_text (number_to_is 4 level l.0 l.1) (number_is wheel w.0 w.1) (name_is item n.0 n.1))
+    (total_text (level_is level l.0 l.1) (number_is wheel w.0 w.1) (name_is item n.0 n.1))
 total_item_is level wheel item (digits ∷ mark) s None found read =
-    let l = bound (number_to 4 level) _ s read in
+    let l = bound (level_of level) _ s read in
     let w = bound (number_of wheel) _ s l.2 in
     let n = bound (name_of item) _ s w.2 in
     let g = bound (number_of digits) _ s n.2 in
     let m = bound (total_mark_of mark) _ s g.2 in
     subst (Says (codes "TOTAL" ∷ level ∷ wheel ∷ item ∷ digits ∷ mark)) (same_Some _ s m.2)
-    (total_amount (number_to_is 4 level l.0 l.1) (number_is wheel w.0 w.1) (name_is item n.0 n.1)
+    (total_amount (level_is level l.0 l.1) (number_is wheel w.0 w.1) (name_is item n.0 n.1)
     (number_is digits g.0 g.1) (total_mark_is mark m.0 m.1))
 
 total_is : (operands : List (List ℕ)) (s : Statement) → total_of operands ≡ Some s → Says (codes "TOTAL" ∷ operands) s
@@ -288,8 +290,8 @@ spacing_is : (kind : List (List ℕ)) (line : BodyLine) → SaysKind kind line �
 unfolding spacing_of
 spacing_is kind line said [] s read = cc
 spacing_is kind line said (count ∷ []) s read =
-    let n = bound (number_to 3 count) _ s read in
-    subst (Says (codes "SPACE" ∷ (kind ++ count ∷ []))) (same_Some _ s n.2) (space said (number_to_is 3 count n.0 n.1))
+    let n = bound (spacing_lines_of count) _ s read in
+    subst (Says (codes "SPACE" ∷ (kind ++ count ∷ []))) (same_Some _ s n.2) (space said (spacing_lines_is count n.0 n.1))
 spacing_is kind line said (count ∷ next ∷ others) s read = cc
 
 space_is : (operands : List (List ℕ)) (s : Statement) → space_of operands ≡ Some s → Says (codes "SPACE" ∷ operands) s
@@ -421,31 +423,31 @@ read_what_it_says
       sign_read said,
     ) refl
 read_what_it_says (control {level} {name} {n} {l} is_l is_n) = rw
-    (number_to_read 3 level l is_l, name_read name n is_n) refl
+    (control_level_read level l is_l, name_read name n is_n) refl
 read_what_it_says print_detail = refl
 read_what_it_says print_group = refl
 read_what_it_says (head {line} {wheel} {literal} {characters} {h} {w} is_h is_w is) =
-    rw (number_to_read 3 line h is_h, number_read wheel w is_w, literal_read literal characters is) refl
+    rw (heading_line_read line h is_h, number_read wheel w is_w, literal_read literal characters is) refl
 read_what_it_says (detail_literal {wheel} {literal} {characters} {w} is_w is) = rw
     (literal_read literal characters is, number_read wheel w is_w) refl
 read_what_it_says (detail_field {wheel} {name} {n} {option} {w} {how} is_w is_n said) =
     rw (name_no_literal name n is_n, number_read wheel w is_w, name_read name n is_n, option_read said) refl
 read_what_it_says (total_literal {level} {wheel} {literal} {characters} {l} {w} is_l is_w is) =
-    rw (literal_read literal characters is, number_to_read 4 level l is_l, number_read wheel w is_w) refl
+    rw (literal_read literal characters is, level_read level l is_l, number_read wheel w is_w) refl
 read_what_it_says (total_text {level} {wheel} {name} {n} {l} {w} is_l is_w is_n) =
-    rw (name_no_literal name n is_n, number_to_read 4 level l is_l, number_read wheel w is_w, name_read name n is_n)
+    rw (name_no_literal name n is_n, level_read level l is_l, number_read wheel w is_w, name_read name n is_n)
     refl
 read_what_it_says (total_amount {level} {wheel} {name} {digits} {n} {mark} {l} {w} {g} {m} is_l is_w is_n is_g said) =
     rw (
       name_no_literal name n is_n,
-      number_to_read 4 level l is_l,
+      level_read level l is_l,
       number_read wheel w is_w,
       name_read name n is_n,
       number_read digits g is_g,
       total_mark_read said,
     ) refl
 read_what_it_says (space {kind} {count} {line} {n} said is) = rw
-    (kind_read said count [], number_to_read 3 count n is) refl
+    (kind_read said count [], spacing_lines_read count n is) refl
 read_what_it_says (page_after {kind} {line} said) = rw (kind_read said (codes "PAGE") []) refl
 read_what_it_says (skip_after {kind} {channel} {line} {c} said is) = rw
     (kind_read said (codes "SKIP") (channel ∷ []), number_read channel c is) refl

@@ -1,5 +1,6 @@
 pub mod Fronts
 pub mod Numbers
+mod NumberedWords
 pub mod Size
 pub mod LineSteps
 pub mod WordGrammar

@@ -2,7 +2,7 @@
 use Rattle.std.proofs.Common.{◌≡◌, ℕ, ◌+◌, ◌<◌, ◌≤◌, ◌||◌, Bool, true, false, ltb, nat_lt, List, [], ◌∷◌, length, refl, arith, suc}
 use Rattle.std.proofs.lemmas.Bool.{lt-ltb, le-ltb}
 use Rattle.std.specs.List.{list_any}
-use Rattle.chart_text.specs.TextReading.{is_long}
+use Rattle.chart_text.specs.HelperText.{is_long}
 
 -- whether a text is too large, where a number of lines stand before these
 abbrev pub large_behind : ℕ → List (List ℕ) → Bool

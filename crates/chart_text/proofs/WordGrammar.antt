@@ -1,5 +1,5 @@
 -- Single tokens are exactly the names, literals and marks that their readers answer.
-use Rattle.std.proofs.Common.{◌≡◌, ℕ, ◌+◌, ◌-◌, ◌≤◌, Bool, true, false, cond, eqb, leb, ◌&&◌, List, [], ◌∷◌, ◌++◌, length, take, get_or, Option, Some, None, refl, ap, sym, ◌∙◌, subst, arith, suc, length-append, codes}
+use Rattle.std.proofs.Common.{◌≡◌, ℕ, ◌+◌, ◌-◌, ◌≤◌, Bool, true, false, cond, eqb, leb, ◌&&◌, List, [], ◌∷◌, ◌++◌, length, take, get_or, Option, Some, None, refl, ap, sym, ◌∙◌, subst, arith, suc, length-append, codes, replicate}
 use Rattle.std.proofs.lemmas.Bool.{eqb-true, eq-eqb, and_parts, leb-true, le-leb}
 use Rattle.std.proofs.lemmas.Option.{same_Some, cond_some}
 use Rattle.std.proofs.lemmas.List.{take_all, take_more}
@@ -7,13 +7,21 @@ use Rattle.std.proofs.Math.Seq.{take-append_seam, get_or-append_seam}
 use Rattle.std.proofs.Math.Numerals.{add-one}
 use Rattle.std.specs.List.{list_all, slice_range}
 use Rattle.std.specs.Str.{bytes_eq}
-use Rattle.chart_text.specs.Name.{begins_with_letter, IsName}
+use Rattle.chart_text.specs.Name.{begins_with_letter, IsName, HasShape}
 use Rattle.chart_text.specs.Literal.{is_printable, IsLiteralText, IsLiteral}
 use Rattle.chart_text.specs.Forms.{IsMark, credit, minus}
 use Rattle.chart_text.specs.declared.statement.Mark.{Mark}
 use Rattle.chart_text.specs.declared.statement.Mark.TheVariants.{Credit, Minus}
-use Rattle.chart_text.specs.Reading.{name_of, literal_of, is_literal_text, mark_of}
+use Rattle.chart_text.specs.HelperWords.{name_of, literal_of, is_literal_text, mark_of}
 use Rattle.tokens.proofs.TokenWord.{is_word}
+
+-- a token that is spelled as a name, filled with blanks
+pub has_shape : (token : List ℕ) → begins_with_letter token ≡ true → length token ≤ 8
+    → HasShape (token ++ replicate (8 - length token) 32)
+has_shape token spelled short = record {
+  token = token;
+  is_name = record { spelled = spelled; short = short; filled = refl };
+}
 
 -- what is read as a name is this name
 pub name_is : (token name : List ℕ) → name_of token ≡ Some name → IsName token name

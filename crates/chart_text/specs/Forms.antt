@@ -1,8 +1,15 @@
 -- The forms of a chart: what the tokens of a line say.
 use Rattle.std.specs.Prelude.{ℕ, ◌≤◌, List, [], ◌∷◌, ◌++◌, length, Option, Some, None, codes}
-use Rattle.tokens.specs.Number.{IsNumber, IsNumberTo, AreNumbers}
+use Rattle.tokens.specs.Number.{IsNumber, AreNumbers}
 use Rattle.chart_text.specs.Name.{IsName}
 use Rattle.chart_text.specs.Literal.{IsLiteral}
+use Rattle.chart_text.specs.Levels.{level_number, control_number}
+use Rattle.chart_text.specs.Headings.{heading_number}
+use Rattle.chart_text.specs.Spacings.{spacing_number}
+use Rattle.chart_text.specs.declared.heading.HeadingLine.{HeadingLine}
+use Rattle.chart_text.specs.declared.level.ControlLevel.{ControlLevel}
+use Rattle.chart_text.specs.declared.level.Level.{Level}
+use Rattle.chart_text.specs.declared.spacing.Spacing.{Spacing}
 use Rattle.chart_text.specs.declared.statement.SignRule.{SignRule}
 use Rattle.chart_text.specs.declared.statement.SignRule.TheVariants.{X, NX}
 use Rattle.chart_text.specs.declared.statement.FieldKind.TheVariants as kinds
@@ -36,13 +43,13 @@ pub data SaysMark : List (List ℕ) → Option Mark → Type 0 where
 -- how a field stands on a card's line: nothing, `INDICATE l` or `MARK m`
 pub data SaysOption : List (List ℕ) → DetailOption → Type 0 where
   as_it_is : SaysOption [] Plain
-  indicated : {level : List ℕ} {l : ℕ} → IsNumberTo 3 level l → SaysOption (codes "INDICATE" ∷ level ∷ []) (Indicated l)
+  indicated : {level : List ℕ} {l : ControlLevel} → IsNumber level (control_number l) → SaysOption (codes "INDICATE" ∷ level ∷ []) (Indicated l)
   item_marked : {token : List ℕ} {m : Mark} → IsMark token m → SaysOption (codes "MARK" ∷ token ∷ []) (Marked m)
 
 -- a kind of body line: `DETAIL` or `TOTAL l`
 pub data SaysKind : List (List ℕ) → BodyLine → Type 0 where
   detail_line : SaysKind (codes "DETAIL" ∷ []) lines.Detail
-  total_line : {level : List ℕ} {l : ℕ} → IsNumberTo 4 level l → SaysKind (codes "TOTAL" ∷ level ∷ []) (lines.Total l)
+  total_line : {level : List ℕ} {l : Level} → IsNumber level (level_number l) → SaysKind (codes "TOTAL" ∷ level ∷ []) (lines.Total l)
 
 -- the forms, and what each says
 pub data Says : List (List ℕ) → Statement → Type 0 where
@@ -53,11 +60,11 @@ pub data Says : List (List ℕ) → Statement → Type 0 where
       → IsName name n → IsNumber first a → IsNumber last b → IsNumber decimals d → SaysSign sign rule
       → Says (codes "FIELD" ∷ name ∷ codes "AMOUNT" ∷ first ∷ last ∷ decimals ∷ sign)
       (says.Field (record { name = n; first = a; last = b; kind = kinds.Amount d rule }))
-  control : {level name n : List ℕ} {l : ℕ} → IsNumberTo 3 level l → IsName name n
+  control : {level name n : List ℕ} {l : ControlLevel} → IsNumber level (control_number l) → IsName name n
       → Says (codes "CONTROL" ∷ level ∷ name ∷ []) (says.Control l n)
   print_detail : Says (codes "PRINT" ∷ codes "DETAIL" ∷ []) (says.Print printings.Detail)
   print_group : Says (codes "PRINT" ∷ codes "GROUP" ∷ []) (says.Print printings.Group)
-  head : {line wheel literal characters : List ℕ} {h w : ℕ} → IsNumberTo 3 line h → IsNumber wheel w
+  head : {line wheel literal characters : List ℕ} {h : HeadingLine} {w : ℕ} → IsNumber line (heading_number h) → IsNumber wheel w
       → IsLiteral literal characters
       → Says (codes "HEAD" ∷ line ∷ wheel ∷ literal ∷ []) (says.Head h w characters)
   detail_literal : {wheel literal characters : List ℕ} {w : ℕ} → IsNumber wheel w → IsLiteral literal characters
@@ -65,15 +72,15 @@ pub data Says : List (List ℕ) → Statement → Type 0 where
   detail_field : {wheel name n : List ℕ} {option : List (List ℕ)} {w : ℕ} {how : DetailOption}
       → IsNumber wheel w → IsName name n → SaysOption option how
       → Says (codes "DETAIL" ∷ wheel ∷ name ∷ option) (says.DetailField w n how)
-  total_literal : {level wheel literal characters : List ℕ} {l w : ℕ}
-      → IsNumberTo 4 level l → IsNumber wheel w → IsLiteral literal characters
+  total_literal : {level wheel literal characters : List ℕ} {l : Level} {w : ℕ}
+      → IsNumber level (level_number l) → IsNumber wheel w → IsLiteral literal characters
       → Says (codes "TOTAL" ∷ level ∷ wheel ∷ literal ∷ []) (says.TotalLiteral l w characters)
-  total_text : {level wheel name n : List ℕ} {l w : ℕ} → IsNumberTo 4 level l → IsNumber wheel w → IsName name n
+  total_text : {level wheel name n : List ℕ} {l : Level} {w : ℕ} → IsNumber level (level_number l) → IsNumber wheel w → IsName name n
       → Says (codes "TOTAL" ∷ level ∷ wheel ∷ name ∷ []) (says.TotalText l w n)
-  total_amount : {level wheel name digits n : List ℕ} {mark : List (List ℕ)} {l w g : ℕ} {m : Option Mark}
-      → IsNumberTo 4 level l → IsNumber wheel w → IsName name n → IsNumber digits g → SaysMark mark m
+  total_amount : {level wheel name digits n : List ℕ} {mark : List (List ℕ)} {l : Level} {w g : ℕ} {m : Option Mark}
+      → IsNumber level (level_number l) → IsNumber wheel w → IsName name n → IsNumber digits g → SaysMark mark m
       → Says (codes "TOTAL" ∷ level ∷ wheel ∷ name ∷ digits ∷ mark) (says.TotalAmount l w n g m)
-  space : {kind : List (List ℕ)} {count : List ℕ} {line : BodyLine} {n : ℕ} → SaysKind kind line → IsNumberTo 3 count n
+  space : {kind : List (List ℕ)} {count : List ℕ} {line : BodyLine} {n : Spacing} → SaysKind kind line → IsNumber count (spacing_number n)
       → Says (codes "SPACE" ∷ (kind ++ count ∷ [])) (says.Space line n)
   page_after : {kind : List (List ℕ)} {line : BodyLine} → SaysKind kind line
       → Says (codes "AFTER" ∷ (kind ++ codes "PAGE" ∷ [])) (says.After line Page)

@@ -1,10 +1,18 @@
 -- The text rules, in the order in which they are asked: the size of the text, its first line, its other lines, its END.
-use Rattle.std.specs.Prelude.{ℕ, ◌-◌, ◌<◌, ◌≤◌, List, [], length, slice_index_or, ◌⊎◌}
+use Rattle.std.specs.Prelude.{ℕ, ◌-◌, ◌<◌, ◌≤◌, List, [], length, slice_index_or, ◌⊎◌, Option, Some, None}
 use Rattle.card_code.specs.Lines.{lines_of}
 use Rattle.chart_text.specs.ChartText.{IsEmptyLine, IsEndLine, IsFirstLine, IsFormLine, IsTooLarge}
 use Rattle.chart_text.specs.declared.statement.Statement.{Statement}
 use Rattle.chart_text.specs.declared.fault.TextFault.{TextFault}
 use Rattle.chart_text.specs.declared.fault.TextFault.TheVariants.{TooLarge, NoFirstLine, NotALine, NoEnd, Memory}
+
+-- the number of a fault in the catalogue of faults; want of memory has none
+abbrev pub fault_number : TextFault → Option ℕ
+fault_number TooLarge = Some 11
+fault_number NoFirstLine = Some 12
+fault_number (NotALine line) = Some 13
+fault_number NoEnd = Some 14
+fault_number Memory = None
 
 -- the line of a number, from 1
 abbrev pub line_at : List (List ℕ) → ℕ → List ℕ
@@ -47,7 +55,7 @@ pub record IsLowestMisplaced (lines : List (List ℕ)) (number : ℕ) : Type 0 w
 abbrev pub LacksEnd : List (List ℕ) → Type 0
 LacksEnd lines = (number : ℕ) → IsBehindFirst lines number → ¬ IsEndLine (line_at lines number)
 
--- the fault of the lines of a text: its rule is broken, and none that is asked before
+-- the fault of the lines of a text: its rule is broken, and none that is asked before; no text makes memory run out
 abbrev pub HaveFault : List (List ℕ) → TextFault → Type 0
 HaveFault lines TooLarge = IsTooLarge lines
 HaveFault lines NoFirstLine = (¬ IsTooLarge lines) × (¬ HasFirstLine lines)

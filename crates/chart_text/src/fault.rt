@@ -7,7 +7,7 @@ use std::alloc::{AllocError, AllocFailed};
 use thiserror::Error;
 
 /// Why a text is no chart: the first of its text rules that is broken. Or memory was refused.
-#[derive(Debug, Drop, Error)]
+#[derive(Clone, Copy, Debug, PartialEq, Eq, Error)]
 pub enum TextFault {
     /// The text has more than 500 lines, or a line of more than 200 bytes.
     #[error("the text has more than 500 lines, or a line of more than 200 bytes")]
@@ -27,6 +27,24 @@ pub enum TextFault {
     /// Memory was refused.
     #[error("out of memory")]
     Memory,
+}
+
+impl TextFault {
+    ghost use Rattle.std.specs.Prelude.{◌≡◌};
+    ghost use Rattle.chart_text.specs.TextFaults.{fault_number};
+
+    /// Its number in the catalogue of faults, 11 to 14; want of memory has none.
+    pub fn number(self) -> Option<u8>
+        ensures { result ≡ fault_number self }
+    {
+        match self {
+            TextFault::TooLarge => Some(11),
+            TextFault::NoFirstLine => Some(12),
+            TextFault::NotALine { .. } => Some(13),
+            TextFault::NoEnd => Some(14),
+            TextFault::Memory => None,
+        }
+    }
 }
 
 impl From<AllocError> for TextFault {

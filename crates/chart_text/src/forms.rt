@@ -4,18 +4,21 @@ ghost use Rattle.std.specs.Prelude.{◌≡◌, ℕ, length, IfOk, IfSome, Some, 
 ghost use Rattle.std.specs.Str.{bytes_eq};
 ghost use Rattle.tokens.specs.Dividing.{texts};
 ghost use Rattle.tokens.specs.NumberReading.{numbers_of};
-ghost use Rattle.chart_text.specs.Reading.{sign_of, total_mark_of, option_of, kind_of, stops_of, field_kind_of, field_of, control_of, print_of, head_of, detail_literal_of, detail_field_of, detail_of, total_literal_of, total_field_of, total_of, spacing_of, space_of, follower_of, after_of, form_of, tape_of, said_behind, statement_of};
+ghost use Rattle.chart_text.specs.HelperForms.{sign_of, total_mark_of, option_of, kind_of, stops_of, field_kind_of, field_of, control_of, print_of, head_of, detail_literal_of, detail_field_of, detail_of, total_literal_of, total_field_of, total_of, spacing_of, space_of, follower_of, after_of, form_of, tape_of, said_behind, statement_of};
 
 use crate::statement::{
     After, BodyLine, DetailOption, Field, FieldKind, Literal, MAX_STOPS, Mark, Printing, SignRule,
     Statement, Stops,
 };
-use crate::words::{Keyword, read_keyword, read_literal, read_mark, read_name};
+use crate::words::{
+    Keyword, read_control_level, read_heading_line, read_keyword, read_level, read_literal,
+    read_mark, read_name, read_spacing_lines,
+};
 use std::alloc::{AllocError, Global};
-use tokens::{is, read_number, read_number_to};
+use tokens::{is, read_number};
 
 /// What the tokens of a line say, or `None` where they are no form.
-#[tactic(auto, unfolding(crate::specs::Reading::statement_of))]
+#[tactic(auto, unfolding(crate::specs::HelperForms::statement_of))]
 pub(crate) fn read_statement(
     alloc: Global,
     tokens: &[&[u8]],
@@ -54,7 +57,7 @@ fn read_behind(
 }
 
 /// `FIELD name TEXT a b`, or `FIELD name AMOUNT a b d` with or without a sign rule.
-#[tactic(auto, unfolding(crate::specs::Reading::field_of))]
+#[tactic(auto, unfolding(crate::specs::HelperForms::field_of))]
 fn read_field(operands: &[&[u8]]) -> Option<Statement>
     ensures { result ≡ field_of (texts operands.now) }
 {
@@ -74,21 +77,23 @@ fn read_field(operands: &[&[u8]]) -> Option<Statement>
 }
 
 /// What the columns of a field hold.
-#[tactic(auto, unfolding(crate::specs::Reading::field_kind_of))]
+#[tactic(auto, unfolding(crate::specs::HelperForms::field_kind_of))]
 fn read_field_kind(word: &[u8], operands: &[&[u8]]) -> Option<FieldKind>
     ensures { result ≡ field_kind_of word.now (texts operands.now) }
 {
     match operands {
         [] if is(word, b"TEXT") => Some(FieldKind::Text),
         [decimals, sign @ ..] if is(word, b"AMOUNT") => {
-            Some(FieldKind::Amount(read_number(decimals)?, read_sign(sign)?))
+            let decimals = read_number(decimals)?;
+            let sign = read_sign(sign)?;
+            Some(FieldKind::Amount { decimals, sign })
         }
         _ => None,
     }
 }
 
 /// The sign rule of an amount: nothing, `X c` or `NX c`.
-#[tactic(auto, unfolding(crate::specs::Reading::sign_of))]
+#[tactic(auto, unfolding(crate::specs::HelperForms::sign_of))]
 fn read_sign(operands: &[&[u8]]) -> Option<Option<SignRule>>
     ensures { result ≡ sign_of (texts operands.now) }
 {
@@ -101,18 +106,20 @@ fn read_sign(operands: &[&[u8]]) -> Option<Option<SignRule>>
 }
 
 /// `CONTROL l name`.
-#[tactic(auto, unfolding(crate::specs::Reading::control_of))]
+#[tactic(auto, unfolding(crate::specs::HelperForms::control_of))]
 fn read_control(operands: &[&[u8]]) -> Option<Statement>
     ensures { result ≡ control_of (texts operands.now) }
 {
     let [level, name] = operands else {
         return None;
     };
-    Some(Statement::Control(read_number_to(3, level)?, read_name(name)?))
+    let level = read_control_level(level)?;
+    let name = read_name(name)?;
+    Some(Statement::Control { level, name })
 }
 
 /// `PRINT DETAIL` or `PRINT GROUP`.
-#[tactic(auto, unfolding(crate::specs::Reading::print_of))]
+#[tactic(auto, unfolding(crate::specs::HelperForms::print_of))]
 fn read_print(operands: &[&[u8]]) -> Option<Statement>
     ensures { result ≡ print_of (texts operands.now) }
 {
@@ -124,7 +131,7 @@ fn read_print(operands: &[&[u8]]) -> Option<Statement>
 }
 
 /// `HEAD h w literal`.
-#[tactic(auto, unfolding(crate::specs::Reading::head_of))]
+#[tactic(auto, unfolding(crate::specs::HelperForms::head_of))]
 fn read_head(alloc: Global, operands: &[&[u8]]) -> Result<Option<Statement>, AllocError>
     ensures { IfOk result (λ statement. statement ≡ head_of (texts operands.now)) }
 {
@@ -132,16 +139,20 @@ fn read_head(alloc: Global, operands: &[&[u8]]) -> Result<Option<Statement>, All
         return Ok(None);
     };
     let literal = read_literal(alloc, literal)?;
-    match (read_number_to(3, line), read_number(wheel), literal) {
+    match (read_heading_line(line), read_number(wheel), literal) {
         (Some(line), Some(wheel), Some(literal)) => {
-            Ok(Some(Statement::Head(line, wheel, literal)))
+            Ok(Some(Statement::Head {
+                line,
+                wheel,
+                literal,
+            }))
         }
         _ => Ok(None),
     }
 }
 
 /// `DETAIL w literal`, or `DETAIL w name` with or without an option.
-#[tactic(auto, unfolding(crate::specs::Reading::detail_of))]
+#[tactic(auto, unfolding(crate::specs::HelperForms::detail_of))]
 fn read_detail(alloc: Global, operands: &[&[u8]]) -> Result<Option<Statement>, AllocError>
     ensures { IfOk result (λ statement. statement ≡ detail_of (texts operands.now)) }
 {
@@ -155,35 +166,39 @@ fn read_detail(alloc: Global, operands: &[&[u8]]) -> Result<Option<Statement>, A
 }
 
 /// A literal on the line of a card.
-#[tactic(auto, unfolding(crate::specs::Reading::detail_literal_of))]
+#[tactic(auto, unfolding(crate::specs::HelperForms::detail_literal_of))]
 fn read_detail_literal(wheel: &[u8], literal: Literal, others: &[&[u8]]) -> Option<Statement>
     ensures { result ≡ detail_literal_of wheel.now literal (texts others.now) }
 {
     match others {
-        [] => Some(Statement::DetailLiteral(read_number(wheel)?, literal)),
+        [] => {
+            let wheel = read_number(wheel)?;
+            Some(Statement::DetailLiteral { wheel, literal })
+        }
         _ => None,
     }
 }
 
 /// A field on the line of a card.
-#[tactic(auto, unfolding(crate::specs::Reading::detail_field_of))]
+#[tactic(auto, unfolding(crate::specs::HelperForms::detail_field_of))]
 fn read_detail_field(wheel: &[u8], name: &[u8], others: &[&[u8]]) -> Option<Statement>
     ensures { result ≡ detail_field_of wheel.now name.now (texts others.now) }
 {
     let wheel = read_number(wheel)?;
     let name = read_name(name)?;
-    Some(Statement::DetailField(wheel, name, read_option(others)?))
+    let shown = read_option(others)?;
+    Some(Statement::DetailField { wheel, name, shown })
 }
 
 /// How a field stands on the line of a card: nothing, `INDICATE l` or `MARK m`.
-#[tactic(auto, unfolding(crate::specs::Reading::option_of))]
+#[tactic(auto, unfolding(crate::specs::HelperForms::option_of))]
 fn read_option(operands: &[&[u8]]) -> Option<DetailOption>
     ensures { result ≡ option_of (texts operands.now) }
 {
     match operands {
         [] => Some(DetailOption::Plain),
         [word, level] if is(word, b"INDICATE") => {
-            Some(DetailOption::Indicated(read_number_to(3, level)?))
+            Some(DetailOption::Indicated(read_control_level(level)?))
         }
         [word, mark] if is(word, b"MARK") => Some(DetailOption::Marked(read_mark(mark)?)),
         _ => None,
@@ -191,7 +206,7 @@ fn read_option(operands: &[&[u8]]) -> Option<DetailOption>
 }
 
 /// `TOTAL l w literal`, `TOTAL l w name`, or `TOTAL l w name g` with or without a mark.
-#[tactic(auto, unfolding(crate::specs::Reading::total_of))]
+#[tactic(auto, unfolding(crate::specs::HelperForms::total_of))]
 fn read_total(alloc: Global, operands: &[&[u8]]) -> Result<Option<Statement>, AllocError>
     ensures { IfOk result (λ statement. statement ≡ total_of (texts operands.now)) }
 {
@@ -205,7 +220,7 @@ fn read_total(alloc: Global, operands: &[&[u8]]) -> Result<Option<Statement>, Al
 }
 
 /// A literal on a total line.
-#[tactic(auto, unfolding(crate::specs::Reading::total_literal_of))]
+#[tactic(auto, unfolding(crate::specs::HelperForms::total_literal_of))]
 fn read_total_literal(
     level: &[u8],
     wheel: &[u8],
@@ -216,33 +231,44 @@ fn read_total_literal(
 {
     match others {
         [] => {
-            let level = read_number_to(4, level)?;
-            Some(Statement::TotalLiteral(level, read_number(wheel)?, literal))
+            let level = read_level(level)?;
+            let wheel = read_number(wheel)?;
+            Some(Statement::TotalLiteral {
+                level,
+                wheel,
+                literal,
+            })
         }
         _ => None,
     }
 }
 
 /// A control field's text or a total on a total line.
-#[tactic(auto, unfolding(crate::specs::Reading::total_field_of))]
+#[tactic(auto, unfolding(crate::specs::HelperForms::total_field_of))]
 fn read_total_field(level: &[u8], wheel: &[u8], name: &[u8], others: &[&[u8]]) -> Option<Statement>
     ensures { result ≡ total_field_of level.now wheel.now name.now (texts others.now) }
 {
-    let level = read_number_to(4, level)?;
+    let level = read_level(level)?;
     let wheel = read_number(wheel)?;
     let name = read_name(name)?;
     match others {
-        [] => Some(Statement::TotalText(level, wheel, name)),
+        [] => Some(Statement::TotalText { level, wheel, name }),
         [digits, mark @ ..] => {
             let digits = read_number(digits)?;
             let mark = read_total_mark(mark)?;
-            Some(Statement::TotalAmount(level, wheel, name, digits, mark))
+            Some(Statement::TotalAmount {
+                level,
+                wheel,
+                name,
+                digits,
+                mark,
+            })
         }
     }
 }
 
 /// The mark of a total: nothing, or `MARK m`.
-#[tactic(auto, unfolding(crate::specs::Reading::total_mark_of))]
+#[tactic(auto, unfolding(crate::specs::HelperForms::total_mark_of))]
 fn read_total_mark(operands: &[&[u8]]) -> Option<Option<Mark>>
     ensures { result ≡ total_mark_of (texts operands.now) }
 {
@@ -254,21 +280,21 @@ fn read_total_mark(operands: &[&[u8]]) -> Option<Option<Mark>>
 }
 
 /// The kind of body line that tokens begin with, `DETAIL` or `TOTAL l`, and the tokens behind it.
-#[tactic(auto, unfolding(crate::specs::Reading::kind_of))]
+#[tactic(auto, unfolding(crate::specs::HelperForms::kind_of))]
 fn read_kind<'a, 'b>(operands: &'b [&'a [u8]]) -> Option<(BodyLine, &'b [&'a [u8]])>
     ensures { option_map (λ kind. (kind.0, texts kind.1.now)) result ≡ kind_of (texts operands.now) }
 {
     match operands {
         [word, others @ ..] if is(word, b"DETAIL") => Some((BodyLine::Detail, others)),
         [word, level, others @ ..] if is(word, b"TOTAL") => {
-            Some((BodyLine::Total(read_number_to(4, level)?), others))
+            Some((BodyLine::Total(read_level(level)?), others))
         }
         _ => None,
     }
 }
 
 /// `SPACE kind n`.
-#[tactic(auto, unfolding(crate::specs::Reading::space_of))]
+#[tactic(auto, unfolding(crate::specs::HelperForms::space_of))]
 fn read_space(operands: &[&[u8]]) -> Option<Statement>
     ensures { result ≡ space_of (texts operands.now) }
 {
@@ -277,18 +303,21 @@ fn read_space(operands: &[&[u8]]) -> Option<Statement>
 }
 
 /// The spacing of a kind of line.
-#[tactic(auto, unfolding(crate::specs::Reading::spacing_of))]
+#[tactic(auto, unfolding(crate::specs::HelperForms::spacing_of))]
 fn read_spacing(line: BodyLine, operands: &[&[u8]]) -> Option<Statement>
     ensures { result ≡ spacing_of line (texts operands.now) }
 {
     match operands {
-        [count] => Some(Statement::Space(line, read_number_to(3, count)?)),
+        [count] => {
+            let spacing = read_spacing_lines(count)?;
+            Some(Statement::Space { line, spacing })
+        }
         _ => None,
     }
 }
 
 /// `AFTER kind PAGE` or `AFTER kind SKIP c`.
-#[tactic(auto, unfolding(crate::specs::Reading::after_of))]
+#[tactic(auto, unfolding(crate::specs::HelperForms::after_of))]
 fn read_after(operands: &[&[u8]]) -> Option<Statement>
     ensures { result ≡ after_of (texts operands.now) }
 {
@@ -297,34 +326,43 @@ fn read_after(operands: &[&[u8]]) -> Option<Statement>
 }
 
 /// What follows a kind of line.
-#[tactic(auto, unfolding(crate::specs::Reading::follower_of))]
+#[tactic(auto, unfolding(crate::specs::HelperForms::follower_of))]
 fn read_follower(line: BodyLine, operands: &[&[u8]]) -> Option<Statement>
     ensures { result ≡ follower_of line (texts operands.now) }
 {
     match operands {
-        [word] if is(word, b"PAGE") => Some(Statement::After(line, After::Page)),
+        [word] if is(word, b"PAGE") => {
+            let action = After::Page;
+            Some(Statement::After { line, action })
+        }
         [word, channel] if is(word, b"SKIP") => {
-            Some(Statement::After(line, After::Skip(read_number(channel)?)))
+            let action = After::Skip(read_number(channel)?);
+            Some(Statement::After { line, action })
         }
         _ => None,
     }
 }
 
 /// `FORM P T O`.
-#[tactic(auto, unfolding(crate::specs::Reading::form_of))]
+#[tactic(auto, unfolding(crate::specs::HelperForms::form_of))]
 fn read_form(operands: &[&[u8]]) -> Option<Statement>
     ensures { result ≡ form_of (texts operands.now) }
 {
-    let [size, first, overflow] = operands else {
+    let [lines, first, overflow] = operands else {
         return None;
     };
-    let size = read_number(size)?;
+    let lines = read_number(lines)?;
     let first = read_number(first)?;
-    Some(Statement::Form(size, first, read_number(overflow)?))
+    let overflow = read_number(overflow)?;
+    Some(Statement::Form {
+        lines,
+        first,
+        overflow,
+    })
 }
 
 /// `TAPE c n1 n2 ..`.
-#[tactic(auto, unfolding(crate::specs::Reading::tape_of))]
+#[tactic(auto, unfolding(crate::specs::HelperForms::tape_of))]
 fn read_tape(alloc: Global, operands: &[&[u8]]) -> Result<Option<Statement>, AllocError>
     ensures { IfOk result (λ statement. statement ≡ tape_of (texts operands.now)) }
 {
@@ -333,13 +371,13 @@ fn read_tape(alloc: Global, operands: &[&[u8]]) -> Result<Option<Statement>, All
     };
     let stops = read_stops(alloc, stops)?;
     match (read_number(channel), stops) {
-        (Some(channel), Some(stops)) => Ok(Some(Statement::Tape(channel, stops))),
+        (Some(channel), Some(stops)) => Ok(Some(Statement::Tape { channel, stops })),
         _ => Ok(None),
     }
 }
 
 /// The 1 to 10 stops of a channel.
-#[tactic(auto, unfolding(crate::specs::Reading::stops_of))]
+#[tactic(auto, unfolding(crate::specs::HelperForms::stops_of))]
 fn read_stops(alloc: Global, tokens: &[&[u8]]) -> Result<Option<Stops>, AllocError>
     ensures { IfOk result (λ stops. stops ≡ stops_of (texts tokens.now)) }
 {

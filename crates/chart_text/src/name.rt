@@ -15,20 +15,24 @@ pub struct Name {
 
 impl Model for Name {
     ghost use Rattle.std.specs.Prelude.{List, ℕ};
+    ghost use Rattle.chart_text.specs.Name.{HasShape};
 
     ghost Value = { List ℕ };
 
     ghost view = { λ name. name.characters };
+
+    ghost invariant = { λ name. HasShape name.characters };
 
     ghost inverse = { λ characters. record { characters = characters } };
 }
 
 impl Name {
     ghost use Rattle.std.specs.Prelude.{◌≡◌};
-    ghost use Rattle.chart_text.specs.Name.{name_text};
+    ghost use Rattle.chart_text.specs.Name.{HasShape, is_same_name, name_text};
 
     /// The name of these 8 characters.
     pub(crate) fn from_characters(characters: [u8; 8]) -> Name
+        requires { HasShape characters }
         ensures { result ≡ characters }
     {
         Name { characters }
@@ -39,6 +43,13 @@ impl Name {
         ensures { result ≡ self }
     {
         self.characters
+    }
+
+    /// Whether it is another name.
+    pub fn is(self, other: Name) -> bool
+        ensures { result ≡ is_same_name self other }
+    {
+        self == other
     }
 
     /// Its letters and digits, without the blanks that fill it.

@@ -1,12 +1,12 @@
 //! Reading a chart.
 
-ghost use Rattle.std.specs.Prelude.{◌≡◌, ◌+◌, ◌<◌, ◌≤◌, ℕ, length, IfOk, IfErr, IfSome, OnOk, None, unwrap_or, ◌⊎◌};
+ghost use Rattle.std.specs.Prelude.{◌≡◌, ◌≢◌, ◌+◌, ◌<◌, ◌≤◌, ℕ, length, IfOk, IfErr, IfSome, OnOk, None, unwrap_or, ◌⊎◌};
 ghost use Rattle.card_code.specs.Lines.{lines_of};
 ghost use Rattle.tokens.specs.Dividing.{texts, tokens_of};
 ghost use Rattle.chart_text.specs.Chart.{Chart, NumbersRise};
 ghost use Rattle.chart_text.specs.ChartText.{Reads};
 ghost use Rattle.chart_text.specs.TextFaults.{HasFault};
-ghost use Rattle.chart_text.specs.TextReading.{content_of, tokens_content, is_first, is_large, is_long, chart_from, chart_of, chart_of_lines, Answers, TakesLine, RefusesLine};
+ghost use Rattle.chart_text.specs.HelperText.{content_of, tokens_content, is_first, is_large, is_long, chart_from, chart_of, chart_of_lines, Answers, TakesLine, RefusesLine};
 
 use crate::chart::{Line, RawChart};
 use crate::fault::TextFault;
@@ -46,7 +46,7 @@ pub(crate) enum Content {
 pub fn read_chart(alloc: Global, text: &[u8]) -> Result<RawChart, TextFault>
     // What is read is the chart of the text, and a fault is the one of the text.
     ensures read { IfOk result (λ chart. Reads text.now chart) }
-    ensures fault { IfErr result (λ fault. (fault ≡ TextFault.Memory) ⊎ HasFault text.now fault) }
+    ensures fault { IfErr result (λ fault. fault ≢ TextFault.Memory → HasFault text.now fault) }
 
     // Each chart is read, and each fault told, unless memory is refused.
     ensures only_read { (chart : Chart) → Reads text.now chart
@@ -58,7 +58,7 @@ pub fn read_chart(alloc: Global, text: &[u8]) -> Result<RawChart, TextFault>
 }
 
 /// The chart of a text, or the first of its text rules that is broken.
-#[tactic(auto, unfolding(crate::specs::TextReading::chart_of))]
+#[tactic(auto, unfolding(crate::specs::HelperText::chart_of))]
 fn read_text(alloc: Global, text: &[u8]) -> Result<RawChart, TextFault>
     ensures { Answers result (chart_of text.now) }
 {
@@ -104,7 +104,7 @@ fn is_first_line(alloc: Global, line: &[u8]) -> Result<bool, AllocError>
 }
 
 /// What a line is.
-#[tactic(auto, unfolding(crate::specs::TextReading::content_of))]
+#[tactic(auto, unfolding(crate::specs::HelperText::content_of))]
 fn read_line(alloc: Global, line: &[u8]) -> Result<Content, AllocError>
     ensures { IfOk result (λ content. content ≡ content_of line.now) }
 {

@@ -1,6 +1,9 @@
 //! What a line of a planning chart can say.
 
+use crate::heading::HeadingLine;
+use crate::level::{ControlLevel, Level};
 use crate::name::Name;
+use crate::spacing::Spacing;
 use std::marker::Model;
 
 /// How many characters a literal has at most.
@@ -114,8 +117,48 @@ pub enum SignRule {
 pub enum FieldKind {
     /// Characters.
     Text,
-    /// A number: how many of its digits are decimals, and its sign rule.
-    Amount(u16, Option<SignRule>),
+    /// A number.
+    Amount {
+        /// How many of its digits are decimals.
+        decimals: u16,
+        /// When it is negative, if it can be.
+        sign: Option<SignRule>,
+    },
+}
+
+impl FieldKind {
+    ghost use Rattle.std.specs.Prelude.{◌≡◌};
+    ghost use Rattle.chart_text.specs.Field.{decimals_of, is_amount, sign_column};
+
+    /// Whether the columns hold an amount.
+    pub fn is_amount(self) -> bool
+        ensures { result ≡ is_amount self }
+    {
+        matches!(self, FieldKind::Amount { .. })
+    }
+
+    /// The decimals of an amount; a text has none.
+    pub fn decimals(self) -> u16
+        ensures { result ≡ decimals_of self }
+    {
+        match self {
+            FieldKind::Text => 0,
+            FieldKind::Amount { decimals, .. } => decimals,
+        }
+    }
+
+    /// The sign column of an amount that has a sign rule.
+    pub fn sign_column(self) -> Option<u16>
+        ensures { result ≡ sign_column self }
+    {
+        match self {
+            FieldKind::Amount {
+                sign: Some(SignRule::X(column) | SignRule::NX(column)),
+                ..
+            } => Some(column),
+            _ => None,
+        }
+    }
 }
 
 /// A field of the cards: its name, its columns and what they hold.
@@ -129,6 +172,18 @@ pub struct Field {
     pub last: u16,
     /// What its columns hold.
     pub kind: FieldKind,
+}
+
+impl Field {
+    ghost use Rattle.std.specs.Prelude.{◌≡◌};
+    ghost use Rattle.chart_text.specs.Field.{columns_of};
+
+    /// How many columns it has: the digits of an amount, the characters of a text.
+    pub fn columns(self) -> u32
+        ensures { result ≡ columns_of self }
+    {
+        (u32::from(self.last) + 1).saturating_sub(u32::from(self.first))
+    }
 }
 
 /// Which lines a report prints.
@@ -154,8 +209,8 @@ pub enum Mark {
 pub enum BodyLine {
     /// The line of a card.
     Detail,
-    /// The total line of a level, 1 (minor) to 4 (final).
-    Total(u8),
+    /// The total line of a level.
+    Total(Level),
 }
 
 /// What the form does after a line.
@@ -172,8 +227,8 @@ pub enum After {
 pub enum DetailOption {
     /// On each card, without a mark.
     Plain,
-    /// On the first card of each group of a level, 1 to 3.
-    Indicated(u8),
+    /// On the first card of each group of a level.
+    Indicated(ControlLevel),
     /// With a mark where it is negative.
     Marked(Mark),
 }
@@ -183,28 +238,99 @@ pub enum DetailOption {
 pub enum Statement {
     /// `FIELD`: a field of the cards.
     Field(Field),
-    /// `CONTROL`: a level, 1 to 3, and the name of a control field of it.
-    Control(u8, Name),
+    /// `CONTROL`: a control field.
+    Control {
+        /// The level that it controls.
+        level: ControlLevel,
+        /// Its name.
+        name: Name,
+    },
     /// `PRINT`: which lines are printed.
     Print(Printing),
-    /// `HEAD`: a heading line, 1 to 3, the first wheel and the literal.
-    Head(u8, u16, Literal),
-    /// `DETAIL` with a literal: its first wheel and the literal.
-    DetailLiteral(u16, Literal),
-    /// `DETAIL` with a field: its first wheel, the field's name and how it stands there.
-    DetailField(u16, Name, DetailOption),
-    /// `TOTAL` with a literal: the level, 1 to 4, the first wheel and the literal.
-    TotalLiteral(u8, u16, Literal),
-    /// `TOTAL` with a control field's text: the level, the first wheel and the field's name.
-    TotalText(u8, u16, Name),
-    /// `TOTAL` with a total: the level, the first wheel, the amount's name, the digits and the mark.
-    TotalAmount(u8, u16, Name, u16, Option<Mark>),
-    /// `SPACE`: a kind of line and its spacing, 1 to 3.
-    Space(BodyLine, u8),
-    /// `AFTER`: a kind of line and what follows it.
-    After(BodyLine, After),
-    /// `FORM`: the lines of a form, its first line and its overflow line.
-    Form(u16, u16, u16),
-    /// `TAPE`: a channel and its stops.
-    Tape(u16, Stops),
+    /// `HEAD`: a literal on a heading line.
+    Head {
+        /// The heading line.
+        line: HeadingLine,
+        /// Its first wheel.
+        wheel: u16,
+        /// The literal.
+        literal: Literal,
+    },
+    /// `DETAIL` with a literal.
+    DetailLiteral {
+        /// Its first wheel.
+        wheel: u16,
+        /// The literal.
+        literal: Literal,
+    },
+    /// `DETAIL` with a field.
+    DetailField {
+        /// Its first wheel.
+        wheel: u16,
+        /// The field's name.
+        name: Name,
+        /// How it stands there.
+        shown: DetailOption,
+    },
+    /// `TOTAL` with a literal.
+    TotalLiteral {
+        /// The level of the total line.
+        level: Level,
+        /// Its first wheel.
+        wheel: u16,
+        /// The literal.
+        literal: Literal,
+    },
+    /// `TOTAL` with a control field's text.
+    TotalText {
+        /// The level of the total line.
+        level: Level,
+        /// Its first wheel.
+        wheel: u16,
+        /// The field's name.
+        name: Name,
+    },
+    /// `TOTAL` with a total.
+    TotalAmount {
+        /// The level of the total line.
+        level: Level,
+        /// Its first wheel.
+        wheel: u16,
+        /// The amount's name.
+        name: Name,
+        /// How many digits the total has.
+        digits: u16,
+        /// The mark that it has where it is negative.
+        mark: Option<Mark>,
+    },
+    /// `SPACE`: the spacing of a kind of line.
+    Space {
+        /// The kind of line.
+        line: BodyLine,
+        /// Its spacing.
+        spacing: Spacing,
+    },
+    /// `AFTER`: what follows a kind of line.
+    After {
+        /// The kind of line.
+        line: BodyLine,
+        /// What follows it.
+        action: After,
+    },
+    /// `FORM`: the form.
+    Form {
+        /// How many lines it has.
+        lines: u16,
+        /// Its first line.
+        first: u16,
+        /// Its overflow line.
+        overflow: u16,
+    },
+    /// `TAPE`: the stops of a channel.
+    Tape {
+        /// The channel.
+        channel: u16,
+        /// Its stops.
+        stops: Stops,
+    },
 }

@@ -8,11 +8,15 @@ use std::test::Fail;
 fn answer(alloc: Global, text: &[u8]) -> (u8, u16) {
     match read_chart(alloc, text) {
         Ok(_) => (0, 0),
-        Err(TextFault::TooLarge) => (11, 0),
-        Err(TextFault::NoFirstLine) => (12, 0),
-        Err(TextFault::NotALine { line }) => (13, line),
-        Err(TextFault::NoEnd) => (14, 0),
-        Err(TextFault::Memory) => (5, 0),
+        Err(fault) => (fault.number().unwrap_or(u8::MAX), line_named(fault)),
+    }
+}
+
+/// The line that a fault names, or 0.
+fn line_named(fault: TextFault) -> u16 {
+    match fault {
+        TextFault::NotALine { line } => line,
+        _ => 0,
     }
 }
 

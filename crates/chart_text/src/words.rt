@@ -1,17 +1,20 @@
 //! What single tokens are: names, the characters of literals, marks, words.
 
-ghost use Rattle.std.specs.Prelude.{◌≡◌, ◌+◌, ◌-◌, ◌*◌, ◌<◌, ◌≤◌, ℕ, length, IfSome, IfNone, IfOk, IsTrue, map, option_map, fold};
+ghost use Rattle.std.specs.Prelude.{◌≡◌, ◌+◌, ◌-◌, ◌*◌, ◌<◌, ◌≤◌, ℕ, length, IfSome, IfNone, IfOk, IsTrue, map, option_map, fold, ◌++◌, replicate};
 ghost use Rattle.std.specs.List.{list_all};
 ghost use Rattle.std.specs.Str.{bytes_eq};
-ghost use Rattle.chart_text.specs.Reading.{name_of, literal_of, is_literal_text, mark_of, keyword_of};
+ghost use Rattle.chart_text.specs.HelperWords.{name_of, literal_of, is_literal_text, mark_of, keyword_of, level_of, control_level_of, heading_line_of, spacing_lines_of};
 ghost use Rattle.chart_text.specs.Name.{begins_with_letter, is_letter, is_letter_or_digit};
 ghost use Rattle.chart_text.specs.Literal.{is_printable};
 
+use crate::heading::HeadingLine;
+use crate::level::{ControlLevel, Level};
 use crate::name::Name;
+use crate::spacing::Spacing;
 use crate::statement::{Literal, MAX_LITERAL, Mark};
 use card_code::Column;
 use std::alloc::{AllocError, Global};
-use tokens::is;
+use tokens::{is, read_number};
 
 /// The words that forms begin with.
 #[derive(Clone, Copy, Debug, PartialEq, Eq)]
@@ -53,16 +56,24 @@ fn are_letters_or_digits(bytes: &[u8]) -> bool
 }
 
 /// The name that a token is: a letter and up to 7 letters or digits.
-#[tactic(auto, unfolding(crate::specs::Reading::name_of))]
+#[tactic(auto, unfolding(crate::specs::HelperWords::name_of), using(crate::proofs::WordGrammar::has_shape))]
 pub(crate) fn read_name(token: &[u8]) -> Option<Name>
     ensures { result ≡ name_of token.now }
 {
     if token.len() > 8 || !begins_with_letter(token) {
         return None;
     }
+    Some(Name::from_characters(filled(token)))
+}
+
+/// A token of up to 8 characters, filled with blanks to 8.
+fn filled(token: &[u8]) -> [u8; 8]
+    requires { length token.now ≤ 8 }
+    ensures { result ≡ token.now ++ replicate (8 - length token.now) 32 }
+{
     let mut characters = [b' '; 8];
     characters[..token.len()].copy_from_slice(token);
-    Some(Name::from_characters(characters))
+    characters
 }
 
 /// Whether a byte can stand in a literal: a print character or a blank.
@@ -87,7 +98,7 @@ fn are_printable(bytes: &[u8]) -> bool
 }
 
 /// The characters of the literal that a token is.
-#[tactic(auto, unfolding(crate::specs::Reading::literal_of))]
+#[tactic(auto, unfolding(crate::specs::HelperWords::literal_of))]
 fn literal_characters(token: &[u8]) -> Option<&[u8]>
     ensures value { option_map (λ characters. characters.now) result ≡ literal_of token.now }
     ensures text { IfSome result (λ characters. IsTrue (is_literal_text characters.now)) }
@@ -119,6 +130,38 @@ pub(crate) fn read_mark(token: &[u8]) -> Option<Mark>
     } else {
         None
     }
+}
+
+/// The level that a token is.
+#[tactic(auto, unfolding(crate::specs::HelperWords::level_of))]
+pub(crate) fn read_level(token: &[u8]) -> Option<Level>
+    ensures { result ≡ level_of token.now }
+{
+    Level::with_number(read_number(token)?)
+}
+
+/// The control level that a token is.
+#[tactic(auto, unfolding(crate::specs::HelperWords::control_level_of))]
+pub(crate) fn read_control_level(token: &[u8]) -> Option<ControlLevel>
+    ensures { result ≡ control_level_of token.now }
+{
+    ControlLevel::with_number(read_number(token)?)
+}
+
+/// The heading line that a token is.
+#[tactic(auto, unfolding(crate::specs::HelperWords::heading_line_of))]
+pub(crate) fn read_heading_line(token: &[u8]) -> Option<HeadingLine>
+    ensures { result ≡ heading_line_of token.now }
+{
+    HeadingLine::with_number(read_number(token)?)
+}
+
+/// The spacing that a token is.
+#[tactic(auto, unfolding(crate::specs::HelperWords::spacing_lines_of))]
+pub(crate) fn read_spacing_lines(token: &[u8]) -> Option<Spacing>
+    ensures { result ≡ spacing_lines_of token.now }
+{
+    Spacing::with_number(read_number(token)?)
 }
 
 /// The word that a line begins with.

@@ -3,4 +3,5 @@ pub mod KindLemmas
 pub mod PlaceLemmas
 pub mod RowLemmas
 pub mod StopLemmas
+pub mod WiredLemmas
 pub mod WiringLemmas

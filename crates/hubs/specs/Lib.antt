@@ -5,5 +5,6 @@ pub mod Jacks
 pub mod Places
 pub mod Ranges
 pub mod Rows
+pub mod SetupFaults
 pub mod Tapes
 pub mod Wiring

@@ -1,5 +1,6 @@
 -- A setup of the panel: a set of wires, a set of jacks and a carriage tape.
-use Rattle.std.specs.Prelude.{◌≡◌, ℕ, ◌≤◌, List, [], All, Contains, Bool, true, false, Some, ◌⊎◌, ◌↔◌, ◌&&◌, ◌||◌, slice_index_or}
+use Rattle.std.specs.Prelude.{◌≡◌, ℕ, ◌≤◌, List, [], All, Contains, Bool, true, false, Option, Some, None, ◌⊎◌, ◌↔◌, ◌&&◌, ◌||◌, slice_index_or, nat_eq}
+use Rattle.std.specs.List.{list_any}
 use Rattle.hubs.specs.Hubs.{number_of, is_exit_hub, is_entry_hub, keeps_ring}
 use Rattle.hubs.specs.Jacks.{jack_place, is_jack_in_range, is_same_jack}
 use Rattle.hubs.specs.Tapes.{Form}
@@ -19,6 +20,20 @@ pub record HasWire (wiring : Wiring) (exit entry : Hub) : Type 0 where
   pub numbered : number_of exit ≡ Some number
   pub entry_numbered : number_of entry ≡ Some to
   pub listed : Contains (slice_index_or wiring.wires number []) to
+
+-- the numbers of the entries that are listed at an exit's number; none where there is no number
+abbrev pub row_at : Wiring → Option ℕ → List ℕ
+row_at wiring None = []
+row_at wiring (Some number) = slice_index_or wiring.wires number []
+
+-- whether a number stands in a row; what has no number stands in none
+abbrev pub is_listed : List ℕ → Option ℕ → Bool
+is_listed row None = false
+is_listed row (Some to) = list_any (nat_eq to) row
+
+-- whether a wire leads from the exit to the entry
+abbrev pub is_wired : Wiring → Hub → Hub → Bool
+is_wired wiring exit entry = is_listed (row_at wiring (number_of exit)) (number_of entry)
 
 -- whether the jack is plugged; none out of range is
 abbrev pub is_plugged : Wiring → Jack → Bool

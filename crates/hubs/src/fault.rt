@@ -1,6 +1,7 @@
 //! Why a setup or a tape is refused.
 
 ghost use Rattle.std.specs.Prelude.{◌≡◌};
+ghost use Rattle.hubs.specs.SetupFaults.{setup_fault_number};
 ghost use Rattle.hubs.specs.declared.fault.SetupFault.TheVariants.{Memory};
 
 use std::alloc::{AllocError, AllocFailed};
@@ -25,6 +26,21 @@ pub enum SetupFault {
     /// No memory was left.
     #[error("out of memory")]
     Memory,
+}
+
+impl SetupFault {
+    /// The number by which the fault is told, 51 to 54; none where no memory was left.
+    pub fn number(self) -> Option<u8>
+        ensures { result ≡ setup_fault_number self }
+    {
+        match self {
+            SetupFault::NotExit => Some(51),
+            SetupFault::NotEntry => Some(52),
+            SetupFault::CarryRing => Some(53),
+            SetupFault::TapeFault => Some(54),
+            SetupFault::Memory => None,
+        }
+    }
 }
 
 impl From<AllocError> for SetupFault {

@@ -1,8 +1,9 @@
 //! Laws of the hub table.
 
-ghost use Rattle.std.specs.Prelude.{◌≡◌, ◌≤◌, ◌<◌, ◌↔◌, ◌++◌, ℕ, true, false, Some, All, Contains};
+ghost use Rattle.std.specs.Prelude.{◌≡◌, ◌≤◌, ◌<◌, ◌↔◌, ◌++◌, ℕ, true, false, Some, All, Contains, IsTrue};
 ghost use Rattle.hubs.specs.HubTable.{row_of, is_unbroken, exit_kinds, entry_kinds, HasNumber};
 ghost use Rattle.hubs.specs.Hubs.{number_of, is_exit_hub, is_entry_hub};
+ghost use Rattle.hubs.specs.Wiring.{Wiring, HasWire, is_wired};
 ghost use Rattle.hubs.specs.declared.hub.Hub.{Hub};
 ghost use Rattle.hubs.specs.declared.letters.Letters.{Letters};
 
@@ -28,4 +29,9 @@ pub fn hubs_and_numbers_are_one_to_one()
     ensures range { (hub : Hub) (number : ℕ) → number_of hub ≡ Some number → (1 ≤ number) × (number ≤ 1936) }
     ensures exits { (hub : Hub) (number : ℕ) → number_of hub ≡ Some number → is_exit_hub hub ≡ true ↔ (number ≤ 1040) }
     ensures entries { (hub : Hub) (number : ℕ) → number_of hub ≡ Some number → is_entry_hub hub ≡ true ↔ (1041 ≤ number) }
+{}
+
+/// `is_wired` is true where a wire leads from the exit to the entry, and false elsewhere.
+pub fn is_wired_tells_the_wires()
+    ensures { (wiring : Wiring) (exit entry : Hub) → IsTrue (is_wired wiring exit entry) ↔ HasWire wiring exit entry }
 {}

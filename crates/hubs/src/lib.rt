@@ -15,7 +15,7 @@ mod tape;
 pub use fault::SetupFault;
 pub use hub::{Group, Hub};
 pub use jack::{JACKS, Jack};
-pub use laws::{hub_table_is_unbroken, hubs_and_numbers_are_one_to_one};
+pub use laws::{hub_table_is_unbroken, hubs_and_numbers_are_one_to_one, is_wired_tells_the_wires};
 pub use letters::{KINDS, Letters};
 pub use setup::Setup;
 pub use shape::{Numbers, Shape};

@@ -37,7 +37,7 @@ impl Model for Setup {
 }
 
 impl Setup {
-    ghost use Rattle.std.specs.Prelude.{◌≡◌, ◌≤◌, ◌↔◌, ℕ, true, false, not, All, Some, Contains, IsTrue};
+    ghost use Rattle.std.specs.Prelude.{◌≡◌, ◌≢◌, ◌≤◌, ◌↔◌, ℕ, true, false, not, All, Some, Contains, IsTrue};
     ghost use Rattle.std.specs.Prelude.{Ok, IsOk, IsErrOf, IfErr, IsOkUnless, OnOk, OnErr};
     ghost use Rattle.hubs.specs.Hubs.{number_of, is_exit_hub, is_entry_hub, keeps_ring};
     ghost use Rattle.hubs.specs.Jacks.{is_jack_in_range};
@@ -63,7 +63,7 @@ impl Setup {
     ///
     /// Refused with `NotExit` where the first hub is no exit in range, else with `NotEntry` where the second is no
     /// entry in range, else with `CarryRing` where one of them is a carry hub and the other not that of the same group,
-    /// else with `Memory` where no memory is left. A refusal leaves the setup as it was.
+    /// else with `Memory` where no memory is left. A refusal leaves the setup as it was, wires, jacks and tape.
     pub fn add(&mut self, exit: Hub, entry: Hub) -> Result<bool, SetupFault>
         ensures wires { OnOk result (AddsWire self.old self.new exit entry) }
         ensures was_there { (result ≡ Ok false) ↔ HasWire self.old exit entry }
@@ -77,7 +77,8 @@ impl Setup {
             ↔ ((is_exit_hub exit ≡ true) × (is_entry_hub entry ≡ true) × (keeps_ring exit entry ≡ false)) }
         ensures memory { is_exit_hub exit ≡ true → is_entry_hub entry ≡ true → keeps_ring exit entry ≡ true
             → IsOkUnless result SetupFault.Memory }
-        ensures refused { OnErr result (SameWires self.old self.new) }
+        ensures refused { IfErr result (λ fault. fault ≢ SetupFault.Memory → self.new ≡ self.old) }
+        ensures same_wires { OnErr result (SameWires self.old self.new) }
     {
         if self.has(exit, entry) {
             return Ok(false);
@@ -161,6 +162,16 @@ impl Setup {
         ensures { result ≡ is_plugged self.now jack }
     {
         jack.in_range() && self.jacks[jack.place()]
+    }
+
+    /// The setup, and what every setup is: its wires are some that the panel can have, and its form is one of a tape.
+    pub fn known(&self) -> &Setup
+        ensures value { result.now ≡ self.now }
+        ensures wires { IsLawfulWiring self.now }
+        ensures form { IsForm self.now.tape }
+    {
+        let _tape = self.tape.known();
+        self
     }
 
     /// The carriage tape.

@@ -1,5 +1,3 @@
-pub mod Following
-pub mod ImpulsedLaws
-pub mod NetWires
-pub mod Pictures
 pub mod Sets
+pub mod Rows
+pub mod KindRows

@@ -1,9 +1,80 @@
--- Lemmas on stored sets of hubs.
-use Rattle.std.proofs.Common.{◌≡◌, ℕ, false, get_or, arith}
-use Rattle.std.proofs.Math.ListN.{replicate}
-use Rattle.std.proofs.lemmas.List.{get_or-replicate, get_or_past}
-use Rattle.std.proofs.lemmas.Grind.{common_steps}
+-- Stored sets, asked by the numbers of hubs, against the places of their words.
+use Rattle.std.proofs.Common.{◌≡◌, ◌∙◌, sym, ap, ℕ, ◌+◌, ◌-◌, ◌^◌, ◌<◌, ◌≤◌, ◌&&◌, ◌||◌, Bool, true, false, List, Option, Some, None, refl, arith, replicate}
+use Rattle.std.specs.Prelude.{◌==◌, nat_le, nat_lt}
+use Rattle.std.proofs.lemmas.Bool.Decides.{nat_tests}
+use Rattle.hubs.proofs.HubLemmas.{number_of-range}
+use Rattle.hubs.specs.Hubs.{number_of}
+use Rattle.hubs.specs.declared.hub.Hub.{Hub}
+use Rattle.words.specs.Bits.{GainsPlaces, has_place, is_in_run}
+use Rattle.words.proofs.PlaceLemmas.{has_place-zeros}
+use Rattle.net.specs.HubSets.{HubSet, has_number, is_bit, is_bit_from, is_near, is_same_number}
 
--- a set of false places holds nothing
-pub get_or-replicate_false : (n h : ℕ) → get_or (replicate n false) h false ≡ false
-get_or-replicate_false n h = grind (arith, common_steps, get_or-replicate, get_or_past)
+-- the numbers of hubs are 1 to 1936
+abbrev pub IsHubNumber : Option ℕ → Type 0
+IsHubNumber given = (number : ℕ) → given ≡ Some number → (1 ≤ number) × (number ≤ 1936)
+
+-- a set of zeros has no hub
+pub has_number-zeros : (n : ℕ) (given : Option ℕ) → has_number (record { words = replicate n 0 }) given ≡ false
+has_number-zeros n (Some number) = has_place-zeros n (number - 1)
+has_number-zeros n None = refl
+
+-- The three facts on a place put in, a row put in and a row read, where the number of the first hub was found.
+
+pub put_at :
+    (old new : List ℕ) (seen : HubSet) (n : ℕ) (named given : Option ℕ) (test : Bool) → record { words = old } ≡ seen
+    → Some n ≡ named → 1 ≤ n → IsHubNumber given → GainsPlaces (λ k. test && (k == n - 1)) old new
+    → has_number (record { words = new }) given ≡ (has_number seen given || (test && is_same_number named given))
+put_at old new seen n named given test same is from ranged gains =
+    by given ranged
+    ∙ ap (λ (set : HubSet). has_number set given || (test && is_same_number (Some n) given)) same
+    ∙ ap (λ number. has_number seen given || (test && is_same_number number given)) is where
+      by : (given : Option ℕ) → IsHubNumber given
+          → has_number (record { words = new }) given
+          ≡ (has_number (record { words = old }) given || (test && is_same_number (Some n) given))
+      by (Some m) ranged =
+          let range = ranged m refl in
+          let e : (m - 1 == n - 1) ≡ (n == m) = grind (arith, nat_tests) in
+          gains (m - 1) ∙ ap (λ b. has_place old (m - 1) || (test && b)) e
+      by None ranged = grind (arith, nat_tests)
+
+pub row_gained_at :
+    (old new : List ℕ) (seen : HubSet) (n bits : ℕ) (named given : Option ℕ) → record { words = old } ≡ seen
+    → Some n ≡ named → 1 ≤ n → IsHubNumber given
+    → GainsPlaces (λ k. nat_lt k 1984 && is_in_run (n - 1) bits k) old new
+    → has_number (record { words = new }) given ≡ (has_number seen given || is_bit_from named bits given)
+row_gained_at old new seen n bits named given same is from ranged gains =
+    by given ranged
+    ∙ ap (λ (set : HubSet). has_number set given || is_bit_from (Some n) bits given) same
+    ∙ ap (λ number. has_number seen given || is_bit_from number bits given) is where
+      by : (given : Option ℕ) → IsHubNumber given
+          → has_number (record { words = new }) given
+          ≡ (has_number (record { words = old }) given || is_bit_from (Some n) bits given)
+      by (Some m) ranged =
+          let range = ranged m refl in
+          let near : nat_lt (m - 1) 1984 ≡ true = grind (arith, nat_tests) in
+          let e : nat_le (n - 1) (m - 1) ≡ nat_le n m = grind (arith, nat_tests) in
+          let f : m - 1 - (n - 1) ≡ m - n = omega arith in
+          gains (m - 1)
+          ∙ ap (λ b. has_place old (m - 1) || (b && is_in_run (n - 1) bits (m - 1))) near
+          ∙ ap (λ b. has_place old (m - 1) || (b && is_bit bits (m - 1 - (n - 1)))) e
+          ∙ ap (λ i. has_place old (m - 1) || (nat_le n m && is_bit bits i)) f
+      by None ranged = grind (arith, nat_tests)
+
+pub row_read_at :
+    (words : List ℕ) (seen : HubSet) (n bits : ℕ) (named given : Option ℕ) → record { words = words } ≡ seen
+    → Some n ≡ named → 1 ≤ n → ((k : ℕ) → is_bit bits k ≡ (nat_lt k 128 && has_place words (n - 1 + k)))
+    → is_near named given ≡ true → is_bit_from named bits given ≡ has_number seen given
+row_read_at words seen n bits named given same is from read near =
+    ap (λ number. is_bit_from number bits given) (sym is)
+    ∙ by given (ap (λ number. is_near number given) is ∙ near)
+    ∙ ap (λ (set : HubSet). has_number set given) same where
+      by : (given : Option ℕ) → is_near (Some n) given ≡ true
+          → is_bit_from (Some n) bits given ≡ has_number (record { words = words }) given
+      by (Some m) near =
+          let e : nat_le n m ≡ true = grind (arith, nat_tests, near) in
+          let f : nat_lt (m - n) 128 ≡ true = grind (arith, nat_tests, near) in
+          let le : n ≤ m = grind (arith, nat_tests, near) in
+          let g : n - 1 + (m - n) ≡ m - 1 = omega arith in
+          ap (λ b. b && is_bit bits (m - n)) e ∙ read (m - n)
+          ∙ ap (λ b. b && has_place words (n - 1 + (m - n))) f ∙ ap (has_place words) g
+      by None near = cc

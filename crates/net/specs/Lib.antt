@@ -1,5 +1,5 @@
+pub mod Cycles
+pub mod HubSets
 pub mod Impulsed
-pub mod Laws
-pub mod Nets
-pub mod Points
-pub mod Search
+pub mod Panel
+pub mod Printing

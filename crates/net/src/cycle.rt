@@ -1,13 +1,30 @@
 //! The cycles of the machine and the points of a cycle.
 
-/// Which of the three heading cycles.
+ghost use Rattle.net.specs.Cycles.{level_number, ordinal_number};
+
+use card_code::Row;
+
+/// A level of totals.
 #[derive(Clone, Copy, Debug, PartialEq, Eq)]
-pub enum Heading {
-    /// Head(1), which begins a page.
+pub enum Level {
+    /// Level 1.
+    Minor,
+    /// Level 2.
+    Intermediate,
+    /// Level 3.
+    Major,
+    /// Level 4, behind the last card.
+    Final,
+}
+
+/// Which of three: the program cycles of a level, or the heading cycles.
+#[derive(Clone, Copy, Debug, PartialEq, Eq)]
+pub enum Ordinal {
+    /// The first.
     First,
-    /// Head(2).
+    /// The second.
     Second,
-    /// Head(3).
+    /// The third.
     Third,
 }
 
@@ -16,10 +33,12 @@ pub enum Heading {
 pub enum Cycle {
     /// The first cycle of a run: card 1 passes the first reading station.
     RunIn,
-    /// A card passes the second reading station.
+    /// A card passes the second reading station, and the card behind it the first.
     Card,
-    /// A heading cycle.
-    Head(Heading),
+    /// A program cycle of a level. The third can print.
+    Prog(Level, Ordinal),
+    /// A heading cycle. The first begins a page.
+    Head(Ordinal),
 }
 
 /// A point of a cycle.
@@ -27,8 +46,8 @@ pub enum Cycle {
 pub enum Point {
     /// The control point, before the rows.
     C,
-    /// The point of a card row: 9 to 0, then 11 and 12.
-    Row(u8),
+    /// The point of a card row: 9 down to 0, then 11 and 12.
+    Row(Row),
     /// The closing point, behind the rows.
     K,
 }
@@ -36,17 +55,52 @@ pub enum Point {
 /// The fourteen points of a cycle in their order.
 pub const POINTS: [Point; 14] = [
     Point::C,
-    Point::Row(9),
-    Point::Row(8),
-    Point::Row(7),
-    Point::Row(6),
-    Point::Row(5),
-    Point::Row(4),
-    Point::Row(3),
-    Point::Row(2),
-    Point::Row(1),
-    Point::Row(0),
-    Point::Row(11),
-    Point::Row(12),
+    Point::Row(Row::Nine),
+    Point::Row(Row::Eight),
+    Point::Row(Row::Seven),
+    Point::Row(Row::Six),
+    Point::Row(Row::Five),
+    Point::Row(Row::Four),
+    Point::Row(Row::Three),
+    Point::Row(Row::Two),
+    Point::Row(Row::One),
+    Point::Row(Row::Zero),
+    Point::Row(Row::Eleven),
+    Point::Row(Row::Twelve),
     Point::K,
 ];
+
+impl Level {
+    ghost use Rattle.std.specs.Prelude.{◌≡◌, ◌≤◌};
+
+    /// Its number, 1 to 4.
+    pub fn number(self) -> u8
+        ensures value { result ≡ level_number self }
+        ensures from { 1 ≤ result }
+        ensures to { result ≤ 4 }
+    {
+        match self {
+            Level::Minor => 1,
+            Level::Intermediate => 2,
+            Level::Major => 3,
+            Level::Final => 4,
+        }
+    }
+}
+
+impl Ordinal {
+    ghost use Rattle.std.specs.Prelude.{◌≡◌, ◌≤◌};
+
+    /// Its number, 1 to 3.
+    pub fn number(self) -> u8
+        ensures value { result ≡ ordinal_number self }
+        ensures from { 1 ≤ result }
+        ensures to { result ≤ 3 }
+    {
+        match self {
+            Ordinal::First => 1,
+            Ordinal::Second => 2,
+            Ordinal::Third => 3,
+        }
+    }
+}

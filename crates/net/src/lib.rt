@@ -1,13 +1,12 @@
-//! What is impulsed at a point of a cycle: cycles, points, and pictures of the panel.
+//! What is impulsed at a point of a cycle: cycles, points, pictures of the panel, and the trait of its units.
 #![tactic(auto)]
 
 mod cycle;
-mod laws;
-mod net;
 mod picture;
-mod search;
+mod printing;
+mod unit;
 
-pub use cycle::{Cycle, Heading, POINTS, Point};
-pub use laws::{impulsed_hubs_are_the_least_set, wires_to_entries_lead_no_further};
-pub use net::Net;
+pub use cycle::{Cycle, Level, Ordinal, POINTS, Point};
 pub use picture::{Contacts, HUBS, Picture};
+pub use printing::Printing;
+pub use unit::Unit;

@@ -2,48 +2,70 @@
 
 use hubs::Hub;
 use std::marker::Model;
+use words::WORDS;
 
 /// How many hubs the panel has.
 pub const HUBS: usize = 1936;
 
-// A place for each hub number, 1 to 1936. No hub has the place 0.
-pub(crate) const PLACES: usize = 1937;
-
 /// A set of hubs, as the exits that emit at a point or the hubs that are impulsed then.
 #[derive(Clone, Copy, Debug, PartialEq, Eq)]
 pub struct Picture {
-    pub(crate) hubs: [bool; PLACES],
+    // The hub with the number h is bit h - 1, counted through the words.
+    pub(crate) words: [u64; WORDS],
 }
 
 impl Model for Picture {
-    ghost use Rattle.std.specs.Prelude.{List, Bool};
+    ghost use Rattle.net.specs.HubSets.{HubSet};
 
-    ghost Value = { List Bool };
+    ghost Value = { HubSet };
 
-    ghost view = { λ picture. picture.hubs };
+    ghost view = { λ picture. record { words = picture.words } };
 
-    ghost inverse = { λ hubs. record { hubs = hubs } };
+    ghost inverse = { λ hubs. record { words = hubs.words } };
 }
 
 impl Picture {
-    ghost use Rattle.std.specs.Prelude.{◌≡◌, ℕ, false};
-    ghost use Rattle.net.specs.Impulsed.{has, has_hub, is_number_of, Gains};
+    ghost use Rattle.std.specs.Prelude.{◌≡◌, ◌&&◌, true, false};
+    ghost use Rattle.hubs.specs.declared.hub.Hub.{Hub};
+    ghost use Rattle.net.specs.HubSets.{has_hub, is_hub, is_in_row, is_in_reach, GainsHubs};
 
     /// The empty set.
     pub fn new() -> Self
-        ensures { (h : ℕ) → has result h ≡ false }
+        ensures { (hub : Hub) → has_hub result hub ≡ false }
     {
-        Picture {
-            hubs: [false; PLACES],
-        }
+        Picture { words: [0; WORDS] }
+    }
+
+    /// Its words: the hub with the number h, 1 to 1936, is bit (h - 1) % 64 of word (h - 1) / 64.
+    pub fn words(&self) -> &[u64; WORDS]
+        ensures { result.now ≡ self.now.words }
+    {
+        &self.words
     }
 
     /// Adds a hub. A hub out of range changes nothing.
     pub fn insert(&mut self, hub: Hub)
-        ensures { Gains (is_number_of hub) self.old self.new }
+        ensures { GainsHubs (is_hub hub) self.old self.new }
+    {
+        self.insert_where(hub, true);
+    }
+
+    /// Adds a hub where the test is true. A hub out of range changes nothing.
+    pub fn insert_where(&mut self, hub: Hub, test: bool)
+        ensures { GainsHubs (λ other. test && is_hub hub other) self.old self.new }
     {
         if let Some(number) = hub.number() {
-            self.hubs[number as usize] = true;
+            words::put_where(&mut self.words, number as usize - 1, test);
+        }
+    }
+
+    /// Adds a row of up to 128 hubs that follow one another: bit k stands for the hub whose number is the first one's and k.
+    /// Bits behind the last hub change nothing, and neither does a row from a hub out of range.
+    pub fn insert_row(&mut self, first: Hub, bits: u128)
+        ensures { GainsHubs (is_in_row first bits) self.old self.new }
+    {
+        if let Some(number) = first.number() {
+            words::put_run(&mut self.words, number as usize - 1, bits);
         }
     }
 
@@ -51,8 +73,21 @@ impl Picture {
     pub fn has(&self, hub: Hub) -> bool
         ensures { result ≡ has_hub self.now hub }
     {
-        hub.number()
-            .is_some_and(|number| self.hubs[number as usize])
+        match hub.number() {
+            Some(number) => words::has(&self.words, number as usize - 1),
+            None => false,
+        }
+    }
+
+    /// Which of the 128 hubs that follow one another from the first one are in the set: bit k stands for the hub whose
+    /// number is the first one's and k. No bit is set for a first hub out of range.
+    pub fn row(&self, first: Hub) -> u128
+        ensures { (hub : Hub) → is_in_reach first hub ≡ true → is_in_row first result hub ≡ has_hub self.now hub }
+    {
+        match first.number() {
+            Some(number) => words::run(&self.words, number as usize - 1),
+            None => 0,
+        }
     }
 }
 
@@ -63,9 +98,9 @@ pub struct Contacts {
 }
 
 impl Model for Contacts {
-    ghost use Rattle.std.specs.Prelude.{List, Bool};
+    ghost use Rattle.net.specs.HubSets.{HubSet};
 
-    ghost Value = { List Bool };
+    ghost Value = { HubSet };
 
     ghost view = { λ contacts. contacts.exits };
 
@@ -73,12 +108,13 @@ impl Model for Contacts {
 }
 
 impl Contacts {
-    ghost use Rattle.std.specs.Prelude.{◌≡◌, ℕ, false};
-    ghost use Rattle.net.specs.Impulsed.{has, has_hub, is_number_of, Gains};
+    ghost use Rattle.std.specs.Prelude.{◌≡◌, ◌&&◌, false};
+    ghost use Rattle.hubs.specs.declared.hub.Hub.{Hub};
+    ghost use Rattle.net.specs.HubSets.{has_hub, is_hub, is_in_row, GainsHubs};
 
     /// No contact is closed.
     pub fn new() -> Self
-        ensures { (h : ℕ) → has result h ≡ false }
+        ensures { (hub : Hub) → has_hub result hub ≡ false }
     {
         Contacts {
             exits: Picture::new(),
@@ -88,9 +124,23 @@ impl Contacts {
     /// Closes the contact with this exit. A hub out of range changes nothing. Any other hub is held, and is passed
     /// over where no contact leads to it.
     pub fn insert(&mut self, exit: Hub)
-        ensures { Gains (is_number_of exit) self.old self.new }
+        ensures { GainsHubs (is_hub exit) self.old self.new }
     {
         self.exits.insert(exit);
+    }
+
+    /// Closes the contact with this exit where the test is true.
+    pub fn insert_where(&mut self, exit: Hub, test: bool)
+        ensures { GainsHubs (λ other. test && is_hub exit other) self.old self.new }
+    {
+        self.exits.insert_where(exit, test);
+    }
+
+    /// Closes a row of up to 128 contacts whose exits follow one another, as [`Picture::insert_row`] adds hubs.
+    pub fn insert_row(&mut self, first: Hub, bits: u128)
+        ensures { GainsHubs (is_in_row first bits) self.old self.new }
+    {
+        self.exits.insert_row(first, bits);
     }
 
     /// Whether the hub was inserted. A hub out of range never is.

@@ -50,7 +50,7 @@ IsRest in_literal line tokens = LiteralRest line tokens
 IsRest closed line tokens = ClosedRest line tokens
 
 -- what an option was before it was mapped
-mapped : {A B : Type 0} (f : A → B) (o : Option A) (y : B) → option_map f o ≡ Some y
+pub mapped : {A B : Type 0} (f : A → B) (o : Option A) (y : B) → option_map f o ≡ Some y
     → (x : A) × (o ≡ Some x) × (f x ≡ y)
 mapped f None y e = cc
 mapped f (Some x) y e = (x, refl, same_Some (f x) y e)

@@ -1,4 +1,5 @@
 pub mod Dividing
+pub mod Frame
 pub mod Number
 pub mod NumberReading
 pub mod Steps

@@ -35,7 +35,7 @@ pub fn split_line<'a>(alloc: Global, line: &'a [u8]) -> Result<Option<Vec<&'a [u
 }
 
 /// A line without the spaces that it begins with.
-fn without_spaces(line: &[u8]) -> &[u8]
+pub(crate) fn without_spaces(line: &[u8]) -> &[u8]
     ensures tokens { tokens_of result.now ≡ tokens_of line.now }
     ensures shorter { length result.now ≤ length line.now }
     ensures first { 0 < length result.now → slice_index result.now 0 ≢ 32 }
@@ -53,7 +53,7 @@ fn spaces_before(line: &[u8]) -> usize
 }
 
 /// The token that a line begins with and what stands behind it, or `None` where it begins with none.
-fn first_token(line: &[u8]) -> Option<(&[u8], &[u8])>
+pub(crate) fn first_token(line: &[u8]) -> Option<(&[u8], &[u8])>
     requires some { 0 < length line.now }
     requires no_space { slice_index line.now 0 ≢ 32 }
     ensures shorter { IfSome result (λ cut. length cut.1.now < length line.now) }

@@ -1,6 +1,6 @@
 //! Lines and tokens with the answers that the rules give them.
 
-use crate::{is, read_number, read_number_to, split_line};
+use crate::{is, is_end_line, read_number, read_number_to, split_line};
 use std::alloc::{AllocError, Global};
 use std::test::Fail;
 
@@ -55,4 +55,16 @@ fn numbers_are_read(rt: HostRuntime) {
     assert_eq!(rt; read_number_to(4, b"0"), None);
     assert!(rt; is(b"END", b"END"));
     assert!(rt; !is(b"End", b"END"));
+}
+
+#[test]
+fn only_spaces_stand_beside_end(rt: HostRuntime) {
+    for line in ["END", "  END ", "END    "] {
+        assert!(rt; is_end_line(line.as_bytes()), "{line}");
+    }
+    for line in [
+        "", "  ", "END END", "ENDS", "'END'", "END\r", "END\t", "\tEND", "END\x0C", "'END",
+    ] {
+        assert!(rt; !is_end_line(line.as_bytes()), "{line}");
+    }
 }

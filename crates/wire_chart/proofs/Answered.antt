@@ -1,5 +1,5 @@
 -- What an answer of the reader says of a text, and laws of wiring charts.
-use Rattle.std.proofs.Common.{◌≡◌, ◌⊎◌, ◌↔◌, ℕ, Bool, true, false, List, Result, Ok, Err, IfOk, IfErr, refl, ap, sym, ◌∙◌, inl, inr, subst}
+use Rattle.std.proofs.Common.{◌≡◌, ◌≢◌, ◌⊎◌, ◌↔◌, ℕ, Bool, true, false, List, Result, Ok, Err, IfOk, IfErr, refl, ap, sym, ◌∙◌, inl, inr, subst}
 use Rattle.std.specs.Prelude.{IsOkUnless}
 use Rattle.hubs.specs.Tapes.{has_stop}
 use Rattle.hubs.specs.Wiring.{Wiring, is_plugged}
@@ -41,10 +41,10 @@ read_by text (Ok wiring) told = told_reads text told.0 wiring told.1 told.2
 read_by text (Err fault) told = tt
 
 pub fault_by : (text : List ℕ) (answer : Result Wiring WiringFault) → Answers answer (text_told text)
-    → IfErr answer (λ fault. (fault ≡ Memory) ⊎ HasFault text fault)
+    → IfErr answer (λ fault. fault ≢ Memory → HasFault text fault)
 fault_by text (Ok wiring) told = tt
-fault_by text (Err fault) (inl memory) = inl memory
-fault_by text (Err fault) (inr told) = inr (fault_is text fault told)
+fault_by text (Err fault) (inl memory) = λ other. absurd (other memory)
+fault_by text (Err fault) (inr told) = λ other. fault_is text fault told
 
 pub only_read : (text : List ℕ) (answer : Result Wiring WiringFault) → Answers answer (text_told text)
     → (wiring : Wiring) → ReadsAs text wiring → IsOkUnless answer Memory

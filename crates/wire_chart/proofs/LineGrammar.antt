@@ -9,7 +9,7 @@ use Rattle.tokens.proofs.TokenGrammar.{has_what_is_read, read_what_it_has}
 use Rattle.tokens.proofs.TokenWord.{is_word}
 use Rattle.wire_chart.specs.Reading.{statement_of}
 use Rattle.wire_chart.specs.TextReading.{said_content, tokens_content, divided_content, content_of, is_first, HasSayable}
-use Rattle.wire_chart.specs.WiringFaults.{IsNoLine}
+use Rattle.tokens.specs.Frame.{IsNoLine}
 use Rattle.wire_chart.specs.WiringText.{IsEmptyLine, IsEndLine, IsFirstLine, SaysLine}
 use Rattle.wire_chart.specs.declared.line.Content.{Content}
 use Rattle.wire_chart.specs.declared.line.Content.TheVariants.{Empty, End, Says, NoLine}
@@ -21,7 +21,7 @@ abbrev pub IsContent : List ℕ → Content → Type 0
 IsContent line Empty = IsEmptyLine line
 IsContent line End = IsEndLine line
 IsContent line (Says statement) = SaysLine line statement
-IsContent line NoLine = IsNoLine line
+IsContent line NoLine = IsNoLine SaysLine line
 
 -- the tokens that a line has, against those that are read
 same_tokens : (line : List ℕ) (tokens others : List (List ℕ)) → HasTokens line others → tokens_of line ≡ Some tokens

@@ -5,7 +5,8 @@ use Rattle.hubs.specs.declared.fault.SetupFault.{SetupFault}
 use Rattle.wire_chart.specs.Reading.{is_said}
 use Rattle.wire_chart.specs.Statements.{statement_fault}
 use Rattle.wire_chart.specs.TextReading.{content_of, go_on, lines_from, new_said, step, start}
-use Rattle.wire_chart.specs.WiringFaults.{line_at, IsBehindEnd, IsMisplaced, SaysAt, IsRepeated, IsUnfit, IsAtFault, misplaced, repeated, unfit, AreGoodBefore, LacksEnd}
+use Rattle.tokens.specs.Frame.{line_at, IsBehindEnd, LacksEnd}
+use Rattle.wire_chart.specs.WiringFaults.{IsMisplaced, SaysAt, IsRepeated, IsUnfit, IsAtFault, misplaced, repeated, unfit, AreGoodBefore}
 use Rattle.wire_chart.specs.WiringText.{FormNumbers, IsEndLine}
 use Rattle.wire_chart.specs.declared.fault.WiringFault.{WiringFault}
 use Rattle.wire_chart.specs.declared.fault.WiringFault.TheVariants.{TooLarge, NoFirstLine, NotALine, LineTwice, Unfit, NoEnd, Memory}
@@ -19,18 +20,18 @@ use Rattle.wire_chart.proofs.SameStatement.{contains_said, none_contained}
 
 -- what an answer says of the lines of a text
 abbrev pub Outcome : List (List ℕ) → FormNumbers → Result (List Statement) WiringFault → Type 0
-Outcome all form (Ok said) = ((n : ℕ) → IsAtFault all form n → ⊥) × (LacksEnd all → ⊥)
+Outcome all form (Ok said) = ((n : ℕ) → IsAtFault all form n → ⊥) × (LacksEnd 3 all → ⊥)
 Outcome all form (Err (NotALine n)) = IsMisplaced all n × AreGoodBefore all form n
 Outcome all form (Err (LineTwice n)) = IsRepeated all n × AreGoodBefore all form n
 Outcome all form (Err (Unfit n fault)) = IsUnfit all form n fault × AreGoodBefore all form n
-Outcome all form (Err NoEnd) = ((n : ℕ) → IsAtFault all form n → ⊥) × LacksEnd all
+Outcome all form (Err NoEnd) = ((n : ℕ) → IsAtFault all form n → ⊥) × LacksEnd 3 all
 Outcome all form (Err TooLarge) = ⊥
 Outcome all form (Err NoFirstLine) = ⊥
 Outcome all form (Err Memory) = ⊥
 
 -- a line behind END that is not empty
 misplaced_behind : (all : List (List ℕ)) (form : FormNumbers) (number : ℕ) (line : List ℕ) (rest : List (List ℕ)) (content : Content)
-    → Stands all number (line ∷ rest) → AreGoodBefore all form number → IsBehindEnd all number
+    → Stands all number (line ∷ rest) → AreGoodBefore all form number → IsBehindEnd 3 all number
     → content_of (line_at all number) ≡ content → (content ≡ Empty → ⊥)
     → IsMisplaced all number × AreGoodBefore all form number
 misplaced_behind all form number line rest content stands good behind here filled = (
@@ -41,7 +42,7 @@ misplaced_behind all form number line rest content stands good behind here fille
   good,
 )
 
-behind_more : (all : List (List ℕ)) (number : ℕ) → IsBehindEnd all number → IsBehindEnd all (suc number)
+behind_more : (all : List (List ℕ)) (number : ℕ) → IsBehindEnd 3 all number → IsBehindEnd 3 all (suc number)
 behind_more all number behind = record {
   end = behind.end;
   there = behind.there;
@@ -56,9 +57,9 @@ unsaid_end : (s : Statement) → End ≡ Says s → ⊥
 unsaid_end s e = cc
 
 ended_by : (all : List (List ℕ)) (form : FormNumbers) (number : ℕ) (said : List Statement) (line : List ℕ) (rest : List (List ℕ))
-    (content : Content) → Stands all number (line ∷ rest) → AreGoodBefore all form number → IsBehindEnd all number
+    (content : Content) → Stands all number (line ∷ rest) → AreGoodBefore all form number → IsBehindEnd 3 all number
     → content_of (line_at all number) ≡ content
-    → (Stands all (suc number) rest → AreGoodBefore all form (suc number) → IsBehindEnd all (suc number)
+    → (Stands all (suc number) rest → AreGoodBefore all form (suc number) → IsBehindEnd 3 all (suc number)
     → Outcome all form (lines_from form.lines (suc number) (behind_end said) rest))
     → Outcome all form (go_on (step form.lines number (behind_end said) content)
     (λ next. lines_from form.lines (suc number) next rest))
@@ -76,7 +77,7 @@ ended_by all form number said line rest NoLine stands good behind here others =
 
 -- the outcome behind END
 ended_outcome : (all : List (List ℕ)) (form : FormNumbers) (said : List Statement) (rest : List (List ℕ)) (number : ℕ)
-    → Stands all number rest → AreGoodBefore all form number → IsBehindEnd all number
+    → Stands all number rest → AreGoodBefore all form number → IsBehindEnd 3 all number
     → Outcome all form (lines_from form.lines number (behind_end said) rest)
 unfolding lines_from
 ended_outcome all form said [] number stands good behind =
@@ -154,7 +155,7 @@ started_by all form number said line rest Empty stands good no_end below here ot
     (said_nothing_more all number Empty said here unsaid_empty below)
 started_by all form number said line rest End stands good no_end below here others =
     let is_end = is_content (line_at all number) End here in
-    let behind : IsBehindEnd all (suc number) =
+    let behind : IsBehindEnd 3 all (suc number) =
     record { end = number; there = there_at all number line rest stands; before = omega arith; is_end = is_end } in
     ended_outcome all form said rest (suc number) (next_stands all number line rest stands)
     (good_more all form number good (unsaid_good all form number End stands.from here unsaid_end

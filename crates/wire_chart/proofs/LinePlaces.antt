@@ -3,7 +3,8 @@ use Rattle.std.proofs.Common.{◌≡◌, ◌⊎◌, ℕ, ◌+◌, ◌<◌, ◌�
 use Rattle.std.proofs.lemmas.Bool.{cases_order}
 use Rattle.hubs.specs.declared.fault.SetupFault.{SetupFault}
 use Rattle.wire_chart.specs.TextReading.{content_of}
-use Rattle.wire_chart.specs.WiringFaults.{line_at, IsBehindForm, IsBehindEnd, IsNoLine, IsMisplaced, SaysAt, IsRepeated, IsUnfitLine, IsAtFault, misplaced, repeated, unfit, AreGoodBefore}
+use Rattle.tokens.specs.Frame.{line_at, IsBehindEnd, IsNoLine}
+use Rattle.wire_chart.specs.WiringFaults.{IsBehindForm, IsMisplaced, SaysAt, IsRepeated, IsUnfitLine, IsAtFault, misplaced, repeated, unfit, AreGoodBefore}
 use Rattle.wire_chart.specs.WiringText.{FormNumbers, IsEmptyLine, IsEndLine, SaysLine}
 use Rattle.wire_chart.specs.declared.line.Content.{Content}
 use Rattle.wire_chart.specs.declared.line.Content.TheVariants.{Empty, Says}
@@ -103,16 +104,16 @@ unsaid_good all form number content from here unsaid placed =
 pub empty_placed : (all : List (List ℕ)) (number : ℕ) → content_of (line_at all number) ≡ Empty → IsMisplaced all number → ⊥
 empty_placed all number here is = by_cause is.cause
   where
-    by_cause : IsNoLine (line_at all number) ⊎ (IsBehindEnd all number × (IsEmptyLine (line_at all number) → ⊥)) → ⊥
+    by_cause : IsNoLine SaysLine (line_at all number) ⊎ (IsBehindEnd 3 all number × (IsEmptyLine (line_at all number) → ⊥)) → ⊥
     by_cause (inl none) = none.not_empty (is_content (line_at all number) Empty here)
     by_cause (inr behind) = behind.1 (is_content (line_at all number) Empty here)
 
 -- a line before END is misplaced only where it says nothing
-pub before_end_placed : (all : List (List ℕ)) (number : ℕ) → NoEndBelow all number → (IsNoLine (line_at all number) → ⊥)
+pub before_end_placed : (all : List (List ℕ)) (number : ℕ) → NoEndBelow all number → (IsNoLine SaysLine (line_at all number) → ⊥)
     → IsMisplaced all number → ⊥
 before_end_placed all number no_end a_line is = by_cause is.cause
   where
-    by_cause : IsNoLine (line_at all number) ⊎ (IsBehindEnd all number × (IsEmptyLine (line_at all number) → ⊥)) → ⊥
+    by_cause : IsNoLine SaysLine (line_at all number) ⊎ (IsBehindEnd 3 all number × (IsEmptyLine (line_at all number) → ⊥)) → ⊥
     by_cause (inl none) = a_line none
     by_cause (inr behind) = no_end behind.0.end behind.0.before behind.0.there behind.0.is_end
 

@@ -5,7 +5,8 @@ use Rattle.std.proofs.lemmas.Option.{same_Some}
 use Rattle.hubs.specs.Tapes.{IsFormed}
 use Rattle.hubs.specs.declared.fault.SetupFault.{SetupFault}
 use Rattle.wire_chart.specs.Statements.{statement_fault}
-use Rattle.wire_chart.specs.WiringFaults.{line_at, IsMisplaced, IsRepeated, IsUnfitLine, IsUnfit, IsAtFault, misplaced, repeated, unfit, AreGoodBefore, LacksEnd}
+use Rattle.tokens.specs.Frame.{line_at, LacksEnd}
+use Rattle.wire_chart.specs.WiringFaults.{IsMisplaced, IsRepeated, IsUnfitLine, IsUnfit, IsAtFault, misplaced, repeated, unfit, AreGoodBefore}
 use Rattle.wire_chart.specs.WiringText.{FormNumbers}
 use Rattle.wire_chart.specs.declared.fault.WiringFault.{WiringFault}
 use Rattle.wire_chart.specs.declared.fault.WiringFault.TheVariants.{TooLarge, NoFirstLine, NotALine, LineTwice, Unfit, NoEnd, Memory}
@@ -107,7 +108,7 @@ unfit_read lines form n fault (Err NoFirstLine) formed is good says = absurd say
 unfit_read lines form n fault (Err Memory) formed is good says = absurd says
 
 pub no_end_read : (lines : List (List ℕ)) (form : FormNumbers) (read : Result (List Statement) WiringFault)
-    → ((n : ℕ) → IsAtFault lines form n → ⊥) → LacksEnd lines → Outcome lines form read → read ≡ Err NoEnd
+    → ((n : ℕ) → IsAtFault lines form n → ⊥) → LacksEnd 3 lines → Outcome lines form read → read ≡ Err NoEnd
 no_end_read lines form (Ok said) good lacks says = absurd (says.1 lacks)
 no_end_read lines form (Err (NotALine m)) good lacks says = absurd (good m (misplaced says.0))
 no_end_read lines form (Err (LineTwice m)) good lacks says = absurd (good m (repeated says.0))

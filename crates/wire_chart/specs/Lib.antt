@@ -3,6 +3,7 @@ pub mod Laws
 pub mod Reading
 pub mod Statements
 pub mod TextReading
+pub mod WiringFaultNumbers
 pub mod WiringFaults
 pub mod WiringText
 pub mod Writing

@@ -1,20 +1,19 @@
 -- What is wrong with a text that is no wiring chart, in the order in which it is asked: its size, its first two lines, the
 -- lowest of its other lines at fault, its END. On one line it is asked whether it is a line of a wiring chart, whether it stood
 -- before, and whether the panel can have what it says.
-use Rattle.std.specs.Prelude.{◌≡◌, ℕ, ◌-◌, ◌<◌, ◌≤◌, List, [], length, slice_index_or, ◌⊎◌, Some}
+use Rattle.std.specs.Prelude.{◌≡◌, ℕ, ◌<◌, ◌≤◌, List, length, ◌⊎◌, Some}
 use Rattle.card_code.specs.Lines.{lines_of}
 use Rattle.hubs.specs.Tapes.{IsFormed}
 use Rattle.hubs.specs.declared.fault.SetupFault.{SetupFault}
 use Rattle.hubs.specs.declared.fault.SetupFault.TheVariants.{TapeFault}
+use Rattle.tokens.specs.Frame as frame
+pub use Rattle.tokens.specs.Frame.{line_at}
+use Rattle.tokens.specs.Frame.{IsLineFrom, LacksEnd}
 use Rattle.wire_chart.specs.Statements.{statement_fault}
-use Rattle.wire_chart.specs.WiringText.{FormNumbers, IsEmptyLine, IsEndLine, IsFirstLine, IsFormLine, SaysLine, IsTooLarge}
+use Rattle.wire_chart.specs.WiringText.{FormNumbers, IsFirstLine, IsFormLine, SaysLine, IsTooLarge}
 use Rattle.wire_chart.specs.declared.fault.WiringFault.{WiringFault}
 use Rattle.wire_chart.specs.declared.fault.WiringFault.TheVariants.{TooLarge, NoFirstLine, NotALine, LineTwice, Unfit, NoEnd, Memory}
 use Rattle.wire_chart.specs.declared.statement.Statement.{Statement}
-
--- the line of a number, from 1
-abbrev pub line_at : List (List ℕ) → ℕ → List ℕ
-line_at lines number = slice_index_or lines (number - 1) []
 
 -- there are two lines, `WIRING407 1` and a form with these numbers
 pub record HasHead (lines : List (List ℕ)) (form : FormNumbers) : Type 0 where
@@ -23,27 +22,12 @@ pub record HasHead (lines : List (List ℕ)) (form : FormNumbers) : Type 0 where
   pub formed : IsFormLine (line_at lines 2) form
 
 -- the number is that of a line behind the form
-pub record IsBehindForm (lines : List (List ℕ)) (number : ℕ) : Type 0 where
-  pub from : 3 ≤ number
-  pub to : number ≤ length lines
-
--- a line END stands before the line of a number
-pub record IsBehindEnd (lines : List (List ℕ)) (number : ℕ) : Type 0 where
-  pub end : ℕ
-  pub there : IsBehindForm lines end
-  pub before : end < number
-  pub is_end : IsEndLine (line_at lines end)
-
--- the line is neither empty nor END, and says nothing
-pub record IsNoLine (line : List ℕ) : Type 0 where
-  pub not_empty : ¬ IsEmptyLine line
-  pub not_end : ¬ IsEndLine line
-  pub not_said : (statement : Statement) → ¬ SaysLine line statement
+abbrev pub IsBehindForm : List (List ℕ) → ℕ → Type 0
+IsBehindForm lines number = IsLineFrom 3 lines number
 
 -- the line of a number is none of a wiring chart, or stands behind END and isn't empty
-pub record IsMisplaced (lines : List (List ℕ)) (number : ℕ) : Type 0 where
-  pub there : IsBehindForm lines number
-  pub cause : IsNoLine (line_at lines number) ⊎ (IsBehindEnd lines number × (¬ IsEmptyLine (line_at lines number)))
+abbrev pub IsMisplaced : List (List ℕ) → ℕ → Type 0
+IsMisplaced lines number = frame.IsMisplaced SaysLine 3 lines number
 
 -- the line of a number says this, and stands where a line may stand
 pub record SaysAt (lines : List (List ℕ)) (number : ℕ) (statement : Statement) : Type 0 where
@@ -86,10 +70,6 @@ pub data IsAtFault (lines : List (List ℕ)) (form : FormNumbers) (number : ℕ)
 abbrev pub AreGoodBefore : List (List ℕ) → FormNumbers → ℕ → Type 0
 AreGoodBefore lines form number = (lower : ℕ) → lower < number → ¬ IsAtFault lines form lower
 
--- no line is END
-abbrev pub LacksEnd : List (List ℕ) → Type 0
-LacksEnd lines = (number : ℕ) → IsBehindForm lines number → ¬ IsEndLine (line_at lines number)
-
 -- a text that is not too large, and begins as a wiring chart with a form of these numbers
 pub record IsBegun (lines : List (List ℕ)) : Type 0 where
   pub size : ¬ IsTooLarge lines
@@ -104,7 +84,7 @@ HaveFault lines (NotALine number) = (begun : IsBegun lines) × AreGoodBefore lin
 HaveFault lines (LineTwice number) = (begun : IsBegun lines) × AreGoodBefore lines begun.form number × IsRepeated lines number
 HaveFault lines (Unfit number fault) =
     (begun : IsBegun lines) × AreGoodBefore lines begun.form number × IsUnfit lines begun.form number fault
-HaveFault lines NoEnd = (begun : IsBegun lines) × ((number : ℕ) → ¬ IsAtFault lines begun.form number) × LacksEnd lines
+HaveFault lines NoEnd = (begun : IsBegun lines) × ((number : ℕ) → ¬ IsAtFault lines begun.form number) × LacksEnd 3 lines
 HaveFault lines Memory = ⊥
 
 -- the fault of a text

@@ -1,12 +1,15 @@
 -- A wiring chart as text: line 1 names it, line 2 is the form, the lines behind are stops, jacks and wires in any order,
--- and END ends it. Empty lines may stand behind line 2. What is wrong with other texts stands in WiringFaults.
-use Rattle.std.specs.Prelude.{◌≡◌, ◌≢◌, ◌↔◌, ◌⊎◌, ℕ, ◌<◌, true, List, [], ◌∷◌, length, All, AllPairs, Any, Contains, None, codes}
+-- and END ends it. Empty lines may stand behind line 2. Which lines are empty or END is said of every text format in the crate tokens;
+-- what is wrong with other texts stands in WiringFaults.
+use Rattle.std.specs.Prelude.{◌≡◌, ◌≢◌, ◌↔◌, ℕ, true, List, [], ◌∷◌, All, AllPairs, Contains, None, codes}
 use Rattle.std.specs.List.{AllByRecursion}
 use Rattle.card_code.specs.Lines.{lines_of}
 use Rattle.hubs.specs.Tapes.{IsFormed, has_stop}
 use Rattle.hubs.specs.Wiring.{Wiring, HasWire, HasJack}
 use Rattle.hubs.specs.declared.hub.Hub.{Hub}
 use Rattle.hubs.specs.declared.jack.Jack.{Jack}
+pub use Rattle.tokens.specs.Frame.{IsEmptyLine, IsEndLine}
+use Rattle.tokens.specs.Frame.{IsLarger, IsTitleLine}
 use Rattle.tokens.specs.Number.{IsNumber}
 use Rattle.tokens.specs.Tokens.{HasTokens}
 use Rattle.wire_chart.specs.HubNames.{name_of}
@@ -15,17 +18,9 @@ pub use Rattle.wire_chart.specs.declared.statement.FormNumbers.{FormNumbers}
 use Rattle.wire_chart.specs.declared.statement.Statement.{Statement}
 use Rattle.wire_chart.specs.declared.statement.Statement.TheVariants.{Stop, Plug, Wire}
 
--- a line without a token
-abbrev pub IsEmptyLine : List ℕ → Type 0
-IsEmptyLine line = HasTokens line []
-
--- a line whose only token is END
-abbrev pub IsEndLine : List ℕ → Type 0
-IsEndLine line = HasTokens line (codes "END" ∷ [])
-
 -- a line `WIRING407 1`
 abbrev pub IsFirstLine : List ℕ → Type 0
-IsFirstLine line = HasTokens line (codes "WIRING407" ∷ codes "1" ∷ [])
+IsFirstLine line = IsTitleLine (codes "WIRING407") (codes "1") line
 
 -- a line `FORM` with three numbers
 pub record IsFormLine (line : List ℕ) (form : FormNumbers) : Type 0 where
@@ -54,7 +49,7 @@ pub data SaysLines : List (List ℕ) → List Statement → Type 0 where
 
 -- more than 1,000,000 lines, or a line of more than 60 bytes
 abbrev pub IsTooLarge : List (List ℕ) → Type 0
-IsTooLarge lines = (1000000 < length lines) ⊎ Any (λ line. 60 < length line) lines
+IsTooLarge lines = IsLarger 1000000 60 lines
 
 -- the text has these numbers of a form and says these statements
 pub record Reads (bytes : List ℕ) (form : FormNumbers) (statements : List Statement) : Type 0 where

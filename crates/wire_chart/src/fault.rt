@@ -1,6 +1,7 @@
 //! Why a wiring chart is refused.
 
 ghost use Rattle.std.specs.Prelude.{◌≡◌};
+ghost use Rattle.wire_chart.specs.WiringFaultNumbers.{wiring_fault_number, faulty_line, cause_number};
 ghost use Rattle.wire_chart.specs.declared.fault.WiringFault.TheVariants.{Memory};
 
 use hubs::SetupFault;
@@ -42,6 +43,48 @@ pub enum WiringFault {
     /// No memory was left.
     #[error("out of memory")]
     Memory,
+}
+
+impl WiringFault {
+    /// The number by which the fault is told, 71 to 76; none where no memory was left.
+    pub fn number(self) -> Option<u8>
+        ensures { result ≡ wiring_fault_number self }
+    {
+        match self {
+            WiringFault::TooLarge => Some(71),
+            WiringFault::NoFirstLine => Some(72),
+            WiringFault::NotALine { .. } => Some(73),
+            WiringFault::LineTwice { .. } => Some(74),
+            WiringFault::Unfit { .. } => Some(75),
+            WiringFault::NoEnd => Some(76),
+            WiringFault::Memory => None,
+        }
+    }
+
+    /// The number of the line at fault, from 1; none where the fault is one of the whole text.
+    pub fn line(self) -> Option<u32>
+        ensures { result ≡ faulty_line self }
+    {
+        match self {
+            WiringFault::NotALine { line }
+            | WiringFault::LineTwice { line }
+            | WiringFault::Unfit { line, .. } => Some(line),
+            WiringFault::TooLarge
+            | WiringFault::NoFirstLine
+            | WiringFault::NoEnd
+            | WiringFault::Memory => None,
+        }
+    }
+
+    /// The number of the setup's fault that is the cause, 51 to 54, where the panel can't have what a line says; none elsewhere.
+    pub fn cause_number(self) -> Option<u8>
+        ensures { result ≡ cause_number self }
+    {
+        match self {
+            WiringFault::Unfit { fault, .. } => fault.number(),
+            _ => None,
+        }
+    }
 }
 
 impl From<AllocError> for WiringFault {

@@ -1,6 +1,6 @@
 //! Reading a wiring chart.
 
-ghost use Rattle.std.specs.Prelude.{◌≡◌, ◌≤◌, ◌⊎◌, [], length, IfOk, IfErr, IfSome, IfNone, OnOk, IsOkUnless, true, false, ℕ, Err};
+ghost use Rattle.std.specs.Prelude.{◌≡◌, ◌≢◌, ◌≤◌, ◌⊎◌, [], length, IfOk, IfErr, IfSome, IfNone, OnOk, IsOkUnless, true, false, ℕ, Err};
 ghost use Rattle.card_code.specs.Lines.{lines_of};
 ghost use Rattle.hubs.specs.Tapes.{has_stop};
 ghost use Rattle.hubs.specs.Wiring.{Wiring};
@@ -33,7 +33,7 @@ const MAX_LINE_BYTES: usize = 60;
 pub fn read_setup(alloc: Global, text: &[u8]) -> Result<Setup, WiringFault>
     // What is read is the setup of the text, and a fault is the one of the text.
     ensures read { IfOk result (ReadsAs text.now) }
-    ensures fault { IfErr result (λ fault. (fault ≡ WiringFault.Memory) ⊎ HasFault text.now fault) }
+    ensures fault { IfErr result (λ fault. fault ≢ WiringFault.Memory → HasFault text.now fault) }
 
     // Each wiring chart is read, and each fault told, unless memory is refused.
     ensures only_read { (wiring : Wiring) → ReadsAs text.now wiring → IsOkUnless result WiringFault.Memory }

@@ -6,6 +6,7 @@ ghost use Rattle.hubs.specs.Hubs.{is_hub_in_range, number_of};
 ghost use Rattle.hubs.specs.Jacks.{is_jack_in_range};
 ghost use Rattle.hubs.specs.Tapes.{IsForm};
 ghost use Rattle.hubs.specs.Wiring.{HasJack};
+ghost use Rattle.wire_chart.specs.WiringText.{ReadsAs};
 ghost use Rattle.wire_chart.specs.WrittenText.{IsWritten, ended, form_line, stop_line, jack_line, wire_line};
 ghost use Rattle.wire_chart.specs.Writing.{GainsStops, GainsJacks, GainsWires, IsStopOf, IsStopAt, IsStopIn, IsJackAt, IsWireTo, IsWireToAny, IsWireFrom, IsWireOf};
 
@@ -15,12 +16,14 @@ use std::alloc::{AllocError, Global};
 
 /// The wiring chart of a setup: `WIRING407 1`, the form, the stops by channel and line, the jacks in the order LIST, TOTAL, HEAD, LINK,
 /// SUPPRESS and SYMBOL, each by number, the wires by the exit's hub number and then the entry's, and END; single spaces, and
-/// LF after each line.
+/// LF after each line. The text reads as a setup of the same wires, jacks and tape.
 ///
 /// Fails only where memory was refused.
 pub fn write_setup(alloc: Global, setup: &Setup) -> Result<String, AllocError>
-    ensures { IfOk result (λ text. IsWritten setup.now (string_bytes text)) }
+    ensures written { IfOk result (λ text. IsWritten setup.now (string_bytes text)) }
+    ensures reads_back { IfOk result (λ text. ReadsAs (string_bytes text) setup.now) }
 {
+    let setup = setup.known();
     let mut text = String::from_str(alloc, "WIRING407 1\n")?;
     write_form(&mut text, setup.tape())?;
     write_stops(&mut text, setup.tape())?;

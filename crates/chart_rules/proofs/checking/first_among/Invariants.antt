@@ -1,4 +1,4 @@
-use Rattle.chart_rules.specs.Rules.{AreKept}
+use Rattle.chart_rules.specs.HelperOrder.{AreKept}
 use Rattle.chart_rules.proofs.checking.first_among.Given as goal
 
 abbrev pub invariant-loop-rule : goal.invariant-loop-rule

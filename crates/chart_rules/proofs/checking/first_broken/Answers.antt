@@ -1,4 +1,4 @@
-use Rattle.chart_rules.specs.Rules.{in_order}
+use Rattle.chart_rules.specs.HelperOrder.{in_order}
 use Rattle.chart_rules.proofs.InOrder.{IfNone-lawful, IfSome-first}
 use Rattle.chart_rules.proofs.checking.first_broken.Goals as goal
 

@@ -1,5 +1,6 @@
 use Rattle.std.proofs.Common.{◌∙◌, ap}
-use Rattle.chart_rules.specs.Fields.{fields_of, is_same_name, first_place}
+use Rattle.chart_rules.specs.Fields.{fields_of, first_place}
+use Rattle.chart_text.specs.Name.{is_same_name}
 use Rattle.chart_rules.proofs.Places.{position-front, position-none}
 use Rattle.chart_rules.proofs.names.stands_among.Goals as goal
 

@@ -1,7 +1,7 @@
 -- The lines so far are no more than there may be, and the text is too large where the rest behind them is.
 use Rattle.std.proofs.Common.{◌≡◌, ◌≤◌, length}
 use Rattle.card_code.specs.Lines.{lines_of}
-use Rattle.chart_text.specs.TextReading.{is_large}
+use Rattle.chart_text.specs.HelperText.{is_large}
 use Rattle.chart_text.proofs.Size.{large_behind}
 use Rattle.chart_text.proofs.read.is_too_large.Given as goal
 

@@ -1,6 +1,6 @@
 use Rattle.std.proofs.Common.{◌≡◌, take}
 use Rattle.chart_rules.specs.Fields.{fields_of}
-use Rattle.chart_rules.specs.Index.{IsIndexOf}
+use Rattle.chart_rules.specs.HelperIndex.{IsIndexOf}
 use Rattle.chart_rules.proofs.fields.Fields.of.Given as goal
 
 abbrev pub invariant-loop-line : goal.invariant-loop-line

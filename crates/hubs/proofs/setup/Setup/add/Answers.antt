@@ -26,8 +26,8 @@ returns-then-not-keeps_ring-clause-was_there c =
 pub invariant_of-self : goal.invariant_of-self
 invariant_of-self c = IsLawfulSetup-same _ _ c.in_err-push_entry.ensures.refused c.self.invariant
 
-pub returns-in_err-push_entry-clause-refused : goal.returns-in_err-push_entry-clause-refused
-returns-in_err-push_entry-clause-refused c =
+pub returns-in_err-push_entry-clause-same_wires : goal.returns-in_err-push_entry-clause-same_wires
+returns-in_err-push_entry-clause-same_wires c =
     let refusal = err_from_is_err_and c.from_residual.result c.from_residual.ensures.1 in
     rw (refusal.1, ← c.self.view_is) (SameWires-by_number _ _ c.in_err-push_entry.ensures.refused)
 

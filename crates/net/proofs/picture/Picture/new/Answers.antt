@@ -1,5 +1,6 @@
-use Rattle.net.proofs.Sets.{get_or-replicate_false}
+use Rattle.hubs.specs.Hubs.{number_of}
+use Rattle.net.proofs.Sets.{has_number-zeros}
 use Rattle.net.proofs.picture.Picture.new.Goals as goal
 
 pub returns : goal.returns
-returns c h = get_or-replicate_false 1937 h
+returns c hub = has_number-zeros 31 (number_of hub)

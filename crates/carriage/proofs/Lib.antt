@@ -1,0 +1,2 @@
+pub mod AskedSteps
+pub mod StopSteps

@@ -1,0 +1,4 @@
+pub mod Asked
+pub mod Carriage
+pub mod InOrder
+pub mod Moves

@@ -1,0 +1,3 @@
+pub mod TakenRows
+pub mod Starts
+pub mod Steps

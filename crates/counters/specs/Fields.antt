@@ -1,0 +1,24 @@
+-- What contracts see of the fields of a counter group.
+use Rattle.std.specs.Prelude.{◌≡◌, ◌≤◌, true, All, take}
+use Rattle.hubs.specs.Places.{is_width}
+use Rattle.hubs.specs.Ranges.{is_within}
+use Rattle.counters.specs.Counters.{Counter}
+use Rattle.counters.specs.declared.group.Group.TheInside.{Inside}
+
+-- a group: the first of its eight places stand for its positions, as many as it has
+abbrev pub counter_in : Inside → Counter
+counter_in group = record {
+  name = group.name;
+  digits = take group.name.width group.digits;
+  entered = take group.name.width group.entered;
+  is_ring = group.is_ring;
+  controls = group.controls;
+  latch = group.latch;
+}
+
+-- the group is one of the panel, and what stands at its places are digits
+pub record IsLawful (group : Inside) : Type 0 where
+  pub width : is_width group.name.width ≡ true
+  pub named : is_within group.name.number 8 ≡ true
+  pub digits : All (λ digit. digit ≤ 9) group.digits
+  pub entered : All (λ digit. digit ≤ 9) group.entered

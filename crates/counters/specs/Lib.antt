@@ -1,0 +1,6 @@
+pub mod Counters
+pub mod Fields
+pub mod Laws
+pub mod Numbers
+pub mod Places
+pub mod Wheels

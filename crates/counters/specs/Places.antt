@@ -1,0 +1,36 @@
+-- The carry, place by place. A wheel gets one more step exactly where, going down from the next lower one, some wheel passed from 9
+-- to 0 and all between stand at 9. In a ring the top follows the lowest, and the way goes on as far as the wheel itself.
+use Rattle.std.specs.Prelude.{◌≡◌, ℕ, ◌+◌, ◌<◌, ◌%◌, Bool, true, List, [], ◌++◌, length, take, drop, if◌then◌else◌, slice_index, slice_index_or}
+use Rattle.counters.specs.Wheels.{passes, stands, turned_round}
+use Rattle.counters.specs.declared.wheel.Wheel.{Wheel}
+
+-- the wheel at a place, the first one at 0; one at rest where there is none
+abbrev pub wheel_at : List Wheel → ℕ → Wheel
+wheel_at wheels place = slice_index_or wheels place (record { base = 0; advance = 0 })
+
+-- the wheels below a place, the nearest first; in a ring then those from the top to the place itself
+abbrev pub wheels_below : Bool → List Wheel → ℕ → List Wheel
+wheels_below is_ring wheels place = drop (place + 1) wheels ++ (if is_ring then take (place + 1) wheels else [])
+
+-- A carry comes from below: some wheel passed, and all that are nearer stand at 9.
+pub record GetsCarry (below : List Wheel) : Type 0 where
+  pub from : ℕ
+  pub within : from < length below
+  pub passed : passes (wheel_at below from) ≡ true
+  pub between : (place : ℕ) → place < from → stands (wheel_at below place) ≡ 9
+
+-- Digits follow from wheels by the rule: one more step where a carry comes from below, and none elsewhere.
+pub record FollowsCarryRule (is_ring : Bool) (wheels : List Wheel) (digits : List ℕ) : Type 0 where
+  pub as_many : length digits ≡ length wheels
+  pub carried :
+      (place : ℕ) → place < length wheels → GetsCarry (wheels_below is_ring wheels place)
+      → slice_index digits place ≡ (stands (wheel_at wheels place) + 1) % 10
+  pub others :
+      (place : ℕ) → place < length wheels → ¬ GetsCarry (wheels_below is_ring wheels place)
+      → slice_index digits place ≡ stands (wheel_at wheels place)
+
+-- The wheels turn by the rule, in a ring or not.
+abbrev pub WheelsFollowCarryRule : Type 0
+WheelsFollowCarryRule =
+    (is_ring : Bool) (wheels : List Wheel)
+    → FollowsCarryRule is_ring wheels (turned_round is_ring wheels)

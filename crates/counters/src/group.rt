@@ -1,0 +1,154 @@
+//! A counter group.
+
+ghost use Rattle.std.specs.Prelude.{◌≡◌, ◌≤◌};
+
+use crate::controls::Controls;
+use crate::sensing::{controls_of, show, take_row, takes};
+use crate::turn::{latch_after, turn_round};
+use hubs::{Hub, Setup};
+use net::{Cycle, Picture, Point, Unit};
+use std::marker::Model;
+
+/// The most positions that a group has.
+pub(crate) const PLACES: usize = 8;
+
+/// A counter group: 3, 4, 6 or 8 positions that add, subtract and read out together.
+///
+/// The controls that are impulsed at the control point hold for the cycle. Under plus or minus each position takes the earliest
+/// of the rows 9 to 1 at which it is impulsed; under read-out it emits its digit and starts from 0. At the end of the cycle the
+/// wheels turn, and their carries follow.
+#[derive(Drop)]
+pub struct Group {
+    name: hubs::Group,
+    // By position, the top one first; the places behind the units stay as they are.
+    digits: [u8; PLACES],
+    entered: [u8; PLACES],
+    is_ring: bool,
+    controls: Controls,
+    latch: bool,
+}
+
+impl Model for Group {
+    ghost use Rattle.counters.specs.Counters.{Counter};
+
+    ghost Value = { Counter };
+
+    ghost use Rattle.counters.specs.Fields.{counter_in, IsLawful};
+
+    ghost view = { counter_in };
+
+    ghost invariant = { IsLawful };
+}
+
+impl Group {
+    ghost use Rattle.std.specs.Prelude.{◌≡◌, ◌≤◌};
+    ghost use Rattle.counters.specs.Counters.{counter_at_start};
+
+    /// The group that is a unit, 3 to 34, with all wheels at 0 and its latch reset: eight groups each of 3, 4, 6 and 8 positions, in
+    /// this order. Its wheels form a ring where the setup has the wire from its carry exit to its carry entry.
+    pub fn new(unit: u8, setup: &Setup) -> Self
+        requires from { 3 ≤ unit }
+        requires to { unit ≤ 34 }
+        ensures { result ≡ counter_at_start setup.now unit }
+    {
+        let name = group_of_unit(unit);
+        Group {
+            name,
+            digits: [0; PLACES],
+            entered: [0; PLACES],
+            is_ring: setup.has(Hub::CO(name), Hub::CI(name)),
+            controls: Controls::none(),
+            latch: false,
+        }
+    }
+
+    /// The balance latch.
+    pub fn latch(&self) -> bool
+        ensures { result ≡ self.now.latch }
+    {
+        self.latch
+    }
+}
+
+ghost use Rattle.counters.specs.Counters.{group_of_unit};
+
+// The group that is a unit.
+fn group_of_unit(unit: u8) -> hubs::Group
+    requires from { 3 ≤ unit }
+    ensures { result ≡ group_of_unit unit }
+{
+    let width = match unit {
+        0..11 => 3,
+        11..19 => 4,
+        19..27 => 6,
+        _ => 8,
+    };
+    hubs::Group {
+        width,
+        number: (unit - 3) % 8 + 1,
+    }
+}
+
+impl Unit for Group {
+    ghost use Rattle.counters.specs.Counters.{counter_emits, counter_closes, counter_sensed, counter_ended, counter_number};
+
+    ghost emits = { counter_emits };
+
+    ghost closes = { counter_closes };
+
+    ghost sensed = { counter_sensed };
+
+    ghost ended = { counter_ended };
+
+    ghost number = { counter_number };
+
+    fn emit(&self, _cycle: Cycle, point: Point, exits: &mut Picture) {
+        if let Point::Row(row) = point {
+            if self.controls.read_out {
+                show(
+                    &self.digits[..self.name.width as usize],
+                    self.name,
+                    row.number(),
+                    exits,
+                );
+            }
+        }
+    }
+
+    fn sense(&mut self, _cycle: Cycle, point: Point, picture: &Picture) {
+        match point {
+            Point::C => self.controls = controls_of(self.name, picture),
+            Point::Row(row) => {
+                let row = row.number();
+                if takes(self.controls, row) {
+                    let impulsed = picture.row(Hub::GE(self.name, 1));
+                    let width = self.name.width as usize;
+                    take_row(&mut self.entered[..width], row, impulsed);
+                }
+            }
+            Point::K => {}
+        }
+    }
+
+    fn end_cycle(&mut self, _cycle: Cycle) {
+        let width = self.name.width as usize;
+        let controls = self.controls;
+        let is_ring = self.is_ring;
+        let entered = self.entered;
+        turn_round(
+            &mut self.digits[..width],
+            &entered[..width],
+            controls,
+            is_ring,
+        );
+        self.latch = latch_after(&self.digits[..width], controls, self.latch);
+        self.entered = [0; PLACES];
+        self.controls = Controls::none();
+    }
+
+    ghost use Rattle.std.specs.Prelude.{refl};
+
+    ghost emits_steadily = { λ counter cycle at other picture hub. refl };
+
+    ghost closes_steadily = { λ counter cycle at other picture hub. refl };
+}

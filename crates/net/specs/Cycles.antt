@@ -1,0 +1,28 @@
+-- Cycles and points: the numbers of levels and of the three cycles of a kind, and the fourteen points in their order.
+use Rattle.std.specs.Prelude.{ℕ, List, [], ◌∷◌}
+use Rattle.card_code.specs.declared.row.Row.TheVariants as row
+use Rattle.net.specs.declared.cycle.Level.{Level}
+use Rattle.net.specs.declared.cycle.Level.TheVariants.{Minor, Intermediate, Major, Final}
+use Rattle.net.specs.declared.cycle.Ordinal.{Ordinal}
+use Rattle.net.specs.declared.cycle.Ordinal.TheVariants.{First, Second, Third}
+use Rattle.net.specs.declared.cycle.Point.{Point}
+use Rattle.net.specs.declared.cycle.Point.TheVariants.{C, Row, K}
+
+-- the number of a level
+abbrev pub level_number : Level → ℕ
+level_number Minor = 1
+level_number Intermediate = 2
+level_number Major = 3
+level_number Final = 4
+
+-- the number of a program cycle of a level, or of a heading cycle
+abbrev pub ordinal_number : Ordinal → ℕ
+ordinal_number First = 1
+ordinal_number Second = 2
+ordinal_number Third = 3
+
+-- the fourteen points in their order
+abbrev pub points : List Point
+points =
+    C ∷ Row row.Nine ∷ Row row.Eight ∷ Row row.Seven ∷ Row row.Six ∷ Row row.Five ∷ Row row.Four ∷ Row row.Three
+    ∷ Row row.Two ∷ Row row.One ∷ Row row.Zero ∷ Row row.Eleven ∷ Row row.Twelve ∷ K ∷ []

@@ -1,0 +1,3 @@
+pub mod CutTexts
+pub mod Parts
+pub mod Walks

@@ -1,0 +1,99 @@
+//! The bytes of pages.
+
+ghost use Rattle.std.specs.Prelude.{◌≡◌, ◌+◌, ◌++◌, ◌∷◌, [], ◌≤◌, ◌<◌, ◌^◌, IfOk, OnOk};
+ghost use Rattle.carriage.specs.InOrder.{IsInOrder};
+ghost use Rattle.page_text.specs.Pages.{Pages, without_trailing_blanks, last_page};
+ghost use Rattle.page_text.specs.Walking.{first_text, behind, behind_lines, walked_lines};
+
+use carriage::PlacedLine;
+use std::alloc::{AllocError, Global};
+
+const BLANK: u8 = b' ';
+
+const LINE_FEED: u8 = 10;
+
+const FORM_FEED: u8 = 12;
+
+/// The bytes of the pages of lines in order, on forms of `form_lines` lines: pages 1 to the last that has a line.
+///
+/// Each page has `form_lines` lines and a form feed, each line its text without the blanks at its end and LF. No lines
+/// give no bytes. One pass over the lines and the places of the pages. Fails only where no memory is left.
+pub fn page_bytes(
+    alloc: Global,
+    lines: &[PlacedLine],
+    form_lines: u32,
+) -> Result<Vec<u8>, AllocError>
+    requires few { form_lines ≤ 144 }
+    requires order { IsInOrder form_lines lines.now }
+    ensures { IfOk result (λ bytes. bytes.items ≡ Pages lines.now form_lines) }
+{
+    let mut out = Vec::new(alloc);
+    let mut left = lines;
+    for page in 0..last_page(lines) {
+        left = push_page(&mut out, left, form_lines, page + 1)?;
+    }
+    Ok(out)
+}
+
+// The last page that has a line, and 0 without lines.
+fn last_page(lines: &[PlacedLine]) -> u64
+    ensures { result ≡ last_page lines.now }
+{
+    let mut last = 0;
+    for placed in lines {
+        last = last.max(placed.page);
+    }
+    last
+}
+
+// Adds a page, and answers the lines that are left behind it.
+fn push_page<'a>(
+    out: &mut Vec<u8>,
+    lines: &'a [PlacedLine],
+    form_lines: u32,
+    page: u64,
+) -> Result<&'a [PlacedLine], AllocError>
+    requires { form_lines ≤ 144 }
+    ensures bytes { OnOk result (out.new.items ≡ out.old.items ++ (walked_lines lines.now page form_lines ++ 12 ∷ [])) }
+    ensures left { IfOk result (λ left. left.now ≡ behind_lines lines.now page form_lines) }
+{
+    let mut left = lines;
+    for line in 0..form_lines {
+        let (text, behind) = take_at(left, page, line + 1);
+        push_line(out, text)?;
+        left = behind;
+    }
+    out.push(FORM_FEED)?;
+    Ok(left)
+}
+
+// The text of the first line, where it stands at the place, and the lines that are left behind the place.
+fn take_at(lines: &[PlacedLine], page: u64, line: u32) -> (&[u8], &[PlacedLine])
+    ensures text { result.0.now ≡ first_text lines.now page line }
+    ensures left { result.1.now ≡ behind lines.now page line }
+{
+    match lines {
+        [first, others @ ..] if first.page == page && first.line == line => (&first.text, others),
+        _ => (&[], lines),
+    }
+}
+
+// Adds a line: its text without the blanks at its end, and LF.
+fn push_line(out: &mut Vec<u8>, text: &[u8]) -> Result<(), AllocError>
+    ensures { OnOk result (out.new.items ≡ out.old.items ++ (without_trailing_blanks text.now ++ 10 ∷ [])) }
+{
+    out.extend_from_slice(without_trailing_blanks(text))?;
+    out.push(LINE_FEED)?;
+    Ok(())
+}
+
+// A text without the blanks at its end.
+fn without_trailing_blanks(text: &[u8]) -> &[u8]
+    ensures { result.now ≡ without_trailing_blanks text.now }
+{
+    let mut end = text.len();
+    while end > 0 && text[end - 1] == BLANK {
+        end -= 1;
+    }
+    &text[..end]
+}

@@ -1,0 +1,45 @@
+-- Bits of words, as tests.
+use Rattle.std.proofs.Common.{◌≡◌, ◌∙◌, refl, sym, ap, ℕ, suc, zero, ◌+◌, ◌-◌, ◌*◌, ◌/◌, ◌%◌, ◌^◌, ◌<◌, ◌≤◌, ◌==◌, ◌&&◌, ◌||◌, not, ◌⊎◌, inl, inr, Bool, true, false, arith, bit_and, bit_or, w8, min, max}
+use Rattle.std.proofs.lemmas.Bool.Decides.{eqb_tells, nat_tests}
+use Rattle.std.proofs.lemmas.Nat.Bits.{bit_at-pow_other, bit_at-pow_same, bit_at-lt, bit_at-zero, bit_at_or, bit_at_and, bit_at_not}
+use Rattle.std.proofs.lemmas.Nat.{one_shl}
+use Rattle.std.specs.Int.{bit_at, bit_not, w128}
+use Rattle.net.specs.HubSets.{is_bit}
+
+-- the word 0 has no bit
+pub is_bit-zero : (k : ℕ) → is_bit 0 k ≡ false
+unfolding is_bit
+is_bit-zero k = rw (bit_at-zero k) refl
+
+-- a word joined with another
+pub is_bit-or : (one other k : ℕ) → is_bit (bit_or one other) k ≡ (is_bit one k || is_bit other k)
+unfolding is_bit
+is_bit-or one other k =
+    rw (bit_at_or one other k) (let a = bit_at-lt one k in let b = bit_at-lt other k in grind (arith, nat_tests, a, b))
+
+-- what two words have in common
+pub is_bit-and : (one other k : ℕ) → is_bit (bit_and one other) k ≡ (is_bit one k && is_bit other k)
+unfolding is_bit
+is_bit-and one other k =
+    rw (bit_at_and one other k) (let a = bit_at-lt one k in let b = bit_at-lt other k in grind (arith, nat_tests, a, b))
+
+-- the other bits of a word
+pub is_bit-not : (word k : ℕ) → word < 2 ^ 128 → k < 128 → is_bit (bit_not w128 word) k ≡ not (is_bit word k)
+unfolding is_bit
+is_bit-not word k small below =
+    rw (bit_at_not w128 word k small below) (let a = bit_at-lt word k in grind (arith, nat_tests, a))
+
+-- a word with one bit
+is_bit-single : (bit k : ℕ) → bit < 128 → is_bit (1 * 2 ^ bit % 340282366920938463463374607431768211456) k ≡ (k == bit)
+unfolding is_bit
+is_bit-single bit k below = rw (one_shl bit 128 below) (elim (eqb_tells k bit) [
+  | inl same ↦ let on = bit_at-pow_same bit in rw (same.1) (grind (arith, nat_tests, on))
+  | inr other ↦ let off = bit_at-pow_other bit k other.1 in grind (arith, nat_tests, off, other.1)
+])
+
+-- a bit joined to a word
+pub is_bit-joined : (word bit k : ℕ) → bit < 128
+    → is_bit (bit_or word (1 * 2 ^ bit % 340282366920938463463374607431768211456)) k ≡ (is_bit word k || (k == bit))
+is_bit-joined word bit k below =
+    is_bit-or word (1 * 2 ^ bit % 340282366920938463463374607431768211456) k
+    ∙ ap (λ b. is_bit word k || b) (is_bit-single bit k below)

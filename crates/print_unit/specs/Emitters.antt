@@ -1,0 +1,56 @@
+-- The emitters, unit 42. Each of the eight has an exit for every row of a card, and emits there at the row's point in the
+-- cycles of its kind: 1 to 3 in the heading cycles, 4 in card cycles, 5 to 8 in the third program cycles of the levels 1 to 4.
+-- They keep nothing, sense nothing and have no contacts.
+use Rattle.std.specs.Prelude.{ℕ, ◌+◌, Bool, false, Option, Some, None}
+use Rattle.card_code.specs.Rows.{row_number}
+use Rattle.card_code.specs.declared.row.Row.{Row as CardRow}
+use Rattle.hubs.specs.declared.hub.Hub.{Hub}
+use Rattle.hubs.specs.declared.hub.Hub.TheVariants.{EM}
+use Rattle.net.specs.Cycles.{level_number, ordinal_number}
+use Rattle.net.specs.HubSets.{is_hub}
+use Rattle.net.specs.declared.cycle.Cycle.{Cycle}
+use Rattle.net.specs.declared.cycle.Cycle.TheVariants.{RunIn, Card, Prog, Head}
+use Rattle.net.specs.declared.cycle.Ordinal.TheVariants.{First, Second, Third}
+use Rattle.net.specs.declared.cycle.Point.{Point}
+use Rattle.net.specs.declared.cycle.Point.TheVariants.{C, Row, K}
+use Rattle.print_unit.specs.declared.emitters.Emitters.{Emitters}
+
+-- at the start there is nothing to keep
+abbrev pub emitters_at_start : Emitters
+emitters_at_start = record {}
+
+-- the emitter of a cycle, if it has one
+abbrev pub emitter_of : Cycle → Option ℕ
+emitter_of RunIn = None
+emitter_of Card = Some 4
+emitter_of (Prog level First) = None
+emitter_of (Prog level Second) = None
+emitter_of (Prog level Third) = Some (4 + level_number level)
+emitter_of (Head heading) = Some (ordinal_number heading)
+
+-- at a row's point an emitter emits at its exit for that row
+abbrev pub emits_row : Option ℕ → CardRow → Hub → Bool
+emits_row None row hub = false
+emits_row (Some emitter) row hub = is_hub (EM emitter (row_number row)) hub
+
+-- they emit at the points of the rows alone
+abbrev pub emitters_emit : Emitters → Cycle → Point → Hub → Bool
+emitters_emit emitters cycle C hub = false
+emitters_emit emitters cycle (Row row) hub = emits_row (emitter_of cycle) row hub
+emitters_emit emitters cycle K hub = false
+
+-- they have no contacts
+abbrev pub emitters_close : Emitters → Cycle → Point → Hub → Bool
+emitters_close emitters cycle point hub = false
+
+-- they sense nothing
+abbrev pub emitters_sensed : Emitters → Cycle → Point → (Hub → Bool) → Emitters
+emitters_sensed emitters cycle point picture = emitters
+
+-- a cycle's end changes nothing
+abbrev pub emitters_ended : Emitters → Cycle → Emitters
+emitters_ended emitters cycle = emitters
+
+-- their number among the units
+abbrev pub emitters_number : Emitters → ℕ
+emitters_number emitters = 42

@@ -1,0 +1,4 @@
+pub mod Emitters
+pub mod Words
+pub mod Wheels
+pub mod ZeroControl

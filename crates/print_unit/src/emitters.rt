@@ -1,0 +1,75 @@
+//! The emitters, unit 42: exits that emit a row at its point in the cycles of their kind.
+
+ghost use Rattle.std.specs.Prelude.{◌≡◌};
+ghost use Rattle.print_unit.specs.Emitters.{emitter_of};
+
+use hubs::Hub;
+use net::{Cycle, Ordinal, Picture, Point, Unit};
+
+/// The eight emitters: 1 to 3 for the heading cycles, 4 for card cycles, 5 to 8 for the third program cycles of the levels
+/// 1 to 4.
+///
+/// They keep nothing and sense nothing.
+#[derive(Clone, Copy, Debug, PartialEq, Eq)]
+pub struct Emitters {}
+
+impl Emitters {
+    ghost use Rattle.std.specs.Prelude.{◌≡◌};
+    ghost use Rattle.print_unit.specs.Emitters.{emitters_at_start};
+
+    /// The emitters.
+    pub fn new() -> Self
+        ensures { result ≡ emitters_at_start }
+    {
+        Emitters {}
+    }
+}
+
+impl Unit for Emitters {
+    ghost use Rattle.std.proofs.Common.{refl};
+    ghost use Rattle.print_unit.specs.Emitters.{
+      emitters_emit,
+      emitters_close,
+      emitters_sensed,
+      emitters_ended,
+      emitters_number,
+    };
+
+    ghost emits = { emitters_emit };
+
+    ghost closes = { emitters_close };
+
+    ghost sensed = { emitters_sensed };
+
+    ghost ended = { emitters_ended };
+
+    ghost number = { emitters_number };
+
+    ghost emits_steadily = { λ unit cycle at other picture hub. refl };
+
+    ghost closes_steadily = { λ unit cycle at other picture hub. refl };
+
+    fn emit(&self, cycle: Cycle, point: Point, exits: &mut Picture) {
+        if let Point::Row(row) = point {
+            if let Some(emitter) = emitter_of(cycle) {
+                exits.insert(Hub::EM(emitter, row.number()));
+            }
+        }
+    }
+
+    fn sense(&mut self, _cycle: Cycle, _point: Point, _picture: &Picture) {}
+
+    fn end_cycle(&mut self, _cycle: Cycle) {}
+}
+
+// The emitter of a cycle, if it has one.
+fn emitter_of(cycle: Cycle) -> Option<u8>
+    ensures { result ≡ emitter_of cycle }
+{
+    match cycle {
+        Cycle::Card => Some(4),
+        Cycle::Prog(level, Ordinal::Third) => Some(4 + level.number()),
+        Cycle::Head(heading) => Some(heading.number()),
+        Cycle::RunIn | Cycle::Prog(_, Ordinal::First | Ordinal::Second) => None,
+    }
+}

@@ -1,0 +1,3 @@
+pub mod Program
+pub mod CycleOrder
+pub mod Laws

@@ -1,0 +1,3 @@
+pub mod PositionWords
+pub mod RowWords
+pub mod RowHubs

@@ -1,0 +1,113 @@
+-- The words of a card's rows as rows of hubs: by letters, the columns that a station emits.
+use Rattle.std.proofs.Common.{◌≡◌, ◌∙◌, ◌⊎◌, ℕ, suc, ◌+◌, ◌-◌, ◌<◌, ◌≤◌, arith, refl, sym, inr, Bool, true, false, ◌&&◌, List, slice_index, nat_lt, nat_le, Option, Some, None}
+use Rattle.std.specs.Prelude.{option_map, if◌then◌else◌}
+use Rattle.std.proofs.lemmas.Bool.Decides.{nat_tests}
+use Rattle.card_code.specs.Rows.{row_place}
+use Rattle.card_code.specs.declared.row.Row.{Row}
+use Rattle.hubs.specs.Ranges.{is_within}
+use Rattle.hubs.specs.HubTable.{HasNumber}
+use Rattle.hubs.specs.Hubs.{number_of, letters_of}
+use Rattle.hubs.specs.declared.hub.Hub.{Hub}
+use Rattle.hubs.specs.declared.hub.Hub.TheVariants.{FR, SR, CX, CA, CB}
+use Rattle.hubs.proofs.HubLemmas.{number_of-kind}
+use Rattle.net.specs.HubSets.{is_bit, is_in_row, is_in_reach, is_bit_from, has_hub}
+use Rattle.stations.specs.Punches.{is_punched_at, AreRowsAt}
+use Rattle.std.specs.List.{list_any}
+use Rattle.stations.specs.Comparing.{is_in_one, differences_emit}
+use Rattle.stations.specs.Stations.{first_emits, second_emits}
+use Rattle.stations.proofs.RowWords.{off_row, no_bit_past, column_bit, not_punched}
+
+-- a hub of another kind is in no row of so many hubs
+other_kind :
+    (first last bits : ℕ) (hub : Hub) (given : Option ℕ) → number_of hub ≡ given
+    → ((k : ℕ) → last ≤ k → is_bit bits k ≡ false)
+    → ((n : ℕ) → HasNumber (letters_of hub) n → (n < first) ⊎ (first + last ≤ n)) → is_bit_from (Some first) bits given ≡ false
+other_kind first last bits hub None is none apart = refl
+other_kind first last bits hub (Some n) is none apart = off_row first n last bits none (apart n (number_of-kind hub n is))
+
+-- the column of a station
+own_kind :
+    (card : Option (List ℕ)) (words : List ℕ) (row : Row) (column before : ℕ) (test : Bool) → AreRowsAt card words
+    → is_within column 80 ≡ test
+    → is_bit_from (Some (before + 1)) (slice_index words (row_place row))
+    (option_map (λ (place : ℕ). before + place) (if test then Some column else None))
+    ≡ is_punched_at card row column
+own_kind card words row column before true are within =
+    let behind : nat_le (before + 1) (before + column) ≡ true = grind (arith, nat_tests, within) in
+    let bit : before + column - (before + 1) ≡ column - 1 = grind (arith, nat_tests, within) in
+    rw (behind, bit) (column_bit card words row column are within)
+own_kind card words row column before false are within = sym (not_punched card row column within)
+
+-- the row of first reading
+pub first_row :
+    (card : Option (List ℕ)) (words : List ℕ) (row : Row) (hub : Hub) → AreRowsAt card words
+    → is_in_row (FR 1) (slice_index words (row_place row)) hub ≡ first_emits card row hub
+first_row card words row (FR column) are = own_kind card words row column 0 (is_within column 80) are refl
+first_row card words row other are =
+    other_kind 1 80 (slice_index words (row_place row)) other (number_of other) refl (no_bit_past card words row are)
+    (λ n has. inr (omega (arith, has)))
+
+-- the row of second reading
+pub second_row :
+    (card : Option (List ℕ)) (words : List ℕ) (row : Row) (hub : Hub) → AreRowsAt card words
+    → is_in_row (SR 1) (slice_index words (row_place row)) hub ≡ second_emits card row hub
+second_row card words row (SR column) are = own_kind card words row column 80 (is_within column 80) are refl
+second_row card words row other are =
+    other_kind 81 80 (slice_index words (row_place row)) other (number_of other) refl (no_bit_past card words row are)
+    (λ n has. grind (arith, has))
+
+-- the bit of a position, in a row of 30
+position_bit :
+    (before bits p : ℕ) (test : Bool) → is_within p 30 ≡ test → (there : ℕ → Bool)
+    → ((k : ℕ) → is_bit bits k ≡ (nat_lt k 30 && there k))
+    → is_bit_from (Some (before + 1)) bits (option_map (λ (place : ℕ). before + place) (if test then Some p else None))
+    ≡ (test && there (p - 1))
+position_bit before bits p true within there are =
+    let behind : nat_le (before + 1) (before + p) ≡ true = grind (arith, nat_tests, within) in
+    let bit : before + p - (before + 1) ≡ p - 1 = grind (arith, nat_tests, within) in
+    let below : nat_lt (p - 1) 30 ≡ true = grind (arith, nat_tests, within) in
+    rw (behind, bit, are (p - 1), below) refl
+position_bit before bits p false within there are = refl
+
+-- a row of 30 bits has none behind them
+none_behind : (bits : ℕ) (there : ℕ → Bool) → ((k : ℕ) → is_bit bits k ≡ (nat_lt k 30 && there k))
+    → (k : ℕ) → 30 ≤ k → is_bit bits k ≡ false
+none_behind bits there are k past = let off : nat_lt k 30 ≡ false = grind (arith, nat_tests) in are k ∙ (rw off refl)
+
+-- the row of the positions that differ
+pub difference_row :
+    (sets : List (ℕ × ℕ)) (word : ℕ) (hub : Hub)
+    → ((k : ℕ) → is_bit word k ≡ (nat_lt k 30 && list_any (is_in_one k) sets))
+    → is_in_row (CX 1) word hub ≡ differences_emit sets hub
+difference_row sets word (CX p) are =
+    position_bit 160 word p (is_within p 30) refl (λ k. list_any (is_in_one k) sets) are
+difference_row sets word other are =
+    other_kind 161 30 word other (number_of other) refl (none_behind word (λ k. list_any (is_in_one k) sets) are)
+    (λ n has. grind (arith, has))
+
+-- the bits of the entries of a position, read in one row from the first entry on
+pub first_entry :
+    (row : ℕ) (hubs : List Bool)
+    → ((hub : Hub) → is_in_reach (CA 1) hub ≡ true → is_in_row (CA 1) row hub ≡ has_hub hubs hub)
+    → (k : ℕ) → nat_lt k 30 ≡ true → is_bit row k ≡ has_hub hubs (CA (suc k))
+first_entry row hubs reads k below =
+    let within : is_within (suc k) 30 ≡ true = grind (arith, nat_tests, below) in
+    let number : number_of (CA (suc k)) ≡ Some (1040 + suc k) = rw within refl in
+    let near : is_in_reach (CA 1) (CA (suc k)) ≡ true = rw number (grind (arith, nat_tests, below)) in
+    let behind : nat_le 1041 (1040 + suc k) ≡ true = grind (arith, nat_tests) in
+    let bit : 1040 + suc k - 1041 ≡ k = omega arith in
+    let found : is_in_row (CA 1) row (CA (suc k)) ≡ is_bit row k = rw (number, behind, bit) refl in
+    sym found ∙ reads (CA (suc k)) near
+
+pub second_entry :
+    (row : ℕ) (hubs : List Bool)
+    → ((hub : Hub) → is_in_reach (CA 1) hub ≡ true → is_in_row (CA 1) row hub ≡ has_hub hubs hub)
+    → (k : ℕ) → nat_lt k 30 ≡ true → is_bit row (30 + k) ≡ has_hub hubs (CB (suc k))
+second_entry row hubs reads k below =
+    let within : is_within (suc k) 30 ≡ true = grind (arith, nat_tests, below) in
+    let number : number_of (CB (suc k)) ≡ Some (1070 + suc k) = rw within refl in
+    let near : is_in_reach (CA 1) (CB (suc k)) ≡ true = rw number (grind (arith, nat_tests, below)) in
+    let behind : nat_le 1041 (1070 + suc k) ≡ true = grind (arith, nat_tests) in
+    let bit : 1070 + suc k - 1041 ≡ 30 + k = omega arith in
+    let found : is_in_row (CA 1) row (CB (suc k)) ≡ is_bit row (30 + k) = rw (number, behind, bit) refl in
+    sym found ∙ reads (CB (suc k)) near

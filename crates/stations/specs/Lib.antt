@@ -1,0 +1,4 @@
+pub mod Punches
+pub mod Stations
+pub mod Comparing
+pub mod Words

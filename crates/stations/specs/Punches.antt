@@ -1,0 +1,23 @@
+-- The punches of a card: whether a row is punched in a column, and a card as one word for each of its rows.
+use Rattle.std.specs.Prelude.{◌≡◌, ℕ, ◌+◌, ◌-◌, ◌&&◌, Bool, false, List, length, Option, Some, None, slice_index}
+use Rattle.card_code.specs.CardCode.{has_row}
+use Rattle.card_code.specs.Rows.{row_number, row_place}
+use Rattle.card_code.specs.declared.row.Row.{Row}
+use Rattle.hubs.specs.Ranges.{is_within}
+use Rattle.net.specs.HubSets.{is_bit}
+
+-- whether the card has the row in the column, 1 to 80
+abbrev pub is_punched : List ℕ → Row → ℕ → Bool
+is_punched card row column = is_within column 80 && has_row (slice_index card (column - 1)) (row_number row)
+
+-- the same of the card at a station, where there may be none
+abbrev pub is_punched_at : Option (List ℕ) → Row → ℕ → Bool
+is_punched_at None row column = false
+is_punched_at (Some card) row column = is_punched card row column
+
+-- Twelve words, one for each row in the order of the points. A word has the bit c - 1 exactly where its row is punched in
+-- column c, and no bit without a card.
+pub record AreRowsAt (card : Option (List ℕ)) (words : List ℕ) : Type 0 where
+  pub twelve : length words ≡ 12
+  pub punched :
+      (row : Row) (bit : ℕ) → is_bit (slice_index words (row_place row)) bit ≡ is_punched_at card row (bit + 1)

@@ -1,0 +1,9 @@
+//! The reading stations and comparing: cards pass two stations, and two entries of a position are compared.
+#![tactic(auto)]
+
+mod comparing;
+mod punches;
+mod stations;
+
+pub use comparing::Comparing;
+pub use stations::Stations;

@@ -1,0 +1,3 @@
+pub mod Fields
+pub mod Storage
+pub mod Words

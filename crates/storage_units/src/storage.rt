@@ -1,0 +1,157 @@
+//! A storage unit: it holds 16 columns from cycle to cycle.
+
+ghost use Rattle.std.specs.Prelude.{◌≡◌, ◌≤◌, ◌<◌};
+ghost use Rattle.net.specs.HubSets.{has_hub, is_bit};
+ghost use Rattle.storage_units.specs.Storage.{columns_in};
+
+use card_code::Row;
+use hubs::Hub;
+use net::{Cycle, Picture, Point, Unit};
+use std::marker::Model;
+
+/// How many columns a storage unit has.
+pub const STORAGE_COLUMNS: u8 = 16;
+
+// The number of the first storage unit among the units, less one.
+const UNITS_BEFORE: u8 = 34;
+
+/// One of the four storage units.
+///
+/// What it is told at the control point holds for the cycle, of any kind. Told to read out, it emits what it held at the
+/// start of the cycle; told to read in, it holds at the end what its entries received, and is blank where nothing
+/// came. It may be told both, and emits the old then.
+#[derive(Clone, Copy, Debug, PartialEq, Eq)]
+pub struct Storage {
+    unit: u8,
+    // For each row, in the order of the points, the columns that hold it: bit c - 1 tells of column c.
+    held: [u16; 12],
+    // The same of what came in.
+    received: [u16; 12],
+    reads_in: bool,
+    reads_out: bool,
+}
+
+impl Model for Storage {
+    ghost use Rattle.std.specs.Prelude.{◌≤◌};
+    ghost use Rattle.storage_units.specs.Storage.{StorageState};
+
+    ghost Value = { StorageState };
+
+    ghost use Rattle.storage_units.specs.Fields.{state_of};
+
+    ghost view = { state_of };
+
+    ghost invariant = { λ s. (35 ≤ s.unit) × (s.unit ≤ 38) };
+
+    ghost inverse = { λ s. record { unit = s.unit; held = s.held; received = s.received; reads_in = s.reads_in; reads_out = s.reads_out } };
+}
+
+impl Storage {
+    ghost use Rattle.std.specs.Prelude.{◌≡◌, ◌≤◌, ◌+◌, slice_index};
+    ghost use Rattle.card_code.specs.Rows.{row_place};
+    ghost use Rattle.storage_units.specs.Storage.{storage_at_start, storage_place, holds};
+
+    /// The storage unit with this number among the units, 35 to 38. It holds nothing.
+    pub fn new(unit: u8) -> Self
+        requires from { 35 ≤ unit }
+        requires to { unit ≤ 38 }
+        ensures { result ≡ storage_at_start unit }
+    {
+        Storage {
+            unit,
+            held: [0; 12],
+            received: [0; 12],
+            reads_in: false,
+            reads_out: false,
+        }
+    }
+
+    /// Whether a column holds a row. No column but 1 to 16 does.
+    pub fn holds(&self, row: Row, column: u8) -> bool
+        ensures { result ≡ holds self.now row column }
+    {
+        1 <= column && column <= STORAGE_COLUMNS && has_bit(self.held_at(row), column - 1)
+    }
+
+    // The columns that hold a row.
+    fn held_at(&self, row: Row) -> u16
+        ensures { result ≡ slice_index self.now.held (row_place row) }
+    {
+        self.held[row.place()]
+    }
+
+    // Its number among the storage units, as its hubs have it.
+    fn place(&self) -> u8
+        ensures value { result ≡ storage_place self.now }
+        ensures from { 1 ≤ result }
+        ensures to { result ≤ 4 }
+        ensures unit { result + UNITS_BEFORE ≡ self.now.unit }
+    {
+        self.unit - UNITS_BEFORE
+    }
+}
+
+impl Unit for Storage {
+    ghost use Rattle.std.specs.Prelude.{refl};
+    ghost use Rattle.storage_units.specs.Storage.{storage_emits, storage_closes, storage_sensed, storage_ended, storage_number};
+
+    ghost emits = { storage_emits };
+
+    ghost closes = { storage_closes };
+
+    ghost sensed = { storage_sensed };
+
+    ghost ended = { storage_ended };
+
+    ghost number = { storage_number };
+
+    fn emit(&self, _cycle: Cycle, point: Point, exits: &mut Picture) {
+        match point {
+            Point::Row(row) if self.reads_out => {
+                exits.insert_row(Hub::SX(self.place(), 1), u128::from(self.held_at(row)));
+            }
+            _ => {}
+        }
+    }
+
+    fn sense(&mut self, _cycle: Cycle, point: Point, picture: &Picture) {
+        match point {
+            Point::C => {
+                let place = self.place();
+                self.reads_in = picture.has(Hub::SI(place));
+                self.reads_out = picture.has(Hub::SO(place));
+            }
+            Point::Row(row) if self.reads_in => {
+                self.received[row.place()] = columns_in(picture, self.place());
+            }
+            _ => {}
+        }
+    }
+
+    fn end_cycle(&mut self, _cycle: Cycle) {
+        if self.reads_in {
+            self.held = self.received;
+        }
+    }
+
+    ghost emits_steadily = { λ unit cycle at other picture hub. refl };
+
+    ghost closes_steadily = { λ unit cycle at other picture hub. refl };
+}
+
+// The columns whose entries are impulsed, bit c - 1 for column c.
+fn columns_in(picture: &Picture, unit: u8) -> u16
+    requires from { 1 ≤ unit }
+    requires to { unit ≤ 4 }
+    ensures { result ≡ columns_in (has_hub picture.now) unit }
+{
+    (picture.row(Hub::SE(unit, 1)) & 0xffff) as u16
+}
+
+// Whether a bit of a word is set.
+fn has_bit(word: u16, bit: u8) -> bool
+    requires { bit < 16 }
+    ensures { result ≡ is_bit word bit }
+{
+    word >> bit & 1 == 1
+}
