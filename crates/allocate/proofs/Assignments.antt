@@ -10,7 +10,9 @@ use Rattle.std.proofs.lemmas.Option.{get_or_from_slice_get, slice_get-get_or, sl
 use Rattle.std.proofs.lemmas.List.FromFn.{length-map-range_with_len, get_or-map-range_with_len}
 use Rattle.capacity.specs.Capacities.{Capacities, widths, groups_of, groups_at_least, HasGroup, IsAtMost, standard}
 use Rattle.capacity.specs.declared.group.CounterGroup.{CounterGroup}
-use Rattle.allocate.specs.Totals.{NeedsFit, class_of, wanted_at, IsOverCounters, HasGroupsFor}
+use Rattle.allocate.specs.Totals.{NeedsFit, class_of, wanted_at}
+use Rattle.allocate.specs.HelperCounters.{HasGroupsFor}
+use Rattle.chart_text.specs.declared.level.Level.TheVariants as level
 use Rattle.allocate.specs.Groups.{total_at, group_at, takes_before, IsAssignment}
 use Rattle.allocate.specs.declared.total.Total.{Total}
 use Rattle.allocate.proofs.Counting.{count_below, count-strict, count-injective, count_by-below}
@@ -19,11 +21,11 @@ use Rattle.allocate.proofs.GroupPlaces.{place_of, group_of, IsAt, place_of-below
 use Rattle.allocate.proofs.GroupPlaces.{class_of-le, le-class_of, class_of-mono, class_of-cases}
 
 -- the counter groups are enough, from the four widths one by one
-pub HasGroupsFor-from : (totals : List Total) (machine : Capacities) → ¬ IsOverCounters 8 totals machine
-    → ¬ IsOverCounters 6 totals machine → ¬ IsOverCounters 4 totals machine → ¬ IsOverCounters 3 totals machine
+pub HasGroupsFor-from : (totals : List Total) (machine : Capacities) → ¬ (groups_at_least machine 8 < wanted_at 8 totals)
+    → ¬ (groups_at_least machine 6 < wanted_at 6 totals) → ¬ (groups_at_least machine 4 < wanted_at 4 totals) → ¬ (groups_at_least machine 3 < wanted_at 3 totals)
     → HasGroupsFor machine totals
 HasGroupsFor-from totals machine eight six four three =
-    let P : ℕ → Type 0 = λ width. ¬ IsOverCounters width totals machine in
+    let P : ℕ → Type 0 = λ width. ¬ (groups_at_least machine width < wanted_at width totals) in
     All-cons P 8 (6 ∷ 4 ∷ 3 ∷ []) eight
     (All-cons P 6 (4 ∷ 3 ∷ []) six (All-cons P 4 (3 ∷ []) four (All-cons P 3 [] three (All-nil P))))
 
@@ -54,11 +56,11 @@ is_wide totals width place = leb width (class_of (total_at totals place).need)
 wanted_at-is : (totals : List Total) (width : ℕ) → wanted_at width totals ≡ count_below (is_wide totals width) (length totals)
 unfolding wanted_at
 wanted_at-is totals width =
-    count_by-below (λ total. leb width (class_of total.need)) totals (record { level = 0; line = 0; need = 0 })
+    count_by-below (λ total. leb width (class_of total.need)) totals (record { level = level.Minor; line = 0; need = 0 })
 
 -- an assignment has no more totals of a class than groups of that width
 pub none_where_over : (width : ℕ) (totals : List Total) (machine : Capacities) (groups : List CounterGroup)
-    → IsOverCounters width totals machine → ¬ IsAssignment totals machine groups
+    → groups_at_least machine width < wanted_at width totals → ¬ IsAssignment totals machine groups
 none_where_over width totals machine groups over assigned =
     let few : count_below (is_wide totals width) (length totals) ≤ groups_at_least machine width =
     count-injective (is_wide totals width) (λ k. place_of machine (group_at groups k)) (length totals)

@@ -6,7 +6,7 @@ use Rattle.std.proofs.lemmas.Option.{slice_get-get_or}
 use Rattle.std.specs.List.{range_with_len}
 use Rattle.std.proofs.lemmas.List.FromFn.{map-range_with_len_more, length-map-range_with_len, get_or-map-range_with_len}
 use Rattle.chart_text.specs.declared.statement.Field.{Field}
-use Rattle.chart_rules.specs.Fields.{columns_of}
+use Rattle.chart_text.specs.Field.{columns_of}
 use Rattle.allocate.specs.declared.position.Position.{Position}
 use Rattle.allocate.specs.Positions.{positions_for}
 

@@ -5,7 +5,7 @@ use Rattle.capacity.specs.declared.group.CounterGroup.{CounterGroup}
 use Rattle.allocate.specs.declared.total.Total.{Total}
 use Rattle.capacity.specs.Capacities.{Capacities}
 use Rattle.allocate.specs.Groups.{IsAssignment}
-use Rattle.allocate.specs.Enough.{are_enough, AreOwn}
+use Rattle.allocate.specs.HelperEnough.{are_enough, AreOwn}
 
 -- what are_enough tells, place by place
 pub record AreEnough (totals : List Total) (groups : List CounterGroup) : Type 0 where

@@ -1,8 +1,7 @@
 -- Where all that is wanted fits a machine, no capacity is exceeded first.
-use Rattle.std.proofs.Common.{◌≡◌, ◌≢◌, refl}
 use Rattle.std.proofs.lemmas.Option.{slice_get_within}
 use Rattle.capacity.specs.Capacities.{Capacities}
-use Rattle.allocate.specs.Exceeded.{HasFault, Fits, IsFirstOver, in_order}
+use Rattle.allocate.specs.Exceeded.{Fits, IsFirstOver, in_order}
 use Rattle.allocate.specs.Laws.{FittingChartsHaveNoFault}
 use Rattle.allocate.specs.Wanted.{Wanted}
 use Rattle.allocate.specs.declared.exceeded.Capacity.{Capacity}
@@ -14,19 +13,19 @@ unfolding Fits IsFirstOver
 none_first first wanted machine fits is =
     fits is.place first (slice_get_within in_order is.place first is.is_there) is.is_there is.over
 
--- and so there is no fault but want of memory
+-- and so there is no fault
 pub fitting_charts_have_no_fault : FittingChartsHaveNoFault
 fitting_charts_have_no_fault wanted machine (fault.Counters width count there) fits has =
-    absurd (none_first _ wanted machine fits has.first_over)
+    none_first _ wanted machine fits has.first_over
 fitting_charts_have_no_fault wanted machine (fault.Pilots count there) fits has =
-    absurd (none_first _ wanted machine fits has.first_over)
+    none_first _ wanted machine fits has.first_over
 fitting_charts_have_no_fault wanted machine (fault.Comparing count there) fits has =
-    absurd (none_first _ wanted machine fits has.first_over)
-fitting_charts_have_no_fault wanted machine (fault.StorageWidth line) fits has = absurd (none_first _ wanted machine fits has.0)
+    none_first _ wanted machine fits has.first_over
+fitting_charts_have_no_fault wanted machine (fault.StorageWidth line) fits has = none_first _ wanted machine fits has.0
 fitting_charts_have_no_fault wanted machine (fault.StorageUnits count there) fits has =
-    absurd (none_first _ wanted machine fits has.first_over)
+    none_first _ wanted machine fits has.first_over
 fitting_charts_have_no_fault wanted machine (fault.Splits count there) fits has =
-    absurd (none_first _ wanted machine fits has.first_over)
+    none_first _ wanted machine fits has.first_over
 fitting_charts_have_no_fault wanted machine (fault.Indicate level count there) fits has =
-    absurd (none_first _ wanted machine fits has.first_over)
-fitting_charts_have_no_fault wanted machine fault.Memory fits has = refl
+    none_first _ wanted machine fits has.first_over
+fitting_charts_have_no_fault wanted machine fault.Memory fits has = has

@@ -5,7 +5,7 @@ use Rattle.std.proofs.lemmas.Bool.Decides.{nat_tests, eqb_tells}
 use Rattle.capacity.specs.Capacities.{Capacities, HasGroup}
 use Rattle.capacity.specs.declared.group.CounterGroup.{CounterGroup}
 use Rattle.allocate.specs.Groups.{is_before}
-use Rattle.allocate.specs.Taking.{IsTaken, IsLowestNumber, IsWidthTaken, IsLowest, AreAllTaken}
+use Rattle.allocate.specs.HelperTaking.{IsTaken, IsLowestNumber, IsWidthTaken, IsLowest, AreAllTaken}
 use Rattle.allocate.proofs.Orders.{same_group}
 use Rattle.allocate.proofs.GroupPlaces.{width-cases}
 

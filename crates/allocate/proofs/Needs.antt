@@ -9,7 +9,8 @@ use Rattle.chart_text.specs.declared.statement.Field.{Field}
 use Rattle.chart_text.specs.declared.statement.Statement.{Statement}
 use Rattle.chart_text.specs.declared.statement.Statement.TheVariants as says
 use Rattle.chart_rules.specs.declared.rule.Rule.TheVariants as rule
-use Rattle.chart_rules.specs.Fields.{fields_of, field_named, sign_column, columns_of}
+use Rattle.chart_rules.specs.Fields.{fields_of, field_named}
+use Rattle.chart_text.specs.Field.{sign_column, columns_of}
 use Rattle.chart_rules.specs.Names.{breaks_unknown_name}
 use Rattle.chart_rules.specs.Digits.{is_out_of_digits, breaks_digits_range}
 use Rattle.chart_rules.specs.Rules.{IsLawful}

@@ -3,6 +3,7 @@ use Rattle.std.proofs.Common.{length, Option, IfNone, IfSome, refl, arith}
 use Rattle.capacity.specs.Capacities.{Capacities}
 use Rattle.allocate.specs.declared.exceeded.Capacity.{Capacity}
 use Rattle.allocate.specs.declared.exceeded.Capacity.TheVariants as of
+use Rattle.chart_text.specs.declared.level.ControlLevel.TheVariants as control
 use Rattle.allocate.specs.Wanted.{Wanted}
 use Rattle.allocate.specs.Exceeded.{IsOver, NoneIsOver, Fits, IsFirstAmong, IsFirstOver, in_order}
 
@@ -33,9 +34,9 @@ pub record NotOver (wanted : Wanted) (machine : Capacities) : Type 0 where
   pub storage_width : ¬ IsOver of.StorageWidth wanted machine
   pub storage_units : ¬ IsOver of.StorageUnits wanted machine
   pub splits : ¬ IsOver of.Splits wanted machine
-  pub minor : ¬ IsOver (of.Indicate 1) wanted machine
-  pub intermediate : ¬ IsOver (of.Indicate 2) wanted machine
-  pub major : ¬ IsOver (of.Indicate 3) wanted machine
+  pub minor : ¬ IsOver (of.Indicate control.Minor) wanted machine
+  pub intermediate : ¬ IsOver (of.Indicate control.Intermediate) wanted machine
+  pub major : ¬ IsOver (of.Indicate control.Major) wanted machine
 
 pub NotOver-fits : (wanted : Wanted) (machine : Capacities) → Fits wanted machine → NotOver wanted machine
 unfolding Fits in_order
@@ -49,7 +50,7 @@ NotOver-fits wanted machine fits = record {
   storage_width = fits 6 of.StorageWidth (omega arith) refl;
   storage_units = fits 7 of.StorageUnits (omega arith) refl;
   splits = fits 8 of.Splits (omega arith) refl;
-  minor = fits 9 (of.Indicate 1) (omega arith) refl;
-  intermediate = fits 10 (of.Indicate 2) (omega arith) refl;
-  major = fits 11 (of.Indicate 3) (omega arith) refl;
+  minor = fits 9 (of.Indicate control.Minor) (omega arith) refl;
+  intermediate = fits 10 (of.Indicate control.Intermediate) (omega arith) refl;
+  major = fits 11 (of.Indicate control.Major) (omega arith) refl;
 }

@@ -4,6 +4,7 @@ use Rattle.std.proofs.Common.{List, ◌⊎◌}
 use Rattle.std.proofs.lemmas.Bool.Decides.{nat_tests}
 use Rattle.capacity.specs.declared.group.CounterGroup.{CounterGroup}
 use Rattle.allocate.specs.Groups.{total_at, is_before, takes_before, is_lower}
+use Rattle.chart_text.specs.Levels.{level_number}
 use Rattle.allocate.specs.declared.total.Total.{Total}
 
 before-trans : (a b c : ℕ) (r s t : Bool) → (r ≡ true → s ≡ true → t ≡ true) → is_before a b r ≡ true
@@ -42,7 +43,7 @@ takes_before-trans totals i j k before after =
     let second = total_at totals j in
     let third = total_at totals k in
     before-trans_down first.need second.need third.need _ _ _
-    (before-trans first.level second.level third.level _ _ _
+    (before-trans (level_number first.level) (level_number second.level) (level_number third.level) _ _ _
     (before-trans first.line second.line third.line _ _ _ (ltb-trans i j k)))
     before after
 
@@ -53,13 +54,13 @@ takes_before-total totals i j differ =
     let one = total_at totals i in
     let other = total_at totals j in
     before-total other.need one.need _ _
-    (λ _. before-total one.level other.level _ _ (λ _. before-total one.line other.line _ _ (λ _. ltb-total i j differ)))
+    (λ _. before-total (level_number one.level) (level_number other.level) _ _ (λ _. before-total one.line other.line _ _ (λ _. ltb-total i j differ)))
 
 -- no total goes before itself
 pub takes_before-self : (totals : List Total) (i : ℕ) → takes_before totals i i ≡ false
 takes_before-self totals i =
     let one = total_at totals i in
-    before-self one.need _ (before-self one.level _ (before-self one.line _ (ltb-self i)))
+    before-self one.need _ (before-self (level_number one.level) _ (before-self one.line _ (ltb-self i)))
 
 -- a total needs no more than one that goes before it
 pub takes_before-need : (totals : List Total) (i j : ℕ) → takes_before totals i j ≡ true

@@ -3,7 +3,7 @@ use Rattle.std.proofs.Common.{◌≡◌, ℕ, ◌<◌, ◌≤◌, ◌&&◌, Bool
 use Rattle.chart_text.specs.declared.chart.Line.{Line}
 use Rattle.capacity.specs.Capacities.{Capacities, standard, IsAtMost}
 use Rattle.allocate.specs.Exceeded.{Fits}
-use Rattle.allocate.specs.Totals.{HasGroupsFor}
+use Rattle.allocate.specs.HelperCounters.{HasGroupsFor}
 use Rattle.allocate.specs.Groups.{IsAssignment}
 use Rattle.allocate.specs.Plans.{Lists, IsWithinMachine, Serves, IsFor}
 use Rattle.allocate.specs.Wanted.{Parts, Wanted, wanted_of}

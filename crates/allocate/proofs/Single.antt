@@ -4,7 +4,7 @@ use Rattle.std.proofs.lemmas.Bool.Decides.{nat_tests}
 use Rattle.std.proofs.lemmas.Option.{slice_get_within, get_or_from_slice_get}
 use Rattle.std.proofs.lemmas.List.{get_or-take, length-take-le}
 use Rattle.capacity.specs.declared.group.CounterGroup.{CounterGroup}
-use Rattle.allocate.specs.Enough.{AreSingle}
+use Rattle.allocate.specs.HelperEnough.{AreSingle}
 
 -- a group that no machine has
 abbrev pub no_group : CounterGroup

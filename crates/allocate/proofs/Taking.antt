@@ -1,6 +1,6 @@
 -- Totals that take their groups one after the other.
 use Rattle.std.proofs.Common.{◌≡◌, ◌≢◌, refl, sym, ap, ◌∙◌, ⊎_elim, ℕ, zero, suc, ◌<◌, ◌≤◌, ◌+◌, eqb, arith}
-use Rattle.std.proofs.Common.{Bool, true, false, List, [], ◌∷◌, length, set, map, ◌⊎◌, inl, inr, Option, Some, None}
+use Rattle.std.proofs.Common.{Bool, true, false, List, replicate, [], ◌∷◌, length, set, map, ◌⊎◌, inl, inr, Option, Some, None}
 use Rattle.std.proofs.Common.{MatchOption, below_more, unwrap_or, cond}
 use Rattle.std.specs.Option.{is_some}
 use Rattle.std.specs.List.{slice_get, sum_by}
@@ -12,8 +12,9 @@ use Rattle.std.proofs.lemmas.List.{get_or-set_same, get_or-set_other, length-set
 use Rattle.capacity.specs.Capacities.{Capacities, groups_at_least, HasGroup}
 use Rattle.capacity.specs.declared.group.CounterGroup.{CounterGroup}
 use Rattle.allocate.specs.Groups.{total_at, group_at, takes_before, TakesBefore, is_lower, IsByRule, IsAssignment}
-use Rattle.allocate.specs.Totals.{NeedsFit, HasGroupsFor, class_of, wanted_at}
-use Rattle.allocate.specs.Taking.{taken_at, NoneWaitsBelow, IsNext, goes_first, IsLowest, AreAllTaken}
+use Rattle.allocate.specs.Totals.{NeedsFit, class_of, wanted_at}
+use Rattle.allocate.specs.HelperCounters.{HasGroupsFor}
+use Rattle.allocate.specs.HelperTaking.{taken_at, NoneWaitsBelow, IsNext, goes_first, IsLowest, AreAllTaken}
 use Rattle.allocate.specs.declared.total.Total.{Total}
 use Rattle.allocate.proofs.Counting.{count-covers}
 use Rattle.allocate.proofs.GroupPlaces.{place_of, group_of, group_of-at, le-class_of}
@@ -95,6 +96,12 @@ is_within : (taken : List (Option CounterGroup)) (k : ℕ) (group : CounterGroup
 is_within [] k group got = cc
 is_within (slot ∷ taken) zero group got = omega arith
 is_within (slot ∷ taken) (suc k) group got = let rest : k < length taken = is_within taken k group got in omega arith
+
+-- in a list of slots of which each waits, each waits
+pub at_none : (count place : ℕ) → taken_at (replicate count None) place ≡ None
+at_none zero place = refl
+at_none (suc count) zero = refl
+at_none (suc count) (suc place) = at_none count place
 
 -- at first no total has a group
 pub partly-none : (totals : List Total) (machine : Capacities) (taken : List (Option CounterGroup))

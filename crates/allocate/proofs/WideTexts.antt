@@ -3,7 +3,7 @@ use Rattle.std.proofs.Common.{◌≡◌, ℕ, zero, suc, ◌<◌, ◌≤◌, Boo
 use Rattle.std.proofs.lemmas.Grind.{common_steps}
 use Rattle.chart_text.specs.Chart.{NumbersRise}
 use Rattle.chart_text.specs.declared.chart.Line.{Line}
-use Rattle.allocate.specs.Units.{FirstIsLowest}
+use Rattle.allocate.specs.HelperLines.{FirstIsLowest}
 use Rattle.allocate.specs.Exceeded.{IsLowestOf}
 
 -- the numbers of the lines that pass a test

@@ -4,7 +4,8 @@ use Rattle.chart_text.specs.declared.chart.Line.{Line}
 use Rattle.chart_text.specs.declared.statement.Field.{Field}
 use Rattle.chart_text.specs.declared.statement.Statement.{Statement}
 use Rattle.chart_text.specs.declared.statement.Statement.TheVariants as says
-use Rattle.chart_rules.specs.Fields.{field_named, sign_column}
+use Rattle.chart_rules.specs.Fields.{field_named}
+use Rattle.chart_text.specs.Field.{sign_column}
 use Rattle.allocate.specs.declared.total.Total.{Total}
 
 -- whether a name stands for an amount with a sign rule

@@ -1,13 +1,25 @@
 -- The capacities of a machine, in the order in which they are asked, and the first that a chart exceeds. Each is a
 -- comparison of two counts: what the chart wants, and what is there.
-use Rattle.std.specs.Prelude.{◌≡◌, ℕ, ◌<◌, ◌≤◌, List, [], ◌∷◌, Some, length, slice_get, Contains}
+use Rattle.std.specs.Prelude.{◌≡◌, ℕ, ◌<◌, ◌≤◌, List, [], ◌∷◌, Option, Some, None, length, slice_get, Contains}
 use Rattle.capacity.specs.Capacities.{Capacities, groups_at_least}
+use Rattle.chart_text.specs.declared.level.ControlLevel.TheVariants as control
 use Rattle.allocate.specs.declared.exceeded.Capacity.{Capacity}
 use Rattle.allocate.specs.declared.exceeded.Capacity.TheVariants as of
 use Rattle.allocate.specs.declared.fault.CapacityFault.{CapacityFault}
 use Rattle.allocate.specs.declared.fault.CapacityFault.TheVariants as fault
 use Rattle.allocate.specs.Totals.{wanted_at}
 use Rattle.allocate.specs.Wanted.{Wanted, indicate_at}
+
+-- the number of a fault in the catalogue of faults; want of memory has none
+abbrev pub fault_number : CapacityFault → Option ℕ
+fault_number (fault.Counters width count there) = Some 61
+fault_number (fault.Pilots count there) = Some 62
+fault_number (fault.Comparing count there) = Some 63
+fault_number (fault.StorageWidth line) = Some 64
+fault_number (fault.StorageUnits count there) = Some 65
+fault_number (fault.Splits count there) = Some 66
+fault_number (fault.Indicate level count there) = Some 67
+fault_number fault.Memory = None
 
 -- How many are wanted: at a width of counter groups, the totals of that class or a wider one; a pilot for each signed
 -- amount that is shown; a comparing position for each column of each CONTROL line; a storage unit wider than 16 columns for
@@ -40,7 +52,7 @@ IsOver capacity wanted machine = count_there capacity machine < count_wanted cap
 unfoldable pub in_order : List Capacity
 in_order =
     of.Counters 8 ∷ of.Counters 6 ∷ of.Counters 4 ∷ of.Counters 3 ∷ of.Pilots ∷ of.Comparing ∷ of.StorageWidth
-    ∷ of.StorageUnits ∷ of.Splits ∷ of.Indicate 1 ∷ of.Indicate 2 ∷ of.Indicate 3 ∷ []
+    ∷ of.StorageUnits ∷ of.Splits ∷ of.Indicate control.Minor ∷ of.Indicate control.Intermediate ∷ of.Indicate control.Major ∷ []
 
 -- none of the first capacities of a list is exceeded
 abbrev pub NoneIsOver : List Capacity → ℕ → Wanted → Capacities → Type 0
@@ -74,7 +86,7 @@ pub record IsLowestOf (lines : List ℕ) (line : ℕ) : Type 0 where
   pub lowest : (other : ℕ) → Contains lines other → line ≤ other
 
 -- The fault of what a chart wants on a machine: the first capacity that it exceeds, with what is wanted and what is there,
--- or the lowest line of a total text that is too wide. That memory was refused is no fault of a chart.
+-- or the lowest line of a total text that is too wide. No chart makes memory run out.
 abbrev pub HasFault : Wanted → Capacities → CapacityFault → Type 0
 HasFault wanted machine (fault.Counters width count there) = IsExceeded (of.Counters width) count there wanted machine
 HasFault wanted machine (fault.Pilots count there) = IsExceeded of.Pilots count there wanted machine
@@ -83,4 +95,4 @@ HasFault wanted machine (fault.StorageWidth line) = IsFirstOver of.StorageWidth 
 HasFault wanted machine (fault.StorageUnits count there) = IsExceeded of.StorageUnits count there wanted machine
 HasFault wanted machine (fault.Splits count there) = IsExceeded of.Splits count there wanted machine
 HasFault wanted machine (fault.Indicate level count there) = IsExceeded (of.Indicate level) count there wanted machine
-HasFault wanted machine fault.Memory = Unit {0}
+HasFault wanted machine fault.Memory = ⊥

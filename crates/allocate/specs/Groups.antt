@@ -4,11 +4,13 @@ use Rattle.std.specs.Prelude.{◌≡◌, ◌≢◌, ℕ, ◌<◌, ◌≤◌, nat
 use Rattle.std.specs.Prelude.{List, length, Some, slice_get, slice_index_or}
 use Rattle.capacity.specs.Capacities.{Capacities, HasGroup}
 use Rattle.capacity.specs.declared.group.CounterGroup.{CounterGroup}
+use Rattle.chart_text.specs.Levels.{level_number}
+use Rattle.chart_text.specs.declared.level.Level.TheVariants as level
 use Rattle.allocate.specs.declared.total.Total.{Total}
 
 -- the total at a place of the list; past its end one that needs nothing
 abbrev pub total_at : List Total → ℕ → Total
-total_at totals place = slice_index_or totals place (record { level = 0; line = 0; need = 0 })
+total_at totals place = slice_index_or totals place (record { level = level.Minor; line = 0; need = 0 })
 
 -- the group at a place of the list; past its end one that no machine has
 abbrev pub group_at : List CounterGroup → ℕ → CounterGroup
@@ -24,7 +26,7 @@ abbrev pub takes_before : List Total → ℕ → ℕ → Bool
 takes_before totals place later =
     let one = total_at totals place in
     let other = total_at totals later in
-    is_before other.need one.need (is_before one.level other.level (is_before one.line other.line (nat_lt place later)))
+    is_before other.need one.need (is_before (level_number one.level) (level_number other.level) (is_before one.line other.line (nat_lt place later)))
 
 -- a total of the list that takes its group before the one at this place
 abbrev pub TakesBefore : List Total → ℕ → ℕ → Type 0

@@ -1,13 +1,33 @@
 -- Laws of capacities.
-use Rattle.std.specs.Prelude.{◌≡◌}
-use Rattle.capacity.specs.Capacities.{Capacities}
-use Rattle.allocate.specs.Exceeded.{HasFault, Fits}
-use Rattle.allocate.specs.Wanted.{Wanted}
+use Rattle.std.specs.Prelude.{ℕ, All, List}
+use Rattle.capacity.specs.Capacities.{Capacities, widths}
+use Rattle.capacity.specs.declared.group.CounterGroup.{CounterGroup}
+use Rattle.chart_text.specs.Chart.{Chart}
+use Rattle.chart_rules.specs.Rules.{IsLawful}
+use Rattle.allocate.specs.ChartTotals.{totals_of}
+use Rattle.allocate.specs.Exceeded.{HasFault, Fits, IsOver}
+use Rattle.allocate.specs.Groups.{IsAssignment}
+use Rattle.allocate.specs.Wanted.{Wanted, wanted_of}
+use Rattle.allocate.specs.declared.exceeded.Capacity.TheVariants as of
 use Rattle.allocate.specs.declared.fault.CapacityFault.{CapacityFault}
-use Rattle.allocate.specs.declared.fault.CapacityFault.TheVariants as fault
 
--- what fits a machine has no fault on it, but that memory may be refused
+-- the counter groups of a machine are exceeded by a chart at a width
+abbrev pub IsOverAt : ℕ → Chart → Capacities → Type 0
+IsOverAt width chart machine = IsOver (of.Counters width) (wanted_of chart.lines) machine
+
+-- where a chart that breaks no rule exceeds the counter groups at no width, each total can have a group of its own
+abbrev pub ChartsWithinHaveAnAssignment : Type 0
+ChartsWithinHaveAnAssignment =
+    (chart : Chart) (machine : Capacities) → IsLawful chart → All (λ width. ¬ IsOverAt width chart machine) widths
+    → (groups : List CounterGroup) × IsAssignment (totals_of chart.lines) machine groups
+
+-- where a chart that breaks no rule exceeds the counter groups at a width, not each total can have a group of its own
+abbrev pub ChartsOverHaveNone : Type 0
+ChartsOverHaveNone =
+    (chart : Chart) (machine : Capacities) (width : ℕ) (groups : List CounterGroup) → IsLawful chart
+    → IsOverAt width chart machine → ¬ IsAssignment (totals_of chart.lines) machine groups
+
+-- what fits a machine has no fault on it
 abbrev pub FittingChartsHaveNoFault : Type 0
 FittingChartsHaveNoFault =
-    (wanted : Wanted) (machine : Capacities) (told : CapacityFault) → Fits wanted machine → HasFault wanted machine told
-    → told ≡ fault.Memory
+    (wanted : Wanted) (machine : Capacities) (told : CapacityFault) → Fits wanted machine → ¬ HasFault wanted machine told

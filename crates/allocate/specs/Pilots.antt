@@ -5,7 +5,9 @@ use Rattle.chart_text.specs.declared.chart.Line.{Line}
 use Rattle.chart_text.specs.declared.statement.Field.{Field}
 use Rattle.chart_text.specs.declared.statement.Statement.{Statement}
 use Rattle.chart_text.specs.declared.statement.Statement.TheVariants as says
-use Rattle.chart_rules.specs.Fields.{fields_of, is_same_name, sign_column}
+use Rattle.chart_rules.specs.Fields.{fields_of}
+use Rattle.chart_text.specs.Field.{sign_column}
+use Rattle.chart_text.specs.Name.{is_same_name}
 
 -- whether a line puts the amount of a name on a DETAIL or TOTAL line
 abbrev pub shows : List ℕ → Statement → Bool

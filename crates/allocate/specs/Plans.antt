@@ -1,6 +1,7 @@
 -- Plans: which counter group, pilot, comparing position, storage unit, split and indicate position serves what of a chart.
 use Rattle.std.specs.Prelude.{◌≡◌, ℕ, ◌+◌, ◌≤◌, ◌==◌, ◌&&◌, Bool, List, Option, length, position, option_map, option_and_then, slice_get}
 use Rattle.chart_text.specs.declared.chart.Line.{Line}
+use Rattle.chart_text.specs.declared.level.ControlLevel.TheVariants as control
 use Rattle.capacity.specs.declared.group.CounterGroup.{CounterGroup}
 use Rattle.capacity.specs.Capacities.{Capacities, standard}
 use Rattle.allocate.specs.declared.position.Position.{Position}
@@ -31,9 +32,9 @@ pub record Serves (wanted : Wanted) (plan : Lists) : Type 0 where
   pub storage_width : ¬ IsOver of.StorageWidth wanted standard
   pub storage_units : ¬ IsOver of.StorageUnits wanted standard
   pub splits : ¬ IsOver of.Splits wanted standard
-  pub minor : ¬ IsOver (of.Indicate 1) wanted standard
-  pub intermediate : ¬ IsOver (of.Indicate 2) wanted standard
-  pub major : ¬ IsOver (of.Indicate 3) wanted standard
+  pub minor : ¬ IsOver (of.Indicate control.Minor) wanted standard
+  pub intermediate : ¬ IsOver (of.Indicate control.Intermediate) wanted standard
+  pub major : ¬ IsOver (of.Indicate control.Major) wanted standard
 
 -- a plan is one for a chart
 abbrev pub IsFor : List Line → Lists → Type 0

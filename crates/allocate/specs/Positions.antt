@@ -1,12 +1,15 @@
 -- Comparing and indicate positions: one for each column of a field, from left to right, by the lines that ask for them.
 use Rattle.std.specs.Prelude.{ℕ, List, [], Option, Some, None, map, flat_map, ◌==◌, if◌then◌else◌}
 use Rattle.std.specs.List.{range_with_len}
+use Rattle.chart_text.specs.Levels.{control_number}
 use Rattle.chart_text.specs.declared.chart.Line.{Line}
+use Rattle.chart_text.specs.declared.level.ControlLevel.{ControlLevel}
 use Rattle.chart_text.specs.declared.statement.DetailOption.TheVariants as shown
 use Rattle.chart_text.specs.declared.statement.Field.{Field}
 use Rattle.chart_text.specs.declared.statement.Statement.{Statement}
 use Rattle.chart_text.specs.declared.statement.Statement.TheVariants as says
-use Rattle.chart_rules.specs.Fields.{field_named, columns_of}
+use Rattle.chart_rules.specs.Fields.{field_named}
+use Rattle.chart_text.specs.Field.{columns_of}
 use Rattle.allocate.specs.declared.position.Position.{Position}
 use Rattle.allocate.specs.declared.position.ColumnUse.{ColumnUse}
 use Rattle.allocate.specs.declared.position.ColumnUse.TheVariants.{Comparing, Indicate}
@@ -23,9 +26,9 @@ compared_field lines (says.Control level name) = field_named lines name
 compared_field lines other = None
 
 -- the field that an INDICATE item of a level shows on the first card of each group
-abbrev pub indicated_field : List Line → ℕ → Statement → Option Field
+abbrev pub indicated_field : List Line → ControlLevel → Statement → Option Field
 indicated_field lines level (says.DetailField wheel name (shown.Indicated of_level)) =
-    if of_level == level then field_named lines name else None
+    if control_number of_level == control_number level then field_named lines name else None
 indicated_field lines level other = None
 
 -- the field whose columns a line puts to a use
@@ -44,5 +47,5 @@ comparing_of lines = positions_of lines Comparing
 
 -- The indicate positions of a level: the columns of each INDICATE item of that level. A position's number is its place
 -- in this list, from 1.
-abbrev pub indicate_of : ℕ → List Line → List Position
+abbrev pub indicate_of : ControlLevel → List Line → List Position
 indicate_of level lines = positions_of lines (Indicate level)

@@ -1,7 +1,6 @@
--- The totals of a chart, the widths of counter groups that they need, and where they need more groups than there are.
-use Rattle.std.specs.Prelude.{ℕ, ◌<◌, ◌≤◌, nat_le, if◌then◌else◌}
+-- The totals of a chart, and the widths of counter groups that they need.
+use Rattle.std.specs.Prelude.{ℕ, ◌≤◌, nat_le, if◌then◌else◌}
 use Rattle.std.specs.Prelude.{List, All, count_by}
-use Rattle.capacity.specs.Capacities.{Capacities, widths, groups_at_least}
 use Rattle.allocate.specs.declared.total.Total.{Total}
 
 -- no total needs more positions than the widest counter group has
@@ -15,11 +14,3 @@ class_of need = if nat_le need 3 then 3 else if nat_le need 4 then 4 else if nat
 -- how many totals have this width as their class or a wider one
 unfoldable pub wanted_at : ℕ → List Total → ℕ
 wanted_at width totals = count_by (λ total. nat_le width (class_of total.need)) totals
-
--- More totals have this width as their class or a wider one than counter groups have this width or a greater one.
-abbrev pub IsOverCounters : ℕ → List Total → Capacities → Type 0
-IsOverCounters width totals machine = groups_at_least machine width < wanted_at width totals
-
--- there are counter groups enough at each width
-abbrev pub HasGroupsFor : Capacities → List Total → Type 0
-HasGroupsFor machine totals = All (λ width. ¬ IsOverCounters width totals machine) widths

@@ -1,10 +1,11 @@
 -- Storage units and column splits: one for each line of a kind.
-use Rattle.std.specs.Prelude.{ℕ, ◌<◌, ◌≤◌, ◌&&◌, Bool, true, false, List, Option, Some, None, map, filter, length, slice_index, nat_le, nat_lt}
+use Rattle.std.specs.Prelude.{ℕ, ◌&&◌, Bool, true, false, List, Option, Some, None, map, filter, nat_le, nat_lt}
 use Rattle.chart_text.specs.declared.chart.Line.{Line}
 use Rattle.chart_text.specs.declared.statement.Field.{Field}
 use Rattle.chart_text.specs.declared.statement.Statement.{Statement}
 use Rattle.chart_text.specs.declared.statement.Statement.TheVariants as says
-use Rattle.chart_rules.specs.Fields.{field_named, sign_column, columns_of}
+use Rattle.chart_rules.specs.Fields.{field_named}
+use Rattle.chart_text.specs.Field.{sign_column, columns_of}
 use Rattle.allocate.specs.declared.unit.LineKind.{LineKind}
 use Rattle.allocate.specs.declared.unit.LineKind.TheVariants.{TotalText, WideText, SplitAmount}
 
@@ -60,7 +61,3 @@ wide_texts_of lines = lines_of_kind lines WideText
 -- number is its place in this list, from 1.
 abbrev pub splits_of : List Line → List ℕ
 splits_of lines = lines_of_kind lines SplitAmount
-
--- the first of some numbers is the lowest of them
-abbrev pub FirstIsLowest : List ℕ → Type 0
-FirstIsLowest numbers = (place : ℕ) → place < length numbers → slice_index numbers 0 ≤ slice_index numbers place

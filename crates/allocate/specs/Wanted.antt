@@ -1,6 +1,8 @@
 -- All that a chart asks of the machine.
-use Rattle.std.specs.Prelude.{ℕ, ◌==◌, List, [], if◌then◌else◌}
+use Rattle.std.specs.Prelude.{ℕ, List}
 use Rattle.chart_text.specs.declared.chart.Line.{Line}
+use Rattle.chart_text.specs.declared.level.ControlLevel.{ControlLevel}
+use Rattle.chart_text.specs.declared.level.ControlLevel.TheVariants as control
 use Rattle.allocate.specs.declared.total.Total.{Total}
 use Rattle.allocate.specs.declared.position.Position.{Position}
 use Rattle.allocate.specs.ChartTotals.{totals_of}
@@ -9,7 +11,7 @@ use Rattle.allocate.specs.Positions.{comparing_of, indicate_of}
 use Rattle.allocate.specs.Units.{storage_of, wide_texts_of, splits_of}
 
 -- What the parts of the machine other than the counter groups serve, each list in the order of their numbers, from 1; the
--- indicate positions by level: 1 (minor), 2 (intermediate) and 3 (major).
+-- indicate positions by level.
 pub record Parts : Type 0 where
   pub pilots : List (List ℕ)
   pub comparing : List Position
@@ -20,9 +22,10 @@ pub record Parts : Type 0 where
   pub major : List Position
 
 -- the indicate positions of a level
-abbrev pub indicate_at : Parts → ℕ → List Position
-indicate_at parts level =
-    if level == 1 then parts.minor else if level == 2 then parts.intermediate else if level == 3 then parts.major else []
+abbrev pub indicate_at : Parts → ControlLevel → List Position
+indicate_at parts control.Minor = parts.minor
+indicate_at parts control.Intermediate = parts.intermediate
+indicate_at parts control.Major = parts.major
 
 -- what these parts serve for a chart
 abbrev pub parts_of : List Line → Parts
@@ -32,9 +35,9 @@ parts_of lines =
       comparing = comparing_of lines;
       storage = storage_of lines;
       splits = splits_of lines;
-      minor = indicate_of 1 lines;
-      intermediate = indicate_of 2 lines;
-      major = indicate_of 3 lines;
+      minor = indicate_of control.Minor lines;
+      intermediate = indicate_of control.Intermediate lines;
+      major = indicate_of control.Major lines;
     }
 
 -- the totals, in the order of their lines, the lines of the total texts that are too wide, and what the other parts serve

@@ -1,6 +1,6 @@
 //! Allocation.
 
-ghost use Rattle.std.specs.Prelude.{IfOk, IfErr, OnOk};
+ghost use Rattle.std.specs.Prelude.{◌≢◌, IfOk, IfErr, OnOk};
 ghost use Rattle.allocate.specs.Exceeded.{Fits, HasFault};
 ghost use Rattle.allocate.specs.Plans.{IsPlanOf, IsFor};
 ghost use Rattle.allocate.specs.Wanted.{wanted_of};
@@ -30,7 +30,7 @@ pub fn allocate(alloc: Global, chart: &Chart, profile: &Profile) -> Result<Plan,
     ensures plan { IfOk result (IsPlanOf (wanted_of chart.now.lines) profile.now) }
     ensures serves { IfOk result (IsFor chart.now.lines) }
     ensures fits { OnOk result (Fits (wanted_of chart.now.lines) profile.now) }
-    ensures refused { IfErr result (HasFault (wanted_of chart.now.lines) profile.now) }
+    ensures refused { IfErr result (λ fault. fault ≢ CapacityFault.Memory → HasFault (wanted_of chart.now.lines) profile.now fault) }
 {
     let wanted = Wanted::of(alloc, chart)?;
     if let Some(fault) = fault_on(&wanted, profile) {

@@ -4,7 +4,7 @@ ghost use Rattle.std.specs.Prelude.{◌≡◌, ◌↔◌, IsTrue, Contains, opti
 ghost use Rattle.capacity.specs.Capacities.{standard};
 ghost use Rattle.allocate.specs.ChartTotals.{totals_of};
 ghost use Rattle.allocate.specs.Groups.{IsAssignment};
-ghost use Rattle.allocate.specs.Enough.{are_enough, IsLeftFor, AreThere, AreSingle, AreOwn};
+ghost use Rattle.allocate.specs.HelperEnough.{are_enough, IsLeftFor, AreThere, AreSingle, AreOwn};
 
 use crate::chart_totals::total_of;
 use crate::total::Total;

@@ -4,7 +4,6 @@ ghost use Rattle.std.specs.Prelude.{◌≡◌, ◌==◌, IfOk, position, filter_
 ghost use Rattle.allocate.specs.ChartTotals as totals;
 ghost use Rattle.allocate.specs.Totals.{NeedsFit};
 
-use crate::field::sign_column;
 use crate::total::Total;
 use chart_rules::Chart;
 use chart_text::{Field, Line, Statement};
@@ -15,7 +14,7 @@ fn names_signed(field: Option<Field>) -> bool
     ensures { result ≡ totals.names_signed field }
 {
     match field {
-        Some(field) => sign_column(field.kind).is_some(),
+        Some(field) => field.kind.sign_column().is_some(),
         None => false,
     }
 }
@@ -33,7 +32,12 @@ pub(crate) fn total_of(chart: &Chart, line: &Line) -> Option<Total>
     ensures { result ≡ totals.total_of chart.now.lines line.now.number line.now.statement }
 {
     match &line.statement {
-        Statement::TotalAmount(level, _, name, digits, _) => {
+        Statement::TotalAmount {
+            level,
+            name,
+            digits,
+            ..
+        } => {
             let need = need_of(chart.field(*name), *digits);
             Some(Total {
                 level: *level,

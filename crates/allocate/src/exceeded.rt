@@ -6,6 +6,7 @@ ghost use Rattle.allocate.specs.Exceeded as law;
 use crate::fault::CapacityFault;
 use crate::wanted::Wanted;
 use capacity::Profile;
+use chart_text::ControlLevel;
 
 /// A capacity of a machine: something that it has so many of.
 #[derive(Clone, Copy, Debug, PartialEq, Eq)]
@@ -22,8 +23,8 @@ pub(crate) enum Capacity {
     StorageUnits,
     /// Column splits: fault 66.
     Splits,
-    /// Indicate positions of a level, 1 to 3: fault 67.
-    Indicate(u8),
+    /// Indicate positions of a level: fault 67.
+    Indicate(ControlLevel),
 }
 
 /// The capacities in the order in which they are asked.
@@ -37,9 +38,9 @@ static IN_ORDER: [Capacity; 12] = [
     Capacity::StorageWidth,
     Capacity::StorageUnits,
     Capacity::Splits,
-    Capacity::Indicate(1),
-    Capacity::Indicate(2),
-    Capacity::Indicate(3),
+    Capacity::Indicate(ControlLevel::Minor),
+    Capacity::Indicate(ControlLevel::Intermediate),
+    Capacity::Indicate(ControlLevel::Major),
 ];
 
 /// How many of a capacity there are.

@@ -3,6 +3,7 @@
 ghost use Rattle.std.specs.Prelude.{◌≡◌};
 ghost use Rattle.allocate.specs.declared.fault.CapacityFault.TheVariants.{Memory};
 
+use chart_text::ControlLevel;
 use std::alloc::{AllocError, AllocFailed};
 use thiserror::Error;
 
@@ -58,10 +59,10 @@ pub enum CapacityFault {
         there: u32,
     },
     /// The INDICATE items of a level have more columns than the machine has positions for it: fault 67.
-    #[error("{wanted} indicate positions of level {level} are wanted, and there are {there}")]
+    #[error("{wanted} indicate positions of level {} are wanted, and there are {there}", level.number())]
     Indicate {
-        /// The lowest such level, 1 to 3.
-        level: u8,
+        /// The lowest such level.
+        level: ControlLevel,
         /// How many positions the chart wants.
         wanted: usize,
         /// How many there are.
@@ -70,6 +71,27 @@ pub enum CapacityFault {
     /// Memory was refused.
     #[error("out of memory")]
     Memory,
+}
+
+impl CapacityFault {
+    ghost use Rattle.std.specs.Prelude.{◌≡◌};
+    ghost use Rattle.allocate.specs.Exceeded.{fault_number};
+
+    /// Its number in the catalogue of faults, 61 to 67; want of memory has none.
+    pub fn number(self) -> Option<u8>
+        ensures { result ≡ fault_number self }
+    {
+        match self {
+            CapacityFault::Counters { .. } => Some(61),
+            CapacityFault::Pilots { .. } => Some(62),
+            CapacityFault::Comparing { .. } => Some(63),
+            CapacityFault::StorageWidth { .. } => Some(64),
+            CapacityFault::StorageUnits { .. } => Some(65),
+            CapacityFault::Splits { .. } => Some(66),
+            CapacityFault::Indicate { .. } => Some(67),
+            CapacityFault::Memory => None,
+        }
+    }
 }
 
 impl From<AllocError> for CapacityFault {

@@ -2,10 +2,11 @@
 
 ghost use Rattle.std.specs.Prelude.{◌≡◌, ◌<◌, ◌↔◌, length, map, Some, IsTrue, IfOk, MatchOption};
 ghost use Rattle.std.specs.Option.{ForSome};
-ghost use Rattle.allocate.specs.Totals.{NeedsFit, class_of, wanted_at, HasGroupsFor};
+ghost use Rattle.allocate.specs.Totals.{NeedsFit, class_of, wanted_at};
+ghost use Rattle.allocate.specs.HelperCounters.{HasGroupsFor};
 ghost use Rattle.allocate.specs.Groups.{IsByRule, IsAssignment, takes_before};
-ghost use Rattle.allocate.specs.Taking.{IsTaken, NoneWaits, IsNext, goes_first};
-ghost use Rattle.allocate.specs.Taking.{IsLowestNumber, IsWidthTaken, IsLowest, AreAllTaken};
+ghost use Rattle.allocate.specs.HelperTaking.{IsTaken, NoneWaits, IsNext, goes_first};
+ghost use Rattle.allocate.specs.HelperTaking.{IsLowestNumber, IsWidthTaken, IsLowest, AreAllTaken};
 
 use crate::total::Total;
 use capacity::{CounterGroup, Profile};
@@ -100,7 +101,7 @@ fn takes_before(totals: &[Total], place: usize, later: usize) -> bool
         return other.need < one.need;
     }
     if one.level != other.level {
-        return one.level < other.level;
+        return one.level.number() < other.level.number();
     }
     if one.line != other.line {
         return one.line < other.line;

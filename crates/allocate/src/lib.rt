@@ -12,7 +12,6 @@ mod assignment;
 mod chart_totals;
 mod exceeded;
 mod fault;
-mod field;
 mod groups;
 mod laws;
 mod parts;

@@ -4,7 +4,7 @@ use crate::pilot::{are_pilots, pilots_of};
 use crate::position::{ColumnUse, Position, are_positions_of, positions_of};
 use crate::unit::{LineKind, are_lines_of_kind, lines_of_kind};
 use chart_rules::Chart;
-use chart_text::Name;
+use chart_text::{ControlLevel, Name};
 use std::alloc::{AllocError, Global};
 use std::marker::Model;
 
@@ -19,7 +19,7 @@ pub(crate) struct Parts {
     storage: Vec<u16>,
     // The lines of the amounts.
     splits: Vec<u16>,
-    // The indicate positions of levels 1, 2 and 3.
+    // The indicate positions by level.
     minor: Vec<Position>,
     intermediate: Vec<Position>,
     major: Vec<Position>,
@@ -53,9 +53,13 @@ impl Parts {
         let comparing = positions_of(alloc, chart, ColumnUse::Comparing)?;
         let storage = lines_of_kind(alloc, chart, LineKind::TotalText)?;
         let splits = lines_of_kind(alloc, chart, LineKind::SplitAmount)?;
-        let minor = positions_of(alloc, chart, ColumnUse::Indicate(1))?;
-        let intermediate = positions_of(alloc, chart, ColumnUse::Indicate(2))?;
-        let major = positions_of(alloc, chart, ColumnUse::Indicate(3))?;
+        let minor = positions_of(alloc, chart, ColumnUse::Indicate(ControlLevel::Minor))?;
+        let intermediate = positions_of(
+            alloc,
+            chart,
+            ColumnUse::Indicate(ControlLevel::Intermediate),
+        )?;
+        let major = positions_of(alloc, chart, ColumnUse::Indicate(ControlLevel::Major))?;
         Ok(Parts {
             pilots,
             comparing,
@@ -75,9 +79,21 @@ impl Parts {
             && are_positions_of(self.comparing(), chart, ColumnUse::Comparing)
             && are_lines_of_kind(self.storage(), chart, LineKind::TotalText)
             && are_lines_of_kind(self.splits(), chart, LineKind::SplitAmount)
-            && are_positions_of(self.indicate(1), chart, ColumnUse::Indicate(1))
-            && are_positions_of(self.indicate(2), chart, ColumnUse::Indicate(2))
-            && are_positions_of(self.indicate(3), chart, ColumnUse::Indicate(3))
+            && are_positions_of(
+                self.indicate(ControlLevel::Minor),
+                chart,
+                ColumnUse::Indicate(ControlLevel::Minor),
+            )
+            && are_positions_of(
+                self.indicate(ControlLevel::Intermediate),
+                chart,
+                ColumnUse::Indicate(ControlLevel::Intermediate),
+            )
+            && are_positions_of(
+                self.indicate(ControlLevel::Major),
+                chart,
+                ColumnUse::Indicate(ControlLevel::Major),
+            )
     }
 
     /// The names of the amounts that the pilots serve.
@@ -108,15 +124,14 @@ impl Parts {
         self.splits.as_slice()
     }
 
-    /// What the indicate positions of a level serve; there are none but of levels 1 to 3.
-    pub(crate) fn indicate(&self, level: u8) -> &[Position]
+    /// What the indicate positions of a level serve.
+    pub(crate) fn indicate(&self, level: ControlLevel) -> &[Position]
         ensures { result.now ≡ indicate_at self.now level }
     {
         match level {
-            1 => self.minor.as_slice(),
-            2 => self.intermediate.as_slice(),
-            3 => self.major.as_slice(),
-            _ => &[],
+            ControlLevel::Minor => self.minor.as_slice(),
+            ControlLevel::Intermediate => self.intermediate.as_slice(),
+            ControlLevel::Major => self.major.as_slice(),
         }
     }
 }

@@ -1,29 +1,20 @@
 //! Pilots.
 
 ghost use Rattle.std.specs.Prelude.{◌≡◌, ◌↔◌, [], ◌∷◌, IsTrue, IfOk, option_map};
-ghost use Rattle.allocate.specs.Behind.{IsBehind};
-ghost use Rattle.chart_rules.specs.Fields.{is_same_name};
+ghost use Rattle.allocate.specs.HelperBehind.{IsBehind};
 ghost use Rattle.allocate.specs.Pilots as pilots;
 
-use crate::field::sign_column;
 use chart_rules::Chart;
 use chart_text::{Field, Line, Name, Statement};
 use std::alloc::{AllocError, Global};
-
-/// Whether two names are the same.
-pub(crate) fn is_same(one: Name, other: Name) -> bool
-    ensures { result ≡ is_same_name one other }
-{
-    one == other
-}
 
 /// Whether a line puts the amount of a name on a DETAIL or TOTAL line.
 fn shows(wanted: Name, statement: &Statement) -> bool
     ensures { result ≡ pilots.shows wanted statement.now }
 {
     match statement {
-        Statement::DetailField(_, name, _) | Statement::TotalAmount(_, _, name, _, _) => {
-            is_same(*name, wanted)
+        Statement::DetailField { name, .. } | Statement::TotalAmount { name, .. } => {
+            name.is(wanted)
         }
         _ => false,
     }
@@ -41,7 +32,7 @@ fn is_shown(lines: &[Line], name: Name) -> bool
 fn wants_pilot(chart: &Chart, field: Field) -> bool
     ensures { result ≡ pilots.wants_pilot chart.now.lines field }
 {
-    sign_column(field.kind).is_some() && is_shown(chart.lines(), field.name)
+    field.kind.sign_column().is_some() && is_shown(chart.lines(), field.name)
 }
 
 /// The names of the amounts that want a pilot, in the order of their FIELD lines.

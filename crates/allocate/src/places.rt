@@ -1,10 +1,9 @@
 //! Where something stands in a list, and the number that it has there.
 
 ghost use Rattle.std.specs.Prelude.{◌≡◌, ◌==◌, ◌+◌, ◌<◌, IfSome, length, position, option_map};
-ghost use Rattle.chart_rules.specs.Fields.{is_same_name};
+ghost use Rattle.chart_text.specs.Name.{is_same_name};
 ghost use Rattle.allocate.specs.Plans.{is_same_position};
 
-use crate::pilot::is_same;
 use crate::position::Position;
 use chart_text::Name;
 
@@ -13,7 +12,7 @@ pub(crate) fn place_of_name(list: &[Name], name: Name) -> Option<usize>
     ensures value { result ≡ position (λ each. is_same_name each name) list.now }
     ensures within { IfSome result (λ place. place < length list.now) }
 {
-    list.iter().position(|each| is_same(*each, name))
+    list.iter().position(|each| each.is(name))
 }
 
 /// Where a line's number stands first in a list, from 0.

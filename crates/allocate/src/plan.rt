@@ -8,7 +8,7 @@ use crate::position::Position;
 use crate::unit::{LineKind, are_lines_of_kind};
 use capacity::CounterGroup;
 use chart_rules::Chart;
-use chart_text::Name;
+use chart_text::{ControlLevel, Name};
 use std::marker::Model;
 
 /// Which counter group, pilot, comparing position, storage unit, column split and indicate position serves what of a chart.
@@ -33,7 +33,7 @@ impl Model for Plan {
 
 impl Plan {
     ghost use Rattle.std.specs.Prelude.{◌≡◌, ◌↔◌, ◌≤◌, ◌==◌, IsTrue, IfSome};
-    ghost use Rattle.chart_rules.specs.Fields.{is_same_name};
+    ghost use Rattle.chart_text.specs.Name.{is_same_name};
     ghost use Rattle.allocate.specs.ChartTotals.{totals_of};
     ghost use Rattle.allocate.specs.Wanted.{indicate_at};
     ghost use Rattle.allocate.specs.Plans.{IsFor, IsWithinMachine, number_where, is_same_position, group_on};
@@ -98,8 +98,8 @@ impl Plan {
         self.parts.splits()
     }
 
-    /// What the indicate positions of a level, 1 to 3, serve, in the order of their numbers.
-    pub fn indicate(&self, level: u8) -> &[Position]
+    /// What the indicate positions of a level serve, in the order of their numbers.
+    pub fn indicate(&self, level: ControlLevel) -> &[Position]
         ensures value { result.now ≡ indicate_at self.now.parts level }
         ensures within { IsWithinMachine self.now.parts }
     {
@@ -147,9 +147,9 @@ impl Plan {
         number_at(place_of_line(self.splits(), line))
     }
 
-    /// The number of the indicate position of a level, 1 to 3, that serves a column of the field of an INDICATE item, from 1.
+    /// The number of the indicate position of a level that serves a column of the field of an INDICATE item, from 1.
     /// The columns of an item have numbers that follow one another, from left to right.
-    pub fn indicate_position(&self, level: u8, at: Position) -> Option<u8>
+    pub fn indicate_position(&self, level: ControlLevel, at: Position) -> Option<u8>
         ensures value { result ≡ number_where (λ served. is_same_position served at) (indicate_at self.now.parts level) }
         ensures few { IfSome result (λ number. (1 ≤ number) × (number ≤ 30)) }
     {

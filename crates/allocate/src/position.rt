@@ -1,12 +1,11 @@
 //! Comparing and indicate positions.
 
 ghost use Rattle.std.specs.Prelude.{◌≡◌, ◌+◌, ◌++◌, ◌↔◌, Some, IsTrue, IfOk, OnOk, EachIndex, slice_get, option_map};
-ghost use Rattle.allocate.specs.Behind.{IsBehind};
+ghost use Rattle.allocate.specs.HelperBehind.{IsBehind};
 ghost use Rattle.allocate.specs.Positions as positions;
 
-use crate::field::columns_of;
 use chart_rules::Chart;
-use chart_text::{DetailOption, Field, Statement};
+use chart_text::{ControlLevel, DetailOption, Field, Statement};
 use std::alloc::{AllocError, Global};
 
 /// What a comparing or indicate position serves: a column of a field that a line of the chart names.
@@ -35,8 +34,8 @@ impl Position {
 pub(crate) enum ColumnUse {
     /// They are compared on consecutive cards.
     Comparing,
-    /// They are shown on the first card of each group of a level, 1 to 3.
-    Indicate(u8),
+    /// They are shown on the first card of each group of a level.
+    Indicate(ControlLevel),
 }
 
 /// The field whose columns a line puts to a use, if it does.
@@ -45,10 +44,14 @@ fn field_used(chart: &Chart, columns: ColumnUse, statement: &Statement) -> Optio
     ensures { result ≡ positions.field_used chart.now.lines columns statement.now }
 {
     match (columns, statement) {
-        (ColumnUse::Comparing, Statement::Control(_, name)) => chart.field(*name),
+        (ColumnUse::Comparing, Statement::Control { name, .. }) => chart.field(*name),
         (
             ColumnUse::Indicate(level),
-            Statement::DetailField(_, name, DetailOption::Indicated(of_level)),
+            Statement::DetailField {
+                name,
+                shown: DetailOption::Indicated(of_level),
+                ..
+            },
         ) if *of_level == level => chart.field(*name),
         _ => None,
     }
@@ -77,7 +80,7 @@ fn push_columns(list: &mut Vec<Position>, line: u16, field: Field) -> Result<(),
 {
     let first = field.first;
     let start = u32::from(first);
-    for place in 0..columns_of(field) {
+    for place in 0..field.columns() {
         let column = (start + place) as u16;
         list.push(Position { line, column })?;
     }
@@ -106,7 +109,7 @@ fn behind_columns(list: &[Position], line: u16, field: Field) -> Option<&[Positi
     ensures { IsBehind (positions.positions_for line (Some field)) list.now (option_map (λ behind. behind.now) result) }
 {
     let first = field.first;
-    let columns = columns_of(field) as usize;
+    let columns = field.columns() as usize;
     if list.len() < columns {
         return None;
     }

@@ -3,7 +3,7 @@
 use crate::{CapacityFault, Plan, Position, allocate};
 use capacity::{CounterGroup, Profile};
 use chart_rules::{Chart, check};
-use chart_text::read_chart;
+use chart_text::{ControlLevel, read_chart};
 use std::alloc::Global;
 use std::test::Fail;
 
@@ -28,7 +28,7 @@ const NO_SPLITS: CapacityFault = CapacityFault::Splits {
 };
 
 const NO_INDICATE: CapacityFault = CapacityFault::Indicate {
-    level: 3,
+    level: ControlLevel::Major,
     wanted: 1,
     there: 0,
 };
@@ -147,7 +147,10 @@ fn numbers_on(
 /// The number of the comparing position, and of the indicate position of level 3, for a column that a line names.
 fn numbers_at(alloc: Global, lines: &[u8], at: Position) -> Result<(Option<u8>, Option<u8>), Fail> {
     let plan = plan_of(alloc, &chart_of(alloc, lines, b"")?)?;
-    Ok((plan.comparing_position(at), plan.indicate_position(3, at)))
+    Ok((
+        plan.comparing_position(at),
+        plan.indicate_position(ControlLevel::Major, at),
+    ))
 }
 
 /// The number of the pilot of the first field.

@@ -1,10 +1,10 @@
 //! Storage units and column splits.
 
 ghost use Rattle.std.specs.Prelude.{◌≡◌, ◌↔◌, [], ◌∷◌, IsTrue, IfOk, option_map, map, filter};
-ghost use Rattle.allocate.specs.Behind.{IsBehind};
+ghost use Rattle.allocate.specs.HelperBehind.{IsBehind};
 ghost use Rattle.allocate.specs.Units as units;
+ghost use Rattle.allocate.specs.HelperLines.{FirstIsLowest};
 
-use crate::field::{columns_of, sign_column};
 use chart_rules::Chart;
 use chart_text::{Field, Line, Statement};
 use std::alloc::{AllocError, Global};
@@ -25,7 +25,7 @@ fn is_wide(field: Option<Field>) -> bool
     ensures { result ≡ units.is_wide field }
 {
     match field {
-        Some(field) => columns_of(field) > 16,
+        Some(field) => field.columns() > 16,
         None => false,
     }
 }
@@ -45,7 +45,7 @@ fn has_inside_sign(field: Option<Field>) -> bool
     ensures { result ≡ units.has_inside_sign field }
 {
     match field {
-        Some(field) => is_inside(field, sign_column(field.kind)),
+        Some(field) => is_inside(field, field.kind.sign_column()),
         None => false,
     }
 }
@@ -56,11 +56,11 @@ fn is_of_kind(chart: &Chart, kind: LineKind, statement: &Statement) -> bool
     ensures { result ≡ units.is_of_kind chart.now.lines kind statement.now }
 {
     match (kind, statement) {
-        (LineKind::TotalText, Statement::TotalText(_, _, _)) => true,
-        (LineKind::WideText, Statement::TotalText(_, _, name)) => is_wide(chart.field(*name)),
-        (LineKind::SplitAmount, Statement::DetailField(_, name, _)) => has_inside_sign(chart.field(
-            *name,
-        )),
+        (LineKind::TotalText, Statement::TotalText { .. }) => true,
+        (LineKind::WideText, Statement::TotalText { name, .. }) => is_wide(chart.field(*name)),
+        (LineKind::SplitAmount, Statement::DetailField { name, .. }) => {
+            has_inside_sign(chart.field(*name))
+        }
         _ => false,
     }
 }
@@ -72,7 +72,7 @@ pub(crate) fn lines_of_kind(
     kind: LineKind,
 ) -> Result<Vec<u16>, AllocError>
     ensures value { IfOk result (λ list. list.items ≡ units.lines_of_kind chart.now.lines kind) }
-    ensures lowest { IfOk result (λ list. units.FirstIsLowest list.items) }
+    ensures lowest { IfOk result (λ list. FirstIsLowest list.items) }
 {
     let list = lines_among(alloc, chart.lines(), chart, kind)?;
     Ok(list)

@@ -22,7 +22,7 @@ pub(crate) struct Wanted {
 impl Model for Wanted {
     ghost use Rattle.allocate.specs.Wanted.{Wanted as Lists};
     ghost use Rattle.allocate.specs.Totals.{NeedsFit};
-    ghost use Rattle.allocate.specs.Units.{FirstIsLowest};
+    ghost use Rattle.allocate.specs.HelperLines.{FirstIsLowest};
 
     ghost Value = { Lists };
 

@@ -1,2 +1,2 @@
 pub mod Capacities
-pub mod Fields
+pub mod HelperFields

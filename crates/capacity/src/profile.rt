@@ -24,7 +24,7 @@ impl Model for Profile {
 
     ghost Value = { Capacities };
 
-    ghost use Rattle.capacity.specs.Fields.{capacities_of};
+    ghost use Rattle.capacity.specs.HelperFields.{capacities_of};
 
     ghost view = { capacities_of };
 

@@ -63,6 +63,14 @@ impl Column {
         }
     }
 
+    /// The punched rows, as a number in which bit `r` tells of row `r`: none above 12, and no row 10.
+    pub fn rows(self) -> u16
+        ensures value { result ≡ self }
+        ensures lawful { is_row_set result ≡ true }
+    {
+        self.rows
+    }
+
     /// Whether row `row` is punched.
     pub fn has_row(self, row: Row) -> bool
         ensures { result ≡ has_row self (row_number row) }

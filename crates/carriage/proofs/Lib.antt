@@ -1,2 +1,3 @@
 pub mod AskedSteps
+pub mod Descents
 pub mod StopSteps

@@ -122,15 +122,11 @@ impl Unit for Carriage {
     fn end_cycle(&mut self, cycle: Cycle) {
         let prints = self.printing.prints(cycle);
         self.spot = self.moved(cycle, prints);
-        self.printed = if prints {
-            Some((self.spot.page, self.spot.line))
-        } else {
-            None
-        };
+        self.printed = prints.then_some(self.place());
         if let Some(channel) = self.asked.channel {
             self.spot.skip(&self.tape, channel);
         }
-        self.spot.latch |= self.asked.restore;
+        self.spot.restore(self.asked.restore);
         self.asked = Asked::nothing();
     }
 }

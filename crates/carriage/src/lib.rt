@@ -5,8 +5,10 @@
 
 mod asked;
 mod carriage;
+mod laws;
 mod placed_line;
 mod spot;
 
 pub use carriage::Carriage;
+pub use laws::{going_down_notices_the_overflow_line, skips_go_to_the_next_stop_below};
 pub use placed_line::{LINE_WHEELS, PlacedLine};

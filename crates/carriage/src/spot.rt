@@ -21,7 +21,7 @@ pub struct Spot {
 
 impl Spot {
     ghost use Rattle.std.specs.Prelude.{◌≡◌};
-    ghost use Rattle.carriage.specs.Moves.{at_first_line, come_to, down, down_by, latched, skipped_to, next_stop};
+    ghost use Rattle.carriage.specs.Moves.{at_first_line, come_to, down, down_by, latched, restored, skipped_to, next_stop};
 
     /// Begins a page: the form's first line, with the latch reset.
     pub fn begin_page(&mut self, tape: &Tape)
@@ -49,6 +49,13 @@ impl Spot {
             Some(stop) => self.down_by(tape, stop - self.line),
             None => self.latch = true,
         }
+    }
+
+    /// Sets the latch where a restore is asked for.
+    pub fn restore(&mut self, restore: bool)
+        ensures { self.new ≡ restored restore self.old }
+    {
+        self.latch |= restore;
     }
 
     // Goes down by one line, from the last line of the form to line 1 of the next page.

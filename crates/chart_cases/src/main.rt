@@ -44,12 +44,12 @@ enum Answer {
 
 impl From<TextFault> for Answer {
     fn from(fault: TextFault) -> Self {
+        let Some(number) = fault.number() else {
+            return Answer::Memory;
+        };
         match fault {
-            TextFault::TooLarge => Answer::Fault(11),
-            TextFault::NoFirstLine => Answer::Fault(12),
-            TextFault::NotALine { line } => Answer::FaultAt(13, line),
-            TextFault::NoEnd => Answer::Fault(14),
-            TextFault::Memory => Answer::Memory,
+            TextFault::NotALine { line } => Answer::FaultAt(number, line),
+            _ => Answer::Fault(number),
         }
     }
 }
@@ -74,22 +74,25 @@ fn exceeds(number: u8, part: Part, wanted: usize, there: u32) -> Answer {
 
 impl From<CapacityFault> for Answer {
     fn from(fault: CapacityFault) -> Self {
+        let Some(number) = fault.number() else {
+            return Answer::Memory;
+        };
         match fault {
             CapacityFault::Counters {
                 width,
                 wanted,
                 there,
-            } => exceeds(61, Part::Width(width), wanted, there),
-            CapacityFault::Pilots { wanted, there } => exceeds(62, Part::All, wanted, there),
-            CapacityFault::Comparing { wanted, there } => exceeds(63, Part::All, wanted, there),
-            CapacityFault::StorageWidth { line } => Answer::FaultAt(64, line),
-            CapacityFault::StorageUnits { wanted, there } => exceeds(65, Part::All, wanted, there),
-            CapacityFault::Splits { wanted, there } => exceeds(66, Part::All, wanted, there),
+            } => exceeds(number, Part::Width(width), wanted, there),
+            CapacityFault::Pilots { wanted, there }
+            | CapacityFault::Comparing { wanted, there }
+            | CapacityFault::StorageUnits { wanted, there }
+            | CapacityFault::Splits { wanted, there } => exceeds(number, Part::All, wanted, there),
+            CapacityFault::StorageWidth { line } => Answer::FaultAt(number, line),
             CapacityFault::Indicate {
                 level,
                 wanted,
                 there,
-            } => exceeds(67, Part::Level(level), wanted, there),
+            } => exceeds(number, Part::Level(level.number()), wanted, there),
             CapacityFault::Memory => Answer::Memory,
         }
     }

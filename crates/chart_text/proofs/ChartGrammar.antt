@@ -8,8 +8,9 @@ use Rattle.std.specs.Str.{bytes_eq}
 use Rattle.card_code.specs.Lines.{lines_of}
 use Rattle.chart_text.specs.Chart.{Chart}
 use Rattle.tokens.specs.Tokens.{HasTokens}
-use Rattle.chart_text.specs.ChartText.{IsEmptyLine, IsEndLine, IsFirstLine, IsFormLine, IsTooLarge, ReadsFrom, empty_line, form_line, end_line, Reads}
-use Rattle.chart_text.specs.TextFaults.{line_at, IsBehindFirst, HasFirstLine, IsBehindEnd, IsNoForm, IsMisplaced, IsLowestMisplaced, LacksEnd, HasFault, HaveFault}
+use Rattle.tokens.specs.Frame.{IsEmptyLine, IsEndLine, line_at, IsLineFrom, IsBehindEnd, IsNoLine, LacksEnd}
+use Rattle.chart_text.specs.ChartText.{IsFirstLine, IsFormLine, IsTooLarge, ReadsFrom, empty_line, form_line, end_line, Reads}
+use Rattle.chart_text.specs.TextFaults.{HasFirstLine, IsMisplaced, IsLowestMisplaced, HasFault, HaveFault}
 use Rattle.tokens.specs.Dividing.{tokens_of}
 use Rattle.chart_text.specs.HelperForms.{statement_of}
 use Rattle.chart_text.specs.HelperText.{form_content, tokens_content, divided_content, content_of, is_first, is_long, is_large, with_lines, line_then, chart_from, chart_of_lines, chart_of}
@@ -28,7 +29,7 @@ abbrev IsContent : List ℕ → Content → Type 0
 IsContent line Empty = IsEmptyLine line
 IsContent line End = IsEndLine line
 IsContent line (Form statement) = IsFormLine line statement
-IsContent line NoForm = IsNoForm line
+IsContent line NoForm = IsNoLine IsFormLine line
 
 -- the tokens that a line has, against those that are read
 same_tokens : (line : List ℕ) (tokens others : List (List ℕ)) → HasTokens line others → tokens_of line ≡ Some tokens
@@ -64,7 +65,7 @@ form_is line tokens content None read says some no_end same =
     (record {
       not_empty = λ has. some (sym (same_tokens line tokens [] has read));
       not_end = λ has. no_end (sym (same_tokens line tokens (codes "END" ∷ []) has read));
-      not_form = λ statement is. no_form_said line tokens statement read says is;
+      not_said = λ statement is. no_form_said line tokens statement read says is;
     })
 
 end_or_form : (line word : List ℕ) (content : Content) (test : Bool) → tokens_of line ≡ Some (word ∷ [])
@@ -89,7 +90,7 @@ content_is line content None read same =
     (record {
       not_empty = λ has. no_division line [] read has;
       not_end = λ has. no_division line (codes "END" ∷ []) read has;
-      not_form = λ statement is. no_division line is.tokens read is.divided;
+      not_said = λ statement is. no_division line is.tokens read is.divided;
     })
 content_is line content (Some []) read same = subst (IsContent line) same (has_what_is_read line [] read)
 content_is line content (Some (word ∷ [])) read same = end_or_form line word content
@@ -256,13 +257,13 @@ GoodBelow all number = (n : ℕ) → n < number → IsMisplaced all n → ⊥
 
 -- no lower line is END
 abbrev NoEndBelow : List (List ℕ) → ℕ → Type 0
-NoEndBelow all number = (n : ℕ) → n < number → IsBehindFirst all n → IsEndLine (line_at all n) → ⊥
+NoEndBelow all number = (n : ℕ) → n < number → IsLineFrom 2 all n → IsEndLine (line_at all n) → ⊥
 
 -- what the answer says of the lines of a text
 abbrev Outcome : List (List ℕ) → Result Chart TextFault → Type 0
-Outcome all (Ok chart) = ((n : ℕ) → IsMisplaced all n → ⊥) × (LacksEnd all → ⊥)
+Outcome all (Ok chart) = ((n : ℕ) → IsMisplaced all n → ⊥) × (LacksEnd 2 all → ⊥)
 Outcome all (Err (NotALine n)) = IsLowestMisplaced all n
-Outcome all (Err NoEnd) = ((n : ℕ) → IsMisplaced all n → ⊥) × LacksEnd all
+Outcome all (Err NoEnd) = ((n : ℕ) → IsMisplaced all n → ⊥) × LacksEnd 2 all
 Outcome all (Err TooLarge) = ⊥
 Outcome all (Err NoFirstLine) = ⊥
 Outcome all (Err Memory) = ⊥
@@ -302,7 +303,7 @@ content_at : (all : List (List ℕ)) (number : ℕ) (line : List ℕ) (rest : Li
 content_at all number line rest content stands is = ap content_of (sym (stands_here all number line rest stands)) ∙ is
 
 there_at : (all : List (List ℕ)) (number : ℕ) (line : List ℕ) (rest : List (List ℕ)) → Stands all number (line ∷ rest)
-    → IsBehindFirst all number
+    → IsLineFrom 2 all number
 there_at all number line rest stands = record { from = stands.from; to = omega (arith, stands.size) }
 
 -- all lines are good where none is left
@@ -314,22 +315,22 @@ all_good all number stands good n misplaced = good n (omega (arith, stands.size,
 empty_good : (all : List (List ℕ)) (number : ℕ) → content_of (line_at all number) ≡ Empty → IsMisplaced all number → ⊥
 empty_good all number here misplaced = by_cause misplaced.cause
   where
-    by_cause : IsNoForm (line_at all number) ⊎ (IsBehindEnd all number × (IsEmptyLine (line_at all number) → ⊥)) → ⊥
+    by_cause : IsNoLine IsFormLine (line_at all number) ⊎ (IsBehindEnd 2 all number × (IsEmptyLine (line_at all number) → ⊥)) → ⊥
     by_cause (inl no_form) = no_form.not_empty (is_content (line_at all number) Empty here)
     by_cause (inr behind) = behind.1 (is_content (line_at all number) Empty here)
 
 -- a line before END is misplaced only where no form derives it
-before_end_good : (all : List (List ℕ)) (number : ℕ) → NoEndBelow all number → (IsNoForm (line_at all number) → ⊥)
+before_end_good : (all : List (List ℕ)) (number : ℕ) → NoEndBelow all number → (IsNoLine IsFormLine (line_at all number) → ⊥)
     → IsMisplaced all number → ⊥
 before_end_good all number no_end a_form misplaced = by_cause misplaced.cause
   where
-    by_cause : IsNoForm (line_at all number) ⊎ (IsBehindEnd all number × (IsEmptyLine (line_at all number) → ⊥)) → ⊥
+    by_cause : IsNoLine IsFormLine (line_at all number) ⊎ (IsBehindEnd 2 all number × (IsEmptyLine (line_at all number) → ⊥)) → ⊥
     by_cause (inl no_form) = a_form no_form
     by_cause (inr behind) = no_end behind.0.end behind.0.before behind.0.there behind.0.is_end
 
 -- a line behind END that is not empty
 misplaced_behind : (all : List (List ℕ)) (number : ℕ) (line : List ℕ) (rest : List (List ℕ))
-    → Stands all number (line ∷ rest) → GoodBelow all number → IsBehindEnd all number
+    → Stands all number (line ∷ rest) → GoodBelow all number → IsBehindEnd 2 all number
     → (content_of (line_at all number) ≡ Empty → ⊥) → IsLowestMisplaced all number
 misplaced_behind all number line rest stands good behind filled = record {
   misplaced = record {
@@ -340,7 +341,7 @@ misplaced_behind all number line rest stands good behind filled = record {
   lowest = good;
 }
 
-behind_more : (all : List (List ℕ)) (number : ℕ) → IsBehindEnd all number → IsBehindEnd all (suc number)
+behind_more : (all : List (List ℕ)) (number : ℕ) → IsBehindEnd 2 all number → IsBehindEnd 2 all (suc number)
 behind_more all number behind = record {
   end = behind.end;
   there = behind.there;
@@ -350,9 +351,9 @@ behind_more all number behind = record {
 }
 
 ended_by : (all : List (List ℕ)) (number last : ℕ) (line : List ℕ) (rest : List (List ℕ)) (content : Content)
-    → Stands all number (line ∷ rest) → GoodBelow all number → IsBehindEnd all number
+    → Stands all number (line ∷ rest) → GoodBelow all number → IsBehindEnd 2 all number
     → content_of (line_at all number) ≡ content
-    → ((n : ℕ) → Stands all n rest → GoodBelow all n → IsBehindEnd all n → Outcome all (chart_from (Some last) n rest))
+    → ((n : ℕ) → Stands all n rest → GoodBelow all n → IsBehindEnd 2 all n → Outcome all (chart_from (Some last) n rest))
     → Outcome all (line_then (Some last) number content (λ e'. chart_from e' (suc number) rest))
 ended_by all number last line rest Empty stands good behind here others =
     others (suc number) (next_stands all number line rest stands)
@@ -375,7 +376,7 @@ ended_by all number last line rest NoForm stands good behind here others = mispl
 
 -- the outcome behind END
 ended_outcome : (all : List (List ℕ)) (last : ℕ) (rest : List (List ℕ)) (number : ℕ) → Stands all number rest
-    → GoodBelow all number → IsBehindEnd all number
+    → GoodBelow all number → IsBehindEnd 2 all number
     → Outcome all (chart_from (Some last) number rest)
 unfolding chart_from
 ended_outcome all last [] number stands good behind =
@@ -402,7 +403,7 @@ started_by all number line rest Empty stands good no_end here others =
     (no_end_more all number no_end (no_end_here (line_at all number) Empty here (not_end Empty (inl refl))))
 started_by all number line rest End stands good no_end here others =
     let is_end = is_content (line_at all number) End here in
-    let behind : IsBehindEnd all (suc number) =
+    let behind : IsBehindEnd 2 all (suc number) =
     record { end = number; there = there_at all number line rest stands; before = omega arith; is_end = is_end } in
     ended_outcome all number rest (suc number) (next_stands all number line rest stands)
     (good_more all number good (before_end_good all number no_end (λ no_form. no_form.not_end is_end))) behind
@@ -410,7 +411,7 @@ started_by all number line rest (Form statement) stands good no_end here others 
     let is_form = is_content (line_at all number) (Form statement) here in
     with_lines_outcome all (record { number = number; statement = statement } ∷ []) (chart_from None (suc number) rest)
     (others (suc number) (next_stands all number line rest stands)
-    (good_more all number good (before_end_good all number no_end (λ no_form. no_form.not_form statement is_form)))
+    (good_more all number good (before_end_good all number no_end (λ no_form. no_form.not_said statement is_form)))
     (no_end_more all number no_end
     (no_end_here (line_at all number) (Form statement) here (not_end (Form statement) (inr (statement, refl))))))
 started_by all number line rest NoForm stands good no_end here others = record {
@@ -565,7 +566,7 @@ misplaced_read lines n (Err NoFirstLine) is says = absurd says
 misplaced_read lines n (Err Memory) is says = absurd says
 
 no_end_read : (lines : List (List ℕ)) (read : Result Chart TextFault) → ((n : ℕ) → IsMisplaced lines n → ⊥)
-    → LacksEnd lines → Outcome lines read → read ≡ Err NoEnd
+    → LacksEnd 2 lines → Outcome lines read → read ≡ Err NoEnd
 no_end_read lines (Ok chart) good lacks says = absurd (says.1 lacks)
 no_end_read lines (Err (NotALine m)) good lacks says = absurd (good m says.misplaced)
 no_end_read lines (Err NoEnd) good lacks says = refl

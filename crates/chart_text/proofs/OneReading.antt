@@ -1,6 +1,7 @@
 -- A line says one thing at most.
 use Rattle.std.proofs.Common.{◌≡◌, ℕ, List, sym, ◌∙◌}
-use Rattle.chart_text.specs.ChartText.{IsEmptyLine, IsEndLine, IsFormLine}
+use Rattle.tokens.specs.Frame.{IsEmptyLine, IsEndLine}
+use Rattle.chart_text.specs.ChartText.{IsFormLine}
 use Rattle.chart_text.specs.declared.statement.Statement.{Statement}
 use Rattle.chart_text.specs.declared.read.Content.TheVariants.{Empty, End, Form}
 use Rattle.chart_text.proofs.ChartGrammar.{empty_read, end_read, form_read}

@@ -1,25 +1,18 @@
 -- A chart as text: line 1 names the language, each other line is a form or empty, END ends the chart.
 -- The text rules, which say what is wrong with a text that is no chart, stand in TextFaults.
-use Rattle.std.specs.Prelude.{◌≡◌, ℕ, ◌<◌, suc, List, [], ◌∷◌, length, Any, ◌⊎◌, codes}
+use Rattle.std.specs.Prelude.{◌≡◌, ℕ, suc, List, [], ◌∷◌, codes}
 use Rattle.std.specs.List.{AllByRecursion}
 use Rattle.card_code.specs.Lines.{lines_of}
 use Rattle.chart_text.specs.Chart.{Chart}
+use Rattle.tokens.specs.Frame.{IsEmptyLine, IsEndLine, IsLarger, IsTitleLine}
 use Rattle.tokens.specs.Tokens.{HasTokens}
 use Rattle.chart_text.specs.Forms.{Says}
 use Rattle.chart_text.specs.declared.chart.Line.{Line}
 use Rattle.chart_text.specs.declared.statement.Statement.{Statement}
 
--- a line without a token: nothing, or spaces alone
-abbrev pub IsEmptyLine : List ℕ → Type 0
-IsEmptyLine line = HasTokens line []
-
--- a line whose only token is END
-abbrev pub IsEndLine : List ℕ → Type 0
-IsEndLine line = HasTokens line (codes "END" ∷ [])
-
 -- a line `CHART407 1`
 abbrev pub IsFirstLine : List ℕ → Type 0
-IsFirstLine line = HasTokens line (codes "CHART407" ∷ codes "1" ∷ [])
+IsFirstLine line = IsTitleLine (codes "CHART407") (codes "1") line
 
 -- a line that is a form, and what it says
 pub record IsFormLine (line : List ℕ) (statement : Statement) : Type 0 where
@@ -39,7 +32,7 @@ pub data ReadsFrom : ℕ → List (List ℕ) → List Line → ℕ → Type 0 wh
 
 -- more than 500 lines, or a line of more than 200 bytes
 abbrev pub IsTooLarge : List (List ℕ) → Type 0
-IsTooLarge lines = (500 < length lines) ⊎ Any (λ line. 200 < length line) lines
+IsTooLarge lines = IsLarger 500 200 lines
 
 -- the text is a chart, and what it says
 pub record Reads (bytes : List ℕ) (chart : Chart) : Type 0 where

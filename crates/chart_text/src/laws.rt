@@ -2,7 +2,8 @@
 
 ghost use Rattle.std.specs.Prelude.{◌≡◌, ℕ, List};
 ghost use Rattle.chart_text.specs.Chart.{Chart};
-ghost use Rattle.chart_text.specs.ChartText.{IsEmptyLine, IsEndLine, IsFormLine, Reads};
+ghost use Rattle.tokens.specs.Frame.{IsEmptyLine, IsEndLine};
+ghost use Rattle.chart_text.specs.ChartText.{IsFormLine, Reads};
 ghost use Rattle.chart_text.specs.TextFaults.{HasFault};
 ghost use Rattle.chart_text.specs.declared.statement.Statement.{Statement};
 ghost use Rattle.chart_text.specs.declared.fault.TextFault.{TextFault};

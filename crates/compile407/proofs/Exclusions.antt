@@ -50,7 +50,7 @@ compiled_texts_have_no_fault bytes compiled (chart.NotYet line) reads is has =
 compiled_texts_have_no_fault bytes compiled (chart.Capacity fault) reads is has =
     let P : Chart → Type 0 = λ c. Exceeds (wanted_of c.lines) standard fault in
     let exceeds = subst P (one_chart bytes has.read compiled.chart has.reads reads) has.exceeds in
-    absurd (has.is_cause (fitting_charts_have_no_fault (wanted_of compiled.chart.lines) standard fault is.fits exceeds))
+    absurd (fitting_charts_have_no_fault (wanted_of compiled.chart.lines) standard fault is.fits exceeds)
 compiled_texts_have_no_fault bytes compiled chart.Memory reads is has = refl
 
 -- a deck of valid cards has no invalid one

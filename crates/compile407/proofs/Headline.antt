@@ -4,8 +4,8 @@ use Rattle.std.specs.List.{All, flat_map}
 use Rattle.hubs.specs.Wiring.{Wiring}
 use Rattle.chart_text.specs.Chart.{Chart}
 use Rattle.chart_text.specs.declared.chart.Line.{Line}
-use Rattle.machine.specs.declared.placed_line.PlacedLine.{PlacedLine}
-use Rattle.machine.specs.Machine.{MachineLines}
+use Rattle.carriage.specs.declared.placed_line.PlacedLine.{PlacedLine}
+use Rattle.machine.specs.Feeds.{MachineLines}
 use Rattle.compile407.specs.ChartForm.{prints_details, form_of}
 use Rattle.compile407.specs.Outline.{details}
 use Rattle.compile407.specs.BodyLines.{card_line, lines_for}
@@ -17,7 +17,7 @@ use Rattle.compile407.specs.Compilation.{Compilation, IsCompiled}
 use Rattle.compile407.specs.WiredFor.{WiredFor}
 use Rattle.compile407.specs.Listing.{IsListing}
 use Rattle.compile407.proofs.Cycles.{IsGathered}
-use Rattle.compile407.specs.Pages.{Pages}
+use Rattle.page_text.specs.Pages.{Pages}
 use Rattle.chart_rules.specs.ValidCard.{IsValidCard}
 use Rattle.compile407.specs.Headline.{IsDeck, WiredSetupsPrintReports}
 use Rattle.std.proofs.lemmas.List.Elements.{All-weaker}

@@ -18,7 +18,8 @@ use Rattle.chart_text.specs.declared.statement.Statement.TheVariants as says
 use Rattle.chart_rules.specs.declared.rule.Rule.{Rule}
 use Rattle.chart_rules.specs.declared.rule.Rule.TheVariants as rule
 use Rattle.chart_rules.specs.declared.items.PrintedLine.TheVariants.{Body}
-use Rattle.chart_rules.specs.Fields.{fields_of, field_of, field_named, columns_of, sign_column}
+use Rattle.chart_rules.specs.Fields.{fields_of, field_of, field_named}
+use Rattle.chart_text.specs.Field.{columns_of, sign_column}
 use Rattle.chart_rules.specs.Columns.{has_good_sign}
 use Rattle.chart_rules.specs.Items as rules_items
 use Rattle.chart_rules.specs.Wheels.{overlap, is_off_wheels, meet}

@@ -1,12 +1,13 @@
 pub mod CapacityTold
 pub mod Cycles
+pub mod Emitting
 pub mod Exclusions
+pub mod Feeds
 pub mod Gathered
 pub mod Headline
 pub mod Impulses
 pub mod Lawful
 pub mod NumberTests
-pub mod PageLists
 pub mod Sets
 pub mod Validity
 pub mod WholeRun

@@ -11,6 +11,7 @@ use Rattle.chart_rules.specs.Fields.{fields_of}
 use Rattle.chart_rules.specs.Rules.{IsLawful}
 use Rattle.compile407.specs.Items.{Item, Text, item_of, items_of}
 use Rattle.chart_rules.specs.ValidCard.{column_of, is_printed, IsValidKind, IsValidField, IsText, IsValidCard}
+use Rattle.print_unit.specs.ZeroControl.{received_set}
 use Rattle.compile407.proofs.Sets.{set_at, set_at_source}
 use Rattle.compile407.proofs.Gathered.{gathered, gathered-character}
 use Rattle.compile407.proofs.Cycles.{IsGathered}
@@ -70,12 +71,12 @@ valid_gathered chart card lawful valid v = by (set_at_source (items_of chart.lin
         ⊎ ((wheel : ℕ) × (first : ℕ) × (count : ℕ) × Contains (items_of chart.lines) (Text wheel first count)
         × (wheel ≤ v) × (v < wheel + count)
         × (set_at (items_of chart.lines) card v ≡ column_of card (first + (v - wheel)))) →
-        gathered 14 (set_at (items_of chart.lines) card v) ≡ set_at (items_of chart.lines) card v
-    by (inl none) = ap (gathered 14) none ∙ sym none
+        received_set (gathered 14 (set_at (items_of chart.lines) card v)) ≡ set_at (items_of chart.lines) card v
+    by (inl none) = ap (λ (set : ℕ). received_set (gathered 14 set)) none ∙ sym none
     by (inr (wheel, first, count, listed, low, high, is)) =
         let holds : ItemHolds card (Text wheel first count) =
         All-contains (ItemHolds card) (items_of chart.lines) (Text wheel first count)
         (item_holds chart card lawful valid) listed in
         let character : IsCharacter (column_of card (first + (v - wheel))) =
         holds (first + (v - wheel)) (omega arith) (omega arith) in
-        ap (gathered 14) is ∙ gathered-character _ character.0 character.1 ∙ sym is
+        ap (λ (set : ℕ). received_set (gathered 14 set)) is ∙ gathered-character _ character.0 character.1 ∙ sym is

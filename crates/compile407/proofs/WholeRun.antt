@@ -1,166 +1,247 @@
--- A whole run of a setup wired for a listing: the carriage stands where the report's lines left the form.
-use Rattle.std.proofs.Common.{◌≡◌, ℕ, zero, suc, ◌+◌, ◌^◌, ◌<◌, ◌≤◌, ◌==◌, Bool, true, false, cond, if◌then◌else◌, nat_le, nat_lt, List, [], ◌∷◌, ◌++◌, Option, Some, None, is_some, map, length, replicate, refl, sym, ap, subst, ◌∙◌, arith}
-use Rattle.std.specs.List.{All}
-use Rattle.std.proofs.lemmas.List.Elements.{All-head, All-tail}
+-- A whole run in a setup wired for a listing: the carriage stands where the report's lines left the form.
+use Rattle.std.proofs.Common.{◌≡◌, ◌∙◌, ◌+◌, ◌^◌, ◌<◌, ◌≤◌, ◌==◌, not, ℕ, zero, suc, Bool, true, false, if◌then◌else◌, nat_le, nat_lt, List, [], ◌∷◌, ◌++◌, Option, Some, None, is_some, map, length, replicate, refl, sym, ap, subst, arith}
+use Rattle.std.specs.List.{All, range_with_len}
 use Rattle.std.proofs.lemmas.Bool.Decides.{nat_tests}
-use Rattle.std.proofs.lemmas.List.{length-replicate}
-use Rattle.hubs.specs.declared.jack.Jack.TheVariants as jacks
-use Rattle.hubs.specs.Wiring.{Wiring, is_plugged}
-use Rattle.net.specs.declared.cycle.Cycle.{Cycle}
-use Rattle.net.specs.declared.cycle.Cycle.TheVariants.{RunIn, Card, Head}
-use Rattle.net.specs.declared.cycle.Heading.TheVariants.{First, Second, Third}
+use Rattle.std.proofs.lemmas.List.Elements.{All-head, All-tail}
+use Rattle.carriage.specs.Asked.{nothing_asked}
+use Rattle.carriage.specs.Carriage.{carriage_ended, ended_at}
+use Rattle.carriage.specs.Moves as moves
+use Rattle.carriage.specs.declared.placed_line.PlacedLine.{PlacedLine}
+use Rattle.carriage.specs.declared.spot.Spot.{Spot}
 use Rattle.chart_text.specs.Chart.{Chart}
-use Rattle.machine.specs.declared.machine.Machine.{Machine}
-use Rattle.machine.specs.declared.carriage.Carriage.{Carriage}
-use Rattle.machine.specs.declared.placed_line.PlacedLine.{PlacedLine}
-use Rattle.machine.specs.Wheels.{empty_wheel, wheels_at_start}
-use Rattle.machine.specs.Carriage as carriage
-use Rattle.machine.specs.CycleOrder.{next_cycle, cycle_after, card_due, program_ended}
-use Rattle.machine.specs.Machine.{cycle_due, before_cycle, moved_on, cards_left, cards_behind, next_card, CycleRun, Runs, line_at, line_of, MachineLines, machine_at_start}
+use Rattle.hubs.specs.Wiring.{Wiring, is_plugged}
+use Rattle.hubs.specs.declared.jack.Jack.{Jack}
+use Rattle.hubs.specs.declared.jack.Jack.TheVariants as jacks
+use Rattle.net.specs.Printing.{printing_of}
+use Rattle.net.specs.declared.cycle.Cycle.{Cycle}
+use Rattle.net.specs.declared.cycle.Cycle.TheVariants.{RunIn, Card, Prog, Head}
+use Rattle.net.specs.declared.cycle.Level.{Level}
+use Rattle.net.specs.declared.cycle.Level.TheVariants.{Minor, Intermediate, Major, Final}
+use Rattle.net.specs.declared.cycle.Ordinal.{Ordinal}
+use Rattle.net.specs.declared.cycle.Ordinal.TheVariants.{First, Second, Third}
+use Rattle.machine.specs.Machine.{MachineState, machine_at_start}
+use Rattle.machine.specs.Cycles.{CycleRun, line_at, line_of}
+use Rattle.machine.specs.Feeds.{Fed, FeedRuns, Feeds, LinesFrom, MachineLines, begun, is_fresh, moved_on, taken}
+use Rattle.print_unit.specs.Wheels.{wheel_at_start}
+use Rattle.program_unit.specs.CycleOrder.{cycle_behind, is_over_at, headed}
+use Rattle.program_unit.specs.Program.{stage_ended}
+use Rattle.program_unit.specs.declared.stage.Stage.{Stage}
+use Rattle.program_unit.specs.declared.stage.Stage.TheVariants.{Fresh, RanIn, RanCard, RanProg, BeforeCard, BeforeTotal}
 use Rattle.compile407.specs.ChartForm.{Form, form_of}
 use Rattle.compile407.specs.BodyLines.{card_line}
-use Rattle.compile407.specs.Places.{placed, left_below, before_all}
-use Rattle.compile407.specs.WiredFor.{WiredFor, list}
+use Rattle.compile407.specs.Places.{placed, left_below, before_all, next_page, next_line}
+use Rattle.compile407.specs.WiredFor.{WiredFor, JacksOf, list}
 use Rattle.compile407.specs.Listing.{IsListing}
-use Rattle.compile407.proofs.Cycles.{IsGathered, card_cycle-line, cycle_end}
+use Rattle.compile407.proofs.Cycles.{IsGathered, card_cycle-line, bare_wheel}
+use Rattle.compile407.proofs.Feeds.{Standing, IsState, GoesOn, cards_alone, program_at, carriage_at, fed_with, due_at, next_step, over, behind, after, told, quiet, at_rest}
 
--- A machine between two cycles: the card at first reading, wheels that have received nothing, the carriage, the last cycle.
-pub record IsState (cards : List (List ℕ)) (last : Option Cycle) (stands : Carriage) (machine : Machine) : Type 0 where
-  pub first : machine.stations.first ≡ next_card cards
-  pub empty : machine.wheels.wheels ≡ replicate 120 empty_wheel
-  pub carriage : machine.carriage ≡ stands
-  pub program : machine.program ≡ record { last = last; prints_cards = true }
+-- a program cycle prints nothing, and leaves the carriage where it stands
+prog_rests :
+    (wiring : Wiring) (spot : Spot) (printed : Option (ℕ × ℕ)) (level : Level) (ordinal : Ordinal)
+    → carriage_ended (carriage_at wiring spot printed) (Prog level ordinal) ≡ carriage_at wiring spot None
+prog_rests wiring spot printed level First = refl
+prog_rests wiring spot printed level Second = refl
+prog_rests wiring spot printed Minor Third = refl
+prog_rests wiring spot printed Intermediate Third = refl
+prog_rests wiring spot printed Major Third = refl
+prog_rests wiring spot printed Final Third = refl
 
--- the cycle that is due in such a state
-due : {cards : List (List ℕ)} {last : Option Cycle} {stands : Carriage} {machine : Machine} →
-    IsState cards last stands machine →
-    cycle_due machine ≡ cycle_after last true stands.latch (is_some (next_card cards))
-due {cards} {last} {stands} {machine} state =
-    ap (λ p. next_cycle p machine.carriage.latch (is_some machine.stations.first)) state.program
-    ∙ ap (λ c. cycle_after last true c.latch (is_some machine.stations.first)) state.carriage
-    ∙ ap (λ f. cycle_after last true stands.latch (is_some f)) state.first
+-- behind the last card's cycle, and behind a program cycle
+IsBehindCards : Stage → Type 0
+IsBehindCards RanCard = Unit {0}
+IsBehindCards (RanProg level ordinal) = Unit {0}
+IsBehindCards stage = ⊥
 
--- the state behind a cycle
-after : {cards : List (List ℕ)} {last : Option Cycle} {stands : Carriage} {machine : Machine} (wiring : Wiring)
-    (cycle : Cycle) (new : Machine) →
-    IsState cards last stands machine → CycleRun wiring cycle machine new →
-    IsState cards (Some cycle) (carriage.carriage_ended stands cycle) new
-after {machine = machine} wiring cycle new state run =
-    let end = cycle_end wiring cycle machine new (ap length state.empty ∙ length-replicate 120 empty_wheel) run in
-    record {
-      first = ap (λ s. s.first) end.stations ∙ state.first;
-      empty = end.empty;
-      carriage = end.carriage ∙ ap (λ c. carriage.carriage_ended c cycle) state.carriage;
-      program = end.program ∙ ap (λ p. program_ended p cycle) state.program;
-    }
+-- behind the last card only program cycles follow
+prog_follows :
+    (stage : Stage) (latch : Bool) (cycle : Cycle) → IsBehindCards stage
+    → (if not (is_over_at (program_at stage) stage false) then cycle_behind (program_at stage) stage latch false else None)
+    ≡ Some cycle
+    → (level : Level) × (ordinal : Ordinal) × (cycle ≡ Prog level ordinal)
+unfolding IsBehindCards
+prog_follows RanCard latch cycle is due = (Minor, First, cc)
+prog_follows (RanProg level First) latch cycle is due = (level, Second, cc)
+prog_follows (RanProg Minor Second) latch cycle is due = (Minor, Third, cc)
+prog_follows (RanProg Intermediate Second) latch cycle is due = (Intermediate, Third, cc)
+prog_follows (RanProg Major Second) latch cycle is due = (Major, Third, cc)
+prog_follows (RanProg Final Second) latch cycle is due = (Final, Third, cc)
+prog_follows (RanProg Minor Third) latch cycle is due = (Intermediate, First, cc)
+prog_follows (RanProg Intermediate Third) latch cycle is due = (Major, First, cc)
+prog_follows (RanProg Major Third) latch cycle is due = (Final, First, cc)
+prog_follows (RanProg Final Third) latch cycle is due = cc
+prog_follows Fresh latch cycle is due = absurd is
+prog_follows RanIn latch cycle is due = absurd is
+prog_follows (BeforeCard heading) latch cycle is due = absurd is
+prog_follows (BeforeTotal level heading) latch cycle is due = absurd is
 
--- one more cycle of a run, and the rest of the run behind it
-record NextRun (wiring : Wiring) (machine : Machine) (cards : List (List ℕ)) (lines : List PlacedLine)
-    (cycle : Cycle) : Type 0 where
-  new : Machine
-  others : List PlacedLine
-  cycles : ℕ
-  ran : CycleRun wiring cycle (before_cycle cycle cards machine) new
-  is_lines : lines ≡ line_of new ++ others
-  runs : Runs wiring cycles new (cards_left cycle cards) others
+-- Behind the last card's cycle no line is placed any more.
+tail_lines :
+    (chart : Chart) (wiring : Wiring) (at : Standing) (cycles : List Cycle) (machine new : MachineState)
+    (lines : List PlacedLine) → WiredFor chart wiring → at.held ≡ None → IsBehindCards at.stage
+    → IsState wiring at machine → FeedRuns wiring cycles (fed_with machine false None) new lines → lines ≡ []
+unfolding FeedRuns IsBehindCards
+tail_lines chart wiring at [] machine new lines wired none stage state (no_more, same, no_lines) = no_lines
+tail_lines chart wiring at (cycle ∷ cycles) machine new lines wired none stage state
+    (mid, others, step, runs, is_lines) =
+    let fed : Fed = fed_with machine false None in
+    let due : (if not (is_over_at (program_at at.stage) at.stage false)
+    then cycle_behind (program_at at.stage) at.stage at.spot.latch false else None) ≡ Some cycle =
+    ap (λ held. if not (is_over_at (program_at at.stage) at.stage (is_some held))
+    then cycle_behind (program_at at.stage) at.stage at.spot.latch (is_some held) else None) (sym none)
+    ∙ sym (due_at wiring at machine false None state) ∙ step.due in
+    let prog = prog_follows at.stage at.spot.latch cycle stage due in
+    let same : taken cycle fed ≡ fed = ap (λ k. taken k fed) prog.2 in
+    let R : Fed → Type 0 = λ f. CycleRun wiring cycle f.machine mid.machine in
+    let S : Cycle → Type 0 = λ k. IsBehindCards (stage_ended at.stage k) in
+    let ends = after chart wiring at cycle machine mid.machine at.spot None wired state (subst R same step.ran)
+    (ap (λ k. carriage_ended (carriage_at wiring at.spot at.printed) k) prog.2
+    ∙ prog_rests wiring at.spot at.printed prog.0 prog.1) in
+    let no_line : line_of mid.machine ≡ [] = ap (λ c. line_at c.printed mid.machine.wheels.line) ends.carriage in
+    let rest = tail_lines chart wiring (behind at cycle at.spot None) cycles mid.machine new others wired none
+    (subst S (sym prog.2) tt) ends
+    (told wiring cycles mid new others false None (step.waits ∙ ap (λ f. f.waits) same) step.next runs) in
+    is_lines ∙ ap (λ l. l ++ others) no_line ∙ rest
 
-next_run : (wiring : Wiring) (cycles : ℕ) (machine : Machine) (cards : List (List ℕ)) (lines : List PlacedLine)
-    (cycle : Cycle) →
-    cycle_due machine ≡ Some cycle → Runs wiring cycles machine cards lines → NextRun wiring machine cards lines cycle
-unfolding Runs
-next_run wiring zero machine cards lines cycle is_due (none, no_lines) = cc
-next_run wiring (suc cycles) machine cards lines cycle is_due (new, left, others, one, is_lines, runs) =
-    let same : one.cycle ≡ cycle = let ran_due = one.due in cc in
-    let P : Cycle → Type 0 = λ k. CycleRun wiring k (before_cycle k cards machine) new in
-    let Q : List (List ℕ) → Type 0 = λ l. Runs wiring cycles new l others in
-    record {
-      new = new;
-      others = others;
-      cycles = cycles;
-      ran = subst P same one.ran;
-      is_lines = is_lines;
-      runs = subst Q (one.is_left ∙ ap (λ k. cards_left k cards) same) runs;
-    }
+-- the spot that a line placed there leaves: on the overflow line the latch is set
+abbrev pub spot_on : Wiring → (page line : ℕ) → Spot
+spot_on wiring page line = record { page = page; line = line; latch = line == wiring.tape.overflow }
 
--- no cycle is due: no line
-no_run : (wiring : Wiring) (cycles : ℕ) (machine : Machine) (cards : List (List ℕ)) (lines : List PlacedLine) →
-    cycle_due machine ≡ None → Runs wiring cycles machine cards lines → lines ≡ []
-unfolding Runs
-no_run wiring zero machine cards lines is_due (none, no_lines) = no_lines
-no_run wiring (suc cycles) machine cards lines is_due (new, left, others, one, is_lines, runs) = let ran_due =
-    one.due in cc
-
--- a run in which a cycle that places no line is due
-quiet_run : {cards : List (List ℕ)} {last : Option Cycle} {stands : Carriage} {machine : Machine} (wiring : Wiring)
-    (cycles : ℕ) (deck : List (List ℕ))
-    (lines : List PlacedLine) (heading : Cycle) → IsState cards last stands machine → cycle_due machine ≡ Some heading →
-    before_cycle heading deck machine ≡ machine → cards_left heading deck ≡ deck →
-    (carriage.carriage_ended stands heading).printed ≡ None → Runs wiring cycles machine deck lines →
-    (new : Machine) × (n : ℕ) × IsState cards (Some heading) (carriage.carriage_ended stands heading) new
-    × Runs wiring n new deck lines
-quiet_run {machine = machine} wiring cycles deck lines heading state is_due same_machine same_deck nothing runs =
-    let next = next_run wiring cycles machine deck lines heading is_due runs in
-    let R : Machine → Type 0 = λ m. CycleRun wiring heading m next.new in
-    let ends = after wiring heading next.new state (subst R same_machine next.ran) in
-    let no_line : line_of next.new ≡ [] = ap (λ c. line_at c.printed next.new.wheels.line) ends.carriage
-    ∙ ap (λ p. line_at p next.new.wheels.line) nothing in
-    let same_lines : next.others ≡ lines = sym (next.is_lines ∙ ap (λ l. l ++ next.others) no_line) in
-    let Q : List (List ℕ) → Type 0 = λ d. Runs wiring next.cycles next.new d next.others in
-    let S : List PlacedLine → Type 0 = λ l. Runs wiring next.cycles next.new deck l in
-    (next.new, next.cycles, ends, subst S same_lines (subst Q same_deck next.runs))
-
--- the carriage of a setup at a place
-abbrev pub carriage_at : Wiring → (page line : ℕ) → (latch : Bool) → (printed : Option (ℕ × ℕ)) → Carriage
-carriage_at wiring page line latch printed =
-    record { tape = wiring.tape; prints_cards = true; page = page; line = line; latch = latch; printed = printed }
+-- a spot with the latch reset
+abbrev pub spot_at : (page line : ℕ) → Bool → Spot
+spot_at page line latch = record { page = page; line = line; latch = latch }
 
 -- above the form's last line a card cycle moves the carriage down by one line
-moves_down : (wiring : Wiring) (page line : ℕ) (printed : Option (ℕ × ℕ)) → line < wiring.tape.lines →
-    carriage.carriage_ended (carriage_at wiring page line false printed) Card
-    ≡ carriage_at wiring page (line + 1) (line + 1 == wiring.tape.overflow) (Some (page, line + 1))
+moves_down :
+    (wiring : Wiring) (page line : ℕ) (printed : Option (ℕ × ℕ)) → line < wiring.tape.lines
+    → carriage_ended (carriage_at wiring (spot_at page line false) printed) Card
+    ≡ carriage_at wiring (spot_on wiring page (line + 1)) (Some (page, line + 1))
 moves_down wiring page line printed below =
-    let test : nat_lt line wiring.tape.lines ≡ true = grind (arith, nat_tests) in
-    ap (λ b. cond b (carriage_at wiring page (line + 1) (line + 1 == wiring.tape.overflow) (Some (page, line + 1)))
-    (carriage.placed_at (carriage.next_page page) 1 (carriage_at wiring page line false printed))) test
+    let test : nat_lt line wiring.tape.lines ≡ true = grind (arith, nat_tests, below) in
+    ap
+    (λ (b : Bool). ended_at (carriage_at wiring (spot_at page line false) printed) true
+    (if b
+    then moves.come_to wiring.tape page (line + 1) false
+    else moves.come_to wiring.tape (moves.next_page page) 1 false))
+    test
 
--- a card cycle and what it leaves
-record CardStep (chart : Chart) (wiring : Wiring) (page line : ℕ) (card : List ℕ) (cards : List (List ℕ))
-    (lines : List PlacedLine) : Type 0 where
-  new : Machine
+-- where a run stands between the cycles of two cards, or behind the last one's
+abbrev pub between : Option (List ℕ) → Stage → Spot → Option (ℕ × ℕ) → Standing
+between held stage spot printed = record { held = held; stage = stage; spot = spot; printed = printed }
+
+-- the line of a card at a place
+abbrev pub card_at : Chart → List ℕ → (page line : ℕ) → PlacedLine
+card_at chart card page line = record { page = page; line = line; text = card_line chart.lines card }
+
+-- a card cycle in a feed, and what it leaves
+record CardStep (chart : Chart) (wiring : Wiring) (page line : ℕ) (card : List ℕ) (next : Option (List ℕ))
+    (new : MachineState) (lines : List PlacedLine) : Type 0 where
   others : List PlacedLine
-  cycles : ℕ
-  is_lines : lines ≡ record { page = page; line = line + 1; text = card_line chart.lines card } ∷ others
-  state : IsState cards (Some Card)
-      (carriage_at wiring page (line + 1) (line + 1 == wiring.tape.overflow) (Some (page, line + 1))) new
-  runs : Runs wiring cycles new (cards_behind cards) others
+  is_lines : lines ≡ card_at chart card page (line + 1) ∷ others
+  goes : GoesOn wiring (between next RanCard (spot_on wiring page (line + 1)) (Some (page, line + 1))) false next new others
 
-card_step : (chart : Chart) (wiring : Wiring) (page line : ℕ) (printed : Option (ℕ × ℕ)) (last : Option Cycle)
-    (card : List ℕ) (cards : List (List ℕ))
-    (cycles : ℕ) (machine : Machine) (lines : List PlacedLine) → WiredFor chart wiring → IsListing chart →
-    IsGathered chart card →
-    line < wiring.tape.lines → cycle_after last true false true ≡ Some Card →
-    IsState (card ∷ cards) last (carriage_at wiring page line false printed) machine →
-    Runs wiring cycles machine cards lines →
-    CardStep chart wiring page line card cards lines
-card_step chart wiring page line printed last card cards cycles machine lines wired listing whole below is_card state
-    runs =
-    let next = next_run wiring cycles machine cards lines Card (due state ∙ is_card) runs in
-    let moved : IsState cards last (carriage_at wiring page line false printed) (moved_on cards machine) =
+card_step :
+    (chart : Chart) (wiring : Wiring) (page line : ℕ) (printed : Option (ℕ × ℕ)) (stage : Stage) (card : List ℕ)
+    (next : Option (List ℕ)) (new : MachineState) (lines : List PlacedLine) → WiredFor chart wiring → IsListing chart
+    → IsGathered chart card → line < wiring.tape.lines → cycle_behind (program_at stage) stage false true ≡ Some Card
+    → GoesOn wiring (between (Some card) stage (spot_at page line false) printed) true next new lines
+    → CardStep chart wiring page line card next new lines
+card_step chart wiring page line printed stage card next new lines wired listing whole below is_card goes =
+    let at : Standing = between (Some card) stage (spot_at page line false) printed in
+    let one = next_step wiring goes.cycles Card (fed_with goes.machine true next) new lines
+    (due_at wiring at goes.machine true next goes.state ∙ is_card) goes.runs in
+    let state = goes.state in
+    let moved : IsState wiring (between next stage (spot_at page line false) printed) (moved_on next goes.machine) =
     record { first = refl; empty = state.empty; carriage = state.carriage; program = state.program } in
-    let ends = after wiring Card next.new moved next.ran in
-    let stands = ends.carriage ∙ moves_down wiring page line printed below in
-    let text = card_cycle-line chart wiring card (moved_on cards machine) next.new
-    (record { wired = wired; listing = listing; second = state.first; empty = state.empty }) whole next.ran in
-    let one_line : line_of next.new ≡ record { page = page; line = line + 1; text = card_line chart.lines card } ∷ [] =
-    ap (λ c. line_at c.printed next.new.wheels.line) stands ∙ ap (λ t. line_at (Some (page, line + 1)) t) text in
+    let ends = after chart wiring (between next stage (spot_at page line false) printed) Card (moved_on next goes.machine)
+    one.mid.machine (spot_on wiring page (line + 1)) (Some (page, line + 1)) wired moved one.step.ran
+    (moves_down wiring page line printed below) in
+    let text = card_cycle-line chart wiring card (moved_on next goes.machine) one.mid.machine
+    (record {
+      wired = wired;
+      listing = listing;
+      rest = at_rest wiring (between next stage (spot_at page line false) printed) (moved_on next goes.machine) moved;
+      second = state.first;
+      empty = state.empty;
+    })
+    whole one.step.ran in
+    let one_line : line_of one.mid.machine ≡ card_at chart card page (line + 1) ∷ [] =
+    ap (λ c. line_at c.printed one.mid.machine.wheels.line) ends.carriage
+    ∙ ap (λ t. line_at (Some (page, line + 1)) t) text in
     record {
-      new = next.new;
-      others = next.others;
-      cycles = next.cycles;
-      is_lines = next.is_lines ∙ ap (λ l. l ++ next.others) one_line;
-      state = record { first = ends.first; empty = ends.empty; carriage = stands; program = ends.program };
-      runs = next.runs;
+      others = one.others;
+      is_lines = one.is_lines ∙ ap (λ l. l ++ one.others) one_line;
+      goes = record {
+        machine = one.mid.machine;
+        cycles = one.cycles;
+        state = ends;
+        runs = told wiring one.cycles one.mid new one.others false next one.step.waits one.step.next one.runs;
+      };
     }
+
+-- the stage behind the run-in, and behind a card cycle
+IsBetween : Stage → Type 0
+IsBetween RanIn = Unit {0}
+IsBetween RanCard = Unit {0}
+IsBetween stage = ⊥
+
+-- where a card is left to run, its card cycle is due then
+card_follows :
+    (stage : Stage) (restore : Bool) → IsBetween stage
+    → cycle_behind (program_at stage) stage restore true ≡ Some (headed cards_alone restore Card)
+unfolding IsBetween
+card_follows RanIn restore is = refl
+card_follows RanCard restore is = refl
+card_follows Fresh restore is = absurd is
+card_follows (RanProg level ordinal) restore is = absurd is
+card_follows (BeforeCard heading) restore is = absurd is
+card_follows (BeforeTotal level heading) restore is = absurd is
+
+-- the heading cycles that come first leave it waiting
+card_waits : (stage : Stage) → IsBetween stage → stage_ended stage (Head First) ≡ BeforeCard First
+unfolding IsBetween
+card_waits RanIn is = refl
+card_waits RanCard is = refl
+card_waits Fresh is = absurd is
+card_waits (RanProg level ordinal) is = absurd is
+card_waits (BeforeCard heading) is = absurd is
+card_waits (BeforeTotal level heading) is = absurd is
+
+-- what is fed then waits
+feed_waits : (stage : Stage) → IsBetween stage → is_fresh stage ≡ false
+unfolding IsBetween
+feed_waits RanIn is = refl
+feed_waits RanCard is = refl
+feed_waits Fresh is = absurd is
+feed_waits (RanProg level ordinal) is = absurd is
+feed_waits (BeforeCard heading) is = absurd is
+feed_waits (BeforeTotal level heading) is = absurd is
+
+-- a page number below 2^32 is followed by the next
+page_turned : (page : ℕ) → page < 2 ^ 32 → moves.next_page page ≡ page + 1
+page_turned page below =
+    let test : nat_lt page (2 ^ 32) ≡ true = grind (arith, nat_tests, below) in
+    ap (λ (b : Bool). if b then page + 1 else page) test
+
+-- where a card cycle is due while the latch is set, the heading cycles come first, and leave the carriage on the next page
+page_begun :
+    (chart : Chart) (wiring : Wiring) (card : List ℕ) (page line first : ℕ) (printed : Option (ℕ × ℕ)) (stage : Stage)
+    (next : Option (List ℕ)) (new : MachineState) (lines : List PlacedLine) → WiredFor chart wiring → page < 2 ^ 32
+    → wiring.tape.first ≡ first → IsBetween stage
+    → GoesOn wiring (between (Some card) stage (spot_at page line true) printed) true next new lines
+    → GoesOn wiring (between (Some card) (BeforeCard Third) (spot_at (page + 1) first false) None) true next new lines
+page_begun chart wiring card page line first printed stage next new lines wired below is_first is goes =
+    let spot : Spot = spot_at (moves.next_page page) wiring.tape.first false in
+    let one = quiet chart wiring (between (Some card) stage (spot_at page line true) printed) true next new lines
+    (Head First) spot wired (card_follows stage true is) (λ fed. refl) refl goes in
+    let G : Stage → Type 0 = λ s. GoesOn wiring (between (Some card) s spot None) true next new lines in
+    let two = quiet chart wiring (between (Some card) (BeforeCard First) spot None) true next new lines
+    (Head Second) spot wired refl (λ fed. refl) refl (subst G (card_waits stage is) one) in
+    let three = quiet chart wiring (between (Some card) (BeforeCard Second) spot None) true next new lines
+    (Head Third) spot wired refl (λ fed. refl) refl two in
+    let same : spot ≡ spot_at (page + 1) first false =
+    λ i. record { page = page_turned page below i; line = is_first i; latch = false } in
+    let P : Spot → Type 0 = λ s. GoesOn wiring (between (Some card) (BeforeCard Third) s None) true next new lines in
+    subst P same three
 
 -- Where the carriage stands, and where the line before left the form: the restore latch is set where the next line
 -- starts a page, and else the carriage stands on that line, above the overflow line.
@@ -168,8 +249,9 @@ abbrev pub OnForm : Form → Option ℕ → ℕ → Bool → Type 0
 OnForm form None line latch = latch ≡ true
 OnForm form (Some left) line latch = (latch ≡ false) × (line ≡ left) × (left < form.overflow)
 
-on_form_below : (form : Form) (line overflow : ℕ) → overflow ≡ form.overflow → line < form.overflow →
-    OnForm form (left_below form (line + 1)) (line + 1) (line + 1 == overflow)
+on_form_below :
+    (form : Form) (line overflow : ℕ) → overflow ≡ form.overflow → line < form.overflow
+    → OnForm form (left_below form (line + 1)) (line + 1) (line + 1 == overflow)
 on_form_below form line overflow same below = by (nat_le form.overflow (line + 1)) refl
   where
     by : (b : Bool) → nat_le form.overflow (line + 1) ≡ b →
@@ -177,123 +259,196 @@ on_form_below form line overflow same below = by (nat_le form.overflow (line + 1
     by true at = grind (arith, nat_tests)
     by false above = (grind (arith, nat_tests), refl, grind (arith, nat_tests))
 
--- the last cycle before a card cycle is due, if a card is left: the run-in, or a card cycle
-IsBetween : Option Cycle → List (List ℕ) → Type 0
-IsBetween (Some RunIn) (card ∷ cards) = Unit {0}
-IsBetween (Some Card) cards = Unit {0}
-IsBetween last cards = ⊥
+-- A feed that runs a card places its line, and where another card was fed, that one stands at first reading behind it.
+record FedCard (chart : Chart) (wiring : Wiring) (page line : ℕ) (card : List ℕ) (next : Option (List ℕ))
+    (new : MachineState) (lines : List PlacedLine) : Type 0 where
+  is_lines : lines ≡ card_at chart card page (line + 1) ∷ []
+  state :
+      (other : List ℕ) → next ≡ Some other
+      → IsState wiring (between (Some other) RanCard (spot_on wiring page (line + 1)) (Some (page, line + 1))) new
 
-card_follows : (last : Option Cycle) (card : List ℕ) (cards : List (List ℕ)) (restore : Bool) →
-    IsBetween last (card ∷ cards) →
-    cycle_after last true restore true ≡ Some (card_due true restore)
-unfolding IsBetween
-card_follows (Some RunIn) card cards restore between = refl
-card_follows (Some Card) card cards restore between = refl
-card_follows (Some (Head heading)) card cards restore between = absurd between
-card_follows None card cards restore between = absurd between
+fed_card :
+    (chart : Chart) (wiring : Wiring) (page line : ℕ) (card : List ℕ) (next : Option (List ℕ)) (new : MachineState)
+    (lines : List PlacedLine) → WiredFor chart wiring → CardStep chart wiring page line card next new lines
+    → FedCard chart wiring page line card next new lines
+unfolding IsBehindCards
+fed_card chart wiring page line card None new lines wired step =
+    let none = tail_lines chart wiring (between None RanCard (spot_on wiring page (line + 1)) (Some (page, line + 1)))
+    step.goes.cycles step.goes.machine new step.others wired refl tt step.goes.state step.goes.runs in
+    record {
+      is_lines = step.is_lines ∙ ap (λ l. card_at chart card page (line + 1) ∷ l) none;
+      state = λ other is. cc;
+    }
+fed_card chart wiring page line card (Some other) new lines wired step =
+    let at : Standing = between (Some other) RanCard (spot_on wiring page (line + 1)) (Some (page, line + 1)) in
+    let ends = over wiring step.goes.cycles (fed_with step.goes.machine false (Some other)) new step.others
+    (due_at wiring at step.goes.machine false (Some other) step.goes.state) step.goes.runs in
+    let P : MachineState → Type 0 = λ m. IsState wiring at m in
+    let state : IsState wiring at new = subst P (sym ends.0) step.goes.state in
+    record {
+      is_lines = step.is_lines ∙ ap (λ l. card_at chart card page (line + 1) ∷ l) ends.1;
+      state = λ card is.
+          let same : other ≡ card = cc in
+          let Q : List ℕ → Type 0 = λ c. IsState wiring (between (Some c) RanCard (spot_on wiring page (line + 1)) (Some (page, line + 1))) new in
+          subst Q same state;
+    }
 
-none_follows : (last : Option Cycle) (restore : Bool) → IsBetween last [] → cycle_after last true restore false ≡ None
-unfolding IsBetween
-none_follows (Some RunIn) restore between = absurd between
-none_follows (Some Card) restore between = refl
-none_follows (Some (Head heading)) restore between = absurd between
-none_follows None restore between = absurd between
+-- the start of such a feed
+feed_begun :
+    (wiring : Wiring) (at : Standing) (old : MachineState) (next : Option (List ℕ)) (new : MachineState)
+    (lines : List PlacedLine) → IsBetween at.stage → IsState wiring at old → Feeds wiring old next new lines
+    → GoesOn wiring at true next new lines
+feed_begun wiring at old next new lines is state feed =
+    let same : begun old next ≡ fed_with old true next =
+    ap (λ (fresh : Bool). if fresh then fed_with (moved_on next old) false next else fed_with old true next)
+    (ap (λ p. is_fresh p.stage) state.program ∙ feed_waits at.stage is) in
+    let P : Fed → Type 0 = λ fed. FeedRuns wiring feed.cycles fed new lines in
+    record { machine = old; cycles = feed.cycles; state = state; runs = subst P same feed.runs }
 
--- a page number below 2^32 is followed by the next
-page_turned : (page : ℕ) → page < 2 ^ 32 → carriage.next_page page ≡ page + 1
-page_turned page below =
-    let test : nat_lt page (2 ^ 32) ≡ true = grind (arith, nat_tests) in ap (λ b. if b then page + 1 else page) test
-
--- where a card cycle is due while the latch is set, the heading cycles come first, and leave the carriage on the next page
-page_begun : (wiring : Wiring) (card : List ℕ) (cards : List (List ℕ)) (page line first : ℕ) (printed : Option (ℕ × ℕ))
-    (last : Option Cycle) (cycles : ℕ) (machine : Machine) (lines : List PlacedLine) → page < 2 ^ 32 →
-    wiring.tape.first ≡ first → IsBetween last (card ∷ cards) →
-    IsState (card ∷ cards) last (carriage_at wiring page line true printed) machine →
-    Runs wiring cycles machine cards lines →
-    (new : Machine) × (n : ℕ)
-    × IsState (card ∷ cards) (Some (Head Third)) (carriage_at wiring (page + 1) first false None) new
-    × Runs wiring n new cards lines
-page_begun wiring card cards page line first printed last cycles machine lines below is_first between state runs =
-    let one = quiet_run wiring cycles cards lines (Head First) state
-    (due state ∙ card_follows last card cards true between)
-    refl refl refl runs in
-    let two = quiet_run wiring one.1 cards lines (Head Second) one.2 (due one.2) refl refl refl one.3 in
-    let three = quiet_run wiring two.1 cards lines (Head Third) two.2 (due two.2) refl refl refl two.3 in
-    let P : ℕ → Type 0 = λ p. IsState (card ∷ cards) (Some (Head Third))
-    (carriage_at wiring p wiring.tape.first false None) three.0 in
-    let L : ℕ → Type 0 = λ l. IsState (card ∷ cards) (Some (Head Third))
-    (carriage_at wiring (page + 1) l false None) three.0 in
-    (three.0, three.1, subst L is_first (subst P (page_turned page below) three.2), three.3)
-
--- The lines of a run from a state between two cards are the placed lines of the cards that are left.
-cards_run : (chart : Chart) (wiring : Wiring) (cards : List (List ℕ)) (page line : ℕ) (left : Option ℕ)
-    (latch : Bool) (printed : Option (ℕ × ℕ))
-    (last : Option Cycle) (cycles : ℕ) (machine : Machine) (lines : List PlacedLine) → WiredFor chart wiring →
-    IsListing chart →
-    All (IsGathered chart) cards → IsBetween last cards → OnForm (form_of chart.lines) left line latch →
-    page + length cards ≤ 2 ^ 32 →
-    IsState cards last (carriage_at wiring page line latch printed) machine →
-    Runs wiring cycles machine (cards_behind cards) lines →
-    lines ≡ placed (form_of chart.lines) (record { page = page; line = left }) (map (card_line chart.lines) cards)
-unfolding IsBetween
-cards_run chart wiring [] page line left latch printed last cycles machine lines wired listing whole between on room
-    state runs =
-    no_run wiring cycles machine [] lines (due state ∙ none_follows last latch between) runs
-cards_run chart wiring (card ∷ cards) page line
-    (Some n) latch printed last cycles machine lines wired listing whole between on room state runs =
-    let S : ℕ → Bool → Type 0 = λ l b. IsState (card ∷ cards) last (carriage_at wiring page l b printed) machine in
-    let S' : ℕ → Type 0 = λ l. IsState (card ∷ cards) last (carriage_at wiring page l false printed) machine in
-    let on_line : S' n = subst S' on.1 (subst (S line) on.0 state) in
+-- the feed that runs a card, from where the line before left the form
+card_feed :
+    (chart : Chart) (wiring : Wiring) (card : List ℕ) (page line : ℕ) (left : Option ℕ) (latch : Bool)
+    (printed : Option (ℕ × ℕ)) (stage : Stage) (next : Option (List ℕ)) (old new : MachineState) (lines : List PlacedLine)
+    → WiredFor chart wiring → IsListing chart → IsGathered chart card → IsBetween stage
+    → OnForm (form_of chart.lines) left line latch → page < 2 ^ 32
+    → IsState wiring (between (Some card) stage (spot_at page line latch) printed) old → Feeds wiring old next new lines
+    → (above : ℕ) × FedCard chart wiring (next_page page left) above card next new lines
+    × (next_line (form_of chart.lines) left ≡ above + 1) × (above < (form_of chart.lines).overflow)
+card_feed chart wiring card page line (Some n) latch printed stage next old new lines wired listing whole is on room state
+    feed =
+    let S : ℕ → Bool → Type 0 = λ l b. IsState wiring (between (Some card) stage (spot_at page l b) printed) old in
+    let S' : ℕ → Type 0 = λ l. S l false in
+    let on_line : S n false = subst S' on.1 (subst (S line) on.0 state) in
     let short : n < wiring.tape.lines = omega (arith, on.2, wired.lines, listing.last_line) in
-    let step = card_step chart wiring page n printed last card cards cycles machine lines wired listing
-    (All-head (IsGathered chart) card cards whole) short
-    (card_follows last card cards false between) on_line runs in
-    let others = cards_run chart wiring cards page (n + 1) (left_below (form_of chart.lines) (n + 1))
-    (n + 1 == wiring.tape.overflow) (Some (page, n + 1))
-    (Some Card) step.cycles step.new step.others wired listing (All-tail (IsGathered chart) card cards whole) tt
-    (on_form_below (form_of chart.lines) n wiring.tape.overflow wired.overflow on.2)
-    (omega arith) step.state step.runs in
-    step.is_lines ∙ ap (λ l. record { page = page; line = n + 1; text = card_line chart.lines card } ∷ l) others
-cards_run chart wiring
-    (card ∷ cards) page line None latch printed last cycles machine lines wired listing whole between on room state
-    runs =
+    let goes = feed_begun wiring (between (Some card) stage (spot_at page n false) printed) old next new lines is on_line feed in
+    let step = card_step chart wiring page n printed stage card next new lines wired listing whole short
+    (card_follows stage false is) goes in
+    (n, fed_card chart wiring page n card next new lines wired step, refl, on.2)
+card_feed chart wiring card page line None latch printed stage next old new lines wired listing whole is on room state
+    feed =
     let form : Form = form_of chart.lines in
-    let S : Bool → Type 0 = λ b. IsState (card ∷ cards) last (carriage_at wiring page line b printed) machine in
-    let begun = page_begun wiring card cards page line form.first printed last cycles machine lines
-    (omega arith) wired.first between
-    (subst S on state) runs in
+    let S : Bool → Type 0 = λ b. IsState wiring (between (Some card) stage (spot_at page line b) printed) old in
+    let goes = feed_begun wiring (between (Some card) stage (spot_at page line true) printed) old next new lines is
+    (subst S on state) feed in
+    let begun_page = page_begun chart wiring card page line form.first printed stage next new lines wired room
+    wired.first is goes in
     let short : form.first < wiring.tape.lines = omega (arith, wired.lines, listing.overflow_line, listing.last_line) in
-    let step = card_step chart wiring (page + 1) form.first None
-    (Some (Head Third)) card cards begun.1 begun.0 lines wired listing
-    (All-head (IsGathered chart) card cards whole) short refl begun.2 begun.3 in
-    let others = cards_run chart wiring cards (page + 1) (form.first + 1) (left_below form (form.first + 1))
-    (form.first + 1 == wiring.tape.overflow) (Some (page + 1, form.first + 1))
-    (Some Card) step.cycles step.new step.others
-    wired listing (All-tail (IsGathered chart) card cards whole) tt
-    (on_form_below form form.first wiring.tape.overflow wired.overflow listing.overflow_line)
-    (omega arith) step.state step.runs in
-    step.is_lines ∙ ap (λ l. record { page = page + 1; line = form.first + 1; text = card_line chart.lines card } ∷
-    l) others
+    let step = card_step chart wiring (page + 1) form.first None (BeforeCard Third) card next new lines wired listing whole
+    short refl begun_page in
+    (form.first, fed_card chart wiring (page + 1) form.first card next new lines wired step, refl, listing.overflow_line)
+
+-- From a state between two cards on, a run places the lines of the card at first reading and of the cards that are left.
+rest_lines :
+    (chart : Chart) (wiring : Wiring) (cards : List (List ℕ)) (card : List ℕ) (page line : ℕ) (left : Option ℕ)
+    (latch : Bool) (printed : Option (ℕ × ℕ)) (stage : Stage) (old : MachineState) (lines : List PlacedLine)
+    → WiredFor chart wiring → IsListing chart → All (IsGathered chart) (card ∷ cards) → IsBetween stage
+    → OnForm (form_of chart.lines) left line latch → page + length (card ∷ cards) ≤ 2 ^ 32
+    → IsState wiring (between (Some card) stage (spot_at page line latch) printed) old → LinesFrom wiring old cards lines
+    → lines ≡ placed (form_of chart.lines) (record { page = page; line = left }) (map (card_line chart.lines) (card ∷ cards))
+unfolding LinesFrom IsBetween
+rest_lines chart wiring [] card page line left latch printed stage old lines wired listing whole is on room state
+    (new, feed) =
+    let one = card_feed chart wiring card page line left latch printed stage None old new lines wired listing
+    (All-head (IsGathered chart) card [] whole) is on (omega arith) state feed in
+    one.1.is_lines ∙ ap (λ l. card_at chart card (next_page page left) l ∷ []) (sym one.2)
+rest_lines chart wiring (other ∷ cards) card page line left latch printed stage old lines wired listing whole is on room
+    state (new, first, others, feed, run, is_lines) =
+    let form : Form = form_of chart.lines in
+    let one = card_feed chart wiring card page line left latch printed stage (Some other) old new first wired listing
+    (All-head (IsGathered chart) card (other ∷ cards) whole) is on (omega arith) state feed in
+    let placed_on : next_page page left + length (other ∷ cards) ≤ 2 ^ 32 = turned left room in
+    let rest = rest_lines chart wiring cards other (next_page page left) (one.0 + 1) (left_below form (one.0 + 1))
+    (one.0 + 1 == wiring.tape.overflow) (Some (next_page page left, one.0 + 1)) RanCard new others wired listing
+    (All-tail (IsGathered chart) card (other ∷ cards) whole) tt
+    (on_form_below form one.0 wiring.tape.overflow wired.overflow one.3) placed_on (one.1.state other refl) run in
+    is_lines
+    ∙ ap (λ l. l ++ others) one.1.is_lines
+    ∙ ap (λ l. card_at chart card (next_page page left) (one.0 + 1) ∷ l) rest
+    ∙ ap
+    (λ (n : ℕ). card_at chart card (next_page page left) n
+    ∷ placed form (record { page = next_page page left; line = left_below form n }) (map (card_line chart.lines) (other ∷ cards)))
+    (sym one.2)
+  where
+    turned : (from : Option ℕ) → page + length (card ∷ other ∷ cards) ≤ 2 ^ 32
+        → next_page page from + length (other ∷ cards) ≤ 2 ^ 32
+    turned None enough = omega arith
+    turned (Some n) enough = omega arith
+
+-- the only jack of a chart is LIST
+only_list : {jack : Jack} (chart : Chart) → JacksOf chart.lines jack → jack ≡ jacks.List
+only_list chart (list prints) = refl
+
+-- another jack is not plugged
+not_plugged :
+    (chart : Chart) (wiring : Wiring) (other : Jack) → WiredFor chart wiring → (other ≡ jacks.List → ⊥)
+    → is_plugged wiring other ≡ false
+not_plugged chart wiring other wired differs = by (is_plugged wiring other) refl
+  where
+    by : (plugged : Bool) → is_plugged wiring other ≡ plugged → plugged ≡ false
+    by false is = refl
+    by true is = absurd (differs (only_list chart ((wired.jacks other).0 is)))
+
+-- card cycles alone print
+prints_alone :
+    (chart : Chart) (wiring : Wiring) → WiredFor chart wiring → IsListing chart → printing_of wiring ≡ cards_alone
+prints_alone chart wiring wired listing =
+    let cards : is_plugged wiring jacks.List ≡ true = (wired.jacks jacks.List).1 (list listing.prints) in
+    let none : (other : Jack) → (other ≡ jacks.List → ⊥) → is_plugged wiring other ≡ false =
+    λ other differs. not_plugged chart wiring other wired differs in
+    λ i. record {
+      cards = cards i;
+      minor_totals = none (jacks.Total 1) (λ e. cc) i;
+      intermediate_totals = none (jacks.Total 2) (λ e. cc) i;
+      major_totals = none (jacks.Total 3) (λ e. cc) i;
+      final_totals = none (jacks.Total 4) (λ e. cc) i;
+      first_heading = none (jacks.Head 1) (λ e. cc) i;
+      second_heading = none (jacks.Head 2) (λ e. cc) i;
+      third_heading = none (jacks.Head 3) (λ e. cc) i;
+    }
+
+-- wheels start without jacks
+wheels_start :
+    (chart : Chart) (wiring : Wiring) (from count : ℕ) → WiredFor chart wiring
+    → map (wheel_at_start wiring) (range_with_len from count) ≡ map (λ v. bare_wheel (replicate 12 false)) (range_with_len from count)
+wheels_start chart wiring from zero wired = refl
+wheels_start chart wiring from (suc count) wired =
+    let link = not_plugged chart wiring (jacks.Link from) wired (λ e. cc) in
+    let suppress = not_plugged chart wiring (jacks.Suppress from) wired (λ e. cc) in
+    let symbol = not_plugged chart wiring (jacks.Symbol from) wired (λ e. cc) in
+    let others = wheels_start chart wiring (from + 1) count wired in
+    λ i. record { received = replicate 12 false; link = link i; suppress = suppress i; symbol = symbol i } ∷ others i
 
 -- The lines of a whole run are the placed lines of the deck's cards.
-pub run_lines : (chart : Chart) (wiring : Wiring) (cards : List (List ℕ)) (lines : List PlacedLine) →
-    WiredFor chart wiring → IsListing chart →
-    All (IsGathered chart) cards → length cards ≤ 2 ^ 32 → MachineLines wiring cards lines →
-    lines ≡ placed (form_of chart.lines) before_all (map (card_line chart.lines) cards)
-unfolding wheels_at_start IsBetween
-run_lines chart wiring [] lines wired listing whole room run =
-    no_run wiring run.cycles (machine_at_start wiring []) [] lines refl run.runs
-run_lines chart wiring (card ∷ cards) lines wired listing whole room run =
-    let plugged : is_plugged wiring jacks.List ≡ true = (wired.jacks jacks.List).1 (list listing.prints) in
-    let state : IsState (card ∷ cards) None (carriage_at wiring 0 0 true None)
-    (machine_at_start wiring (card ∷ cards)) =
+pub run_lines :
+    (chart : Chart) (wiring : Wiring) (cards : List (List ℕ)) (lines : List PlacedLine) → WiredFor chart wiring
+    → IsListing chart → All (IsGathered chart) cards → length cards ≤ 2 ^ 32 → MachineLines wiring cards lines
+    → lines ≡ placed (form_of chart.lines) before_all (map (card_line chart.lines) cards)
+unfolding LinesFrom IsBetween
+run_lines chart wiring [] lines wired listing whole room (new, feed) =
+    (over wiring feed.cycles (begun (machine_at_start wiring) None) new lines refl feed.runs).1
+run_lines chart wiring (card ∷ cards) lines wired listing whole room (new, first, others, feed, run, is_lines) =
+    let printing = prints_alone chart wiring wired listing in
+    let start : MachineState = moved_on (Some card) (machine_at_start wiring) in
+    let state : IsState wiring (between (Some card) Fresh (spot_at 0 0 true) None) start =
     record {
       first = refl;
-      empty = refl;
-      carriage = ap (λ b. record
-          { tape = wiring.tape; prints_cards = b; page = 0; line = 0; latch = true; printed = None }) plugged;
-      program = ap (λ b. record { last = None; prints_cards = b }) plugged;
+      empty = wheels_start chart wiring 1 120 wired;
+      carriage = λ i. record {
+        form = wiring.tape;
+        printing = printing i;
+        spot = spot_at 0 0 true;
+        asked = nothing_asked;
+        printed = None;
+      };
+      program = λ i. record { printing = printing i; stage = Fresh; highest = None };
     } in
-    let begun = quiet_run wiring run.cycles cards lines RunIn state (due state) refl refl refl run.runs in
-    cards_run chart wiring (card ∷ cards) 0 0 None true None
-    (Some RunIn) begun.1 begun.0 lines wired listing whole tt refl (omega arith) begun.2 begun.3
+    let goes = quiet chart wiring (between (Some card) Fresh (spot_at 0 0 true) None) false (Some card) new first RunIn
+    (spot_at 0 0 true) wired refl (λ fed. refl) refl
+    (record { machine = start; cycles = feed.cycles; state = state; runs = feed.runs }) in
+    let at : Standing = between (Some card) RanIn (spot_at 0 0 true) None in
+    let ends = over wiring goes.cycles (fed_with goes.machine false (Some card)) new first
+    (due_at wiring at goes.machine false (Some card) goes.state) goes.runs in
+    let P : MachineState → Type 0 = λ m. IsState wiring at m in
+    let rest = rest_lines chart wiring cards card 0 0 None true None RanIn new others wired listing whole tt refl
+    (omega arith) (subst P (sym ends.0) goes.state) run in
+    is_lines ∙ ap (λ l. l ++ others) ends.1 ∙ rest

@@ -3,10 +3,10 @@ use Rattle.std.specs.Prelude.{◌≡◌, ℕ, ◌≤◌, List, length, All}
 use Rattle.hubs.specs.Wiring.{Wiring}
 use Rattle.chart_text.specs.Chart.{Chart}
 use Rattle.chart_rules.specs.Rules.{IsLawful}
-use Rattle.machine.specs.declared.placed_line.PlacedLine.{PlacedLine}
-use Rattle.machine.specs.Machine.{MachineLines}
+use Rattle.carriage.specs.declared.placed_line.PlacedLine.{PlacedLine}
+use Rattle.machine.specs.Feeds.{MachineLines}
 use Rattle.compile407.specs.ChartForm.{form_of}
-use Rattle.compile407.specs.Pages.{Pages}
+use Rattle.page_text.specs.Pages.{Pages}
 use Rattle.compile407.specs.Report.{Report}
 use Rattle.compile407.specs.Served.{IsServed}
 use Rattle.chart_rules.specs.ValidCard.{IsValidCard}

@@ -4,7 +4,6 @@ pub mod Outline
 pub mod ChartForm
 pub mod BodyLines
 pub mod Places
-pub mod Pages
 pub mod Report
 pub mod WiredFor
 pub mod Listing
@@ -16,3 +15,4 @@ pub mod ChartFaults
 pub mod RunFaults
 pub mod AddedWires
 pub mod Outcomes
+pub mod FaultNumbers

@@ -1,6 +1,6 @@
 -- The places of body lines: each line's page and line come from where the line before it left the form.
 use Rattle.std.specs.Prelude.{ℕ, ◌+◌, List, [], ◌∷◌, Option, Some, None, nat_le, if◌then◌else◌}
-use Rattle.machine.specs.declared.placed_line.PlacedLine.{PlacedLine}
+use Rattle.carriage.specs.declared.placed_line.PlacedLine.{PlacedLine}
 use Rattle.compile407.specs.ChartForm.{Form}
 
 -- Where a line left the form: its page, and its line there; no line where the next line starts a page.

@@ -2,7 +2,7 @@
 use Rattle.std.specs.Prelude.{ℕ, ◌<◌, ◌≤◌, List}
 use Rattle.chart_text.specs.Chart.{Chart}
 use Rattle.compile407.specs.Headline.{IsDeck}
-use Rattle.compile407.specs.Pages.{last_page}
+use Rattle.page_text.specs.Pages.{last_page}
 use Rattle.compile407.specs.Report.{report_lines}
 
 -- the report of the deck has more than one page

@@ -6,7 +6,7 @@ use Rattle.chart_text.specs.declared.statement.DetailOption.TheVariants as stand
 use Rattle.chart_text.specs.declared.statement.Printing.TheVariants as prints
 use Rattle.chart_text.specs.declared.statement.Statement.{Statement}
 use Rattle.chart_text.specs.declared.statement.Statement.TheVariants as says
-use Rattle.chart_rules.specs.Fields.{is_amount}
+use Rattle.chart_text.specs.Field.{is_amount}
 
 -- whether what a line says is served: a text field, PRINT DETAIL, DETAIL with a field alone, FORM
 abbrev pub is_served : Statement → Bool

@@ -53,6 +53,27 @@ pub enum ChartFault {
     Memory,
 }
 
+impl ChartFault {
+    ghost use Rattle.std.specs.Prelude.{◌≡◌};
+    ghost use Rattle.compile407.specs.FaultNumbers.{chart_fault_number};
+
+    /// The number by which the fault is told, 11 to 67; none where a form is not served yet, and where memory was refused.
+    pub fn number(self) -> Option<u8>
+        ensures { result ≡ chart_fault_number self }
+    {
+        match self {
+            ChartFault::TooLarge => Some(11),
+            ChartFault::NoFirstLine => Some(12),
+            ChartFault::NotALine { .. } => Some(13),
+            ChartFault::NoEnd => Some(14),
+            ChartFault::Rule { rule, .. } => Some(rule.number()),
+            ChartFault::NotYet { .. } => None,
+            ChartFault::Capacity { fault } => fault.number(),
+            ChartFault::Memory => None,
+        }
+    }
+}
+
 impl From<AllocError> for ChartFault {
     ghost from_gives = { λ _ fault. fault ≡ chart.Memory };
 
@@ -131,6 +152,25 @@ pub enum RunFault {
     /// A growth was refused.
     #[error("out of memory")]
     Memory,
+}
+
+impl RunFault {
+    ghost use Rattle.std.specs.Prelude.{◌≡◌};
+    ghost use Rattle.compile407.specs.FaultNumbers.{run_fault_number};
+
+    /// The number by which the fault is told, 3, 41 or 42; none where the report has several pages, and where memory was
+    /// refused.
+    pub fn number(self) -> Option<u8>
+        ensures { result ≡ run_fault_number self }
+    {
+        match self {
+            RunFault::TooManyCards => Some(3),
+            RunFault::NotText { .. } => Some(41),
+            RunFault::NotAmount { .. } => Some(42),
+            RunFault::TooLong => None,
+            RunFault::Memory => None,
+        }
+    }
 }
 
 impl From<AllocError> for RunFault {

@@ -10,7 +10,6 @@ mod compiled;
 mod compiling;
 mod fault;
 mod laws;
-mod pages;
 mod running;
 mod served;
 mod wiring;

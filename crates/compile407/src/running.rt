@@ -4,15 +4,17 @@ ghost use Rattle.std.specs.Prelude.{◌≡◌, ◌≤◌, ◌<◌, ◌+◌, leng
 ghost use Rattle.compile407.specs.RunFaults.{HasRunFault, IsInvalidDeck, of_card};
 ghost use Rattle.compile407.specs.Headline.{IsDeck};
 ghost use Rattle.compile407.specs.Report.{Report};
+ghost use Rattle.page_text.specs.Pages.{last_page};
 ghost use Rattle.compile407.specs.Runnable.{IsRunnable};
 ghost use Rattle.chart_rules.specs.ValidCard.{IsValidCard};
 
 use crate::compiled::Compiled;
 use crate::fault::RunFault;
-use crate::pages::{last_page, page_bytes};
 use card_code::Card;
+use carriage::PlacedLine;
 use chart_rules::{CardFault, Chart, valid_card};
 use machine::simulate;
+use page_text::page_bytes;
 use std::alloc::Global;
 
 /// The most cards that a deck may have.
@@ -40,6 +42,17 @@ fn check_cards(chart: &Chart, cards: &[Card]) -> Result<(), RunFault>
         }
     }
     Ok(())
+}
+
+// The last page that has a line, and 0 without lines.
+fn last_page(placed: &[PlacedLine]) -> u64
+    ensures { result ≡ last_page placed.now }
+{
+    let mut last = 0;
+    for there in placed {
+        last = last.max(there.page);
+    }
+    last
 }
 
 /// The report of a deck of cards: what the machine prints, wired as compiled, as the bytes of its pages.

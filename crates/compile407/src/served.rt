@@ -12,8 +12,8 @@ fn is_served(statement: &Statement) -> bool
     match statement {
         Statement::Field(field) => matches!(field.kind, FieldKind::Text),
         Statement::Print(printing) => matches!(printing, Printing::Detail),
-        Statement::DetailField(_, _, shown) => matches!(shown, DetailOption::Plain),
-        Statement::Form(_, _, _) => true,
+        Statement::DetailField { shown, .. } => matches!(shown, DetailOption::Plain),
+        Statement::Form { .. } => true,
         _ => false,
     }
 }

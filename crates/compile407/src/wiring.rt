@@ -48,7 +48,12 @@ fn wire_line(setup: &mut Setup, chart: &Chart, statement: &Statement) -> Result<
     ensures { OnOk result
         (AddsWires (WiresOfSome (listed (item_of chart.now.lines statement.now))) setup.old setup.new) }
 {
-    if let Statement::DetailField(wheel, name, DetailOption::Plain) = statement {
+    if let Statement::DetailField {
+        wheel,
+        name,
+        shown: DetailOption::Plain,
+    } = statement
+    {
         if let Some(field) = chart.field(*name) {
             wire_field(setup, *wheel, &field)?;
         }
@@ -70,7 +75,12 @@ fn form_of(lines: &[Line]) -> (u16, u16, u16)
     ensures overflow { result.2 ≡ (form_of lines.now).overflow }
 {
     for line in lines {
-        if let Statement::Form(long, first, overflow) = line.statement {
+        if let Statement::Form {
+            lines: long,
+            first,
+            overflow,
+        } = line.statement
+        {
             return (long, first, overflow);
         }
     }

@@ -1,6 +1,7 @@
--- A counter group as a unit. Under read-out each position emits its digit, and the group then holds only what it enters in that
--- cycle. Under plus each wheel advances by the digit entered, under minus by what that digit lacks of 9; minus rules over plus.
--- Carries follow. Under balance test the latch tells whether the top wheel stands at 9 in the end.
+-- A counter group as a unit. Under read-out each position emits its digit, and the group then holds only what it
+-- enters in that cycle. Under plus each wheel advances by the digit entered, under minus by what that digit lacks of
+-- 9; minus rules over plus. Carries follow. Under balance test the latch tells whether the top wheel stands at 9 in
+-- the end.
 use Rattle.std.specs.Prelude.{ℕ, ◌+◌, ◌-◌, ◌%◌, ◌==◌, ◌&&◌, ◌||◌, not, nat_le, nat_lt, Bool, false, List, [], ◌∷◌, length, replicate, if◌then◌else◌}
 use Rattle.card_code.specs.Rows.{row_number}
 use Rattle.hubs.specs.Ranges.{is_within}
@@ -17,8 +18,8 @@ use Rattle.counters.specs.Wheels.{turned_round}
 use Rattle.counters.specs.declared.controls.Controls.{Controls}
 use Rattle.counters.specs.declared.wheel.Wheel.{Wheel}
 
--- A counter group. Digits and entered digits are given by position, the top one first; the units are last. An entered digit is
--- 0 where nothing was entered. The controls are those of the cycle that runs.
+-- A counter group. Digits and entered digits are given by position, the top one first; the units are last. An entered
+-- digit is 0 where nothing was entered. The controls are those of the cycle that runs.
 pub record Counter : Type 0 where
   pub name : Group
   pub digits : List ℕ
@@ -50,7 +51,8 @@ counter_of name is_ring = record {
   latch = false;
 }
 
--- the group at the start, by the setup and its unit: its wheels form a ring where its carry exit is wired to its carry entry
+-- the group at the start, by the setup and its unit: its wheels form a ring where its carry exit is wired to its
+-- carry entry
 abbrev pub counter_at_start : Wiring → ℕ → Counter
 counter_at_start wiring unit =
     counter_of (group_of_unit unit) (is_wired wiring (CO (group_of_unit unit)) (CI (group_of_unit unit)))
@@ -76,8 +78,8 @@ counter_emits counter cycle K hub = false
 abbrev pub has_balance : Counter → Group → ℕ → Bool
 has_balance counter group position = (unit_of group == counter_number counter) && is_within position 4
 
--- The contacts of the balance positions, at every point: the normal ones are closed while the latch is reset, the transferred ones
--- while it is set.
+-- The contacts of the balance positions, at every point: the normal ones are closed while the latch is reset, the
+-- transferred ones while it is set.
 abbrev pub counter_closes : Counter → Cycle → Point → Hub → Bool
 counter_closes counter cycle point (BAN group position) = has_balance counter group position && not counter.latch
 counter_closes counter cycle point (BAT group position) = has_balance counter group position && counter.latch
@@ -113,7 +115,8 @@ entered_after counter row picture =
     then all_taken row (λ position. picture (GE counter.name position)) counter.entered
     else counter.entered
 
--- Sensing a picture: the control point sets the controls of the cycle, the rows enter digits, and the closing point changes nothing.
+-- Sensing a picture: the control point sets the controls of the cycle, the rows enter digits, and the closing point
+-- changes nothing.
 abbrev pub counter_sensed : Counter → Cycle → Point → (Hub → Bool) → Counter
 counter_sensed counter cycle C picture = record counter { controls = controls_of counter.name picture }
 counter_sensed counter cycle (Row row) picture =
@@ -148,7 +151,8 @@ abbrev pub top_is_nine : List ℕ → Bool
 top_is_nine [] = false
 top_is_nine (digit ∷ below) = digit == 9
 
--- At the end of a cycle the wheels have turned, the latch is set or reset under balance test, and entries and controls are forgotten.
+-- At the end of a cycle the wheels have turned, the latch is set or reset under balance test, and entries and
+-- controls are forgotten.
 abbrev pub counter_ended : Counter → Cycle → Counter
 counter_ended counter cycle = record {
   name = counter.name;

@@ -2,7 +2,7 @@
 use Rattle.std.specs.Prelude.{◌≡◌, ◌≤◌, true, All, take}
 use Rattle.hubs.specs.Places.{is_width}
 use Rattle.hubs.specs.Ranges.{is_within}
-use Rattle.counters.specs.Counters.{Counter}
+use Rattle.counters.specs.Counters.{Counter, group_of_unit}
 use Rattle.counters.specs.declared.group.Group.TheInside.{Inside}
 
 -- a group: the first of its eight places stand for its positions, as many as it has
@@ -16,8 +16,11 @@ counter_in group = record {
   latch = group.latch;
 }
 
--- the group is one of the panel, and what stands at its places are digits
+-- the group is the one of its unit, and what stands at its places are digits
 pub record IsLawful (group : Inside) : Type 0 where
+  pub from : 3 ≤ group.unit
+  pub to : group.unit ≤ 34
+  pub unit : group.name ≡ group_of_unit group.unit
   pub width : is_width group.name.width ≡ true
   pub named : is_within group.name.number 8 ≡ true
   pub digits : All (λ digit. digit ≤ 9) group.digits

@@ -6,7 +6,8 @@ use Rattle.hubs.specs.Wiring.{Wiring}
 use Rattle.hubs.specs.declared.hub.Hub.{Hub}
 use Rattle.net.specs.declared.cycle.Cycle.{Cycle}
 use Rattle.net.specs.declared.cycle.Point.{Point}
-use Rattle.counters.specs.Counters.{Counter, counter_at_start, counter_sensed, counter_ended}
+use Rattle.net.specs.Panel.{owner_of, reader_of}
+use Rattle.counters.specs.Counters.{Counter, counter_at_start, counter_closes, counter_emits, counter_ended, counter_number, counter_sensed}
 use Rattle.counters.specs.Numbers.{number, start_number, added_number, left_number}
 use Rattle.counters.specs.Wheels.{carries_out, turned}
 use Rattle.counters.specs.declared.wheel.Wheel.{Wheel}
@@ -32,6 +33,21 @@ pub record CountersStay : Type 0 where
       → IsCounter counter → IsCounter (counter_sensed counter cycle point picture)
   pub ended : (counter : Counter) (cycle : Cycle) → IsCounter counter → IsCounter (counter_ended counter cycle)
 
+-- A group emits at its own exits, closes its own contacts and senses its own entries, and its unit is the one that it
+-- began with.
+pub record CountersKeepToTheirOwn : Type 0 where
+  pub number : (wiring : Wiring) (unit : ℕ) → 3 ≤ unit → unit ≤ 34 → counter_number (counter_at_start wiring unit) ≡ unit
+  pub emits :
+      (counter : Counter) (cycle : Cycle) (point : Point) (hub : Hub)
+      → counter_emits counter cycle point hub ≡ true → owner_of hub ≡ counter_number counter
+  pub closes :
+      (counter : Counter) (cycle : Cycle) (point : Point) (hub : Hub)
+      → counter_closes counter cycle point hub ≡ true → owner_of hub ≡ counter_number counter
+  pub sensed :
+      (counter : Counter) (cycle : Cycle) (point : Point) (one other : Hub → Bool)
+      → ((hub : Hub) → reader_of hub ≡ counter_number counter → one hub ≡ other hub)
+      → counter_sensed counter cycle point one ≡ counter_sensed counter cycle point other
+
 -- The number of a group at the end of a cycle is what is left of the sum of where it starts and what is added.
 abbrev pub CyclesAreSums : Type 0
 CyclesAreSums =
@@ -51,8 +67,8 @@ IsWheel wheel = (wheel.base ≤ 9) × (wheel.advance ≤ 9)
 abbrev pub carry_number : Bool → ℕ
 carry_number carry = if carry then 1 else 0
 
--- Turning is adding: what the wheels spell in the end, and the carry that leaves the top, are the sum of what they spelt, what
--- their advances spell, and the carry that came in at the lowest.
+-- Turning is adding: what the wheels spell in the end, and the carry that leaves the top, are the sum of what they
+-- spelt, what their advances spell, and the carry that came in at the lowest.
 abbrev pub TurningIsAdding : Type 0
 TurningIsAdding =
     (wheels : List Wheel) (carry : Bool)

@@ -1,5 +1,6 @@
--- The carry, place by place. A wheel gets one more step exactly where, going down from the next lower one, some wheel passed from 9
--- to 0 and all between stand at 9. In a ring the top follows the lowest, and the way goes on as far as the wheel itself.
+-- The carry, place by place. A wheel gets one more step exactly where, going down from the next lower one, some wheel
+-- passed from 9 to 0 and all between stand at 9. In a ring the top follows the lowest, and the way goes on as far as
+-- the wheel itself.
 use Rattle.std.specs.Prelude.{◌≡◌, ℕ, ◌+◌, ◌<◌, ◌%◌, Bool, true, List, [], ◌++◌, length, take, drop, if◌then◌else◌, slice_index, slice_index_or}
 use Rattle.counters.specs.Wheels.{passes, stands, turned_round}
 use Rattle.counters.specs.declared.wheel.Wheel.{Wheel}

@@ -1,5 +1,6 @@
--- The wheels of a counter in a cycle, and their carry. A wheel starts from a digit and advances by so many steps. One that passes
--- from 9 to 0 carries a step to the wheel above it, and one that stands at 9 passes on the step that it gets from below.
+-- The wheels of a counter in a cycle, and their carry. A wheel starts from a digit and advances by so many steps. One
+-- that passes from 9 to 0 carries a step to the wheel above it, and one that stands at 9 passes on the step that it
+-- gets from below.
 use Rattle.std.specs.Prelude.{ℕ, ◌+◌, ◌%◌, ◌==◌, ◌&&◌, ◌||◌, nat_le, Bool, false, List, [], ◌∷◌, if◌then◌else◌}
 use Rattle.counters.specs.declared.wheel.Wheel.{Wheel}
 

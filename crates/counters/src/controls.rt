@@ -14,7 +14,7 @@ pub struct Controls {
 }
 
 impl Controls {
-    ghost use Rattle.std.specs.Prelude.{◌≡◌};
+    ghost use Rattle.std.specs.Prelude.{◌≡◌, ◌||◌, not};
     ghost use Rattle.counters.specs.Counters.{no_controls};
 
     // No control is on.
@@ -27,5 +27,12 @@ impl Controls {
             read_out: false,
             test: false,
         }
+    }
+
+    // Whether no wheel turns under them: nothing is entered and nothing read out.
+    pub(crate) fn rest(self) -> bool
+        ensures { result ≡ not (self.plus || (self.minus || self.read_out)) }
+    {
+        !(self.plus || self.minus || self.read_out)
     }
 }

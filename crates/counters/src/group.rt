@@ -3,6 +3,7 @@
 ghost use Rattle.std.specs.Prelude.{◌≡◌, ◌≤◌};
 
 use crate::controls::Controls;
+use crate::digits::{Digits, from_units, number_of};
 use crate::sensing::{controls_of, show, take_row, takes};
 use crate::turn::{latch_after, turn_round};
 use hubs::{Hub, Setup};
@@ -14,11 +15,12 @@ pub(crate) const PLACES: usize = 8;
 
 /// A counter group: 3, 4, 6 or 8 positions that add, subtract and read out together.
 ///
-/// The controls that are impulsed at the control point hold for the cycle. Under plus or minus each position takes the earliest
-/// of the rows 9 to 1 at which it is impulsed; under read-out it emits its digit and starts from 0. At the end of the cycle the
-/// wheels turn, and their carries follow.
+/// The controls that are impulsed at the control point hold for the cycle. Under plus or minus each position takes
+/// the earliest of the rows 9 to 1 at which it is impulsed; under read-out it emits its digit and starts from 0. At
+/// the end of the cycle the wheels turn, and their carries follow.
 #[derive(Drop)]
 pub struct Group {
+    unit: u8,
     name: hubs::Group,
     // By position, the top one first; the places behind the units stay as they are.
     digits: [u8; PLACES],
@@ -41,11 +43,13 @@ impl Model for Group {
 }
 
 impl Group {
-    ghost use Rattle.std.specs.Prelude.{◌≡◌, ◌≤◌};
+    ghost use Rattle.std.specs.Prelude.{◌≡◌, ◌≤◌, reverse};
     ghost use Rattle.counters.specs.Counters.{counter_at_start};
+    ghost use Rattle.counters.specs.Numbers.{number};
 
-    /// The group that is a unit, 3 to 34, with all wheels at 0 and its latch reset: eight groups each of 3, 4, 6 and 8 positions, in
-    /// this order. Its wheels form a ring where the setup has the wire from its carry exit to its carry entry.
+    /// The group that is a unit, 3 to 34, with all wheels at 0 and its latch reset: eight groups each of 3, 4, 6 and
+    /// 8 positions, in this order. Its wheels form a ring where the setup has the wire from its carry exit to its
+    /// carry entry.
     pub fn new(unit: u8, setup: &Setup) -> Self
         requires from { 3 ≤ unit }
         requires to { unit ≤ 34 }
@@ -53,6 +57,7 @@ impl Group {
     {
         let name = group_of_unit(unit);
         Group {
+            unit,
             name,
             digits: [0; PLACES],
             entered: [0; PLACES],
@@ -60,6 +65,20 @@ impl Group {
             controls: Controls::none(),
             latch: false,
         }
+    }
+
+    /// The number that its digits spell.
+    pub fn value(&self) -> u64
+        ensures { result ≡ number self.now.digits }
+    {
+        number_of(&self.digits[..self.name.width as usize])
+    }
+
+    /// Its digits by position, from position 1, the units, to the top.
+    pub fn digits(&self) -> Digits
+        ensures { result ≡ reverse self.now.digits }
+    {
+        from_units(self.digits, self.name.width as usize)
     }
 
     /// The balance latch.
@@ -117,7 +136,7 @@ impl Unit for Group {
 
     fn sense(&mut self, _cycle: Cycle, point: Point, picture: &Picture) {
         match point {
-            Point::C => self.controls = controls_of(self.name, picture),
+            Point::C => self.controls = controls_of(self.unit, self.name, picture),
             Point::Row(row) => {
                 let row = row.number();
                 if takes(self.controls, row) {

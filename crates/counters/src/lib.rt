@@ -2,9 +2,16 @@
 #![tactic(auto)]
 
 mod controls;
+mod digits;
 mod group;
+mod laws;
 mod sensing;
 mod turn;
 mod wheel;
 
+pub use digits::Digits;
 pub use group::Group;
+pub use laws::{
+    carries_follow_the_rule, cycles_are_sums, groups_keep_to_their_own_hubs, groups_stay_groups,
+    signed_entries_add_up, turning_is_adding,
+};

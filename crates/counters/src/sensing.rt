@@ -1,9 +1,12 @@
 //! What a counter group emits and senses at its positions.
 
-ghost use Rattle.std.specs.Prelude.{◌≡◌, ◌≤◌, ◌<◌, ◌-◌, All, length};
+ghost use Rattle.std.specs.Prelude.{◌≡◌, ℕ, ◌≤◌, ◌<◌, ◌-◌, ◌==◌, ◌&&◌, true, All, length};
+ghost use Rattle.hubs.specs.Places.{is_width};
+ghost use Rattle.hubs.specs.Ranges.{is_within};
 ghost use Rattle.net.specs.HubSets.{GainsHubs, has_hub, is_bit};
-ghost use Rattle.counters.specs.Counters.{all_taken, controls_of, shows, taken, takes};
+ghost use Rattle.counters.specs.Counters.{all_taken, controls_of, group_of_unit, shows, taken, takes};
 ghost use Rattle.counters.specs.Laws.{IsDigit};
+ghost use Rattle.counters.specs.Shown.{shows_at};
 
 use crate::controls::Controls;
 use hubs::Hub;
@@ -11,23 +14,47 @@ use net::Picture;
 
 // Adds the exits of the positions whose digit is the given one.
 pub(crate) fn show(digits: &[u8], name: hubs::Group, given: u8, exits: &mut Picture)
-    requires { length digits.now ≤ 8 }
+    requires width { is_width name.width ≡ true }
+    requires named { is_within name.number 8 ≡ true }
+    requires positions { length digits.now ≡ name.width }
     ensures { GainsHubs (shows name given digits.now) exits.old exits.new }
 {
-    for i in (0..digits.len()).rev() {
-        exits.insert_where(Hub::GX(name, (digits.len() - i) as u8), digits[i] == given);
-    }
+    exits.insert_row(Hub::GX(name, 1), positions_of(digits, given));
 }
 
-// The controls that are impulsed.
-pub(crate) fn controls_of(name: hubs::Group, picture: &Picture) -> Controls
+// The positions whose digit is the given one, as the bits of a word from the units on.
+fn positions_of(digits: &[u8], given: u8) -> u128
+    requires { length digits.now ≤ 8 }
+    ensures { (bit : ℕ) → is_bit result bit ≡ shows_at given digits.now bit }
+{
+    let mut bits = 0;
+    for k in 0..digits.len() {
+        bits |= bit_where(k, digits[digits.len() - 1 - k] == given);
+    }
+    bits
+}
+
+// The first of the groups. The control hubs of the 32 groups are a row that begins with its plus: 32 each of plus,
+// minus, read-out and balance test.
+const FIRST: hubs::Group = hubs::Group {
+    width: 3,
+    number: 1,
+};
+
+// The controls of the group of a unit that are impulsed.
+pub(crate) fn controls_of(unit: u8, name: hubs::Group, picture: &Picture) -> Controls
+    requires from { 3 ≤ unit }
+    requires to { unit ≤ 34 }
+    requires name { name ≡ group_of_unit unit }
     ensures { result ≡ controls_of name (has_hub picture.now) }
 {
+    let row = picture.row(Hub::PL(FIRST));
+    let place = unit as usize - 3;
     Controls {
-        plus: picture.has(Hub::PL(name)),
-        minus: picture.has(Hub::MI(name)),
-        read_out: picture.has(Hub::RO(name)),
-        test: picture.has(Hub::BT(name)),
+        plus: has_bit(row, place),
+        minus: has_bit(row, place + 32),
+        read_out: has_bit(row, place + 64),
+        test: has_bit(row, place + 96),
     }
 }
 
@@ -38,7 +65,8 @@ pub(crate) fn takes(controls: Controls, row: u8) -> bool
     (controls.plus || controls.minus) && (1 <= row && row <= 9)
 }
 
-// Enters a row at the positions that are impulsed, given by the bits of a word from the units on, and where none was entered before.
+// Enters a row at the positions that are impulsed, given by the bits of a word from the units on, and where none was
+// entered before.
 pub(crate) fn take_row(entered: &mut [u8], row: u8, impulsed: u128)
     requires places { length entered.old ≤ 8 }
     requires row { row ≤ 9 }
@@ -69,4 +97,12 @@ fn has_bit(word: u128, bit: usize) -> bool
     ensures { result ≡ is_bit word bit }
 {
     word >> bit & 1 == 1
+}
+
+// The word with one bit, where the test is true, or none.
+fn bit_where(bit: usize, test: bool) -> u128
+    requires { bit < 128 }
+    ensures { (other : ℕ) → is_bit result other ≡ (test && (other == bit)) }
+{
+    u128::from(test) << bit
 }

@@ -9,6 +9,7 @@ use crate::controls::Controls;
 use crate::wheel::{step, wheel_of};
 
 // Turns the wheels of a group at the end of a cycle. In a ring the carry that leaves the top comes in at the units.
+// Where the group neither enters nor reads out nothing turns.
 pub(crate) fn turn_round(digits: &mut [u8], entered: &[u8], controls: Controls, is_ring: bool)
     requires as_many { length digits.old ≡ length entered.now }
     requires digits { All IsDigit digits.old }
@@ -16,6 +17,9 @@ pub(crate) fn turn_round(digits: &mut [u8], entered: &[u8], controls: Controls, 
     ensures turned { digits.new ≡ turned_round is_ring (wheels_of controls digits.old entered.now) }
     ensures digits { All IsDigit digits.new }
 {
+    if controls.rest() {
+        return;
+    }
     let carry = is_ring && carries_out(digits, entered, controls, false);
     turn(digits, entered, controls, carry);
 }

@@ -1,7 +1,15 @@
-pub mod Cycles
+pub mod Keeps
 pub mod Work
-pub mod RunSteps
-pub mod Order
+pub mod FeedSteps
+pub mod FewCycles
 pub mod OneOutcome
-mod WheelSteps
+pub mod Order
+pub mod SameSetups
+mod ClosedContacts
+mod Decks
+mod Exits
+mod Moving
+mod Going
 mod Pictures
+mod Points
+mod UnitOrder

@@ -1,308 +1,394 @@
 -- The lines of a run come in the order of their places.
-use Rattle.std.proofs.Common.{◌≡◌, ℕ, zero, suc, ◌+◌, ◌^◌, ◌<◌, ◌≤◌, ◌⊎◌, inl, inr, Bool, true, false, ◌||◌, ◌==◌, ⊎_elim, List, [], ◌∷◌, ◌++◌, Option, Some, None, is_some, length, nat_lt, if◌then◌else◌, refl, sym, ap, ◌∙◌, subst, arith}
-use Rattle.std.proofs.lemmas.Bool.Decides.{nat_tests}
+use Rattle.std.proofs.Common.{◌≡◌, ℕ, suc, ◌+◌, ◌^◌, ◌≤◌, ◌⊎◌, inl, inr, ⊎_elim, Bool, true, false, ◌&&◌, List, [], ◌∷◌, ◌++◌, Option, Some, None, length, append_assoc, if◌then◌else◌, refl, sym, ap, ◌∙◌, subst, arith}
+use Rattle.std.proofs.lemmas.List.{append-nil, length-append}
+use Rattle.carriage.specs.Carriage.{CarriageState, carriage_ended}
+use Rattle.carriage.specs.InOrder.{FollowInOrder, IsInOrder}
+use Rattle.carriage.specs.declared.placed_line.PlacedLine.{PlacedLine}
+use Rattle.hubs.specs.Tapes.{Form, IsForm}
 use Rattle.hubs.specs.Wiring.{Wiring}
+use Rattle.net.specs.Printing.{prints}
 use Rattle.net.specs.declared.cycle.Cycle.{Cycle}
-use Rattle.net.specs.declared.cycle.Cycle.TheVariants.{RunIn, Card, Head}
-use Rattle.net.specs.declared.cycle.Heading.{Heading}
-use Rattle.net.specs.declared.cycle.Heading.TheVariants.{First, Second, Third}
-use Rattle.machine.specs.declared.carriage.Carriage.{Carriage}
-use Rattle.machine.specs.declared.machine.Machine.{Machine}
-use Rattle.machine.specs.declared.placed_line.PlacedLine.{PlacedLine}
-use Rattle.machine.specs.declared.program.Program.{Program}
-use Rattle.machine.specs.Carriage.{next_page, carriage_ended, advanced, placed_at, restored, at_rest}
-use Rattle.machine.specs.CycleOrder.{cycle_after, card_due}
-use Rattle.machine.specs.InOrder.{IsAfter, FollowInOrder, IsInOrder}
-use Rattle.machine.specs.Machine.{Runs, RunsCycle, MachineLines, line_at, line_of, machine_at_start, cards_behind}
-use Rattle.machine.proofs.Cycles.{RunsCycle-units}
-use Rattle.machine.proofs.Work.{work, RunsCycle-work}
+use Rattle.net.specs.declared.cycle.Cycle.TheVariants.{RunIn, Card, Prog, Head}
+use Rattle.net.specs.declared.cycle.Level.{Level}
+use Rattle.net.specs.declared.cycle.Ordinal.{Ordinal}
+use Rattle.net.specs.declared.cycle.Ordinal.TheVariants.{First, Second, Third}
+use Rattle.net.specs.declared.printing.Printing.{Printing}
+use Rattle.program_unit.specs.CycleOrder.{is_fresh, cycle_behind, behind, headed, has_level_left, level_above}
+use Rattle.program_unit.specs.Program.{ProgramState, stage_ended}
+use Rattle.program_unit.specs.declared.stage.Stage.{Stage}
+use Rattle.program_unit.specs.declared.stage.Stage.TheVariants.{Fresh, RanIn, RanCard, RanProg, BeforeCard, BeforeTotal}
+use Rattle.machine.specs.Cycles.{line_of}
+use Rattle.machine.specs.Feeds.{Fed, FeedStep, FeedRuns, LinesFrom, MachineLines, begun, taken, moved_on, has_more}
+use Rattle.machine.specs.Laws.{cycles_from, cycles_of}
+use Rattle.machine.specs.Machine.{MachineState, machine_at_start}
+use Rattle.machine.proofs.FeedSteps.{due_in-going}
+use Rattle.machine.proofs.FewCycles.{MachineLines-cycles}
+use Rattle.machine.proofs.Keeps.{AsksLines, KeepsCarriage, CycleRun-ends}
+use Rattle.machine.proofs.Moving.{Ended, carriage_ended-ends}
 
-IsAfter-trans : (p l q m r n : ℕ) → IsAfter p l q m → IsAfter q m r n → IsAfter p l r n
-IsAfter-trans p l q m r n (inl first) (inl second) = inl (omega arith)
-IsAfter-trans p l q m r n (inl first) (inr second) = inl (omega arith)
-IsAfter-trans p l q m r n (inr first) (inl second) = inl (omega arith)
-IsAfter-trans p l q m r n (inr first) (inr second) = inr (omega arith, omega arith)
+-- whether heading cycles run
+abbrev is_heading : Stage → Bool
+is_heading Fresh = false
+is_heading RanIn = false
+is_heading RanCard = false
+is_heading (RanProg level ordinal) = false
+is_heading (BeforeCard heading) = true
+is_heading (BeforeTotal level heading) = true
 
--- lines that follow a place follow each place before it
-FollowInOrder-earlier : (form_lines page line later_page later_line : ℕ) (lines : List PlacedLine)
-    → IsAfter page line later_page later_line
-    → FollowInOrder form_lines later_page later_line lines → FollowInOrder form_lines page line lines
-FollowInOrder-earlier form_lines page line later_page later_line [] after follow = tt
-FollowInOrder-earlier form_lines page line later_page later_line (placed ∷ others) after (next, on_form, follow) =
-    (IsAfter-trans page line later_page later_line placed.page placed.line after next, on_form, follow)
+same_some : (one other : Cycle) → ◌≡◌ {A = Option Cycle} (Some one) (Some other) → one ≡ other
+same_some one other same = cc
 
--- the page number goes up by one, where it isn't the last one
-next_page-up : (page : ℕ) → page < 2 ^ 32 → next_page page ≡ page + 1
-next_page-up page below = grind (arith, nat_tests)
-
--- What the end of a cycle makes of the lines that follow: own lines first, then those after the new place.
-abbrev Places : ℕ → List ℕ → List PlacedLine → Carriage → Carriage → Type 0
-Places form_lines text others old new =
-    FollowInOrder form_lines new.page new.line others
-    → FollowInOrder form_lines old.page old.line (line_at new.printed text ++ others)
-
-below_lines : (line lines : ℕ) → nat_lt line lines ≡ true → line + 1 ≤ lines
-below_lines line lines is = grind (arith, nat_tests)
-
-advanced-places : (form_lines : ℕ) (text : List ℕ) (others : List PlacedLine) (old : Carriage)
-    → old.tape.lines ≡ form_lines → 1 ≤ form_lines → 1 ≤ old.page → old.page < 2 ^ 32
-    → Places form_lines text others old (advanced old)
-advanced-places form_lines text others old lines some from below =
-    by (nat_lt old.line old.tape.lines) refl
+-- What is due where a cycle prints: the first heading cycle, or the restore latch is reset.
+headed-reset : (printing : Printing) (restore : Bool) (due cycle : Cycle) → headed printing restore due ≡ cycle
+    → prints printing cycle ≡ true → (cycle ≡ Head First) ⊎ (restore ≡ false)
+headed-reset printing restore due cycle = by (prints printing due) restore refl
   where
-    by : (inside : Bool) → nat_lt old.line old.tape.lines ≡ inside
-        → Places form_lines text others old (if inside then placed_at old.page (old.line + 1) old else placed_at (next_page old.page) 1 old)
-    by true is = λ follow.
-        let inside = below_lines old.line old.tape.lines is in (
-          inr (refl, omega arith),
-          record { page_from = from; page_to = omega arith; line_from = omega arith; line_to = omega arith },
-          follow,
-        )
-    by false is = λ follow.
-        let up = next_page-up old.page below in (
-          inl (omega arith),
-          record { page_from = omega arith; page_to = omega arith; line_from = omega arith; line_to = some },
-          follow,
-        )
+    by : (p r : Bool) → prints printing due ≡ p → (if p && r then Head First else due) ≡ cycle
+        → prints printing cycle ≡ true → (cycle ≡ Head First) ⊎ (r ≡ false)
+    by true true is same on = inl (sym same)
+    by true false is same on = inr refl
+    by false r is same on = let off : prints printing cycle ≡ false = ap (λ (c : Cycle). prints printing c) (sym same) ∙ is in cc
 
--- a cycle that places no line and stays, or goes on to a later place
-stays : (form_lines : ℕ) (text : List ℕ) (others : List PlacedLine) (old : Carriage)
-    → Places form_lines text others old (at_rest old)
-stays form_lines text others old follow = follow
-
-restored-places : (form_lines : ℕ) (text : List ℕ) (others : List PlacedLine) (old : Carriage) → old.page < 2 ^ 32
-    → Places form_lines text others old (restored old)
-restored-places form_lines text others old below follow =
-    let up = next_page-up old.page below in
-    FollowInOrder-earlier form_lines old.page old.line (next_page old.page) old.tape.first others (inl (omega arith)) follow
-
--- no line is placed on page 0
-abbrev OnPage : Cycle → Carriage → Type 0
-OnPage cycle carriage = cycle ≡ Card → carriage.prints_cards ≡ true → 1 ≤ carriage.page
-
-card-places : (form_lines : ℕ) (text : List ℕ) (others : List PlacedLine) (old : Carriage)
-    → old.tape.lines ≡ form_lines → 1 ≤ form_lines → (old.prints_cards ≡ true → 1 ≤ old.page) → old.page < 2 ^ 32
-    → Places form_lines text others old (if old.prints_cards then advanced old else at_rest old)
-card-places form_lines text others old lines some from below = by old.prints_cards refl
+behind-reset : (program : ProgramState) (done : Option Level) (restore more : Bool) (cycle : Cycle)
+    → behind program done restore more ≡ Some cycle → prints program.printing cycle ≡ true
+    → (cycle ≡ Head First) ⊎ (restore ≡ false)
+behind-reset program done restore more cycle = by (has_level_left program done more) more
   where
-    by : (prints : Bool) → old.prints_cards ≡ prints
-        → Places form_lines text others old (if prints then advanced old else at_rest old)
-    by true is = advanced-places form_lines text others old lines some (from is) below
-    by false is = stays form_lines text others old
+    by : (left card : Bool)
+        → (if left
+        then Some (Prog (level_above done) First)
+        else if card then Some (headed program.printing restore Card) else None)
+        ≡ Some cycle
+        → prints program.printing cycle ≡ true → (cycle ≡ Head First) ⊎ (restore ≡ false)
+    by true card due on =
+        let same = same_some (Prog (level_above done) First) cycle due in
+        let off : prints program.printing cycle ≡ false = ap (λ (c : Cycle). prints program.printing c) (sym same) in cc
+    by false true due on =
+        headed-reset program.printing restore Card cycle (same_some (headed program.printing restore Card) cycle due) on
+    by false false due on = cc
 
-carriage_ended-places : (cycle : Cycle) (form_lines : ℕ) (text : List ℕ) (others : List PlacedLine) (old : Carriage)
-    → old.tape.lines ≡ form_lines → 1 ≤ form_lines → OnPage cycle old → old.page < 2 ^ 32
-    → Places form_lines text others old (carriage_ended old cycle)
-carriage_ended-places RunIn form_lines text others old lines some from below = stays form_lines text others old
-carriage_ended-places Card form_lines text others old lines some from below =
-    card-places form_lines text others old lines some (from refl) below
-carriage_ended-places (Head First) form_lines text others old lines some from below =
-    restored-places form_lines text others old below
-carriage_ended-places (Head Second) form_lines text others old lines some from below = stays form_lines text others old
-carriage_ended-places (Head Third) form_lines text others old lines some from below = stays form_lines text others old
+not_printing : (printing : Printing) (due cycle : Cycle) → prints printing due ≡ false → due ≡ cycle
+    → prints printing cycle ≡ true → ⊥
+not_printing printing due cycle silent same on =
+    let off : prints printing cycle ≡ false = ap (λ (c : Cycle). prints printing c) (sym same) ∙ silent in cc
 
--- What holds of a machine all through a run.
-record IsSound (form_lines : ℕ) (last : Option Cycle) (prints : Bool) (carriage : Carriage) (work : ℕ) : Type 0 where
-  lines : carriage.tape.lines ≡ form_lines
-  same_prints : carriage.prints_cards ≡ prints
-  -- the latch is reset on a page alone, and heading cycles run on a page
-  on_page : carriage.latch ≡ false → 1 ≤ carriage.page
-  in_heads : (heading : Heading) → last ≡ Some (Head heading) → 1 ≤ carriage.page
-  -- a cycle turns one page at most
-  few : carriage.page + work ≤ 2 ^ 32
+-- a cycle prints on a page, unless it begins one
+due-on_page : (program : ProgramState) (stage : Stage) (restore more : Bool) (cycle : Cycle) (page : ℕ)
+    → cycle_behind program stage restore more ≡ Some cycle → (restore ≡ false → 1 ≤ page)
+    → (is_heading stage ≡ true → 1 ≤ page) → prints program.printing cycle ≡ true → (cycle ≡ Head First) ⊎ (1 ≤ page)
+due-on_page program Fresh restore true cycle page due reset heads on =
+    absurd (not_printing program.printing RunIn cycle refl (same_some RunIn cycle due) on)
+due-on_page program Fresh restore false cycle page due reset heads on = cc
+due-on_page program RanIn restore more cycle page due reset heads on =
+    ⊎_elim (λ (is : cycle ≡ Head First). inl is) (λ (is : restore ≡ false). inr (reset is))
+    (headed-reset program.printing restore Card cycle (same_some (headed program.printing restore Card) cycle due) on)
+due-on_page program RanCard restore more cycle page due reset heads on =
+    ⊎_elim (λ (is : cycle ≡ Head First). inl is) (λ (is : restore ≡ false). inr (reset is))
+    (behind-reset program None restore more cycle due on)
+due-on_page program (RanProg level First) restore more cycle page due reset heads on =
+    absurd (not_printing program.printing (Prog level Second) cycle refl (same_some (Prog level Second) cycle due) on)
+due-on_page program (RanProg level Second) restore more cycle page due reset heads on =
+    ⊎_elim (λ (is : cycle ≡ Head First). inl is) (λ (is : restore ≡ false). inr (reset is))
+    (headed-reset program.printing restore (Prog level Third) cycle
+    (same_some (headed program.printing restore (Prog level Third)) cycle due) on)
+due-on_page program (RanProg level Third) restore more cycle page due reset heads on =
+    ⊎_elim (λ (is : cycle ≡ Head First). inl is) (λ (is : restore ≡ false). inr (reset is))
+    (behind-reset program (Some level) restore more cycle due on)
+due-on_page program (BeforeCard heading) restore more cycle page due reset heads on = inr (heads refl)
+due-on_page program (BeforeTotal level heading) restore more cycle page due reset heads on = inr (heads refl)
 
--- a card cycle runs behind the heading cycles, or where it doesn't print, or where the latch is reset
-card_due-reset : (prints restore : Bool) → card_due prints restore ≡ Card → prints ≡ true → restore ≡ false
-card_due-reset true true due is = cc
-card_due-reset true false due is = refl
-card_due-reset false restore due is = cc
+-- The second and the third heading cycle come behind one alone.
+headed-first : (printing : Printing) (restore : Bool) (due : Cycle) (heading : Ordinal)
+    → headed printing restore due ≡ Head heading → ((h : Ordinal) → due ≡ Head h → ⊥) → heading ≡ First
+headed-first printing restore due heading = by (prints printing due && restore)
+  where
+    by : (first : Bool) → (if first then Head First else due) ≡ Head heading → ((h : Ordinal) → due ≡ Head h → ⊥)
+        → heading ≡ First
+    by true same never = cc
+    by false same never = absurd (never heading same)
 
-due-on_page : (last : Option Cycle) (prints restore more : Bool) (page : ℕ)
-    → cycle_after last prints restore more ≡ Some Card → prints ≡ true
-    → (restore ≡ false → 1 ≤ page) → ((heading : Heading) → last ≡ Some (Head heading) → 1 ≤ page) → 1 ≤ page
-due-on_page None prints restore true page due is reset heads = cc
-due-on_page None prints restore false page due is reset heads = cc
-due-on_page (Some RunIn) prints restore more page due is reset heads = reset (card_due-reset prints restore (cc) is)
-due-on_page (Some Card) prints restore true page due is reset heads = reset (card_due-reset prints restore (cc) is)
-due-on_page (Some Card) prints restore false page due is reset heads = cc
-due-on_page (Some (Head heading)) prints restore more page due is reset heads = heads heading refl
+behind-first : (program : ProgramState) (done : Option Level) (restore more : Bool) (heading : Ordinal)
+    → behind program done restore more ≡ Some (Head heading) → heading ≡ First
+behind-first program done restore more heading = by (has_level_left program done more) more
+  where
+    by : (left card : Bool)
+        → (if left
+        then Some (Prog (level_above done) First)
+        else if card then Some (headed program.printing restore Card) else None)
+        ≡ Some (Head heading)
+        → heading ≡ First
+    by true card due = cc
+    by false true due =
+        headed-first program.printing restore Card heading
+        (same_some (headed program.printing restore Card) (Head heading) due) (λ h same. cc)
+    by false false due = cc
 
--- only a heading cycle comes before the second and the third one
-due-in_heads : (last : Option Cycle) (prints restore more : Bool) (cycle : Cycle) (page : ℕ)
-    → cycle_after last prints restore more ≡ Some cycle
-    → ((heading : Heading) → last ≡ Some (Head heading) → 1 ≤ page)
-    → (heading : Heading) → cycle ≡ Head heading → (1 ≤ page) ⊎ (heading ≡ First)
-due-in_heads None prints restore true cycle page due heads heading is = cc
-due-in_heads None prints restore false cycle page due heads heading is = cc
-due-in_heads (Some (Head before)) prints restore more cycle page due heads heading is = inl (heads before refl)
-due-in_heads (Some RunIn) true true more cycle page due heads heading is = inr cc
-due-in_heads (Some RunIn) true false more cycle page due heads heading is = cc
-due-in_heads (Some RunIn) false restore more cycle page due heads heading is = cc
-due-in_heads (Some Card) true true true cycle page due heads heading is = inr cc
-due-in_heads (Some Card) true false true cycle page due heads heading is = cc
-due-in_heads (Some Card) false restore true cycle page due heads heading is = cc
-due-in_heads (Some Card) prints restore false cycle page due heads heading is = cc
+due-heading : (program : ProgramState) (stage : Stage) (restore more : Bool) (heading : Ordinal)
+    → cycle_behind program stage restore more ≡ Some (Head heading) → (heading ≡ First) ⊎ (is_heading stage ≡ true)
+due-heading program Fresh restore true heading due = cc
+due-heading program Fresh restore false heading due = cc
+due-heading program RanIn restore more heading due =
+    inl (headed-first program.printing restore Card heading
+    (same_some (headed program.printing restore Card) (Head heading) due) (λ h same. cc))
+due-heading program RanCard restore more heading due = inl (behind-first program None restore more heading due)
+due-heading program (RanProg level First) restore more heading due = cc
+due-heading program (RanProg level Second) restore more heading due =
+    inl (headed-first program.printing restore (Prog level Third) heading
+    (same_some (headed program.printing restore (Prog level Third)) (Head heading) due) (λ h same. cc))
+due-heading program (RanProg level Third) restore more heading due =
+    inl (behind-first program (Some level) restore more heading due)
+due-heading program (BeforeCard before) restore more heading due = inr refl
+due-heading program (BeforeTotal level before) restore more heading due = inr refl
 
--- What a cycle's end keeps of the carriage.
-record Carries (old new : Carriage) : Type 0 where
-  tape : new.tape ≡ old.tape
-  prints : new.prints_cards ≡ old.prints_cards
-  page_from : old.page ≤ new.page
-  page_to : new.page ≤ old.page + 1
-  latch : new.latch ≡ false → (old.latch ≡ false) ⊎ (1 ≤ new.page)
+-- heading cycles alone lead to a stage of heading cycles
+heading-ended : (stage : Stage) (cycle : Cycle) → is_heading (stage_ended stage cycle) ≡ true
+    → (heading : Ordinal) × (cycle ≡ Head heading)
+heading-ended stage RunIn is = cc
+heading-ended stage Card is = cc
+heading-ended stage (Prog level ordinal) is = cc
+heading-ended stage (Head heading) is = (heading, refl)
 
-if-carries : (old : Carriage) (test : Bool) (one other : Carriage) → Carries old one → Carries old other
-    → Carries old (if test then one else other)
-if-carries old true one other first second = first
-if-carries old false one other first second = second
+-- What holds of a machine all through a run, with so many cycles to follow.
+record IsSound (form : Form) (machine : MachineState) (left : ℕ) : Type 0 where
+  form_is : machine.carriage.form ≡ form
+  printing : machine.carriage.printing ≡ machine.program.printing
+  inside : machine.carriage.spot.line ≤ form.lines
+  asks : AsksLines machine.carriage.asked.lines
+  on_page : machine.carriage.spot.latch ≡ false → 1 ≤ machine.carriage.spot.page
+  in_heads : is_heading machine.program.stage ≡ true → 1 ≤ machine.carriage.spot.page
+  few : machine.carriage.spot.page + left ≤ 2 ^ 32
 
-at_rest-carries : (old : Carriage) → Carries old (at_rest old)
-at_rest-carries old = record {
-  tape = refl;
-  prints = refl;
-  page_from = omega arith;
-  page_to = omega arith;
-  latch = λ is. inl is;
-}
+-- the cards move on by themselves
+taken-carriage : (cycle : Cycle) (fed : Fed) → (taken cycle fed).machine.carriage ≡ fed.machine.carriage
+taken-carriage RunIn fed = refl
+taken-carriage Card fed = refl
+taken-carriage (Prog level ordinal) fed = refl
+taken-carriage (Head heading) fed = refl
 
-reset_or : (latch on_line : Bool) → latch || on_line ≡ false → latch ≡ false
-reset_or true on_line is = cc
-reset_or false on_line is = refl
+taken-program : (cycle : Cycle) (fed : Fed) → (taken cycle fed).machine.program ≡ fed.machine.program
+taken-program RunIn fed = refl
+taken-program Card fed = refl
+taken-program (Prog level ordinal) fed = refl
+taken-program (Head heading) fed = refl
 
-placed_at-carries : (old : Carriage) (page line : ℕ) → old.page ≤ page → page ≤ old.page + 1
-    → Carries old (placed_at page line old)
-placed_at-carries old page line from to = record {
-  tape = refl;
-  prints = refl;
-  page_from = from;
-  page_to = to;
-  latch = λ is. inl (reset_or old.latch (line == old.tape.overflow) is);
-}
+module _ (form : Form) (is_form : IsForm form) (old new : MachineState) (at_end : CarriageState) (cycle : Cycle) (more : Bool)
+    (left : ℕ) (sound : IsSound form old (suc left))
+    (due : cycle_behind old.program old.program.stage old.carriage.spot.latch more ≡ Some cycle)
+    (kept : KeepsCarriage old.carriage at_end) (is_new : new.carriage ≡ carriage_ended at_end cycle)
+    (printing : new.program.printing ≡ old.program.printing) (stage : new.program.stage ≡ stage_ended old.program.stage cycle)
+  where
+    form_kept : at_end.form ≡ form
+    form_kept = kept.form ∙ sound.form_is
 
-restored-carries : (old : Carriage) → old.page < 2 ^ 32 → Carries old (restored old)
-restored-carries old below =
-    let up = next_page-up old.page below in
+    page_kept : at_end.spot.page ≡ old.carriage.spot.page
+    page_kept = ap (λ s. s.page) kept.spot
+
+    line_kept : at_end.spot.line ≡ old.carriage.spot.line
+    line_kept = ap (λ s. s.line) kept.spot
+
+    lines_kept : at_end.form.lines ≡ form.lines
+    lines_kept = ap (λ (f : Form). f.lines) form_kept
+
+    prints_on_page : prints at_end.printing cycle ≡ true → (cycle ≡ Head First) ⊎ (1 ≤ at_end.spot.page)
+    prints_on_page on =
+        ⊎_elim (λ (is : cycle ≡ Head First). inl is) (λ (page : 1 ≤ old.carriage.spot.page). inr (omega (arith, page, page_kept)))
+        (due-on_page old.program old.program.stage old.carriage.spot.latch more cycle old.carriage.spot.page due sound.on_page
+        sound.in_heads
+        (ap (λ (p : Printing). prints p cycle) (sym sound.printing) ∙ ap (λ (p : Printing). prints p cycle) (sym kept.printing) ∙ on))
+
+    ended : Ended cycle at_end new.carriage
+    ended =
+        let few = sound.few in
+        let inside = sound.inside in
+        subst (λ (c : CarriageState). Ended cycle at_end c) (sym is_new)
+        (carriage_ended-ends at_end cycle (subst IsForm (sym form_kept) is_form) (kept.lines sound.asks)
+        (omega (arith, inside, line_kept, lines_kept)) (omega (arith, few, page_kept)) prints_on_page)
+
+    heads : is_heading new.program.stage ≡ true → 1 ≤ new.carriage.spot.page
+    heads is =
+        let heading = heading-ended old.program.stage cycle (ap is_heading (sym stage) ∙ is) in
+        let from = ended.moves.page_from in
+        ⊎_elim
+        (λ (first : heading.0 ≡ First).
+        let turned = ended.turned (heading.1 ∙ ap (λ (h : Ordinal). Head h) first) in omega (arith, turned))
+        (λ (heads : is_heading old.program.stage ≡ true).
+        let page = sound.in_heads heads in omega (arith, page, from, page_kept))
+        (due-heading old.program old.program.stage old.carriage.spot.latch more heading.0 (due ∙ ap Some heading.1))
+
+    sound-after : IsSound form new left
+    sound-after =
+        let few = sound.few in
+        let from = ended.moves.page_from in
+        let to = ended.moves.page_to in
+        let asks : new.carriage.asked.lines ≡ 1 = ap (λ (c : CarriageState). c.asked.lines) is_new in
+        record {
+          form_is = ap (λ (c : CarriageState). c.form) is_new ∙ form_kept;
+          printing =
+              ap (λ (c : CarriageState). c.printing) is_new ∙ kept.printing ∙ sound.printing ∙ sym printing;
+          inside = let inside = ended.moves.inside in omega (arith, inside, lines_kept);
+          asks = record { from = omega (arith, asks); to = omega (arith, asks) };
+          on_page = λ reset.
+              ⊎_elim
+              (λ (is : at_end.spot.latch ≡ false).
+              let page = sound.on_page (sym (ap (λ s. s.latch) kept.spot) ∙ is) in omega (arith, page, from, page_kept))
+              (λ (page : 1 ≤ new.carriage.spot.page). page)
+              (ended.moves.latch reset);
+          in_heads = heads;
+          few = omega (arith, few, to, page_kept);
+        }
+
+    places-before : (others : List PlacedLine)
+        → FollowInOrder form.lines new.carriage.spot.page new.carriage.spot.line others
+        → FollowInOrder form.lines old.carriage.spot.page old.carriage.spot.line (line_of new ++ others)
+    places-before others follow =
+        subst
+        (λ (f : Form). FollowInOrder f.lines new.carriage.spot.page new.carriage.spot.line others
+        → FollowInOrder f.lines old.carriage.spot.page old.carriage.spot.line (line_of new ++ others))
+        form_kept
+        (λ own.
+        subst (λ s. FollowInOrder at_end.form.lines s.page s.line (line_of new ++ others)) kept.spot
+        (ended.places new.wheels.line others own))
+        follow
+
+-- One cycle of a feed: the machine is sound behind it, and the lines that follow it follow its own.
+record StepsSoundly (form : Form) (old new : MachineState) (left : ℕ) : Type 0 where
+  sound : IsSound form new left
+  places :
+      (others : List PlacedLine) → FollowInOrder form.lines new.carriage.spot.page new.carriage.spot.line others
+      → FollowInOrder form.lines old.carriage.spot.page old.carriage.spot.line (line_of new ++ others)
+
+FeedStep-sound : (wiring : Wiring) (form : Form) → IsForm form → (cycle : Cycle) (old new : Fed) (left : ℕ)
+    → IsSound form old.machine (suc left) → FeedStep wiring cycle old new → StepsSoundly form old.machine new.machine left
+FeedStep-sound wiring form is_form cycle old new left sound step =
+    let going = due_in-going old cycle step.due in
+    let ends = CycleRun-ends wiring cycle (taken cycle old).machine new.machine step.ran in
+    let kept : KeepsCarriage old.machine.carriage ends.at_end =
+    subst (λ (c : CarriageState). KeepsCarriage c ends.at_end) (taken-carriage cycle old) ends.kept in
+    let printing : new.machine.program.printing ≡ old.machine.program.printing =
+    ends.printing ∙ ap (λ (p : ProgramState). p.printing) (taken-program cycle old) in
+    let stage : new.machine.program.stage ≡ stage_ended old.machine.program.stage cycle =
+    ends.order.stage ∙ ap (λ (p : ProgramState). stage_ended p.stage cycle) (taken-program cycle old) in
     record {
-      tape = refl;
-      prints = refl;
-      page_from = omega arith;
-      page_to = omega arith;
-      latch = λ is. inr (omega arith);
+      sound = sound-after form is_form old.machine new.machine ends.at_end cycle (has_more old.machine) left sound going.due kept
+          ends.carriage printing stage;
+      places = places-before form is_form old.machine new.machine ends.at_end cycle (has_more old.machine) left sound going.due
+          kept ends.carriage printing stage;
     }
 
-advanced-carries : (old : Carriage) → old.page < 2 ^ 32 → Carries old (advanced old)
-advanced-carries old below =
-    let up = next_page-up old.page below in
-    if-carries old (nat_lt old.line old.tape.lines) (placed_at old.page (old.line + 1) old) (placed_at (next_page old.page) 1 old)
-    (placed_at-carries old old.page (old.line + 1) (omega arith) (omega arith))
-    (placed_at-carries old (next_page old.page) 1 (omega arith) (omega arith))
+-- a feed, with so many cycles behind it
+FeedRuns-sound : (wiring : Wiring) (form : Form) → IsForm form
+    → (cycles : List Cycle) (fed : Fed) (new : MachineState) (lines : List PlacedLine) (left : ℕ)
+    → IsSound form fed.machine (length cycles + left) → FeedRuns wiring cycles fed new lines
+    → IsSound form new left
+unfolding FeedRuns
+FeedRuns-sound wiring form is_form [] fed new lines left sound (due, is_new, none) = rw is_new (fewer sound)
+  where
+    fewer : IsSound form fed.machine (0 + left) → IsSound form fed.machine left
+    fewer s = subst (λ (n : ℕ). IsSound form fed.machine n) (omega arith) s
+FeedRuns-sound wiring form is_form (cycle ∷ cycles) fed new lines left sound (mid, others, step, run, is) =
+    FeedRuns-sound wiring form is_form cycles mid new others left
+    (FeedStep-sound wiring form is_form cycle fed mid (length cycles + left)
+    (subst (λ (n : ℕ). IsSound form fed.machine n) (omega arith) sound) step).sound
+    run
 
-carriage_ended-carries : (cycle : Cycle) (old : Carriage) → old.page < 2 ^ 32 → Carries old (carriage_ended old cycle)
-carriage_ended-carries RunIn old below = at_rest-carries old
-carriage_ended-carries Card old below =
-    if-carries old old.prints_cards (advanced old) (at_rest old) (advanced-carries old below) (at_rest-carries old)
-carriage_ended-carries (Head First) old below = restored-carries old below
-carriage_ended-carries (Head Second) old below = at_rest-carries old
-carriage_ended-carries (Head Third) old below = at_rest-carries old
+FeedRuns-places : (wiring : Wiring) (form : Form) → IsForm form
+    → (cycles : List Cycle) (fed : Fed) (new : MachineState) (lines others : List PlacedLine) (left : ℕ)
+    → IsSound form fed.machine (length cycles + left) → FeedRuns wiring cycles fed new lines
+    → FollowInOrder form.lines new.carriage.spot.page new.carriage.spot.line others
+    → FollowInOrder form.lines fed.machine.carriage.spot.page fed.machine.carriage.spot.line (lines ++ others)
+unfolding FeedRuns
+FeedRuns-places wiring form is_form [] fed new lines others left sound (due, is_new, none) follow =
+    rw none
+    (subst (λ (m : MachineState). FollowInOrder form.lines m.carriage.spot.page m.carriage.spot.line others) is_new follow)
+FeedRuns-places wiring form is_form (cycle ∷ cycles) fed new lines others left sound (mid, rest, step, run, is) follow =
+    let steps = FeedStep-sound wiring form is_form cycle fed mid (length cycles + left)
+    (subst (λ (n : ℕ). IsSound form fed.machine n) (omega arith) sound) step in
+    subst
+    (λ (l : List PlacedLine). FollowInOrder form.lines fed.machine.carriage.spot.page fed.machine.carriage.spot.line l)
+    (sym (append_assoc (line_of mid.machine) rest others) ∙ ap (λ (l : List PlacedLine). l ++ others) (sym is))
+    (steps.places (rest ++ others)
+    (FeedRuns-places wiring form is_form cycles mid new rest others left steps.sound run follow))
 
--- the first heading cycle begins a page
-first-on_page : (cycle : Cycle) (old : Carriage) → old.page < 2 ^ 32 → (1 ≤ old.page) ⊎ (cycle ≡ Head First)
-    → 1 ≤ (carriage_ended old cycle).page
-first-on_page cycle old below (inl from) =
-    let carried = carriage_ended-carries cycle old below in omega (arith, carried.page_from)
-first-on_page cycle old below (inr is) =
-    let up = next_page-up old.page below in
-    subst (λ (c : Cycle). 1 ≤ (carriage_ended old c).page) (sym is) (omega arith)
+begun-sound : (form : Form) (machine : MachineState) (next : Option (List ℕ)) (left : ℕ)
+    → IsSound form machine left → IsSound form (begun machine next).machine left
+begun-sound form machine next left sound = by (is_fresh machine.program.stage)
+  where
+    by : (fresh : Bool)
+        → (λ (f : Fed). IsSound form f.machine left)
+        (if fresh
+        then record { machine = moved_on next machine; waits = false; next = next }
+        else record { machine = machine; waits = true; next = next })
+    by true = record {
+      form_is = sound.form_is;
+      printing = sound.printing;
+      inside = sound.inside;
+      asks = sound.asks;
+      on_page = sound.on_page;
+      in_heads = sound.in_heads;
+      few = sound.few;
+    }
+    by false = sound
 
--- the machine before a cycle with work left, and after it
-abbrev Sound : ℕ → Machine → ℕ → Type 0
-Sound form_lines machine work = IsSound form_lines machine.program.last machine.program.prints_cards machine.carriage work
-
-module _ (wiring : Wiring) (form_lines : ℕ) (old : Machine) (cards : List (List ℕ)) (new : Machine) (left : List (List ℕ))
-    (step : RunsCycle wiring old cards new left) (sound : Sound form_lines old (work old cards)) where
-  below : old.carriage.page < 2 ^ 32
-  below =
-      let falls = RunsCycle-work wiring old cards new left step in
-      omega (arith, sound.few, falls)
-
-  carried : Carries old.carriage (carriage_ended old.carriage step.cycle)
-  carried = carriage_ended-carries step.cycle old.carriage below
-
-  in_heads-after : (heading : Heading) → Some step.cycle ≡ Some (Head heading)
-      → 1 ≤ (carriage_ended old.carriage step.cycle).page
-  in_heads-after heading is =
-      first-on_page step.cycle old.carriage below
-      (⊎_elim (λ (from : 1 ≤ old.carriage.page). inl from) (λ (first : heading ≡ First). inr (cc))
-      (due-in_heads old.program.last old.program.prints_cards old.carriage.latch (is_some old.stations.first) step.cycle
-      old.carriage.page step.due sound.in_heads heading (cc)))
-
-  sound-after : Sound form_lines new (work new left)
-  sound-after =
-      let units = RunsCycle-units wiring old cards new left step in
-      let falls = RunsCycle-work wiring old cards new left step in
-      let last : new.program.last ≡ Some step.cycle = ap (λ (p : Program). p.last) units.program in
-      let prints : new.program.prints_cards ≡ old.program.prints_cards = ap (λ (p : Program). p.prints_cards) units.program in
-      let page : new.carriage.page ≡ (carriage_ended old.carriage step.cycle).page = ap (λ (c : Carriage). c.page) units.carriage in
-      record {
-        lines = ap (λ (c : Carriage). c.tape.lines) units.carriage ∙ ap (λ t. t.lines) carried.tape ∙ sound.lines;
-        same_prints =
-            ap (λ (c : Carriage). c.prints_cards) units.carriage ∙ carried.prints ∙ sound.same_prints ∙ sym prints;
-        on_page = λ is.
-            ⊎_elim (λ (reset : old.carriage.latch ≡ false). let from = sound.on_page reset in omega (arith, from, page, carried.page_from))
-            (λ (from : 1 ≤ (carriage_ended old.carriage step.cycle).page). omega (arith, from, page))
-            (carried.latch (sym (ap (λ (c : Carriage). c.latch) units.carriage) ∙ is));
-        in_heads = λ heading is. let from = in_heads-after heading (sym last ∙ is) in omega (arith, from, page);
-        few = omega (arith, page, carried.page_to, sound.few, falls);
-      }
-
-  -- the lines that follow a cycle follow its own
-  places-before : 1 ≤ form_lines → (others : List PlacedLine)
-      → FollowInOrder form_lines new.carriage.page new.carriage.line others
-      → FollowInOrder form_lines old.carriage.page old.carriage.line (line_of new ++ others)
-  places-before some others =
-      let units = RunsCycle-units wiring old cards new left step in
-      let places = carriage_ended-places step.cycle form_lines new.wheels.line others old.carriage sound.lines some on_page below in
-      rw units.carriage places
-    where
-      on_page : OnPage step.cycle old.carriage
-      on_page is_card prints =
-          due-on_page old.program.last old.program.prints_cards old.carriage.latch (is_some old.stations.first) old.carriage.page
-          (step.due ∙ ap Some is_card) (sym sound.same_prints ∙ prints) sound.on_page sound.in_heads
+begun-places : (form : Form) (machine : MachineState) (next : Option (List ℕ)) (lines : List PlacedLine)
+    → FollowInOrder form.lines (begun machine next).machine.carriage.spot.page (begun machine next).machine.carriage.spot.line lines
+    → FollowInOrder form.lines machine.carriage.spot.page machine.carriage.spot.line lines
+begun-places form machine next lines =
+    subst
+    (λ (c : CarriageState). FollowInOrder form.lines c.spot.page c.spot.line lines
+    → FollowInOrder form.lines machine.carriage.spot.page machine.carriage.spot.line lines)
+    (sym (by (is_fresh machine.program.stage))) (λ follow. follow)
+  where
+    by : (fresh : Bool)
+        → (λ (f : Fed). f.machine.carriage ≡ machine.carriage)
+        (if fresh
+        then record { machine = moved_on next machine; waits = false; next = next }
+        else record { machine = machine; waits = true; next = next })
+    by true = refl
+    by false = refl
 
 -- the lines of a run follow the place of the carriage
-Runs-in_order : (wiring : Wiring) (form_lines : ℕ) → 1 ≤ form_lines
-    → (cycles : ℕ) (machine : Machine) (cards : List (List ℕ)) (lines : List PlacedLine)
-    → Sound form_lines machine (work machine cards) → Runs wiring cycles machine cards lines
-    → FollowInOrder form_lines machine.carriage.page machine.carriage.line lines
-unfolding Runs
-Runs-in_order wiring form_lines some zero machine cards lines sound (due, is_end) = rw is_end tt
-Runs-in_order wiring form_lines some (suc cycles) machine cards lines sound (new, left, others, step, placed, run) =
-    rw placed
-    (places-before wiring form_lines machine cards new left step sound some others
-    (Runs-in_order wiring form_lines some cycles new left others (sound-after wiring form_lines machine cards new left step sound) run))
+LinesFrom-in_order : (wiring : Wiring) (form : Form) → IsForm form
+    → (old : MachineState) (cards : List (List ℕ)) (lines : List PlacedLine) (run : LinesFrom wiring old cards lines)
+    → IsSound form old (length (cycles_from wiring old cards lines run))
+    → FollowInOrder form.lines old.carriage.spot.page old.carriage.spot.line lines
+unfolding LinesFrom cycles_from
+LinesFrom-in_order wiring form is_form old [] lines (new, feed) sound =
+    begun-places form old None lines
+    (subst
+    (λ (l : List PlacedLine). FollowInOrder form.lines (begun old None).machine.carriage.spot.page (begun old None).machine.carriage.spot.line l)
+    (append-nil lines)
+    (FeedRuns-places wiring form is_form feed.cycles (begun old None) new lines [] 0
+    (subst (λ (n : ℕ). IsSound form (begun old None).machine n) (omega arith)
+    (begun-sound form old None (length feed.cycles) sound)) feed.runs tt))
+LinesFrom-in_order wiring form is_form old (card ∷ cards) lines (new, first, others, feed, run, is) sound =
+    let after = length (cycles_from wiring new cards others run) in
+    let start : IsSound form (begun old (Some card)).machine (length feed.cycles + after) =
+    subst (λ (n : ℕ). IsSound form (begun old (Some card)).machine n)
+    (length-append feed.cycles (cycles_from wiring new cards others run))
+    (begun-sound form old (Some card) (length (feed.cycles ++ cycles_from wiring new cards others run)) sound) in
+    rw is
+    (begun-places form old (Some card) (first ++ others)
+    (FeedRuns-places wiring form is_form feed.cycles (begun old (Some card)) new first others after start feed.runs
+    (LinesFrom-in_order wiring form is_form new cards others run
+    (FeedRuns-sound wiring form is_form feed.cycles (begun old (Some card)) new first after start feed.runs))))
 
 -- a machine at the start of a run is sound
-start-sound : (wiring : Wiring) (cards : List (List ℕ)) → length cards ≤ 999999
-    → Sound wiring.tape.lines (machine_at_start wiring cards) (work (machine_at_start wiring cards) (cards_behind cards))
-start-sound wiring [] few = record {
-  lines = refl;
-  same_prints = refl;
-  on_page = λ is. cc;
-  in_heads = λ heading is. cc;
-  few = omega arith;
-}
-start-sound wiring (card ∷ cards) few = record {
-  lines = refl;
-  same_prints = refl;
-  on_page = λ is. cc;
-  in_heads = λ heading is. cc;
-  few = omega arith;
+start-sound : (wiring : Wiring) (left : ℕ) → IsForm wiring.tape → left ≤ 2 ^ 32
+    → IsSound wiring.tape (machine_at_start wiring) left
+start-sound wiring left is_form few = record {
+  form_is = refl;
+  printing = refl;
+  inside = omega arith;
+  asks = record { from = omega arith; to = omega arith };
+  on_page = λ reset. cc;
+  in_heads = λ heads. cc;
+  few = omega (arith, few);
 }
 
--- the lines of a run are in order, where the form has a line
+-- the lines of a run are in order
 pub MachineLines-in_order : (wiring : Wiring) (cards : List (List ℕ)) (lines : List PlacedLine)
-    → 1 ≤ wiring.tape.lines → length cards ≤ 999999 → MachineLines wiring cards lines
-    → IsInOrder wiring.tape.lines lines
-MachineLines-in_order wiring cards lines some few run =
-    Runs-in_order wiring wiring.tape.lines some run.cycles (machine_at_start wiring cards) (cards_behind cards) lines
-    (start-sound wiring cards few) run.runs
+    → IsForm wiring.tape → length cards ≤ 999999 → MachineLines wiring cards lines → IsInOrder wiring.tape.lines lines
+MachineLines-in_order wiring cards lines is_form short run =
+    let few = MachineLines-cycles wiring cards lines run in
+    LinesFrom-in_order wiring wiring.tape is_form (machine_at_start wiring) cards lines run
+    (start-sound wiring (length (cycles_of wiring cards lines run)) is_form (omega (arith, few, short)))

@@ -1,106 +1,185 @@
--- How many cycles a run can still have.
-use Rattle.std.proofs.Common.{◌≡◌, ℕ, zero, suc, ◌+◌, ◌*◌, ◌<◌, ◌≤◌, Bool, true, false, List, [], ◌∷◌, Option, Some, None, is_some, length, if◌then◌else◌, refl, ap, ◌∙◌, subst, arith}
-use Rattle.hubs.specs.Wiring.{Wiring}
+-- How many cycles a feed can still have.
+use Rattle.std.proofs.Common.{◌≡◌, ℕ, ◌+◌, ◌*◌, ◌-◌, ◌<◌, ◌≤◌, Bool, true, false, not, ◌&&◌, ◌||◌, nat_lt, Option, Some, None, if◌then◌else◌, refl, subst, arith}
+use Rattle.std.proofs.lemmas.Bool.Decides.{nat_tests}
+use Rattle.net.specs.Cycles.{level_number, ordinal_number}
+use Rattle.net.specs.Printing.{prints}
 use Rattle.net.specs.declared.cycle.Cycle.{Cycle}
-use Rattle.net.specs.declared.cycle.Cycle.TheVariants.{RunIn, Card, Head}
-use Rattle.net.specs.declared.cycle.Heading.TheVariants.{First, Second, Third}
-use Rattle.machine.specs.declared.machine.Machine.{Machine}
-use Rattle.machine.specs.declared.placed_line.PlacedLine.{PlacedLine}
-use Rattle.machine.specs.declared.program.Program.{Program}
-use Rattle.machine.specs.declared.stations.Stations.{Stations}
-use Rattle.machine.specs.CycleOrder.{cycle_after, card_due}
-use Rattle.machine.specs.Machine.{Runs, RunsCycle, MachineLines, machine_at_start, before_cycle, cards_left, cards_behind, next_card}
-use Rattle.machine.proofs.Cycles.{RunsCycle-units}
+use Rattle.net.specs.declared.cycle.Cycle.TheVariants.{RunIn, Card, Prog, Head}
+use Rattle.net.specs.declared.cycle.Level.{Level}
+use Rattle.net.specs.declared.cycle.Level.TheVariants.{Minor, Intermediate, Major, Final}
+use Rattle.net.specs.declared.cycle.Ordinal.TheVariants.{First, Second, Third}
+use Rattle.program_unit.specs.CycleOrder.{cycle_behind, behind, headed, levels_to, level_above, top_level, has_level_left, is_over_at}
+use Rattle.program_unit.specs.Program.{ProgramState, stage_ended}
+use Rattle.program_unit.specs.declared.stage.Stage.{Stage}
+use Rattle.program_unit.specs.declared.stage.Stage.TheVariants.{Fresh, RanIn, RanCard, RanProg, BeforeCard, BeforeTotal}
 
--- at most so many cycles follow the last one, with a card at first reading or none, and so many cards left in the deck
-abbrev pub work_after : Option Cycle → Bool → ℕ → ℕ
-work_after None more left = 4 * left + 5
-work_after (Some RunIn) more left = 4 * left + 4
-work_after (Some (Head First)) more left = 4 * left + 3
-work_after (Some (Head Second)) more left = 4 * left + 2
-work_after (Some (Head Third)) more left = 4 * left + 1
-work_after (Some Card) more left = if more then 4 * left + 4 else 0
+-- at most so many cycles follow a stage before the cycles of its card are over, where so many levels run in all
+abbrev pub left_of : Stage → ℕ → ℕ
+left_of Fresh top = 1
+left_of RanIn top = 0
+left_of RanCard top = 6 * top
+left_of (RanProg level First) top = 6 * (top - level_number level) + 5
+left_of (RanProg level Second) top = 6 * (top - level_number level) + 4
+left_of (RanProg level Third) top = 6 * (top - level_number level)
+left_of (BeforeCard heading) top = 0
+left_of (BeforeTotal level heading) top = 6 * (top - level_number level) + (4 - ordinal_number heading)
 
--- at most so many cycles follow
-abbrev pub work : Machine → List (List ℕ) → ℕ
-work machine cards = work_after machine.program.last (is_some machine.stations.first) (length cards)
+-- at most so many cycles belong to a card that waits: heading cycles that have run are not counted again
+abbrev pub left_before : Stage → ℕ
+left_before (BeforeCard heading) = 28 - ordinal_number heading
+left_before stage = 28
 
--- the card at first reading after a cycle
-abbrev first_after : Cycle → Option (List ℕ) → List (List ℕ) → Option (List ℕ)
-first_after RunIn first cards = first
-first_after Card first cards = next_card cards
-first_after (Head heading) first cards = first
+-- at most so many cycles follow in a feed
+abbrev pub left_in : Stage → ℕ → Bool → ℕ
+left_in stage top true = left_of stage top + left_before stage
+left_in stage top false = left_of stage top
 
-abbrev Falls : Option Cycle → Option (List ℕ) → List (List ℕ) → Cycle → Type 0
-Falls last first cards cycle =
-    work_after (Some cycle) (is_some (first_after cycle first cards)) (length (cards_left cycle cards))
-    < work_after last (is_some first) (length cards)
+-- how many levels run in all
+abbrev pub top_of : ProgramState → Bool → ℕ
+top_of program more = levels_to (top_level program more)
 
--- a card cycle leaves less work than there was before it
-card_falls : (cards : List (List ℕ)) (before : ℕ) → 4 * length cards + 1 ≤ before
-    → work_after (Some Card) (is_some (next_card cards)) (length (cards_behind cards)) < before
-card_falls [] before enough = omega arith
-card_falls (card ∷ cards) before enough = omega arith
+levels_to-four : (level : Option Level) → levels_to level ≤ 4
+levels_to-four None = omega arith
+levels_to-four (Some Minor) = omega arith
+levels_to-four (Some Intermediate) = omega arith
+levels_to-four (Some Major) = omega arith
+levels_to-four (Some Final) = omega arith
 
-due_falls : (last : Option Cycle) (first : Option (List ℕ)) (cards : List (List ℕ)) (prints restore : Bool) (cycle : Cycle)
-    → 4 * length cards + 4 ≤ work_after last (is_some first) (length cards)
-    → card_due prints restore ≡ cycle → Falls last first cards cycle
-due_falls last first cards true true cycle enough is =
-    subst (λ (c : Cycle). Falls last first cards c) is (omega arith)
-due_falls last first cards true false cycle enough is =
-    subst (λ (c : Cycle). Falls last first cards c) is (card_falls cards _ (omega arith))
-due_falls last first cards false restore cycle enough is =
-    subst (λ (c : Cycle). Falls last first cards c) is (card_falls cards _ (omega arith))
+pub top_of-four : (program : ProgramState) (more : Bool) → top_of program more ≤ 4
+top_of-four program more = levels_to-four (top_level program more)
 
-work_falls : (last : Option Cycle) (first : Option (List ℕ)) (cards : List (List ℕ)) (prints restore : Bool) (cycle : Cycle)
-    → cycle_after last prints restore (is_some first) ≡ Some cycle → Falls last first cards cycle
-work_falls None None cards prints restore cycle due = cc
-work_falls None (Some card) cards prints restore cycle due =
-    let is : RunIn ≡ cycle = cc in subst (λ (c : Cycle). Falls None (Some card) cards c) is (omega arith)
-work_falls (Some RunIn) first cards prints restore cycle due =
-    due_falls (Some RunIn) first cards prints restore cycle (omega arith) cc
-work_falls (Some Card) None cards prints restore cycle due = cc
-work_falls (Some Card) (Some card) cards prints restore cycle due =
-    due_falls (Some Card) (Some card) cards prints restore cycle (omega arith) cc
-work_falls (Some (Head First)) first cards prints restore cycle due =
-    let is : Head Second ≡ cycle = cc in subst (λ (c : Cycle). Falls (Some (Head First)) first cards c) is (omega arith)
-work_falls (Some (Head Second)) first cards prints restore cycle due =
-    let is : Head Third ≡ cycle = cc in subst (λ (c : Cycle). Falls (Some (Head Second)) first cards c) is (omega arith)
-work_falls (Some (Head Third)) first cards prints restore cycle due =
-    let is : Card ≡ cycle = cc in
-    subst (λ (c : Cycle). Falls (Some (Head Third)) first cards c) is (card_falls cards _ (omega arith))
+-- A cycle leaves less to follow. Behind a card cycle at most 24 cycles follow.
+abbrev Falls : Stage → ℕ → Bool → Cycle → Type 0
+Falls stage top waits Card = 24 < left_in stage top waits
+Falls stage top waits cycle = left_in (stage_ended stage cycle) top waits < left_in stage top waits
 
-before_cycle-first : (cycle : Cycle) (cards : List (List ℕ)) (old : Machine)
-    → (before_cycle cycle cards old).stations.first ≡ first_after cycle old.stations.first cards
-before_cycle-first RunIn cards old = refl
-before_cycle-first Card cards old = refl
-before_cycle-first (Head heading) cards old = refl
+-- a card cycle or its first heading cycle is due: something waits
+card-falls : (stage : Stage) (top : ℕ) (printing restore waits : Bool) (cycle : Cycle)
+    → waits ≡ true → left_before stage ≡ 28 → stage_ended stage (Head First) ≡ BeforeCard First
+    → (if printing && restore then Head First else Card) ≡ cycle → Falls stage top waits cycle
+card-falls stage top true true true cycle here fresh waiting is =
+    subst (λ (c : Cycle). Falls stage top true c) is (rw (waiting, fresh) (omega arith))
+card-falls stage top true false true cycle here fresh waiting is =
+    subst (λ (c : Cycle). Falls stage top true c) is (rw fresh (omega arith))
+card-falls stage top false restore true cycle here fresh waiting is =
+    subst (λ (c : Cycle). Falls stage top true c) is (rw fresh (omega arith))
+card-falls stage top printing restore false cycle here fresh waiting is = cc
 
--- each cycle leaves less work than there was before it
-pub RunsCycle-work : (wiring : Wiring) (old : Machine) (cards : List (List ℕ)) (new : Machine) (left : List (List ℕ))
-    → RunsCycle wiring old cards new left → work new left < work old cards
-RunsCycle-work wiring old cards new left step =
-    let units = RunsCycle-units wiring old cards new left step in
-    let last : new.program.last ≡ Some step.cycle = ap (λ (p : Program). p.last) units.program in
-    let first : new.stations.first ≡ first_after step.cycle old.stations.first cards =
-    ap (λ (s : Stations). s.first) units.stations ∙ before_cycle-first step.cycle cards old in
-    rw (last, first, step.is_left)
-    (work_falls old.program.last old.stations.first cards old.program.prints_cards old.carriage.latch step.cycle step.due)
+level_above-next : (done : Option Level) → levels_to done < 4 → level_number (level_above done) ≡ levels_to done + 1
+level_above-next None below = refl
+level_above-next (Some Minor) below = refl
+level_above-next (Some Intermediate) below = refl
+level_above-next (Some Major) below = refl
+level_above-next (Some Final) below = absurd (omega (arith, below))
 
--- a run has at most as many cycles as there is work at its start
-pub Runs-work : (wiring : Wiring) (cycles : ℕ) (machine : Machine) (cards : List (List ℕ)) (lines : List PlacedLine)
-    → Runs wiring cycles machine cards lines → cycles ≤ work machine cards
-unfolding Runs
-Runs-work wiring zero machine cards lines (due, is_end) = omega arith
-Runs-work wiring (suc cycles) machine cards lines (new, left, others, step, placed, run) =
-    let falls = RunsCycle-work wiring machine cards new left step in
-    let few = Runs-work wiring cycles new left others run in
-    omega (arith, falls, few)
+same_some : {X : Type 0} → (one other : X) → ◌≡◌ {A = Option X} (Some one) (Some other) → one ≡ other
+same_some one other same = cc
 
--- a run over a deck has at most four cycles for each card, and one
-pub MachineLines-cycles : (wiring : Wiring) (cards : List (List ℕ)) (lines : List PlacedLine)
-    → 1 ≤ length cards → (run : MachineLines wiring cards lines) → run.cycles ≤ 4 * length cards + 1
-MachineLines-cycles wiring [] lines some run = absurd (omega arith)
-MachineLines-cycles wiring (card ∷ cards) lines some run =
-    let few = Runs-work wiring run.cycles (machine_at_start wiring (card ∷ cards)) cards lines run.runs in
-    omega (arith, few)
+level-falls : (stage : Stage) (top : ℕ) (waits : Bool) (done : Option Level) → top ≤ 4 → levels_to done < top
+    → left_of stage top ≡ 6 * (top - levels_to done) → left_before stage ≡ 28
+    → Falls stage top waits (Prog (level_above done) First)
+level-falls stage top true done four below here fresh =
+    let next = level_above-next done (omega (arith, four, below)) in rw (next, here, fresh) (omega (arith, below))
+level-falls stage top false done four below here fresh =
+    let next = level_above-next done (omega (arith, four, below)) in rw (next, here) (omega (arith, below))
+
+below_top : (done top : ℕ) → nat_lt done top ≡ true → done < top
+below_top done top is = grind (arith, nat_tests)
+
+-- behind the cycles of a card, or of one of its levels
+behind-falls : (program : ProgramState) (stage : Stage) (done : Option Level) (restore more waits : Bool) (cycle : Cycle)
+    → left_of stage (top_of program more) ≡ 6 * (top_of program more - levels_to done) → left_before stage ≡ 28
+    → stage_ended stage (Head First) ≡ BeforeCard First
+    → behind program done restore more ≡ Some cycle → (waits || not (not (has_level_left program done more))) ≡ true
+    → Falls stage (top_of program more) waits cycle
+behind-falls program stage done restore more waits cycle here fresh waiting = by (has_level_left program done more) more refl
+  where
+    top : ℕ
+    top = top_of program more
+
+    by : (left card : Bool) → has_level_left program done more ≡ left
+        → (if left
+        then Some (Prog (level_above done) First)
+        else if card then Some (headed program.printing restore Card) else None)
+        ≡ Some cycle
+        → (waits || not (not left)) ≡ true → Falls stage top waits cycle
+    by true card is due going =
+        subst (λ (c : Cycle). Falls stage top waits c) (same_some (Prog (level_above done) First) cycle due)
+        (level-falls stage top waits done (top_of-four program more) (below_top (levels_to done) top is) here fresh)
+    by false true is due going = waiting_then waits going
+      where
+        waiting_then : (w : Bool) → (w || not (not false)) ≡ true → Falls stage top w cycle
+        waiting_then true go =
+            card-falls stage top (prints program.printing Card) restore true cycle refl fresh waiting
+            (same_some (headed program.printing restore Card) cycle due)
+        waiting_then false go = cc
+    by false false is due going = cc
+
+-- the third program cycle of a level is due, or its first heading cycle
+total-falls : (level : Level) (top : ℕ) (printing restore waits : Bool) (cycle : Cycle)
+    → (if printing && restore then Head First else Prog level Third) ≡ cycle
+    → Falls (RanProg level Second) top waits cycle
+total-falls level top true true true cycle is =
+    subst (λ (c : Cycle). Falls (RanProg level Second) top true c) is (omega arith)
+total-falls level top true true false cycle is =
+    subst (λ (c : Cycle). Falls (RanProg level Second) top false c) is (omega arith)
+total-falls level top true false true cycle is =
+    subst (λ (c : Cycle). Falls (RanProg level Second) top true c) is (omega arith)
+total-falls level top true false false cycle is =
+    subst (λ (c : Cycle). Falls (RanProg level Second) top false c) is (omega arith)
+total-falls level top false restore true cycle is =
+    subst (λ (c : Cycle). Falls (RanProg level Second) top true c) is (omega arith)
+total-falls level top false restore false cycle is =
+    subst (λ (c : Cycle). Falls (RanProg level Second) top false c) is (omega arith)
+
+-- each cycle that is due leaves less to follow
+pub work-falls : (program : ProgramState) (stage : Stage) (restore more waits : Bool) (cycle : Cycle)
+    → cycle_behind program stage restore more ≡ Some cycle → (waits || not (is_over_at program stage more)) ≡ true
+    → Falls stage (top_of program more) waits cycle
+work-falls program Fresh restore true true cycle due going =
+    subst (λ (c : Cycle). Falls Fresh (top_of program true) true c) (same_some RunIn cycle due) (omega arith)
+work-falls program Fresh restore true false cycle due going =
+    subst (λ (c : Cycle). Falls Fresh (top_of program true) false c) (same_some RunIn cycle due) (omega arith)
+work-falls program Fresh restore false waits cycle due going = cc
+work-falls program RanIn restore more true cycle due going =
+    card-falls RanIn (top_of program more) (prints program.printing Card) restore true cycle refl refl refl
+    (same_some (headed program.printing restore Card) cycle due)
+work-falls program RanIn restore more false cycle due going = cc
+work-falls program RanCard restore more waits cycle due going =
+    behind-falls program RanCard None restore more waits cycle (omega arith) refl refl due going
+work-falls program (RanProg level First) restore more true cycle due going =
+    subst (λ (c : Cycle). Falls (RanProg level First) (top_of program more) true c) (same_some (Prog level Second) cycle due)
+    (omega arith)
+work-falls program (RanProg level First) restore more false cycle due going =
+    subst (λ (c : Cycle). Falls (RanProg level First) (top_of program more) false c) (same_some (Prog level Second) cycle due)
+    (omega arith)
+work-falls program (RanProg level Second) restore more waits cycle due going =
+    total-falls level (top_of program more) (prints program.printing (Prog level Third)) restore waits cycle
+    (same_some (headed program.printing restore (Prog level Third)) cycle due)
+work-falls program (RanProg level Third) restore more waits cycle due going =
+    behind-falls program (RanProg level Third) (Some level) restore more waits cycle refl refl refl due going
+work-falls program (BeforeCard heading) restore more false cycle due going = cc
+work-falls program (BeforeCard First) restore more true cycle due going =
+    subst (λ (c : Cycle). Falls (BeforeCard First) (top_of program more) true c) (same_some (Head Second) cycle due) (omega arith)
+work-falls program (BeforeCard Second) restore more true cycle due going =
+    subst (λ (c : Cycle). Falls (BeforeCard Second) (top_of program more) true c) (same_some (Head Third) cycle due) (omega arith)
+work-falls program (BeforeCard Third) restore more true cycle due going =
+    subst (λ (c : Cycle). Falls (BeforeCard Third) (top_of program more) true c) (same_some Card cycle due) (omega arith)
+work-falls program (BeforeTotal level First) restore more true cycle due going =
+    subst (λ (c : Cycle). Falls (BeforeTotal level First) (top_of program more) true c) (same_some (Head Second) cycle due)
+    (omega arith)
+work-falls program (BeforeTotal level First) restore more false cycle due going =
+    subst (λ (c : Cycle). Falls (BeforeTotal level First) (top_of program more) false c) (same_some (Head Second) cycle due)
+    (omega arith)
+work-falls program (BeforeTotal level Second) restore more true cycle due going =
+    subst (λ (c : Cycle). Falls (BeforeTotal level Second) (top_of program more) true c) (same_some (Head Third) cycle due)
+    (omega arith)
+work-falls program (BeforeTotal level Second) restore more false cycle due going =
+    subst (λ (c : Cycle). Falls (BeforeTotal level Second) (top_of program more) false c) (same_some (Head Third) cycle due)
+    (omega arith)
+work-falls program (BeforeTotal level Third) restore more true cycle due going =
+    subst (λ (c : Cycle). Falls (BeforeTotal level Third) (top_of program more) true c) (same_some (Prog level Third) cycle due)
+    (omega arith)
+work-falls program (BeforeTotal level Third) restore more false cycle due going =
+    subst (λ (c : Cycle). Falls (BeforeTotal level Third) (top_of program more) false c) (same_some (Prog level Third) cycle due)
+    (omega arith)

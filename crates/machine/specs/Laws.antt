@@ -1,33 +1,56 @@
 -- Laws of whole runs, for every setup of the panel and every deck.
-use Rattle.std.specs.Prelude.{◌≡◌, ℕ, ◌+◌, ◌*◌, ◌≤◌, List, length}
-use Rattle.hubs.specs.Wiring.{Wiring}
-use Rattle.machine.specs.declared.machine.Machine.{Machine}
-use Rattle.machine.specs.declared.placed_line.PlacedLine.{PlacedLine}
-use Rattle.machine.specs.InOrder.{IsInOrder}
-use Rattle.machine.specs.Machine.{MachineLines, RunsCycle}
+use Rattle.std.specs.Prelude.{◌≡◌, ℕ, ◌+◌, ◌*◌, ◌≤◌, List, [], ◌∷◌, ◌++◌, length}
+use Rattle.carriage.specs.InOrder.{IsInOrder}
+use Rattle.carriage.specs.declared.placed_line.PlacedLine.{PlacedLine}
+use Rattle.hubs.specs.Tapes.{IsForm}
+use Rattle.hubs.specs.Wiring.{Wiring, SameWires, SameJacks}
+use Rattle.net.specs.declared.cycle.Cycle.{Cycle}
+use Rattle.machine.specs.Feeds.{Fed, FeedStep, LinesFrom, MachineLines}
+use Rattle.machine.specs.Machine.{MachineState, machine_at_start}
 
--- The lines of a run come in the order of their places, on pages 1 to 2^32 and lines of the form, where the form has lines
--- and the deck at most 999,999 cards.
-abbrev pub LinesComeInOrder : Type 0
-LinesComeInOrder =
-    (wiring : Wiring) (cards : List (List ℕ)) (lines : List PlacedLine)
-    → 1 ≤ wiring.tape.lines → length cards ≤ 999999 → MachineLines wiring cards lines → IsInOrder wiring.tape.lines lines
+-- all cycles of a run, feed by feed
+unfoldable pub cycles_from :
+    (wiring : Wiring) (old : MachineState) (cards : List (List ℕ)) (lines : List PlacedLine)
+    → LinesFrom wiring old cards lines → List Cycle
+unfolding LinesFrom
+cycles_from wiring old [] lines (new, feed) = feed.cycles
+cycles_from wiring old (card ∷ cards) lines (new, first, others, feed, run, is) =
+    feed.cycles ++ cycles_from wiring new cards others run
 
--- A run over n cards, n at least 1, has at most 4 n + 1 cycles: the run-in, and for each card its own cycle and three
--- heading cycles at most.
+-- all cycles of a run over a deck
+abbrev pub cycles_of : (wiring : Wiring) (cards : List (List ℕ)) (lines : List PlacedLine) → MachineLines wiring cards lines → List Cycle
+cycles_of wiring cards lines run = cycles_from wiring (machine_at_start wiring) cards lines run
+
+-- A run over n cards has at most 28 n + 1 cycles: the run-in, and for each card its own cycle, three program cycles for each of
+-- four levels, and three heading cycles before each of the five that can print.
 abbrev pub RunsHaveFewCycles : Type 0
 RunsHaveFewCycles =
     (wiring : Wiring) (cards : List (List ℕ)) (lines : List PlacedLine)
-    → 1 ≤ length cards → (run : MachineLines wiring cards lines) → run.cycles ≤ 4 * length cards + 1
+    → (run : MachineLines wiring cards lines)
+    → length (cycles_of wiring cards lines run) ≤ 28 * length cards + 1
 
--- At most one cycle follows, and it leaves one machine and one rest of the deck.
+-- The lines of a run come in the order of their places, on pages 1 to 2^32 and lines of the form, where the deck has at most
+-- 999,999 cards.
+abbrev pub LinesComeInOrder : Type 0
+LinesComeInOrder =
+    (wiring : Wiring) (cards : List (List ℕ)) (lines : List PlacedLine)
+    → IsForm wiring.tape → length cards ≤ 999999 → MachineLines wiring cards lines → IsInOrder wiring.tape.lines lines
+
+-- At most one cycle follows in a feed, and it leaves one machine.
 abbrev pub OneCycleFollows : Type 0
 OneCycleFollows =
-    (wiring : Wiring) (old : Machine) (cards : List (List ℕ)) (one other : Machine) (left rest : List (List ℕ))
-    → RunsCycle wiring old cards one left → RunsCycle wiring old cards other rest → (one ≡ other) × (left ≡ rest)
+    (wiring : Wiring) (old one other : Fed) (cycle also : Cycle)
+    → FeedStep wiring cycle old one → FeedStep wiring also old other → (cycle ≡ also) × (one ≡ other)
 
 -- A setup and a deck have one list of lines at most.
 abbrev pub RunsHaveOneOutcome : Type 0
 RunsHaveOneOutcome =
     (wiring : Wiring) (cards : List (List ℕ)) (one other : List PlacedLine)
     → MachineLines wiring cards one → MachineLines wiring cards other → one ≡ other
+
+-- Setups with the same wires, jacks and tape have the same lines.
+abbrev pub SameSetupsPrintAlike : Type 0
+SameSetupsPrintAlike =
+    (one other : Wiring) (cards : List (List ℕ)) (lines : List PlacedLine)
+    → SameWires one other → SameJacks one other → one.tape ≡ other.tape
+    → MachineLines one cards lines → MachineLines other cards lines

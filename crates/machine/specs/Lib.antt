@@ -1,8 +1,9 @@
-pub mod Points
-pub mod Stations
-pub mod Wheels
-pub mod Carriage
-pub mod CycleOrder
 pub mod Machine
-pub mod InOrder
+pub mod Cycles
+pub mod Feeds
 pub mod Laws
+pub mod Running
+pub mod Fields
+pub mod Ends
+pub mod Steady
+pub mod Gains

@@ -1,137 +1,114 @@
-//! The machine: its units, composed.
+//! The machine, fed card by card.
 
-use crate::carriage::Carriage;
-use crate::placed_line::PlacedLine;
-use crate::program::Program;
-use crate::stations::Stations;
-use crate::wheels::Wheels;
+use crate::fault::FeedFault;
+use crate::units::Units;
 use card_code::Card;
+use carriage::PlacedLine;
 use hubs::Setup;
-use net::{Contacts, Cycle, Net, POINTS, Picture, Point};
+use net::Net;
+use std::alloc::{AllocError, Global};
+use std::marker::Model;
 
-/// The units of a machine.
-#[derive(Clone, Copy)]
+/// How many cards a machine takes.
+pub const MOST_CARDS: u32 = 999_999;
+
+/// A machine with a setup of the panel. It is fed the cards of a deck one by one, and then the end.
+///
+/// Where memory is refused in a feed, the machine is spoiled, and takes nothing more.
+#[derive(Drop)]
 pub struct Machine {
-    /// The reading stations.
-    pub stations: Stations,
-    /// The print wheels.
-    pub wheels: Wheels,
-    /// The carriage.
-    pub carriage: Carriage,
-    /// The program unit.
-    pub program: Program,
+    net: Net,
+    units: Units,
+    // How many cards were fed.
+    cards: u32,
+    is_ended: bool,
+    is_spoiled: bool,
+}
+
+impl Model for Machine {
+    ghost use Rattle.machine.specs.Running.{Running};
+
+    ghost Value = { Running };
+
+    ghost view = { λ machine. record {
+      net = machine.net;
+      machine = machine.units;
+      cards = machine.cards;
+      is_ended = machine.is_ended;
+      is_spoiled = machine.is_spoiled;
+    } };
+
+    ghost use Rattle.std.specs.Prelude.{◌≤◌};
+
+    ghost invariant = { λ machine. machine.cards ≤ 999999 };
 }
 
 impl Machine {
-    ghost use Rattle.std.specs.Prelude.{◌≡◌, ◌≤◌, Some, option_to_list};
-    ghost use Rattle.hubs.specs.Wiring.{Wiring};
-    ghost use Rattle.net.specs.Nets.{IsNetOf};
-    ghost use Rattle.machine.specs.Points.{IsPoint};
-    ghost use Rattle.machine.specs.Machine.{
-      machine_without_cards,
-      moved_on,
-      cycle_due,
-      PointStep,
-      CycleRun,
-      RunsCycle,
-      cards_behind,
-      line_of,
-      ended,
-    };
+    ghost use Rattle.std.specs.Prelude.{◌≡◌, ◌⊎◌, Some, None, Ok, Err, Option, IfOk, IfErr, OnOk, OnErr, true, false};
+    ghost use Rattle.machine.specs.Running.{IsStarted, refusal, fed};
+    ghost use Rattle.machine.specs.Gains.{GainsFeed, GainsPrefix};
+    ghost use Rattle.machine.specs.declared.fault.FeedFault.{FeedFault};
+    ghost use Rattle.machine.specs.declared.fault.FeedFault.TheVariants.{Memory};
 
-    /// The units of a setup as they start, with no card in the machine.
-    pub fn new(setup: &Setup) -> Self
-        ensures start { result ≡ machine_without_cards setup.now }
-        ensures form { 1 ≤ setup.now.tape.lines }
+    /// The machine of a setup, before the first card. Fails only where no memory is left.
+    pub fn new(alloc: Global, setup: &Setup) -> Result<Machine, AllocError>
+        ensures { IfOk result (IsStarted setup.now) }
     {
-        Machine {
-            stations: Stations::new(),
-            wheels: Wheels::new(),
-            carriage: Carriage::new(setup),
-            program: Program::new(setup),
-        }
-    }
-
-    /// Moves the cards on by one, the next one coming from the deck, and answers what is left of the deck.
-    pub fn feed<'a>(&mut self, cards: &'a [Card]) -> &'a [Card]
-        ensures moved { self.new ≡ moved_on cards.now self.old }
-        ensures left { result.now ≡ cards_behind cards.now }
-    {
-        match cards {
-            [] => {
-                self.stations.load(None);
-                cards
-            }
-            [card, behind @ ..] => {
-                self.stations.load(Some(*card));
-                behind
-            }
-        }
-    }
-
-    /// The cycle that is due, if any.
-    pub fn next_cycle(&self) -> Option<Cycle>
-        ensures { result ≡ cycle_due self.now }
-    {
-        self.program
-            .next_cycle(self.carriage.latch, self.stations.first.is_some())
-    }
-
-    /// Runs the cycle that is due, and answers what is left of the deck: a card cycle takes a card before it.
-    pub fn run<'a>(&mut self, net: &Net, cycle: Cycle, cards: &'a [Card]) -> &'a [Card]
-        requires { cycle_due self.old ≡ Some cycle }
-        ensures { (wiring : Wiring)
-            → IsNetOf wiring net.now
-            → RunsCycle wiring self.old cards.now self.new result.now }
-    {
-        let left = if cycle == Cycle::Card {
-            self.feed(cards)
-        } else {
-            cards
-        };
-        self.run_cycle(net, cycle);
-        left
-    }
-
-    // A cycle: its points, and then its end.
-    fn run_cycle(&mut self, net: &Net, cycle: Cycle)
-        ensures { (wiring : Wiring) → IsNetOf wiring net.now → CycleRun wiring cycle self.old self.new }
-    {
-        for point in POINTS {
-            self.step(net, cycle, point);
-        }
-        self.end_cycle(cycle);
-    }
-
-    // A point: all units emit, and then all sense the picture that this makes.
-    fn step(&mut self, net: &Net, cycle: Cycle, point: Point)
-        requires { IsPoint point }
-        ensures { (wiring : Wiring) → IsNetOf wiring net.now → PointStep wiring cycle point self.old self.new }
-    {
-        let mut exits = Picture::new();
-        self.stations.emit(cycle, point, &mut exits);
-        let mut picture = Picture::new();
-        net.picture(&exits, &Contacts::new(), &mut picture);
-        self.wheels.sense(cycle, point, &picture);
-    }
-
-    // Each unit ends the cycle.
-    fn end_cycle(&mut self, cycle: Cycle)
-        ensures { self.new ≡ ended self.old cycle }
-    {
-        self.wheels.end_cycle(cycle);
-        self.carriage.end_cycle(cycle);
-        self.program.end_cycle(cycle);
-    }
-
-    /// The line that the cycle that ended last placed, if it placed one.
-    pub fn placed_line(&self) -> Option<PlacedLine>
-        ensures { option_to_list result ≡ line_of self.now }
-    {
-        self.carriage.printed.map(|(page, line)| PlacedLine {
-            page,
-            line,
-            text: self.wheels.line,
+        Ok(Machine {
+            net: Net::of(alloc, setup)?,
+            units: Units::new(setup),
+            cards: 0,
+            is_ended: false,
+            is_spoiled: false,
         })
+    }
+
+    /// Feeds the next card, or the end, and puts the lines of the cycles that follow behind those of `out`.
+    ///
+    /// The first card runs the run-in. Each later card, and the end, runs the card cycle of the card before it, with the
+    /// heading cycles that precede that and the cycles behind it, up to those of the next card. The end as the first
+    /// feed runs nothing.
+    ///
+    /// Refused with `Spoiled` where memory was refused before, else with `TooManyCards` for a card behind 999,999 of
+    /// them, else with `Ended` where the end was fed before: then nothing changes. With `Memory` where memory is
+    /// refused in this feed: then `out` has gained the first of the lines that were due, and the machine is spoiled.
+    pub fn feed(&mut self, next: Option<Card>, out: &mut Vec<PlacedLine>) -> Result<(), FeedFault>
+        ensures lines { OnOk result (GainsFeed self.old.net self.old.machine next self.new.machine out.old.items out.new.items) }
+        ensures goes_on { OnOk result (self.new ≡ fed next self.new.machine self.old) }
+        ensures accepted { OnOk result (refusal self.old next ≡ None) }
+        ensures faults { IfErr result (λ fault. (fault ≡ Memory) ⊎ (refusal self.old next ≡ Some fault)) }
+        ensures refused { (fault : FeedFault) → refusal self.old next ≡ Some fault → result ≡ Err fault }
+        ensures unchanged { (fault : FeedFault) → refusal self.old next ≡ Some fault → self.new ≡ self.old }
+        ensures no_lines { (fault : FeedFault) → refusal self.old next ≡ Some fault → out.new.items ≡ out.old.items }
+        ensures memory { result ≡ Err Memory → GainsPrefix self.old.net self.old.machine next out.old.items out.new.items }
+        ensures spoiled { result ≡ Err Memory → self.new.is_spoiled ≡ true }
+    {
+        if let Some(fault) = self.refusal(&next) {
+            return Err(fault);
+        }
+        if self.units.feed(&self.net, &next, out).is_err() {
+            self.is_spoiled = true;
+            return Err(FeedFault::Memory);
+        }
+        match next {
+            Some(_) => self.cards += 1,
+            None => self.is_ended = true,
+        }
+        Ok(())
+    }
+
+    // Why a feed is refused, if it is.
+    fn refusal(&self, next: &Option<Card>) -> Option<FeedFault>
+        ensures { result ≡ refusal self.now next.now }
+    {
+        if self.is_spoiled {
+            Some(FeedFault::Spoiled)
+        } else if next.is_some() && self.cards == MOST_CARDS {
+            Some(FeedFault::TooManyCards)
+        } else if self.is_ended {
+            Some(FeedFault::Ended)
+        } else {
+            None
+        }
     }
 }

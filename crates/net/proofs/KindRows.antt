@@ -1,14 +1,14 @@
 -- Rows of hubs of one kind: the hubs of a station's columns, of a unit's columns or of a group's positions follow one another.
 -- Stated once for hubs that are numbered one after another; then the kinds whose hubs are.
-use Rattle.std.proofs.Common.{◌≡◌, ◌≢◌, ◌∙◌, ◌⊎◌, ⊎_elim, sym, ap, refl, ℕ, suc, ◌+◌, ◌-◌, ◌*◌, ◌^◌, ◌<◌, ◌≤◌, ◌&&◌, ◌||◌, Bool, true, false, Option, Some, None, arith}
-use Rattle.std.specs.Prelude.{◌==◌, nat_le, nat_lt, if◌then◌else◌, option_map}
+use Rattle.std.proofs.Common.{◌≡◌, ◌≢◌, ◌∙◌, ap, refl, ℕ, ◌+◌, ◌-◌, ◌*◌, ◌^◌, ◌<◌, ◌≤◌, ◌&&◌, Bool, true, false, Option, Some, None, arith}
+use Rattle.std.specs.Prelude.{if◌then◌else◌, option_map}
 use Rattle.std.proofs.lemmas.Bool.Decides.{nat_tests}
 use Rattle.hubs.specs.Hubs.{number_of}
 use Rattle.hubs.specs.Places.{up_to, part_place, position_place, positions_before, group_place, is_width}
 use Rattle.hubs.specs.Ranges.{is_within}
 use Rattle.hubs.specs.declared.hub.Group.{Group}
 use Rattle.hubs.specs.declared.hub.Hub.{Hub}
-use Rattle.hubs.specs.declared.hub.Hub.TheVariants.{FR, SR, CX, GX, BAN, BAT, PIN, PIT, SX, IX, PX, CA, CB, GE, BAC, PIC, PIX, SE, IE, W}
+use Rattle.hubs.specs.declared.hub.Hub.TheVariants.{FR, SR, CX, GX, BAN, BAT, PIN, PIT, SX, IX, CA, CB, GE, PIC, PIX, SE, IE, W}
 use Rattle.net.specs.HubSets.{HubSet, has_hub, is_bit, is_bit_from, is_in_reach, is_in_row}
 use Rattle.net.proofs.Rows.{row_here, row_elsewhere, row_read}
 

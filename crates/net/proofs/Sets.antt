@@ -1,10 +1,7 @@
 -- Stored sets, asked by the numbers of hubs, against the places of their words.
-use Rattle.std.proofs.Common.{◌≡◌, ◌∙◌, sym, ap, ℕ, ◌+◌, ◌-◌, ◌^◌, ◌<◌, ◌≤◌, ◌&&◌, ◌||◌, Bool, true, false, List, Option, Some, None, refl, arith, replicate}
+use Rattle.std.proofs.Common.{◌≡◌, ◌∙◌, sym, ap, ℕ, ◌+◌, ◌-◌, ◌≤◌, ◌&&◌, ◌||◌, Bool, true, false, List, Option, Some, None, refl, arith, replicate}
 use Rattle.std.specs.Prelude.{◌==◌, nat_le, nat_lt}
 use Rattle.std.proofs.lemmas.Bool.Decides.{nat_tests}
-use Rattle.hubs.proofs.HubLemmas.{number_of-range}
-use Rattle.hubs.specs.Hubs.{number_of}
-use Rattle.hubs.specs.declared.hub.Hub.{Hub}
 use Rattle.words.specs.Bits.{GainsPlaces, has_place, is_in_run}
 use Rattle.words.proofs.PlaceLemmas.{has_place-zeros}
 use Rattle.net.specs.HubSets.{HubSet, has_number, is_bit, is_bit_from, is_near, is_same_number}

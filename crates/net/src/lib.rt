@@ -1,12 +1,20 @@
 //! What is impulsed at a point of a cycle: cycles, points, pictures of the panel, and the trait of its units.
 #![tactic(auto)]
 
+mod contacts;
 mod cycle;
+mod laws;
+mod net;
 mod picture;
 mod printing;
 mod unit;
 
 pub use cycle::{Cycle, Level, Ordinal, POINTS, Point};
+pub use laws::{impulsed_hubs_are_the_least_set, wires_to_entries_lead_no_further};
+pub use net::Net;
 pub use picture::{Contacts, HUBS, Picture};
 pub use printing::Printing;
 pub use unit::Unit;
+
+#[cfg(test)]
+mod tests;

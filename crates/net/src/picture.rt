@@ -80,7 +80,7 @@ impl Picture {
     }
 
     /// Which of the 128 hubs that follow one another from the first one are in the set: bit k stands for the hub whose
-    /// number is the first one's and k. No bit is set for a first hub out of range.
+    /// number is the first one's and k. No hubs follow a first hub out of range, and the answer then says nothing.
     pub fn row(&self, first: Hub) -> u128
         ensures { (hub : Hub) → is_in_reach first hub ≡ true → is_in_row first result hub ≡ has_hub self.now hub }
     {
@@ -119,6 +119,13 @@ impl Contacts {
         Contacts {
             exits: Picture::new(),
         }
+    }
+
+    /// The words of the set of exits, as [`Picture::words`].
+    pub fn words(&self) -> &[u64; WORDS]
+        ensures { result.now ≡ self.now.words }
+    {
+        self.exits.words()
     }
 
     /// Closes the contact with this exit. A hub out of range changes nothing. Any other hub is held, and is passed

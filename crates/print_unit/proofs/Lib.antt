@@ -1,3 +1,9 @@
 pub mod Bits
+pub mod Carry
+pub mod Columns
+pub mod Counts
+pub mod LeftNeighbours
 pub mod Plugs
+pub mod Ranges
+pub mod Sets
 pub mod WheelRows

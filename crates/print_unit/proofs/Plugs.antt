@@ -1,15 +1,15 @@
 -- The wheels at the start: their jacks as words, and nothing received.
-use Rattle.std.proofs.Common.{◌≡◌, ◌≢◌, ◌∙◌, refl, sym, ap, ℕ, suc, zero, ◌+◌, ◌-◌, ◌<◌, ◌≤◌, ◌==◌, ◌&&◌, ◌||◌, ◌⊎◌, inl, inr, nat_lt, Bool, true, false, List, map, replicate, arith}
+use Rattle.std.proofs.Common.{◌≡◌, ◌≢◌, ◌∙◌, refl, ℕ, ◌+◌, ◌<◌, ◌≤◌, ◌==◌, ◌&&◌, ◌||◌, ◌⊎◌, inl, inr, nat_lt, Bool, true, false, map, replicate, arith}
 use Rattle.std.proofs.lemmas.Bool.Decides.{eqb_tells, nat_tests}
 use Rattle.std.specs.List.{range_with_len}
-use Rattle.hubs.specs.Wiring.{Wiring, is_plugged}
+use Rattle.hubs.specs.Wiring.{Wiring}
 use Rattle.net.specs.HubSets.{is_bit}
 use Rattle.print_unit.specs.Wheels.{wheel_at_start}
-use Rattle.print_unit.specs.Words.{ArePlugged, wheel_at, rows_at, jack_of}
-use Rattle.print_unit.specs.declared.words.WheelJack.TheVariants as kind
+use Rattle.print_unit.specs.WheelWords.{ArePlugged, wheel_at}
+use Rattle.print_unit.specs.declared.wheel_words.WheelJack.TheVariants as kind
 use Rattle.print_unit.specs.declared.wheels.Wheels.TheInside as inside
 use Rattle.print_unit.proofs.Bits.{is_bit-zero}
-use Rattle.print_unit.proofs.WheelRows.{map-same}
+use Rattle.print_unit.proofs.WheelRows.{map-next}
 
 -- no wheel yet
 pub plugged-none : (is_there : ℕ → Bool) (j : ℕ) → is_bit 0 j ≡ (nat_lt j 0 && is_there j)
@@ -41,11 +41,6 @@ pub wheels_at-start : (wiring : Wiring) (words : inside.Inside) (count : ℕ) �
     → words.rows ≡ replicate 12 0
     → ArePlugged wiring kind.Link words.link → ArePlugged wiring kind.Suppress words.suppress
     → ArePlugged wiring kind.Symbol words.symbol
-    → map (λ v. wheel_at words (v - 1)) (range_with_len 1 count) ≡ map (wheel_at_start wiring) (range_with_len 1 count)
+    → map (wheel_at words) (range_with_len 0 count) ≡ map (wheel_at_start wiring) (range_with_len 1 count)
 wheels_at-start wiring words count most empty link suppress symbol =
-    map-same (λ v. wheel_at words (v - 1)) (wheel_at_start wiring) 1 count (λ v low high. at v low (omega arith))
-  where
-    at : (v : ℕ) → 1 ≤ v → v ≤ 120 → wheel_at words (v - 1) ≡ wheel_at_start wiring v
-    at v low high =
-        wheel_at-start wiring words (v - 1) (omega arith) empty link suppress symbol
-        ∙ (let again : v - 1 + 1 ≡ v = omega arith in ap (wheel_at_start wiring) again)
+    map-next (wheel_at words) (wheel_at_start wiring) 0 count (λ k low high. wheel_at-start wiring words k (omega arith) empty link suppress symbol)

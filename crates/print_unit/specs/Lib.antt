@@ -1,4 +1,6 @@
 pub mod Emitters
-pub mod Words
+pub mod Laws
+pub mod RowSets
+pub mod WheelWords
 pub mod Wheels
 pub mod ZeroControl

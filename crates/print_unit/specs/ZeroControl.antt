@@ -9,7 +9,8 @@ use Rattle.card_code.specs.declared.row.Row.{Row as CardRow}
 use Rattle.net.specs.declared.cycle.Cycle.{Cycle}
 use Rattle.net.specs.declared.cycle.Cycle.TheVariants.{RunIn, Card, Prog, Head}
 
--- A print wheel: for each row, in the order of the points (9 down to 0, 11, 12), whether it received it, and whether its jacks are plugged.
+-- A print wheel: for each row, in the order of the points (9 down to 0, 11, 12), whether it received it, and whether its
+-- jacks are plugged.
 pub record Wheel : Type 0 where
   pub received : List Bool
   pub link : Bool

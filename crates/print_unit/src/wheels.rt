@@ -1,13 +1,20 @@
 //! The print wheels, unit 43: each prints the character of the rows that it received in a cycle.
 
-use crate::words::{WHEELS, WheelJack, plugged};
-use hubs::Setup;
+ghost use Rattle.std.specs.Prelude.{◌≡◌};
+ghost use Rattle.print_unit.specs.ZeroControl.{has_zero_control};
+
+use crate::characters::Characters;
+use crate::line::print;
+use crate::wheel_words::{WHEELS, WheelJack, plugged};
+use crate::zero_control::hidden;
+use hubs::{Hub, Setup};
+use net::{Cycle, Picture, Point, Unit};
 use std::marker::Model;
 
 /// The print wheels 1 to 120.
 ///
-/// In every cycle a wheel collects the rows at whose points its hub is impulsed; at the end of the cycle the line is made. They
-/// emit nothing and have no contacts.
+/// In every cycle a wheel collects the rows at whose points its hub is impulsed; at the end of the cycle the line is made.
+/// They emit nothing and have no contacts.
 #[derive(Debug, Drop)]
 pub struct Wheels {
     // For each row, in the order of the points, the wheels that received it in this cycle.
@@ -16,6 +23,8 @@ pub struct Wheels {
     link: u128,
     suppress: u128,
     symbol: u128,
+    // What each set of rows prints.
+    characters: Characters,
     // The characters of the cycle that ended last.
     line: [u8; WHEELS],
 }
@@ -25,7 +34,7 @@ impl Model for Wheels {
 
     ghost Value = { WheelsState };
 
-    ghost use Rattle.print_unit.specs.Words.{state_of};
+    ghost use Rattle.print_unit.specs.WheelWords.{state_of};
 
     ghost view = { state_of };
 }
@@ -43,6 +52,7 @@ impl Wheels {
             link: plugged(setup, WheelJack::Link),
             suppress: plugged(setup, WheelJack::Suppress),
             symbol: plugged(setup, WheelJack::Symbol),
+            characters: Characters::new(),
             line: [b' '; WHEELS],
         }
     }
@@ -52,5 +62,49 @@ impl Wheels {
         ensures { result.now ≡ self.now.line }
     {
         &self.line
+    }
+}
+
+impl Unit for Wheels {
+    ghost use Rattle.std.proofs.Common.{refl};
+    ghost use Rattle.print_unit.specs.Wheels.{wheels_emit, wheels_close, wheels_sensed, wheels_ended, wheels_number};
+
+    ghost emits = { wheels_emit };
+
+    ghost closes = { wheels_close };
+
+    ghost sensed = { wheels_sensed };
+
+    ghost ended = { wheels_ended };
+
+    ghost number = { wheels_number };
+
+    ghost emits_steadily = { λ unit cycle at other picture hub. refl };
+
+    ghost closes_steadily = { λ unit cycle at other picture hub. refl };
+
+    fn emit(&self, _cycle: Cycle, _point: Point, _exits: &mut Picture) {}
+
+    fn sense(&mut self, _cycle: Cycle, point: Point, picture: &Picture) {
+        if let Point::Row(row) = point {
+            self.rows[row.place()] |= picture.row(Hub::W(1));
+        }
+    }
+
+    fn end_cycle(&mut self, cycle: Cycle) {
+        let control = has_zero_control(cycle);
+        let hidden = hidden(control, &self.rows, self.link, self.suppress, self.symbol);
+        print(&self.characters, &self.rows, hidden, &mut self.line);
+        self.rows = [0; 12];
+    }
+}
+
+// Zero control works in card and program cycles.
+fn has_zero_control(cycle: Cycle) -> bool
+    ensures { result ≡ has_zero_control cycle }
+{
+    match cycle {
+        Cycle::Card | Cycle::Prog(_, _) => true,
+        Cycle::RunIn | Cycle::Head(_) => false,
     }
 }

@@ -16,6 +16,11 @@ use Rattle.program_unit.specs.Program.{ProgramState}
 use Rattle.program_unit.specs.declared.stage.Stage.{Stage}
 use Rattle.program_unit.specs.declared.stage.Stage.TheVariants.{Fresh, RanIn, RanCard, RanProg, BeforeCard, BeforeTotal}
 
+-- whether no cycle has run
+abbrev pub is_fresh : Stage → Bool
+is_fresh Fresh = true
+is_fresh stage = false
+
 -- how many levels run up to this one; none runs without a level
 abbrev pub levels_to : Option Level → ℕ
 levels_to None = 0

@@ -43,6 +43,7 @@ impl Program {
     ghost use Rattle.net.specs.declared.cycle.Level.{Level};
     ghost use Rattle.program_unit.specs.Program.{program_at_start};
     ghost use Rattle.program_unit.specs.CycleOrder.{
+      is_fresh,
       next_cycle,
       card_over,
       has_level_left,
@@ -60,6 +61,13 @@ impl Program {
             stage: Stage::Fresh,
             highest: None,
         }
+    }
+
+    /// Whether no cycle has run.
+    pub fn is_fresh(&self) -> bool
+        ensures { result ≡ is_fresh self.now.stage }
+    {
+        matches!(self.stage, Stage::Fresh)
     }
 
     /// The cycle that follows, if any. `restore` is the restore latch of the carriage, and `more` tells that a card stands

@@ -1,1 +1,3 @@
+pub mod Input
 pub mod Status
+pub mod Told

@@ -4,7 +4,9 @@ use allocate::CapacityFault;
 use card_code::DeckFault;
 use compile407::{ChartFault, RunFault};
 use itoa::Buffer;
+use std::alloc::AllocError;
 use std::fmt;
+use wire_chart::WiringFault;
 
 /// Why a command was not carried out. Each is told on one line.
 #[derive(Clone, Copy, Debug, PartialEq, Eq)]
@@ -13,16 +15,18 @@ pub enum Fault<'a> {
     Whole(u8),
     /// A numbered fault of a line of the chart, from 1.
     Line(u8, u32),
+    /// A numbered fault of a line of the wiring chart, from 1, and the number of its cause.
+    Cause(u8, u32, u8),
     /// A numbered fault of a card, from 1.
     Card(u8, u32),
     /// A numbered fault of a card and its column.
     Column(u8, u32, u32),
-    /// The counter groups of a width and wider ones are too few: the width, how many are wanted, and how many are there.
-    Counters(u8, usize, u32),
+    /// A numbered capacity, the counter groups of a width and wider ones: the width, how many are wanted, and how many are there.
+    Counters(u8, u8, usize, u32),
     /// A numbered capacity of the machine that the chart exceeds: how many are wanted, and how many are there.
     Capacity(u8, usize, u32),
-    /// The indicate positions of a level are too few: the level, how many are wanted, and how many are there.
-    Indicate(u8, usize, u32),
+    /// A numbered capacity, the indicate positions of a level: the level, how many are wanted, and how many are there.
+    Indicate(u8, u8, usize, u32),
     /// A line of the chart that is good but has a form that the compiler does not serve yet.
     NotYet(u32),
     /// The report has more than one page.
@@ -46,68 +50,148 @@ impl Fault<'_> {
         match self {
             Fault::File(_) | Fault::Write => 4,
             Fault::Memory => 5,
-            _ => 3,
+            Fault::Whole(_)
+            | Fault::Line(..)
+            | Fault::Cause(..)
+            | Fault::Card(..)
+            | Fault::Column(..)
+            | Fault::Counters(..)
+            | Fault::Capacity(..)
+            | Fault::Indicate(..)
+            | Fault::NotYet(_)
+            | Fault::TooLong => 3,
         }
     }
 }
 
 impl From<ChartFault> for Fault<'_> {
+    ghost use Rattle.std.specs.Prelude.{◌≡◌};
+    ghost use Rattle.compile407.specs.FaultNumbers.{chart_fault_number};
+    ghost use Rattle.run407.specs.Told.{told_number};
+
+    ghost from_gives = { λ fault told. told_number told ≡ chart_fault_number fault };
+
     fn from(fault: ChartFault) -> Self {
+        let Some(number) = fault.number() else {
+            return match fault {
+                ChartFault::NotYet { line } => Fault::NotYet(u32::from(line)),
+                _ => Fault::Memory,
+            };
+        };
         match fault {
-            ChartFault::TooLarge => Fault::Whole(11),
-            ChartFault::NoFirstLine => Fault::Whole(12),
-            ChartFault::NotALine { line } => Fault::Line(13, u32::from(line)),
-            ChartFault::NoEnd => Fault::Whole(14),
-            ChartFault::Rule { rule, line } => Fault::Line(rule.number(), u32::from(line)),
-            ChartFault::NotYet { line } => Fault::NotYet(u32::from(line)),
+            ChartFault::NotALine { line } | ChartFault::Rule { line, .. } => {
+                Fault::Line(number, u32::from(line))
+            }
             ChartFault::Capacity { fault } => fault.into(),
-            ChartFault::Memory => Fault::Memory,
+            ChartFault::TooLarge
+            | ChartFault::NoFirstLine
+            | ChartFault::NoEnd
+            | ChartFault::NotYet { .. }
+            | ChartFault::Memory => Fault::Whole(number),
         }
     }
 }
 
+impl From<WiringFault> for Fault<'_> {
+    ghost use Rattle.std.specs.Prelude.{◌≡◌};
+    ghost use Rattle.wire_chart.specs.WiringFaultNumbers.{wiring_fault_number};
+    ghost use Rattle.run407.specs.Told.{told_number};
+
+    ghost from_gives = { λ fault told. told_number told ≡ wiring_fault_number fault };
+
+    fn from(fault: WiringFault) -> Self {
+        let Some(number) = fault.number() else {
+            return Fault::Memory;
+        };
+        match (fault.line(), fault.cause_number()) {
+            (Some(line), Some(cause)) => Fault::Cause(number, line, cause),
+            (Some(line), None) => Fault::Line(number, line),
+            (None, _) => Fault::Whole(number),
+        }
+    }
+}
+
+impl From<AllocError> for Fault<'_> {
+    ghost use Rattle.std.specs.Prelude.{◌≡◌};
+    ghost use Rattle.run407.specs.declared.fault.Fault.TheVariants.{Memory};
+
+    ghost from_gives = { λ _ told. told ≡ Memory };
+
+    fn from(_failed: AllocError) -> Self {
+        Fault::Memory
+    }
+}
+
 impl From<DeckFault> for Fault<'_> {
+    ghost use Rattle.std.specs.Prelude.{◌≡◌};
+    ghost use Rattle.card_code.specs.Deck.{fault_number};
+    ghost use Rattle.run407.specs.Told.{told_number};
+
+    ghost from_gives = { λ fault told. told_number told ≡ fault_number fault };
+
     fn from(fault: DeckFault) -> Self {
+        let Some(number) = fault.number() else {
+            return Fault::Memory;
+        };
         match fault {
-            DeckFault::CardTooLong { line } => Fault::Card(1, line),
-            DeckFault::NoSuchCharacter { line, column } => Fault::Column(2, line, column),
-            DeckFault::TooManyCards => Fault::Whole(3),
-            DeckFault::Memory => Fault::Memory,
+            DeckFault::CardTooLong { line } => Fault::Card(number, line),
+            DeckFault::NoSuchCharacter { line, column } => Fault::Column(number, line, column),
+            DeckFault::TooManyCards | DeckFault::Memory => Fault::Whole(number),
         }
     }
 }
 
 impl From<RunFault> for Fault<'_> {
+    ghost use Rattle.std.specs.Prelude.{◌≡◌};
+    ghost use Rattle.compile407.specs.FaultNumbers.{run_fault_number};
+    ghost use Rattle.run407.specs.Told.{told_number};
+
+    ghost from_gives = { λ fault told. told_number told ≡ run_fault_number fault };
+
     fn from(fault: RunFault) -> Self {
+        let Some(number) = fault.number() else {
+            return match fault {
+                RunFault::TooLong => Fault::TooLong,
+                _ => Fault::Memory,
+            };
+        };
         match fault {
-            RunFault::TooManyCards => Fault::Whole(3),
-            RunFault::NotText { card, column } => Fault::Column(41, card, u32::from(column)),
-            RunFault::NotAmount { card, column } => Fault::Column(42, card, u32::from(column)),
-            RunFault::TooLong => Fault::TooLong,
-            RunFault::Memory => Fault::Memory,
+            RunFault::NotText { card, column } | RunFault::NotAmount { card, column } => {
+                Fault::Column(number, card, u32::from(column))
+            }
+            RunFault::TooManyCards | RunFault::TooLong | RunFault::Memory => Fault::Whole(number),
         }
     }
 }
 
 impl From<CapacityFault> for Fault<'_> {
+    ghost use Rattle.std.specs.Prelude.{◌≡◌};
+    ghost use Rattle.allocate.specs.Exceeded.{fault_number};
+    ghost use Rattle.run407.specs.Told.{told_number};
+
+    ghost from_gives = { λ fault told. told_number told ≡ fault_number fault };
+
     fn from(fault: CapacityFault) -> Self {
+        let Some(number) = fault.number() else {
+            return Fault::Memory;
+        };
         match fault {
             CapacityFault::Counters {
                 width,
                 wanted,
                 there,
-            } => Fault::Counters(width, wanted, there),
-            CapacityFault::Pilots { wanted, there } => Fault::Capacity(62, wanted, there),
-            CapacityFault::Comparing { wanted, there } => Fault::Capacity(63, wanted, there),
-            CapacityFault::StorageWidth { line } => Fault::Line(64, u32::from(line)),
-            CapacityFault::StorageUnits { wanted, there } => Fault::Capacity(65, wanted, there),
-            CapacityFault::Splits { wanted, there } => Fault::Capacity(66, wanted, there),
+            } => Fault::Counters(number, width, wanted, there),
+            CapacityFault::Pilots { wanted, there }
+            | CapacityFault::Comparing { wanted, there }
+            | CapacityFault::StorageUnits { wanted, there }
+            | CapacityFault::Splits { wanted, there } => Fault::Capacity(number, wanted, there),
+            CapacityFault::StorageWidth { line } => Fault::Line(number, u32::from(line)),
             CapacityFault::Indicate {
                 level,
                 wanted,
                 there,
-            } => Fault::Indicate(level, wanted, there),
-            CapacityFault::Memory => Fault::Memory,
+            } => Fault::Indicate(number, level.number(), wanted, there),
+            CapacityFault::Memory => Fault::Whole(number),
         }
     }
 }
@@ -139,6 +223,11 @@ impl fmt::Display for Fault<'_> {
                 write_number(f, "fault ", u32::from(*number))?;
                 write_number(f, " line ", *line)
             }
+            Fault::Cause(number, line, cause) => {
+                write_number(f, "fault ", u32::from(*number))?;
+                write_number(f, " line ", *line)?;
+                write_number(f, " cause ", u32::from(*cause))
+            }
             Fault::Card(number, card) => {
                 write_number(f, "fault ", u32::from(*number))?;
                 write_number(f, " card ", *card)
@@ -148,16 +237,18 @@ impl fmt::Display for Fault<'_> {
                 write_number(f, " card ", *card)?;
                 write_number(f, " column ", *column)
             }
-            Fault::Counters(width, wanted, there) => {
-                write_number(f, "fault 61 width ", u32::from(*width))?;
+            Fault::Counters(number, width, wanted, there) => {
+                write_number(f, "fault ", u32::from(*number))?;
+                write_number(f, " width ", u32::from(*width))?;
                 write_counts(f, *wanted, *there)
             }
             Fault::Capacity(number, wanted, there) => {
                 write_number(f, "fault ", u32::from(*number))?;
                 write_counts(f, *wanted, *there)
             }
-            Fault::Indicate(level, wanted, there) => {
-                write_number(f, "fault 67 level ", u32::from(*level))?;
+            Fault::Indicate(number, level, wanted, there) => {
+                write_number(f, "fault ", u32::from(*number))?;
+                write_number(f, " level ", u32::from(*level))?;
                 write_counts(f, *wanted, *there)
             }
             Fault::NotYet(line) => write_number(f, "fault notyet line ", *line),

@@ -2,12 +2,14 @@
 
 mod cases;
 mod charts;
+mod replay;
 
 use crate::fault::Fault;
 use crate::input::chart_and_deck;
 use crate::serve::{serve, tell};
 use allocate::CapacityFault;
 use cases::{BOLTS, BOLTS_DECK, Served, chart_of, serve_texts, text_of};
+use chart_text::ControlLevel;
 use std::alloc::{AllocError, Global};
 use std::io;
 use std::io::{ErrorKind, Read, Write};
@@ -22,6 +24,46 @@ fn cuts_standard_input_behind_end(rt: HostRuntime) -> Result<(), Fail> {
     let (chart, deck) = chart_and_deck(b"ENDS\nA END\nEND");
     assert_eq!(rt; chart, b"ENDS\nA END\nEND".as_slice());
     assert_eq!(rt; deck, b"".as_slice());
+    Ok(())
+}
+
+// A chart of 507 lines, of which the second is nearly END.
+fn overlong_chart(alloc: Global, nearly_end: &str) -> Result<String, AllocError> {
+    let mut text = String::from_str(alloc, "CHART407 1\n")?;
+    text.push_str(nearly_end)?;
+    for _ in 0..505 {
+        text.push_str("\nX")?;
+    }
+    text.push('\n')?;
+    Ok(text)
+}
+
+#[test]
+fn standard_input_and_words_have_one_end(rt: HostRuntime) -> Result<(), Fail> {
+    let alloc = rt.alloc();
+    for nearly_end in ["END\x0c", "END\r\r", "END\t", "\tEND", "END \x0b", "ENDX"] {
+        let text = overlong_chart(alloc, nearly_end)?;
+        let by_words = serve_texts(alloc, "run", text.as_str(), "")?;
+        assert_eq!(rt; by_words.told.as_slice(), b"fault 11\n".as_slice());
+        let (chart, deck) = chart_and_deck(text.as_bytes());
+        let mut served = Served::new(alloc);
+        served.status = serve(
+            alloc,
+            "run",
+            chart,
+            "-",
+            deck,
+            &mut served.pages,
+            &mut served.told,
+        );
+        assert_eq!(rt; served.told.as_slice(), b"fault 11\n".as_slice());
+        assert_eq!(rt; (served.status, by_words.status), (3, 3));
+    }
+    for end in ["END", "  END  ", "END\r", " END \r"] {
+        let text = overlong_chart(alloc, end)?;
+        let (_, deck) = chart_and_deck(text.as_bytes());
+        assert_eq!(rt; deck.len(), 1010);
+    }
     Ok(())
 }
 
@@ -121,7 +163,7 @@ fn tells_of_capacities(rt: HostRuntime) -> Result<(), Fail> {
         ),
         (
             CapacityFault::Indicate {
-                level: 3,
+                level: ControlLevel::Major,
                 wanted: 46,
                 there: 30,
             },

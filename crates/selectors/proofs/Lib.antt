@@ -1,0 +1,5 @@
+pub mod ContactLemmas
+pub mod LawLemmas
+pub mod PickupLemmas
+pub mod RowLemmas
+pub mod SpreadLemmas

@@ -27,7 +27,7 @@ balance_closes latches (BAN group position) = has_balance group position && not 
 balance_closes latches (BAT group position) = has_balance group position && is_balance_set latches group
 balance_closes latches hub = false
 
--- the contacts that are closed at all points of a cycle alike
+-- the contacts but for the splits': these are the same at all points of a cycle
 abbrev pub steady_closes : Cycle → Point → PilotStates → Latches → List Bool → Hub → Bool
 steady_closes cycle point pilots indicate latches hub =
     balance_closes latches hub || (pilots_closes pilots cycle point hub || indicate_closes indicate cycle point hub)

@@ -4,3 +4,6 @@ pub mod Indicate
 pub mod Numbered
 pub mod Pilots
 pub mod Splits
+pub mod Spread
+pub mod Steady
+pub mod WholeCycles

@@ -1,7 +1,7 @@
 -- The pilots: 16 selectors of three positions each. A pickup is sensed at row 11 of the run-in and of card cycles. At
 -- the end of such a cycle the pilot is transferred exactly where its pickup was sensed in it, else it is normal. Other
 -- cycles leave it as it is. While it is normal its normal contacts are closed, else its transferred ones.
-use Rattle.std.specs.Prelude.{ℕ, ◌-◌, ◌&&◌, not, Bool, true, false, List, map, replicate, slice_index_or, if◌then◌else◌}
+use Rattle.std.specs.Prelude.{ℕ, ◌-◌, ◌&&◌, not, Bool, true, false, List, replicate, slice_index_or, if◌then◌else◌}
 use Rattle.card_code.specs.declared.row.Row.TheVariants as row
 use Rattle.hubs.specs.Ranges.{is_within}
 use Rattle.hubs.specs.declared.hub.Hub.{Hub}
@@ -10,7 +10,7 @@ use Rattle.net.specs.declared.cycle.Cycle.{Cycle}
 use Rattle.net.specs.declared.cycle.Cycle.TheVariants.{RunIn, Card}
 use Rattle.net.specs.declared.cycle.Point.{Point}
 use Rattle.net.specs.declared.cycle.Point.TheVariants.{Row}
-use Rattle.selectors.specs.Numbered.{up_to}
+use Rattle.selectors.specs.Numbered.{tests_to}
 
 -- The pilots 1 to 16: whether each is transferred, and whether its pickup was sensed in the last cycle that senses pickups.
 pub record PilotStates : Type 0 where
@@ -52,12 +52,12 @@ is_pickup_point point = false
 
 -- the pilots whose pickups are impulsed
 abbrev pub pickups : (Hub → Bool) → List Bool
-pickups picture = up_to 16 (λ pilot. picture (PIX pilot))
+pickups picture = tests_to 16 (λ pilot. picture (PIX pilot))
 
 -- What they sense.
 abbrev pub pilots_sensed : PilotStates → Cycle → Point → (Hub → Bool) → PilotStates
 pilots_sensed pilots cycle point picture = record pilots {
-  picked_up = if moves_pilots cycle && is_pickup_point point then pickups picture else pilots.picked_up
+  picked_up = if moves_pilots cycle && is_pickup_point point then pickups picture else pilots.picked_up;
 }
 
 -- At the end of a cycle that moves pilots each stands as its pickup was sensed.

@@ -1,5 +1,8 @@
 //! Group indication.
 
+use crate::spread::spread;
+use hubs::Hub;
+use net::{Contacts, Cycle, Level, Ordinal, Picture, Point, Unit};
 use std::marker::Model;
 
 /// Group indication: 30 positions on each of the levels 1 to 3, which lead on in the first card cycle of a group.
@@ -27,7 +30,9 @@ impl Model for Indicate {
 
 impl Indicate {
     ghost use Rattle.std.specs.Prelude.{◌≡◌};
-    ghost use Rattle.selectors.specs.Indicate.{indicate_at_start, is_latch_set};
+    ghost use Rattle.net.specs.HubSets.{GainsHubs};
+    ghost use Rattle.net.specs.declared.cycle.Point.{Point};
+    ghost use Rattle.selectors.specs.Indicate.{indicate_at_start, is_latch_set, indicate_closes};
 
     /// All latches are set.
     pub fn new() -> Self
@@ -51,4 +56,52 @@ impl Indicate {
             _ => false,
         }
     }
+
+    /// Closes, in a card cycle, the contacts of the positions of the levels whose latches are set. They stay so through
+    /// all points of the cycle.
+    pub fn close(&self, cycle: Cycle, contacts: &mut Contacts)
+        ensures { (point : Point) → GainsHubs (indicate_closes self.now cycle point) contacts.old contacts.new }
+    {
+        if let Cycle::Card = cycle {
+            let latches = [self.minor, self.intermediate, self.major];
+            contacts.insert_row(Hub::IX(1, 1), spread(&latches, 30));
+        }
+    }
+}
+
+impl Unit for Indicate {
+    ghost use Rattle.std.specs.Prelude.{refl};
+    ghost use Rattle.selectors.specs.Indicate.{indicate_emits, indicate_closes, indicate_sensed, indicate_ended, indicate_number};
+
+    ghost emits = { indicate_emits };
+
+    ghost closes = { indicate_closes };
+
+    ghost sensed = { indicate_sensed };
+
+    ghost ended = { indicate_ended };
+
+    ghost number = { indicate_number };
+
+    fn emit(&self, _cycle: Cycle, _point: Point, _exits: &mut Picture) {}
+
+    fn sense(&mut self, _cycle: Cycle, _point: Point, _picture: &Picture) {}
+
+    fn end_cycle(&mut self, cycle: Cycle) {
+        match cycle {
+            Cycle::Card => {
+                self.minor = false;
+                self.intermediate = false;
+                self.major = false;
+            }
+            Cycle::Prog(Level::Minor, Ordinal::Third) => self.minor = true,
+            Cycle::Prog(Level::Intermediate, Ordinal::Third) => self.intermediate = true,
+            Cycle::Prog(Level::Major, Ordinal::Third) => self.major = true,
+            _ => {}
+        }
+    }
+
+    ghost emits_steadily = { λ unit cycle at other picture hub. refl };
+
+    ghost closes_steadily = { λ unit cycle at other picture hub. refl };
 }

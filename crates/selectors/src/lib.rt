@@ -1,10 +1,20 @@
 //! The selectors: pilots, group indication and column splits, and the closed contacts of the panel.
 #![tactic(auto)]
 
+mod closed;
 mod indicate;
+mod laws;
 mod pilots;
 mod splits;
+mod spread;
+#[cfg(test)]
+mod tests;
 
+pub use closed::{GROUPS, close_balances, contacts, steady_contacts, with_splits};
 pub use indicate::Indicate;
+pub use laws::{
+    closed_contacts_are_contacts, pilots_follow_their_pickups, pilots_stand_through_a_cycle,
+    selectors_lead_to_one_side,
+};
 pub use pilots::{PILOTS, Pilots};
 pub use splits::Splits;

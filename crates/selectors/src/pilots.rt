@@ -1,9 +1,20 @@
 //! The pilots.
 
+ghost use Rattle.std.specs.Prelude.{◌≡◌, ◌<◌};
+ghost use Rattle.net.specs.HubSets.{has_hub, is_bit};
+ghost use Rattle.selectors.specs.Pilots.{moves_pilots, pickups};
+
+use crate::spread::spread;
+use card_code::Row;
+use hubs::Hub;
+use net::{Contacts, Cycle, Picture, Point, Unit};
 use std::marker::Model;
 
 /// How many pilots there are.
 pub const PILOTS: usize = 16;
+
+// The row of all positions: three of each pilot.
+const ALL_POSITIONS: u128 = (1 << 48) - 1;
 
 /// The pilots: 16 selectors of three positions each.
 ///
@@ -30,7 +41,10 @@ impl Model for Pilots {
 
 impl Pilots {
     ghost use Rattle.std.specs.Prelude.{◌≡◌};
-    ghost use Rattle.selectors.specs.Pilots.{pilots_at_start, is_transferred};
+    ghost use Rattle.net.specs.HubSets.{GainsHubs};
+    ghost use Rattle.net.specs.declared.cycle.Cycle.{Cycle};
+    ghost use Rattle.net.specs.declared.cycle.Point.{Point};
+    ghost use Rattle.selectors.specs.Pilots.{pilots_at_start, is_transferred, pilots_closes};
 
     /// All pilots are normal.
     pub fn new() -> Self
@@ -48,4 +62,79 @@ impl Pilots {
     {
         1 <= pilot && pilot <= PILOTS as u8 && self.transferred[pilot as usize - 1]
     }
+
+    /// Closes the contacts of the pilots' positions: the normal ones of the pilots that are normal, the transferred ones of
+    /// those that are transferred. They stay so through all points of a cycle.
+    pub fn close(&self, contacts: &mut Contacts)
+        ensures { (cycle : Cycle) (point : Point) → GainsHubs (pilots_closes self.now cycle point) contacts.old contacts.new }
+    {
+        let transferred = spread(&self.transferred, 3);
+        contacts.insert_row(Hub::PIN(1, 1), ALL_POSITIONS - transferred);
+        contacts.insert_row(Hub::PIT(1, 1), transferred);
+    }
+}
+
+impl Unit for Pilots {
+    ghost use Rattle.std.specs.Prelude.{refl};
+    ghost use Rattle.selectors.specs.Pilots.{pilots_emits, pilots_closes, pilots_sensed, pilots_ended, pilots_number};
+    ghost use Rattle.selectors.specs.Steady.{pilots_close_steadily};
+
+    ghost emits = { pilots_emits };
+
+    ghost closes = { pilots_closes };
+
+    ghost sensed = { pilots_sensed };
+
+    ghost ended = { pilots_ended };
+
+    ghost number = { pilots_number };
+
+    fn emit(&self, _cycle: Cycle, _point: Point, _exits: &mut Picture) {}
+
+    fn sense(&mut self, cycle: Cycle, point: Point, picture: &Picture) {
+        match point {
+            Point::Row(Row::Eleven) if moves_pilots(cycle) => self.picked_up = pickups(picture),
+            _ => {}
+        }
+    }
+
+    fn end_cycle(&mut self, cycle: Cycle) {
+        if moves_pilots(cycle) {
+            self.transferred = self.picked_up;
+        }
+    }
+
+    ghost emits_steadily = { λ unit cycle at other picture hub. refl };
+
+    ghost closes_steadily = { pilots_close_steadily };
+}
+
+// Whether a cycle senses pickups and moves the pilots.
+fn moves_pilots(cycle: Cycle) -> bool
+    ensures { result ≡ moves_pilots cycle }
+{
+    match cycle {
+        Cycle::RunIn | Cycle::Card => true,
+        _ => false,
+    }
+}
+
+// The pilots whose pickups are impulsed.
+fn pickups(picture: &Picture) -> [bool; PILOTS]
+    ensures { result ≡ pickups (has_hub picture.now) }
+{
+    let bits = picture.row(Hub::PIX(1));
+    let mut picked_up = [false; PILOTS];
+    for index in 0..PILOTS {
+        picked_up[index] = has_bit(bits, index);
+    }
+    picked_up
+}
+
+// Whether a bit of a word is set.
+fn has_bit(word: u128, bit: usize) -> bool
+    requires { bit < 128 }
+    ensures { result ≡ is_bit word bit }
+{
+    word >> bit & 1 == 1
 }

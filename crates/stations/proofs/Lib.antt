@@ -1,3 +1,4 @@
 pub mod PositionWords
 pub mod RowWords
 pub mod RowHubs
+pub mod RowSets

@@ -1,9 +1,9 @@
 -- Words of positions, and the bits of words.
-use Rattle.std.proofs.Common.{◌≡◌, ◌∙◌, ℕ, ◌+◌, ◌-◌, ◌/◌, ◌%◌, ◌^◌, ◌<◌, zero, suc, arith, refl, sym, ap, inl, inr, Bool, true, false, ◌&&◌, ◌||◌, ◌==◌, nat_lt, min, bit_or, bit_and, bit_xor, if◌then◌else◌}
+use Rattle.std.proofs.Common.{◌≡◌, ◌*◌, ◌%◌, ◌∙◌, ℕ, ◌+◌, ◌-◌, ◌/◌, ◌%◌, ◌^◌, ◌<◌, zero, suc, arith, refl, sym, ap, inl, inr, Bool, true, false, ◌&&◌, ◌||◌, ◌==◌, nat_lt, min, bit_or, bit_and, bit_xor, if◌then◌else◌}
 use Rattle.std.proofs.lemmas.Bool.Decides.{eqb_tells, nat_tests}
 use Rattle.std.proofs.lemmas.Nat.Bits.{bit_at-lt, bit_at_or, bit_at_and, bit_at_xor, bit_at_ones, bit_at_ones_above, bit_at-pow_same, bit_at-pow_other, same_from_bits}
 use Rattle.std.proofs.Math.Nat.{div-div-eq-div-mul}
-use Rattle.std.proofs.lemmas.Nat.{pow-add}
+use Rattle.std.proofs.lemmas.Nat.{one_shl, pow-add}
 use Rattle.std.specs.Int.{bit_at}
 use Rattle.net.specs.HubSets.{is_bit}
 use Rattle.stations.specs.Comparing.{positions, are_unlike}
@@ -97,3 +97,8 @@ positions_read row word test low read =
     where_below : (below one other : Bool) → (below ≡ true → one ≡ other) → (below && one) ≡ (below && other)
     where_below true one other same = same refl
     where_below false one other same = refl
+
+-- a bit put into a word of 128
+pub bit_put : (word bit k : ℕ) → bit < 128
+    → is_bit (bit_or word (1 * 2 ^ bit % 2 ^ 128)) k ≡ (is_bit word k || (k == bit))
+bit_put word bit k below = rw (one_shl bit 128 below) (is_bit-or word (2 ^ bit) k ∙ (rw (is_bit-power bit k) refl))

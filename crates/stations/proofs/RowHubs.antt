@@ -10,7 +10,7 @@ use Rattle.hubs.specs.Hubs.{number_of, letters_of}
 use Rattle.hubs.specs.declared.hub.Hub.{Hub}
 use Rattle.hubs.specs.declared.hub.Hub.TheVariants.{FR, SR, CX, CA, CB}
 use Rattle.hubs.proofs.HubLemmas.{number_of-kind}
-use Rattle.net.specs.HubSets.{is_bit, is_in_row, is_in_reach, is_bit_from, has_hub}
+use Rattle.net.specs.HubSets.{HubSet, is_bit, is_in_row, is_in_reach, is_bit_from, has_hub}
 use Rattle.stations.specs.Punches.{is_punched_at, AreRowsAt}
 use Rattle.std.specs.List.{list_any}
 use Rattle.stations.specs.Comparing.{is_in_one, differences_emit}
@@ -87,7 +87,7 @@ difference_row sets word other are =
 
 -- the bits of the entries of a position, read in one row from the first entry on
 pub first_entry :
-    (row : ℕ) (hubs : List Bool)
+    (row : ℕ) (hubs : HubSet)
     → ((hub : Hub) → is_in_reach (CA 1) hub ≡ true → is_in_row (CA 1) row hub ≡ has_hub hubs hub)
     → (k : ℕ) → nat_lt k 30 ≡ true → is_bit row k ≡ has_hub hubs (CA (suc k))
 first_entry row hubs reads k below =
@@ -100,7 +100,7 @@ first_entry row hubs reads k below =
     sym found ∙ reads (CA (suc k)) near
 
 pub second_entry :
-    (row : ℕ) (hubs : List Bool)
+    (row : ℕ) (hubs : HubSet)
     → ((hub : Hub) → is_in_reach (CA 1) hub ≡ true → is_in_row (CA 1) row hub ≡ has_hub hubs hub)
     → (k : ℕ) → nat_lt k 30 ≡ true → is_bit row (30 + k) ≡ has_hub hubs (CB (suc k))
 second_entry row hubs reads k below =

@@ -11,7 +11,7 @@ use Rattle.card_code.specs.declared.row.Row.TheVariants.{Zero, One, Two, Three, 
 use Rattle.hubs.specs.Ranges.{is_within}
 use Rattle.net.specs.HubSets.{is_bit}
 use Rattle.stations.specs.Punches.{is_punched_at, AreRowsAt}
-use Rattle.stations.specs.Words.{is_row_bit, GainsColumn, GainsColumnBefore, HasColumnsBefore, GainsBit}
+use Rattle.stations.specs.Words.{is_row_bit, GainsColumn, HasColumnsBefore}
 
 -- no bit of 0 is set
 pub no_bit : (k : ℕ) → is_bit 0 k ≡ false
@@ -55,42 +55,6 @@ no_row_bit row k = rw (get_or-replicate {A = ℕ} 12 (row_place row) 0 0 (place_
 -- the rows of no card
 pub no_card : AreRowsAt None (replicate 12 0)
 no_card = record { twelve = refl; punched = λ row bit. no_row_bit row bit }
-
--- two rows with one place are one row
-same_row : (row here : Row) → row_place row ≡ row_place here → row ≡ here
-same_row row here e =
-    sym (row_at_place row row) ∙ ap (λ (place : ℕ). get_or rows place row) e ∙ row_at_place here row
-
--- a test with a part that holds from now on
-from_now_on :
-    (old here lower higher now word : Bool) → lower ≡ false → higher ≡ true → now ≡ (old || (lower && here))
-    → word ≡ (now || here) → word ≡ (old || (higher && here))
-from_now_on old here lower higher now word off on e f = grind (arith, off, on, e, f)
-
--- one more row of a column is done
-pub column-more :
-    (place column bit word : ℕ) (old now : List ℕ) (here : Row) → length now ≡ 12 → row_place here ≡ place
-    → GainsBit (has_row column (row_number here)) bit (slice_index now place) word
-    → GainsColumnBefore place column bit old now
-    → GainsColumnBefore (place + 1) column bit old (slice_set now place word)
-column-more place column bit word old now here long is gained before row k = elim (eqb_tells (row_place row) place) [
-  | inl same ↦
-      let row_is : row ≡ here = same_row row here (same.1 ∙ sym is) in
-      let lower : nat_lt (row_place row) place ≡ false = grind (arith, nat_tests, same.1) in
-      let higher : nat_lt (row_place row) (place + 1) ≡ true = grind (arith, nat_tests, same.1) in
-      let found : slice_index (slice_set now place word) (row_place row) ≡ word =
-      ap (λ (at : ℕ). slice_index (slice_set now place word) at) same.1
-      ∙ get_or-set_same {A = ℕ} now place word 0 (omega (arith, place_below here)) in
-      let gains : is_bit word k ≡ (is_row_bit now row k || (has_row column (row_number row) && (k == bit))) =
-      rw (row_is, is) (gained k) in
-      ap (λ (w : ℕ). is_bit w k) found
-      ∙ from_now_on (is_row_bit old row k) (has_row column (row_number row) && (k == bit)) _ _ _ _ lower higher (before row k) gains
-  | inr other ↦
-      let steady : nat_lt (row_place row) (place + 1) ≡ nat_lt (row_place row) place = grind (arith, nat_tests, other.1) in
-      let found : slice_index (slice_set now place word) (row_place row) ≡ slice_index now (row_place row) =
-      get_or-set_other {A = ℕ} now place (row_place row) word 0 other.1 in
-      rw (found, steady) (before row k)
-]
 
 -- no column of a card is done
 pub columns-none : (card : List ℕ) → HasColumnsBefore 0 card (replicate 12 0)
@@ -144,22 +108,6 @@ columns-all card words count all long before = record {
       before row bit
       ∙ narrower (nat_lt bit count) (is_within (bit + 1) 80) _ (λ inside. grind (arith, nat_tests, inside));
 }
-
--- a place is that of the row there
-pub place-row : (place : ℕ) (other : Row) → place < 12 → row_place (get_or rows place other) ≡ place
-place-row zero other below = refl
-place-row (suc zero) other below = refl
-place-row (suc (suc zero)) other below = refl
-place-row (suc (suc (suc zero))) other below = refl
-place-row (suc (suc (suc (suc zero)))) other below = refl
-place-row (suc (suc (suc (suc (suc zero))))) other below = refl
-place-row (suc (suc (suc (suc (suc (suc zero)))))) other below = refl
-place-row (suc (suc (suc (suc (suc (suc (suc zero))))))) other below = refl
-place-row (suc (suc (suc (suc (suc (suc (suc (suc zero)))))))) other below = refl
-place-row (suc (suc (suc (suc (suc (suc (suc (suc (suc zero))))))))) other below = refl
-place-row (suc (suc (suc (suc (suc (suc (suc (suc (suc (suc zero)))))))))) other below = refl
-place-row (suc (suc (suc (suc (suc (suc (suc (suc (suc (suc (suc zero))))))))))) other below = refl
-place-row (suc (suc (suc (suc (suc (suc (suc (suc (suc (suc (suc (suc place)))))))))))) other below = absurd (omega arith)
 
 -- a word without bits from a place on, in a row from the first number on, has no number before or behind the row
 pub off_row :

@@ -1,5 +1,5 @@
 -- Helper words for loops over the words of rows and positions.
-use Rattle.std.specs.Prelude.{◌≡◌, ℕ, ◌+◌, ◌==◌, ◌&&◌, ◌||◌, nat_lt, Bool, List, slice_index}
+use Rattle.std.specs.Prelude.{◌≡◌, ℕ, ◌+◌, ◌-◌, ◌==◌, ◌&&◌, ◌||◌, not, nat_lt, Bool, List, slice_index, if◌then◌else◌}
 use Rattle.card_code.specs.CardCode.{has_row}
 use Rattle.card_code.specs.Rows.{row_number, row_place}
 use Rattle.card_code.specs.declared.row.Row.{Row}
@@ -16,18 +16,26 @@ GainsColumn column bit old new =
     (row : Row) (k : ℕ)
     → is_row_bit new row k ≡ (is_row_bit old row k || (has_row column (row_number row) && (k == bit)))
 
--- the same so far, with the rows before a place done
-abbrev pub GainsColumnBefore : ℕ → ℕ → ℕ → List ℕ → List ℕ → Type 0
-GainsColumnBefore place column bit old new =
+-- the words have what is to be gained, but for the rows that are left
+abbrev pub GainsColumnBut : ℕ → ℕ → ℕ → List ℕ → List ℕ → Type 0
+GainsColumnBut left column bit old now =
     (row : Row) (k : ℕ)
-    → is_row_bit new row k
-    ≡ (is_row_bit old row k || (nat_lt (row_place row) place && (has_row column (row_number row) && (k == bit))))
+    → (is_row_bit now row k || (has_row left (row_number row) && (k == bit)))
+    ≡ (is_row_bit old row k || (has_row column (row_number row) && (k == bit)))
 
 -- the words have the punches of the first columns of a card
 abbrev pub HasColumnsBefore : ℕ → List ℕ → List ℕ → Type 0
 HasColumnsBefore count card words =
     (row : Row) (k : ℕ) → is_row_bit words row k ≡ (nat_lt k count && is_punched card row (k + 1))
 
--- the new word has what the old one has, and the bit where the test is true
-abbrev pub GainsBit : Bool → ℕ → ℕ → ℕ → Type 0
-GainsBit test bit old new = (k : ℕ) → is_bit new k ≡ (is_bit old k || (test && (k == bit)))
+-- the new word has what the old one has, and the bit
+abbrev pub GainsBit : ℕ → ℕ → ℕ → Type 0
+GainsBit bit old new = (k : ℕ) → is_bit new k ≡ (is_bit old k || (k == bit))
+
+-- the new set of rows has what the old one has, but for one row
+abbrev pub LosesBit : ℕ → ℕ → ℕ → Type 0
+LosesBit row old new = (k : ℕ) → has_row new k ≡ (has_row old k && not (k == row))
+
+-- the place of a row among the points, by its number
+abbrev pub place_of : ℕ → ℕ
+place_of row = if nat_lt row 10 then 9 - row else row - 1

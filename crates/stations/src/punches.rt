@@ -1,11 +1,12 @@
 //! Cards as the words of their twelve rows.
 
-ghost use Rattle.std.specs.Prelude.{◌≡◌, ℕ, ◌<◌, Some};
-ghost use Rattle.card_code.specs.Rows.{row_place};
+ghost use Rattle.std.specs.Prelude.{◌≡◌, ◌≢◌, ℕ, ◌<◌, Some, true};
+ghost use Rattle.card_code.specs.CardCode.{has_row};
+ghost use Rattle.card_code.specs.Rows.{is_row_set};
 ghost use Rattle.stations.specs.Punches.{AreRowsAt};
-ghost use Rattle.stations.specs.Words.{GainsColumn, GainsBit};
+ghost use Rattle.stations.specs.Words.{place_of, GainsColumn, GainsBit, LosesBit};
 
-use card_code::{Card, Column, ROWS, Row};
+use card_code::{Card, Column};
 
 // The rows of the card at a station; all are 0 where there is none.
 pub(crate) fn rows_at(card: &Option<Card>) -> [u128; 12]
@@ -28,28 +29,50 @@ fn rows_of(card: &Card) -> [u128; 12]
     rows
 }
 
-// Sets a bit in the word of each row that the column has.
+// Sets a bit in the word of each row that the column has, one punch after the other.
 fn punch(column: Column, bit: u8, rows: &mut [u128; 12])
     requires { bit < 80 }
     ensures { GainsColumn column bit rows.old rows.new }
 {
-    for place in 0..12 {
-        rows[place] = with_bit(rows[place], bit, column.has_row(row_at(place)));
+    let mut left = column.rows();
+    while left != 0 {
+        let row = left.trailing_zeros();
+        let place = place_of(row);
+        rows[place] = with_bit(rows[place], bit);
+        left = without(left, row);
     }
 }
 
-// The row with a place in the order of the points.
-fn row_at(place: usize) -> Row
-    requires { place < 12 }
-    ensures { row_place result ≡ place }
+// The place of a row, by its number.
+fn place_of(row: u32) -> usize
+    requires range { row < 13 }
+    requires not_ten { row ≢ 10 }
+    ensures place { result ≡ place_of row }
+    ensures range { result < 12 }
 {
-    ROWS[place]
+    if row < 10 {
+        9 - row as usize
+    } else {
+        row as usize - 1
+    }
 }
 
-// A word with a bit set where the test is true.
-fn with_bit(word: u128, bit: u8, test: bool) -> u128
-    requires { bit < 80 }
-    ensures { GainsBit test bit word result }
+// A set of rows without one of them.
+fn without(set: u16, row: u32) -> u16
+    requires lawful { is_row_set set ≡ true }
+    requires there { has_row set row ≡ true }
+    requires range { row < 16 }
+    ensures others { LosesBit row set result }
+    ensures lawful { is_row_set result ≡ true }
+    ensures fewer { result < set }
 {
-    if test { word | 1 << bit } else { word }
+    set & !(1 << row)
+}
+
+// A word with a bit set.
+fn with_bit(word: u128, bit: u8) -> u128
+    requires { bit < 80 }
+    ensures { GainsBit bit word result }
+{
+    word | 1 << bit
 }

@@ -1,3 +1,3 @@
-pub mod RowLemmas
+pub mod CycleLemmas
 pub mod StorageLemmas
 pub mod WordLemmas

@@ -25,7 +25,7 @@ word_of-below test (suc last) = one_more (test (suc last)) (word_of-below test l
     one_more false below = rw (pow-succ' 2 last) (omega (arith, below))
 
 -- the bits of a word are its tests
-word_of-bit : (test : ℕ → Bool) (n i : ℕ) → i < n → is_bit (word_of test n) i ≡ test (i + 1)
+pub word_of-bit : (test : ℕ → Bool) (n i : ℕ) → i < n → is_bit (word_of test n) i ≡ test (i + 1)
 unfolding word_of is_bit
 word_of-bit test zero i below = elim below [ ]
 word_of-bit test (suc last) i below = elim (cases_lt i last) [

@@ -1,3 +1,4 @@
 pub mod Fields
 pub mod Storage
+pub mod WholeCycles
 pub mod Words

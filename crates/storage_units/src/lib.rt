@@ -1,6 +1,8 @@
 //! The storage units: four units that hold 16 columns of a card from cycle to cycle.
 #![tactic(auto)]
 
+mod laws;
 mod storage;
 
+pub use laws::{read_in_is_held_whole, read_out_shows_the_start, what_is_held_is_kept};
 pub use storage::{STORAGE_COLUMNS, Storage};

@@ -5,48 +5,12 @@
 #![tactic(auto)]
 
 use anyhow::Result;
-use hubs::{Setup, SetupFault};
+use hubs::Setup;
 use itoa::Buffer;
 use std::alloc::Global;
 use std::fs;
 use std::io::{BufWriter, Write};
 use wire_chart::{WiringFault, read_setup, write_setup};
-
-// A fault's number and, where it has them, its line and its cause.
-#[derive(Clone, Copy)]
-enum Told {
-    Fault(u8),
-    FaultAt(u8, u32),
-    FaultFor(u8, u32, u8),
-    Memory,
-}
-
-impl From<WiringFault> for Told {
-    fn from(fault: WiringFault) -> Self {
-        match fault {
-            WiringFault::TooLarge => Told::Fault(71),
-            WiringFault::NoFirstLine => Told::Fault(72),
-            WiringFault::NotALine { line } => Told::FaultAt(73, line),
-            WiringFault::LineTwice { line } => Told::FaultAt(74, line),
-            WiringFault::Unfit { line, fault } => match cause_number(fault) {
-                Some(cause) => Told::FaultFor(75, line, cause),
-                None => Told::Memory,
-            },
-            WiringFault::NoEnd => Told::Fault(76),
-            WiringFault::Memory => Told::Memory,
-        }
-    }
-}
-
-fn cause_number(fault: SetupFault) -> Option<u8> {
-    match fault {
-        SetupFault::NotExit => Some(51),
-        SetupFault::NotEntry => Some(52),
-        SetupFault::CarryRing => Some(53),
-        SetupFault::TapeFault => Some(54),
-        SetupFault::Memory => None,
-    }
-}
 
 fn write_number<W: Write>(out: &mut W, before: &[u8], number: u32) -> Result<()> {
     let mut buffer = Buffer::new();
@@ -55,19 +19,17 @@ fn write_number<W: Write>(out: &mut W, before: &[u8], number: u32) -> Result<()>
     Ok(())
 }
 
-fn write_fault<W: Write>(out: &mut W, told: Told) -> Result<()> {
-    match told {
-        Told::Memory => out.write_all(b" fault memory")?,
-        Told::Fault(number) => write_number(out, b" fault ", u32::from(number))?,
-        Told::FaultAt(number, line) => {
-            write_number(out, b" fault ", u32::from(number))?;
-            write_number(out, b" line ", line)?;
-        }
-        Told::FaultFor(number, line, cause) => {
-            write_number(out, b" fault ", u32::from(number))?;
-            write_number(out, b" line ", line)?;
-            write_number(out, b" cause ", u32::from(cause))?;
-        }
+// A fault's number and, where it has them, its line and its cause; a fault without a number is that of memory.
+fn write_fault<W: Write>(out: &mut W, fault: WiringFault) -> Result<()> {
+    match fault.number() {
+        Some(number) => write_number(out, b" fault ", u32::from(number))?,
+        None => out.write_all(b" fault memory")?,
+    }
+    if let Some(line) = fault.line() {
+        write_number(out, b" line ", line)?;
+    }
+    if let Some(cause) = fault.cause_number() {
+        write_number(out, b" cause ", u32::from(cause))?;
     }
     out.write_all(b"\n")?;
     Ok(())
@@ -85,7 +47,7 @@ fn write_answer<W: Write>(
             out.write_all(b" ok\n")?;
             out.write_all(write_setup(alloc, &setup)?.as_bytes())?;
         }
-        Err(fault) => write_fault(out, fault.into())?,
+        Err(fault) => write_fault(out, fault)?,
     }
     Ok(())
 }

@@ -1,2 +1,6 @@
 pub mod BitLemmas
 pub mod PlaceLemmas
+pub mod JoinLemmas
+pub mod ContactLemmas
+pub mod LedLemmas
+pub mod SearchLemmas

@@ -1,5 +1,5 @@
 -- Bits of a word, and sets of places: place k of a list of words is bit k % 64 of its word k / 64.
-use Rattle.std.specs.Prelude.{◌≡◌, ℕ, ◌+◌, ◌-◌, ◌/◌, ◌%◌, ◌<◌, ◌==◌, ◌&&◌, ◌||◌, nat_le, nat_lt, Bool, List, slice_index_or}
+use Rattle.std.specs.Prelude.{◌≡◌, ℕ, ◌-◌, ◌/◌, ◌%◌, ◌==◌, ◌&&◌, ◌||◌, nat_le, Bool, List, slice_index_or}
 use Rattle.std.specs.Int.{bit_at}
 
 -- whether a bit of a word is set

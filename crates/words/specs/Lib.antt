@@ -1,1 +1,5 @@
 pub mod Bits
+pub mod Contacts
+pub mod Joins
+pub mod Reached
+pub mod Rows

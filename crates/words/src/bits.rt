@@ -33,7 +33,11 @@ pub(crate) fn word_of_run(bits: u128, from: usize, to: usize) -> u64
 {
     if from <= to {
         let down = to - from;
-        if down < 128 { low_word(bits >> down) } else { 0 }
+        if down < 128 {
+            low_word(bits >> down)
+        } else {
+            0
+        }
     } else {
         let up = from - to;
         if up < 64 { low_word(bits << up) } else { 0 }

@@ -1,7 +1,17 @@
-//! Sets of places as words of 64 bits: place k is bit k % 64 of word k / 64.
+//! Sets of places as words of 64 bits, rows of places, and the search for what is reached from a set.
+//!
+//! Place k of a set is bit k % 64 of its word k / 64. It stands for the hub with the number k + 1, but nothing here knows of
+//! hubs.
 #![tactic(auto)]
 
 mod bits;
+mod contacts;
+mod joins;
 mod places;
+mod rows;
+mod search;
 
+pub use contacts::Run;
 pub use places::{PLACES, WORDS, has, put_run, put_where, run};
+pub use rows::{EXITS, Rows};
+pub use search::reach;

@@ -1,6 +1,6 @@
 //! Sets of places.
 
-ghost use Rattle.std.specs.Prelude.{◌≡◌, ℕ, ◌+◌, ◌<◌, ◌&&◌, ◌==◌, nat_lt};
+ghost use Rattle.std.specs.Prelude.{◌≡◌, ℕ, ◌+◌, ◌*◌, ◌<◌, ◌&&◌, ◌==◌, nat_lt, length};
 ghost use Rattle.words.specs.Bits.{is_bit, is_in_run, has_place, GainsPlaces};
 
 use crate::bits::{bit_where, has_bit, run_of_word, word_of_run};
@@ -24,6 +24,14 @@ pub fn put_where(words: &mut [u64; WORDS], place: usize, test: bool)
     ensures { GainsPlaces (λ other. test && (other == place)) words.old words.new }
 {
     words[place / 64] |= bit_where(place % 64, test);
+}
+
+// Adds a place.
+pub(crate) fn put(words: &mut [u64], place: usize)
+    requires { place < 64 * length words.old }
+    ensures { GainsPlaces (λ other. other == place) words.old words.new }
+{
+    words[place / 64] |= bit_where(place % 64, true);
 }
 
 /// Adds a row of up to 128 places that follow one another: bit k stands for the place that is k behind the first one. Bits

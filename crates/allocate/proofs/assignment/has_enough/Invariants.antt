@@ -1,7 +1,7 @@
 use Rattle.std.proofs.Common.{◌≡◌, drop}
 use Rattle.std.specs.List.{filter_map}
 use Rattle.allocate.specs.ChartTotals.{total_of}
-use Rattle.allocate.specs.Enough.{are_enough}
+use Rattle.allocate.specs.HelperEnough.{are_enough}
 use Rattle.allocate.proofs.assignment.has_enough.Given as goal
 
 abbrev pub invariant-loop-line : goal.invariant-loop-line

@@ -1,7 +1,16 @@
-use Rattle.std.proofs.Common.{◌∙◌}
+use Rattle.std.proofs.Common.{◌∙◌, ap, rules, length, None}
+use Rattle.std.proofs.lemmas.List.{length-replicate}
 use Rattle.std.proofs.lemmas.Result.{IfOk-weaker}
-use Rattle.allocate.proofs.Taking.{partly-more, some_free, partly-all, IsAssignment-by_rule}
+use Rattle.allocate.specs.HelperTaking.{taken_at}
+use Rattle.allocate.proofs.Taking.{partly-none, at_none, partly-more, some_free, partly-all, IsAssignment-by_rule}
 use Rattle.allocate.proofs.groups.assign.Goals as goal
+
+pub loop-place-init : goal.loop-place-init
+loop-place-init c =
+    let same = c.in_ok-taken.ensures.items_if_clones_equal (search rules) in
+    partly-none c.args.totals.now c.args.profile.now c.in_ok-taken.taken.items
+    (ap length same ∙ length-replicate (length c.args.totals.now) None)
+    (λ place. ap (λ taken. taken_at taken place) same ∙ at_none (length c.args.totals.now) place)
 
 pub unreachable-requires : goal.unreachable-requires
 unreachable-requires c =

@@ -1,5 +1,5 @@
 use Rattle.std.proofs.Common.{ℕ, ◌≤◌, arith, get_or, below_more}
-use Rattle.allocate.specs.Taking.{IsWidthTaken}
+use Rattle.allocate.specs.HelperTaking.{IsWidthTaken}
 use Rattle.allocate.proofs.Lowest.{all_taken-by_widths, lowest-by_width, rising}
 use Rattle.allocate.proofs.groups.lowest_free.Goals as goal
 use Rattle.allocate.proofs.groups.lowest_free.Goals.{then-need-from+in_default, else-need-from}

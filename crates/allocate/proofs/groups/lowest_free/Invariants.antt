@@ -1,5 +1,5 @@
 use Rattle.std.proofs.Common.{ℕ, ◌<◌, ◌≤◌, get_or}
-use Rattle.allocate.specs.Taking.{IsWidthTaken}
+use Rattle.allocate.specs.HelperTaking.{IsWidthTaken}
 use Rattle.allocate.proofs.groups.lowest_free.Given as goal
 
 abbrev pub invariant-loop-width : goal.invariant-loop-width

@@ -1,5 +1,5 @@
 use Rattle.std.proofs.Common.{ℕ, ◌<◌, ◌≤◌}
-use Rattle.allocate.specs.Taking.{IsTaken}
+use Rattle.allocate.specs.HelperTaking.{IsTaken}
 use Rattle.allocate.proofs.groups.lowest_number.Given as goal
 
 abbrev pub invariant-loop-number : goal.invariant-loop-number

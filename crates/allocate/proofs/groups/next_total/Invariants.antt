@@ -1,5 +1,5 @@
 use Rattle.std.proofs.Common.{MatchOption}
-use Rattle.allocate.specs.Taking.{NoneWaitsBelow, IsNext}
+use Rattle.allocate.specs.HelperTaking.{NoneWaitsBelow, IsNext}
 use Rattle.allocate.proofs.groups.next_total.Given as goal
 
 abbrev pub invariant-loop-place : goal.invariant-loop-place

@@ -1,7 +1,7 @@
 use Rattle.std.proofs.Common.{◌≡◌, ◌++◌, ◌∙◌, sym, ap}
 use Rattle.chart_text.specs.declared.chart.Line.{Line}
 use Rattle.allocate.specs.Positions.{field_used, positions_for, positions_of}
-use Rattle.allocate.proofs.Reading.{IsTrue-ended, IsReadTo-nothing, IsReadTo-front, IsReadTo-end}
+use Rattle.allocate.proofs.Reading.{IsTrue-ended, IsTrue-differs, IsReadTo-nothing, IsReadTo-front, IsReadTo-fails, IsReadTo-end}
 use Rattle.allocate.proofs.Columns.{positions_for-none}
 use Rattle.allocate.proofs.position.are_positions_of.Goals as goal
 use Rattle.allocate.proofs.position.are_positions_of.Goals.{in-Some+in-Some-behind_columns, in_default}
@@ -20,6 +20,14 @@ loop-line-preserved c =
           (IsReadTo-nothing f c.lines-lines.result.now c.args.list.now c.loop-line.rest.now c.loop-line.line-index c.line-item.result c.loop-line-test.true c.line-item.is c.loop-line.invariant
           (positions_for-none c.line-item.result.number (field_used c.args.chart.now.lines c.args.columns c.line-item.result.statement) (sym w.in_default.is ∙ c.field_used.ensures)))
     ]
+
+pub returns-in-None : goal.returns-in-None
+returns-in-None c =
+    let f = λ (line : Line). positions_for line.number (field_used c.args.chart.now.lines c.args.columns line.statement) in
+    IsTrue-differs (c.args.list.now ≡ positions_of c.args.chart.now.lines c.args.columns)
+    (rw c.lines-lines.ensures.value at
+    (IsReadTo-fails f c.lines-lines.result.now c.args.list.now c.loop-line.rest.now c.loop-line.line-index c.line-item.result c.loop-line-test.true c.line-item.is c.loop-line.invariant
+    (λ behind e. c.in-None.ensures behind (e ∙ sym (ap (λ field. positions_for c.line-item.result.number field ++ behind) c.in-Some.ensures)))))
 
 pub returns : goal.returns
 returns c =

@@ -10,4 +10,4 @@ loop-place-preserved c =
 pub returns : goal.returns
 returns c =
     columns-all c.args.list.now.items c.loop-place.list.items c.args.line c.args.field c.loop-place.place c.loop-place.invariant
-    (omega (arith, c.columns_of-place-end.ensures))
+    (omega (arith, c.columns-place-end.ensures))

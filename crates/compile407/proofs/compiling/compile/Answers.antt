@@ -1,7 +1,8 @@
-use Rattle.std.proofs.Common.{subst, sym}
+use Rattle.std.proofs.Common.{◌≢◌, subst, sym}
 use Rattle.std.proofs.lemmas.Result.{err_from_is_err_and}
 use Rattle.allocate.specs.Exceeded.{HasFault as Exceeds}
 use Rattle.allocate.specs.Wanted.{wanted_of}
+use Rattle.allocate.specs.declared.fault.CapacityFault.TheVariants as exceeds
 use Rattle.capacity.specs.Capacities.{Capacities}
 use Rattle.chart_text.specs.ChartText.{Reads}
 use Rattle.compile407.specs.ChartFaults.{HasChartFault}
@@ -29,7 +30,8 @@ returns-in_err-plan-clause-refused c =
     let bytes = c.args.bytes.now in
     let read = c.in_ok-chart.chart in
     let fault = c.in_err-plan.field-0.0 in
-    let Exceeding : Capacities → Type 0 = λ machine. Exceeds (wanted_of read.lines) machine fault in
+    let Exceeding : Capacities → Type 0 =
+    λ machine. fault ≢ exceeds.Memory → Exceeds (wanted_of read.lines) machine fault in
     let refusal = err_from_is_err_and c.from_residual-in_err-plan.result c.from_residual-in_err-plan.ensures.1 in
     let told = capacity_told bytes read fault
     (subst (Reads bytes) (sym c.in_ok-chart.ensures.same) c.in_ok-raw.ensures.read)

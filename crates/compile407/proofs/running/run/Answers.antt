@@ -1,5 +1,5 @@
 use Rattle.std.proofs.Common.{ℕ, ◌<◌, ◌≤◌, ap, subst, ◌∙◌}
-use Rattle.compile407.specs.Pages.{Pages, last_page}
+use Rattle.page_text.specs.Pages.{Pages, last_page}
 use Rattle.compile407.specs.Report.{report_lines}
 use Rattle.compile407.proofs.Headline.{compiled_lines, compiled_deck}
 use Rattle.compile407.proofs.running.run.Goals as goal

@@ -1,10 +1,13 @@
-use Rattle.std.proofs.Common.{◌-◌, arith, refl, ◌∙◌, ap, ◌+◌}
-use Rattle.net.specs.HubSets.{has_hub}
-use Rattle.counters.proofs.Steps.{shows-step}
+use Rattle.net.proofs.Rows.{GainsHubs-same}
+use Rattle.net.specs.HubSets.{is_in_row}
+use Rattle.hubs.specs.declared.hub.Hub.TheVariants.{GX}
+use Rattle.counters.specs.Counters.{shows}
+use Rattle.counters.proofs.ShownRows.{shows-row}
 use Rattle.counters.proofs.sensing.show.Goals as goal
 
-pub loop-i-preserved : goal.loop-i-preserved
-loop-i-preserved c hub =
-    shows-step c.args.name c.args.given c.args.digits.now (c.loop-i.i - 1) c.loop-i.i 0 hub (has_hub c.args.exits.now hub)
-    (has_hub c.loop-i.exits hub) (has_hub c.insert_where.new.self hub) (omega arith) (omega arith)
-    (c.loop-i.invariant hub) (c.insert_where.ensures hub)
+pub returns : goal.returns
+returns c =
+    GainsHubs-same (is_in_row (GX c.args.name 1) c.positions_of.result) (shows c.args.name c.args.given c.args.digits.now)
+    c.args.exits.now c.insert_row.new.self
+    (λ hub. shows-row c.args.name c.args.given c.args.digits.now c.positions_of.result hub c.requires.width c.requires.named c.requires.positions c.positions_of.ensures)
+    c.insert_row.ensures

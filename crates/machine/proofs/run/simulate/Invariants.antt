@@ -1,12 +1,7 @@
-use Rattle.machine.specs.Machine.{machine_at_start, cards_behind}
-use Rattle.machine.proofs.RunSteps.{GoesOn}
-use Rattle.machine.proofs.Work.{work}
+use Rattle.std.proofs.Common.{drop}
+use Rattle.machine.proofs.Decks.{Ran}
 use Rattle.machine.proofs.run.simulate.Given as goal
 
--- the cycles so far are the start of the run, and have placed the lines so far
-abbrev pub invariant-loop-cycle : goal.invariant-loop-cycle
-invariant-loop-cycle l =
-    GoesOn l.setup (machine_at_start l.setup l.fn.cards) (cards_behind l.fn.cards) l.lines.items l.machine l.left
-
-abbrev pub decreases-loop-cycle : goal.decreases-loop-cycle
-decreases-loop-cycle l = work l.machine l.left
+-- the cards so far are fed, and their lines stand
+abbrev pub invariant-loop-card : goal.invariant-loop-card
+invariant-loop-card l = Ran l.setup l.cards (drop l.card-index l.cards) l.units l.lines.items

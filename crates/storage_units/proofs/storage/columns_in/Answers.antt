@@ -1,6 +1,5 @@
-use Rattle.net.specs.HubSets.{has_hub}
 use Rattle.storage_units.proofs.StorageLemmas.{columns_read}
 use Rattle.storage_units.proofs.storage.columns_in.Goals as goal
 
 pub returns : goal.returns
-returns c = columns_read c.args.unit c.row.result (has_hub c.args.picture.now) c.requires.from c.requires.to c.row.ensures
+returns c = columns_read c.args.unit c.row.result c.args.picture.now c.requires.from c.requires.to c.row.ensures

@@ -1,4 +1,4 @@
-use Rattle.std.proofs.Common.{◌≡◌, ℕ, ◌||◌, ◌≤◌, length}
+use Rattle.std.proofs.Common.{◌≡◌, ℕ, ◌||◌, length}
 use Rattle.words.specs.Bits.{has_place}
 use Rattle.words.proofs.PlaceLemmas.{is_in_before}
 use Rattle.words.proofs.places.put_run.Given as goal

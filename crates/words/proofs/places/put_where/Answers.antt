@@ -1,4 +1,4 @@
-use Rattle.std.proofs.Common.{◌∙◌, ap, ◌&&◌, ◌||◌, ◌/◌, ◌%◌, ◌<◌, arith, rules, length}
+use Rattle.std.proofs.Common.{◌∙◌, ap, ◌&&◌, ◌||◌, ◌/◌, rules}
 use Rattle.std.specs.Prelude.{◌==◌}
 use Rattle.words.specs.Bits.{has_place}
 use Rattle.words.proofs.PlaceLemmas.{place_gains, alone, alone_bit}

@@ -1,4 +1,4 @@
-use Rattle.std.proofs.Common.{◌⊎◌, ◌≤◌, ◌+◌, ◌/◌, arith, rules}
+use Rattle.std.proofs.Common.{◌⊎◌, ◌≤◌, ◌+◌, ◌/◌, arith}
 use Rattle.std.proofs.lemmas.Grind.{common_steps}
 use Rattle.words.proofs.PlaceLemmas.{read_first, read_next, read_last}
 use Rattle.words.proofs.places.run.Goals as goal

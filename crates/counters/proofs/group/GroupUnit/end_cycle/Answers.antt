@@ -9,6 +9,9 @@ invariant_of-self c =
     let width = c.self.inside.name.width in
     let digits = c.self.inside.digits in
     record {
+      from = c.self.invariant.from;
+      to = c.self.invariant.to;
+      unit = c.self.invariant.unit;
       width = c.self.invariant.width;
       named = c.self.invariant.named;
       digits =

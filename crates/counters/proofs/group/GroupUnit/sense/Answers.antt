@@ -1,6 +1,7 @@
-use Rattle.std.proofs.Common.{◌≡◌, ◌≤◌, ◌-◌, ◌+◌, ◌*◌, ◌++◌, ◌∙◌, sym, ap, arith, length, take, ℕ, List, true}
+use Rattle.std.proofs.Common.{drop, ◌≡◌, ◌≤◌, ◌-◌, ◌+◌, ◌*◌, ◌∙◌, sym, ap, arith, length, ℕ, List, true}
 use Rattle.std.proofs.lemmas.Bool.Decides.{nat_tests}
 use Rattle.std.proofs.lemmas.List.{length-take-le}
+use Rattle.std.proofs.lemmas.List.Elements.{All-append, All-drop}
 use borrow.Rule.Slice.PartMut.{post_of}
 use Rattle.card_code.specs.Rows.{row_number}
 use Rattle.hubs.specs.Places.{positions_before}
@@ -9,6 +10,7 @@ use Rattle.net.proofs.KindRows.{row_bit, GE_numbered}
 use Rattle.net.specs.HubSets.{has_hub, is_bit}
 use Rattle.net.specs.declared.cycle.Point.TheVariants.{Row}
 use Rattle.counters.specs.Counters.{Counter, counter_sensed, entered_after, takes, all_taken}
+use Rattle.counters.specs.Laws.{IsDigit}
 use Rattle.counters.specs.Fields.{counter_in}
 use Rattle.counters.proofs.TakenRows.{entered_after-taking, length-all_taken, take-first_part}
 use Rattle.counters.proofs.group.GroupUnit.sense.Goals as goal
@@ -42,3 +44,19 @@ returns-then-takes c =
     ap made (take-first_part width new rest as_many ∙ after)
     ∙ ap (λ (k : Counter). counter_sensed k c.args._cycle (Row c.in-Row.row) picture) c.self.view_is
     ∙ ap (λ p. counter_sensed c.args.self.now c.args._cycle p picture) (sym c.in-Row.is)
+
+pub invariant_of-self-then-takes : goal.invariant_of-self-then-takes
+invariant_of-self-then-takes c =
+    let width = c.self.inside.name.width in
+    let entered = c.self.inside.entered in
+    record {
+      from = c.self.invariant.from;
+      to = c.self.invariant.to;
+      unit = c.self.invariant.unit;
+      width = c.self.invariant.width;
+      named = c.self.invariant.named;
+      digits = c.self.invariant.digits;
+      entered =
+          All-append IsDigit c.take_row.new.entered (post_of 0 width entered) c.take_row.ensures.digits
+          (All-drop IsDigit width (drop 0 entered) (All-drop IsDigit 0 entered c.self.invariant.entered));
+    }

@@ -1,0 +1,155 @@
+-- The row of a group's exits that emit.
+use Rattle.std.proofs.Common.{◌≡◌, ◌≢◌, ◌∙◌, refl, sym, ap, ℕ, suc, ◌+◌, ◌-◌, ◌*◌, ◌%◌, ◌^◌, ◌<◌, ◌≤◌, ◌&&◌, ◌||◌, inl, inr, Bool, true, false, Option, Some, None, List, [], ◌∷◌, length, get_or, bit_or, arith}
+use Rattle.std.specs.Prelude.{◌==◌, nat_le, nat_lt}
+use Rattle.std.proofs.Math.Nat.{zero-mul}
+use Rattle.std.proofs.lemmas.Bool.Decides.{eqb_tells, nat_tests}
+use Rattle.std.proofs.lemmas.Nat.Bits.{bit_at-pow_other, bit_at-pow_same, bit_at-lt, bit_at-zero, bit_at_or}
+use Rattle.std.proofs.lemmas.Nat.{one_shl}
+use Rattle.std.specs.Int.{bit_at}
+use mir.Val.{bool_byte}
+use Rattle.hubs.specs.Hubs.{number_of}
+use Rattle.hubs.specs.Places.{is_width, positions_before}
+use Rattle.hubs.specs.Ranges.{is_within}
+use Rattle.hubs.specs.declared.hub.Group.{Group}
+use Rattle.hubs.specs.declared.hub.Hub.{Hub}
+use Rattle.hubs.specs.declared.hub.Hub.TheVariants.{GX}
+use Rattle.net.proofs.KindRows.{GX_numbered, numbered_in}
+use Rattle.net.specs.HubSets.{is_bit, is_bit_from, is_hub, is_in_row, is_same_number}
+use Rattle.counters.specs.Counters.{shows}
+use Rattle.counters.specs.Shown.{shows_at}
+
+-- before the first position no bit is set
+pub no_bits : (given : ℕ) (digits : List ℕ) (bit : ℕ)
+    → is_bit 0 bit ≡ (nat_lt bit 0 && (get_or digits (length digits - 1 - bit) 0 == given))
+unfolding is_bit
+no_bits given digits bit = let e = bit_at-zero bit in grind (arith, nat_tests, e)
+
+-- the bits of two words together
+is_bit-or : (a b j : ℕ) → is_bit (bit_or a b) j ≡ (is_bit a j || is_bit b j)
+unfolding is_bit
+is_bit-or a b j =
+    let x = bit_at-lt a j in let y = bit_at-lt b j in let z = bit_at_or a b j in
+    grind (arith, nat_tests, x, y, z)
+
+-- the bits of one position more
+pub one_bit_more :
+    (given : ℕ) (digits : List ℕ) (k bit bits one : ℕ) (test : Bool)
+    → test ≡ (get_or digits (length digits - 1 - k) 0 == given)
+    → is_bit bits bit ≡ (nat_lt bit k && (get_or digits (length digits - 1 - bit) 0 == given))
+    → is_bit one bit ≡ (test && (bit == k))
+    → is_bit (bit_or bits one) bit ≡ (nat_lt bit (k + 1) && (get_or digits (length digits - 1 - bit) 0 == given))
+one_bit_more given digits k bit bits one test is so_far here = is_bit-or bits one bit ∙ elim (eqb_tells bit k) [
+  | inl same ↦
+      let place : (get_or digits (length digits - 1 - bit) 0 == given) ≡ test
+      = ap (λ b. get_or digits (length digits - 1 - b) 0 == given) same.1 ∙ sym is in
+      grind (arith, nat_tests, place, so_far, here, same.1)
+  | inr other ↦ grind (arith, nat_tests, so_far, here, other.1)
+]
+
+-- no bit of 0 is set
+is_bit-zero : (j : ℕ) → is_bit 0 j ≡ false
+unfolding is_bit
+is_bit-zero j = ap (λ n. n == 1) (bit_at-zero j)
+
+-- the bits of a power
+is_bit-pow : (k j : ℕ) → is_bit (2 ^ k) j ≡ (j == k)
+unfolding is_bit
+is_bit-pow k j = elim (eqb_tells j k) [
+  | inl same ↦
+      let e : bit_at (2 ^ k) j ≡ 1 = ap (bit_at (2 ^ k)) same.1 ∙ bit_at-pow_same k in
+      grind (arith, nat_tests, e, same.1)
+  | inr other ↦ let e = bit_at-pow_other k j other.1 in grind (arith, nat_tests, e, other.1)
+]
+
+-- one bit, where a test is true
+pub is_bit-where : (test : Bool) (k j : ℕ) → k < 128 → is_bit (bool_byte test * 2 ^ k % 2 ^ 128) j ≡ (test && (j == k))
+is_bit-where true k j low = ap (λ n. is_bit n j) (one_shl k 128 low) ∙ is_bit-pow k j
+is_bit-where false k j low = ap (λ n. is_bit (n % 2 ^ 128) j) (zero-mul (2 ^ k)) ∙ is_bit-zero j
+
+-- a list at its first place, and behind it
+at_first : (d i : ℕ) (below : List ℕ) → i ≡ 0 → get_or (d ∷ below) i 0 ≡ d
+at_first d i below is = ap (λ k. get_or (d ∷ below) k 0) is
+
+at_next : (d i j : ℕ) (below : List ℕ) → i ≡ suc j → get_or (d ∷ below) i 0 ≡ get_or below j 0
+at_next d i j below is = ap (λ k. get_or (d ∷ below) k 0) is
+
+-- one position more, by the number of a hub
+shows_more :
+    (given start h d : ℕ) (below : List ℕ) (own seen : Bool)
+    → own ≡ (start + (length below + 1) == h)
+    → seen ≡ (nat_le (start + 1) h && shows_at given below (h - (start + 1)))
+    → (((d == given) && own) || seen) ≡ (nat_le (start + 1) h && shows_at given (d ∷ below) (h - (start + 1)))
+shows_more given start h d below own seen is so_far = elim (eqb_tells h (start + (length below + 1))) [
+  | inl same ↦
+      let first = at_first d (length (d ∷ below) - 1 - (h - (start + 1))) below (omega (arith, same.1)) in
+      grind (arith, nat_tests, first, is, so_far, same.1)
+  | inr other ↦ by (nat_lt (h - (start + 1)) (length below)) refl other.1
+]
+  where
+    by : (b : Bool) → nat_lt (h - (start + 1)) (length below) ≡ b → h ≢ start + (length below + 1)
+        → (((d == given) && own) || seen) ≡ (nat_le (start + 1) h && shows_at given (d ∷ below) (h - (start + 1)))
+    by true low other =
+        let within : h - (start + 1) < length below = grind (arith, nat_tests, low) in
+        let next = at_next d (length (d ∷ below) - 1 - (h - (start + 1))) (length below - 1 - (h - (start + 1))) below
+        (omega (arith, within)) in
+        grind (arith, nat_tests, next, is, so_far, other, low)
+    by false high other = grind (arith, nat_tests, is, so_far, other, high)
+
+-- the exits of some lowest positions that emit, by the number of a hub
+shows-number :
+    (name : Group) (given : ℕ) (start : ℕ) (digits : List ℕ) (hub : Hub) (h : ℕ)
+    → ((n : ℕ) → 1 ≤ n → n ≤ length digits → number_of (GX name n) ≡ Some (start + n)) → number_of hub ≡ Some h
+    → shows name given digits hub ≡ (nat_le (start + 1) h && shows_at given digits (h - (start + 1)))
+shows-number name given start [] hub h numbered is = grind (arith, nat_tests)
+shows-number name given start (d ∷ below) hub h numbered is =
+    shows_more given start h d below (is_hub (GX name (length below + 1)) hub) (shows name given below hub)
+    (ap (λ m. is_same_number m (number_of hub)) (numbered (length below + 1) (omega arith) (omega arith))
+    ∙ ap (is_same_number (Some (start + (length below + 1)))) is)
+    (shows-number name given start below hub h (λ n from to. numbered n from (omega (arith, to))) is)
+
+-- a hub without a number is no position's exit
+no_number : (m : Option ℕ) → is_same_number m None ≡ false
+no_number None = refl
+no_number (Some m) = refl
+
+no_bit_from : (m : Option ℕ) (bits : ℕ) → is_bit_from m bits None ≡ false
+no_bit_from None bits = refl
+no_bit_from (Some m) bits = refl
+
+shows-none : (name : Group) (given : ℕ) (digits : List ℕ) (hub : Hub) → number_of hub ≡ None → shows name given digits hub ≡ false
+shows-none name given [] hub none = refl
+shows-none name given (d ∷ below) hub none =
+    let own : is_hub (GX name (length below + 1)) hub ≡ false
+    = ap (is_same_number (number_of (GX name (length below + 1)))) none ∙ no_number (number_of (GX name (length below + 1))) in
+    both (d == given) (is_hub (GX name (length below + 1)) hub) (shows name given below hub) own (shows-none name given below hub none)
+  where
+    both : (a b c : Bool) → b ≡ false → c ≡ false → ((a && b) || c) ≡ false
+    both a b c e f = grind (arith, nat_tests, e, f)
+
+-- the row of the exits
+pub shows-row :
+    (name : Group) (given : ℕ) (digits : List ℕ) (bits : ℕ) (hub : Hub)
+    → is_width name.width ≡ true → is_within name.number 8 ≡ true → length digits ≡ name.width
+    → ((bit : ℕ) → is_bit bits bit ≡ shows_at given digits bit)
+    → is_in_row (GX name 1) bits hub ≡ shows name given digits hub
+shows-row name given digits bits hub wide named long bit = by (number_of hub) refl
+  where
+    start : ℕ
+    start = 190 + positions_before name.width + (name.number - 1) * name.width
+
+    numbered : (n : ℕ) → 1 ≤ n → n ≤ length digits → number_of (GX name n) ≡ Some (start + n)
+    numbered n from to =
+        GX_numbered name wide named n ∙ numbered_in start name.width n from (omega (arith, to, long))
+
+    some : 1 ≤ length digits
+    some = let e : 1 ≤ name.width = grind (arith, nat_tests, wide) in omega (arith, e, long)
+
+    by : (m : Option ℕ) → number_of hub ≡ m → is_in_row (GX name 1) bits hub ≡ shows name given digits hub
+    by None none =
+        ap (is_bit_from (number_of (GX name 1)) bits) none ∙ no_bit_from (number_of (GX name 1)) bits
+        ∙ sym (shows-none name given digits hub none)
+    by (Some h) is =
+        ap (λ m. is_bit_from m bits (number_of hub)) (numbered 1 (omega arith) some)
+        ∙ ap (is_bit_from (Some (start + 1)) bits) is
+        ∙ ap (λ b. nat_le (start + 1) h && b) (bit (h - (start + 1)))
+        ∙ sym (shows-number name given start digits hub h numbered is)

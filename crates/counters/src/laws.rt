@@ -1,0 +1,41 @@
+//! Laws of counter groups. Each is a function that does nothing: its contract is the law.
+
+ghost use Rattle.counters.specs.Laws.{CountersKeepToTheirOwn, CountersStay, CyclesAreSums, TurningIsAdding};
+ghost use Rattle.counters.specs.Postings.{PostingsAreSums, SmallSumsStand};
+ghost use Rattle.counters.specs.Places.{WheelsFollowCarryRule};
+
+/// A wheel gets one more step exactly where, going down from the next lower one, some wheel passed from 9 to 0 and
+/// all between stand at 9. In a ring the way goes on from the units to the top, as far as the wheel itself.
+pub fn carries_follow_the_rule()
+    ensures { WheelsFollowCarryRule }
+{}
+
+/// What wheels spell in the end, with the carry that leaves the top, is the sum of what they spelt, what they advance
+/// by, and the carry that comes in at the lowest.
+pub fn turning_is_adding()
+    ensures { TurningIsAdding }
+{}
+
+/// A counter cycle as a number, for groups of each width: without a ring it is the sum of what the group starts from
+/// and what is added, less what leaves the top; in a ring what leaves the top comes in again as one.
+pub fn cycles_are_sums()
+    ensures { CyclesAreSums }
+{}
+
+/// A group has a digit and an entered digit for each of its positions, at the start and behind whatever it senses.
+pub fn groups_stay_groups()
+    ensures { CountersStay }
+{}
+
+/// A group emits at its own exits, closes its own contacts and senses its own entries alone, and its unit stays the
+/// one that it began with.
+pub fn groups_keep_to_their_own_hubs()
+    ensures { CountersKeepToTheirOwn }
+{}
+
+/// A group whose wheels form a ring, behind many cycles of adding and subtracting, stands for the sum; a sum that is
+/// smaller than all nines stands as itself or, below 0, as what it lacks of all nines, and zero as zeros or nines.
+pub fn signed_entries_add_up()
+    ensures sums { PostingsAreSums }
+    ensures small { SmallSumsStand }
+{}

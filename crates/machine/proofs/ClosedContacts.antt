@@ -1,0 +1,226 @@
+-- The closed contacts of all units are those that the selectors' crate tells by the balance latches of the groups.
+use Rattle.std.proofs.Common.{◌≡◌, ℕ, zero, suc, ◌-◌, ◌<◌, ◌≤◌, ◌==◌, Bool, true, false, not, ◌&&◌, ◌||◌, nat_le, List, [], ◌∷◌, Option, Some, None, map, length, get_or, refl, sym, ap, ◌∙◌, arith}
+use Rattle.std.proofs.lemmas.Bool.Decides.{nat_tests}
+use Rattle.std.specs.List.{list_any}
+use Rattle.counters.specs.Counters.{Counter, counter_number, counter_closes, counter_sensed}
+use Rattle.hubs.specs.Places.{width_place, up_to, part_place}
+use Rattle.hubs.specs.Ranges.{is_within}
+use Rattle.hubs.specs.declared.hub.Group.{Group}
+use Rattle.hubs.specs.declared.hub.Hub.{Hub}
+use Rattle.hubs.specs.declared.hub.Hub.TheVariants.{BAN, BAT, PIN, PIT}
+use Rattle.net.specs.Panel.{unit_of, unit_behind}
+use Rattle.net.specs.declared.cycle.Cycle.{Cycle}
+use Rattle.net.specs.HubSets.{HubSet, has_hub}
+use Rattle.net.specs.declared.cycle.Point.{Point}
+use Rattle.net.specs.declared.cycle.Point.TheVariants.{C, Row, K}
+use Rattle.selectors.specs.Contacts.{balance_closes, closed_contacts, steady_closes}
+use Rattle.selectors.specs.Indicate.{indicate_closes}
+use Rattle.selectors.specs.Pilots.{PilotStates, pilots_closes, pilots_sensed}
+use Rattle.selectors.specs.Splits.{split_closes}
+use Rattle.storage_units.specs.Storage.{storage_sensed}
+use Rattle.machine.specs.Fields.{AreInUnitOrder}
+use Rattle.machine.specs.Machine.{MachineState, closes, sensed, group_units}
+use Rattle.machine.specs.Steady.{latches_of, AreSteady}
+
+-- the numbers count up from k
+abbrev CountUp : ℕ → List ℕ → Type 0
+CountUp k [] = Unit {0}
+CountUp k (n ∷ ns) = (n ≡ k) × CountUp (suc k) ns
+
+-- the groups are the units from k on
+abbrev AreFrom : ℕ → List Counter → Type 0
+AreFrom k [] = Unit {0}
+AreFrom k (group ∷ groups) = (counter_number group ≡ k) × AreFrom (suc k) groups
+
+same_head : (m n : ℕ) (ms ns : List ℕ) → m ∷ ms ≡ n ∷ ns → m ≡ n
+same_head m n ms ns same = cc
+
+same_tail : (m n : ℕ) (ms ns : List ℕ) → m ∷ ms ≡ n ∷ ns → ms ≡ ns
+same_tail m n ms ns same = cc
+
+are_from : (k : ℕ) (groups : List Counter) (ns : List ℕ) → map counter_number groups ≡ ns → CountUp k ns → AreFrom k groups
+are_from k [] ns same up = tt
+are_from k (group ∷ groups) [] same up = cc
+are_from k (group ∷ groups) (n ∷ ns) same up = (
+  same_head (counter_number group) n (map counter_number groups) ns same ∙ up.0,
+  are_from (suc k) groups ns (same_tail (counter_number group) n (map counter_number groups) ns same) up.1,
+)
+
+group_units-up : CountUp 3 group_units
+group_units-up = (refl, (refl, (refl, (refl, (refl, (refl, (refl, (refl, (refl, (refl, (refl, (refl, (refl, (refl, (refl, (refl, (refl, (refl, (refl, (refl, (refl, (refl, (refl, (refl, (refl, (refl, (refl, (refl, (refl, (refl, (refl, (refl, tt))))))))))))))))))))))))))))))))
+
+length-from : (groups : List Counter) (ns : List ℕ) → map counter_number groups ≡ ns → length groups ≡ length ns
+length-from [] [] same = refl
+length-from [] (n ∷ ns) same = cc
+length-from (group ∷ groups) [] same = cc
+length-from (group ∷ groups) (n ∷ ns) same =
+    ap suc (length-from groups ns (same_tail (counter_number group) n (map counter_number groups) ns same))
+
+-- a test of the latch at a place; false past the end
+abbrev tells_at : (Bool → Bool) → List Bool → ℕ → Bool
+tells_at test [] place = false
+tells_at test (latch ∷ latches) zero = test latch
+tells_at test (latch ∷ latches) (suc place) = tells_at test latches place
+
+latch-here : (u k : ℕ) (within : Bool) (test : Bool → Bool) (latch : Bool) (latches : List Bool)
+    → (((u == k) && within && test latch) || (nat_le (suc k) u && within && tells_at test latches (u - suc k)))
+    ≡ (nat_le k u && within && tells_at test (latch ∷ latches) (u - k))
+latch-here u k within test latch latches = by (u == k) (nat_le (suc k) u) refl refl
+  where
+    by : (same above : Bool) → (u == k) ≡ same → nat_le (suc k) u ≡ above
+        → ((same && within && test latch) || (above && within && tells_at test latches (u - suc k)))
+        ≡ (nat_le k u && within && tells_at test (latch ∷ latches) (u - k))
+    by true true is over = absurd (grind (arith, nat_tests))
+    by true false is over =
+        let none : u - k ≡ 0 = grind (arith, nat_tests) in
+        let reached : nat_le k u ≡ true = grind (arith, nat_tests) in
+        rw (none, reached) (or_none (within && test latch))
+      where
+        or_none : (b : Bool) → (b || false) ≡ b
+        or_none true = refl
+        or_none false = refl
+    by false true is over =
+        let one : u - k ≡ suc (u - suc k) = grind (arith, nat_tests) in
+        let reached : nat_le k u ≡ true = grind (arith, nat_tests) in
+        rw (one, reached) refl
+    by false false is over =
+        let reached : nat_le k u ≡ false = grind (arith, nat_tests) in
+        rw reached refl
+
+-- of groups that are the units from k on, that of unit u alone answers for it
+any-at : (u k : ℕ) (within : Bool) (test : Bool → Bool) (groups : List Counter) → AreFrom k groups
+    → list_any (λ group. (u == counter_number group) && within && test group.latch) groups
+    ≡ (nat_le k u && within && tells_at test (latches_of groups) (u - k))
+any-at u k within test [] from = grind (arith, nat_tests)
+any-at u k within test (group ∷ groups) (is, from) =
+    rw (is, any-at u (suc k) within test groups from) (latch-here u k within test group.latch (latches_of groups))
+
+tells_at-in : (test : Bool → Bool) (latches : List Bool) (place : ℕ) → place < length latches
+    → tells_at test latches place ≡ test (get_or latches place false)
+tells_at-in test [] place inside = absurd (omega (arith, inside))
+tells_at-in test (latch ∷ latches) zero inside = refl
+tells_at-in test (latch ∷ latches) (suc place) inside = tells_at-in test latches place (omega (arith, inside))
+
+width_place-four : (w p : ℕ) → width_place w ≡ Some p → (1 ≤ p) × (p ≤ 4)
+width_place-four w p is = (grind (arith, nat_tests), grind (arith, nat_tests))
+
+up_to-last : (last n p : ℕ) → up_to last n ≡ Some p → (1 ≤ p) × (p ≤ last)
+up_to-last last n p is = (grind (arith, nat_tests), grind (arith, nat_tests))
+
+unit_of-place : (width number : Option ℕ) → ((p : ℕ) → width ≡ Some p → (1 ≤ p) × (p ≤ 4))
+    → ((p : ℕ) → number ≡ Some p → (1 ≤ p) × (p ≤ 8)) → unit_behind 2 (part_place 8 width number) < 35
+unit_of-place None number first second = omega arith
+unit_of-place (Some w) None first second = omega arith
+unit_of-place (Some w) (Some n) first second =
+    let one = first w refl in
+    let other = second n refl in
+    omega (arith, one.0, one.1, other.0, other.1)
+
+unit_of-last : (group : Group) → unit_of group < 35
+unit_of-last group =
+    unit_of-place (width_place group.width) (up_to 8 group.number) (width_place-four group.width) (up_to-last 8 group.number)
+
+length-latches : (groups : List Counter) → length (latches_of groups) ≡ length groups
+length-latches [] = refl
+length-latches (group ∷ groups) = ap suc (length-latches groups)
+
+-- what the latch of a group's unit tells
+latch-of : (groups : List Counter) (group : Group) (within : Bool) (test : Bool → Bool) → AreInUnitOrder groups
+    → list_any (λ g. (unit_of group == counter_number g) && within && test g.latch) groups
+    ≡ (nat_le 3 (unit_of group) && within && test (get_or (latches_of groups) (unit_of group - 3) false))
+latch-of groups group within test ordered =
+    let from = are_from 3 groups group_units ordered group_units-up in
+    let long : length (latches_of groups) ≡ 32 = length-latches groups ∙ length-from groups group_units ordered in
+    let last = unit_of-last group in
+    any-at (unit_of group) 3 within test groups from
+    ∙ ap (λ (b : Bool). nat_le 3 (unit_of group) && within && b)
+    (tells_at-in test (latches_of groups) (unit_of group - 3) (omega (arith, long, last)))
+
+none-of : {X : Type 0} → (xs : List X) → list_any (λ x. false) xs ≡ false
+none-of [] = refl
+none-of (x ∷ xs) = none-of xs
+
+-- the contacts of the balance positions
+groups-close : (groups : List Counter) (cycle : Cycle) (point : Point) (hub : Hub) → AreInUnitOrder groups
+    → list_any (λ group. counter_closes group cycle point hub) groups ≡ balance_closes (latches_of groups) hub
+groups-close groups cycle point (BAN group position) ordered =
+    latch-of groups group (is_within position 4) not ordered
+groups-close groups cycle point (BAT group position) ordered =
+    latch-of groups group (is_within position 4) (λ latch. latch) ordered
+groups-close groups cycle point other ordered = none-of groups
+
+joined : (balance pilots indicate splits : Bool)
+    → (balance || false || pilots || indicate || splits || false || false || false || false)
+    ≡ (balance || (pilots || (indicate || splits)))
+joined true pilots indicate splits = refl
+joined false true indicate splits = refl
+joined false false true splits = refl
+joined false false false true = refl
+joined false false false false = refl
+
+-- all closed contacts
+pub closes-joined : (machine : MachineState) (cycle : Cycle) (point : Point) (hub : Hub) → AreInUnitOrder machine.groups
+    → closes machine cycle point hub
+    ≡ closed_contacts cycle point machine.pilots machine.indicate (latches_of machine.groups) hub
+closes-joined machine cycle point hub ordered =
+    rw (groups-close machine.groups cycle point hub ordered, none-of machine.storage)
+    (joined (balance_closes (latches_of machine.groups) hub) (pilots_closes machine.pilots cycle point hub)
+    (indicate_closes machine.indicate cycle point hub) (split_closes point hub))
+
+split_last : (a b c d : Bool) → ((a || (b || c)) || d) ≡ (a || (b || (c || d)))
+split_last true b c d = refl
+split_last false true c d = refl
+split_last false false c d = refl
+
+-- the contacts that are closed once for a cycle
+pub steady-closed : (cycle : Cycle) (closed : HubSet) (machine : MachineState) (latches : List Bool)
+    → AreInUnitOrder machine.groups → latches ≡ latches_of machine.groups
+    → ((point : Point) (hub : Hub) → has_hub closed hub ≡ steady_closes cycle point machine.pilots machine.indicate latches hub)
+    → AreSteady cycle closed machine
+steady-closed cycle closed machine latches ordered same is point hub =
+    ap (λ (b : Bool). b || split_closes point hub)
+    (is point hub ∙ ap (λ (ls : List Bool). steady_closes cycle point machine.pilots machine.indicate ls hub) same)
+    ∙ split_last (balance_closes (latches_of machine.groups) hub) (pilots_closes machine.pilots cycle point hub)
+    (indicate_closes machine.indicate cycle point hub) (split_closes point hub)
+    ∙ sym (closes-joined machine cycle point hub ordered)
+
+-- What a unit senses in a cycle changes none of its contacts in it.
+counter-steady : (group : Counter) (cycle : Cycle) (at point : Point) (picture : Hub → Bool) (hub : Hub)
+    → counter_closes (counter_sensed group cycle at picture) cycle point hub ≡ counter_closes group cycle point hub
+counter-steady group cycle C point picture (BAN name position) = refl
+counter-steady group cycle C point picture (BAT name position) = refl
+counter-steady group cycle C point picture other = refl
+counter-steady group cycle (Row row) point picture (BAN name position) = refl
+counter-steady group cycle (Row row) point picture (BAT name position) = refl
+counter-steady group cycle (Row row) point picture other = refl
+counter-steady group cycle K point picture hub = refl
+
+pilots-steady : (pilots : PilotStates) (cycle : Cycle) (at point : Point) (picture : Hub → Bool) (hub : Hub)
+    → pilots_closes (pilots_sensed pilots cycle at picture) cycle point hub ≡ pilots_closes pilots cycle point hub
+pilots-steady pilots cycle at point picture (PIN pilot position) = refl
+pilots-steady pilots cycle at point picture (PIT pilot position) = refl
+pilots-steady pilots cycle at point picture other = refl
+
+groups-steady : (groups : List Counter) (cycle : Cycle) (at point : Point) (picture : Hub → Bool) (hub : Hub)
+    → list_any (λ group. counter_closes group cycle point hub) (map (λ group. counter_sensed group cycle at picture) groups)
+    ≡ list_any (λ group. counter_closes group cycle point hub) groups
+groups-steady [] cycle at point picture hub = refl
+groups-steady (group ∷ groups) cycle at point picture hub =
+    rw (counter-steady group cycle at point picture hub, groups-steady groups cycle at point picture hub) refl
+
+-- the contacts of all units stay as they are through the points of a cycle
+pub closes-steady : (machine : MachineState) (cycle : Cycle) (at point : Point) (picture : Hub → Bool) (hub : Hub)
+    → closes (sensed machine cycle at picture) cycle point hub ≡ closes machine cycle point hub
+closes-steady machine cycle at point picture hub =
+    rw (
+      groups-steady machine.groups cycle at point picture hub,
+      none-of (map (λ storage. storage_sensed storage cycle at picture) machine.storage),
+      none-of machine.storage,
+      pilots-steady machine.pilots cycle at point picture hub,
+    )
+    refl
+
+pub AreSteady-sensed : (cycle : Cycle) (closed : HubSet) (machine : MachineState) (at : Point) (picture : Hub → Bool)
+    → AreSteady cycle closed machine → AreSteady cycle closed (sensed machine cycle at picture)
+AreSteady-sensed cycle closed machine at picture steady point hub =
+    steady point hub ∙ sym (closes-steady machine cycle at point picture hub)

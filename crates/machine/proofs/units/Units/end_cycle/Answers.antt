@@ -1,0 +1,23 @@
+use Rattle.machine.proofs.UnitOrder.{ended-in_order}
+use Rattle.machine.proofs.units.Units.end_cycle.Goals as goal
+
+pub invariant_of-self : goal.invariant_of-self
+invariant_of-self c =
+    ended-in_order c.self.inside.groups c.end_all.new.units c.args.cycle c.end_all.ensures c.self.invariant
+
+pub returns : goal.returns
+returns c =
+    rw (← c.self.view_is)
+    (λ i. record {
+      stations = c.self.inside.stations;
+      comparing = c.end_cycle.ensures i;
+      groups = c.end_all.ensures i;
+      storage = c.end_all-2.ensures i;
+      pilots = c.end_cycle-2.ensures i;
+      indicate = c.end_cycle-3.ensures i;
+      splits = c.self.inside.splits;
+      emitters = c.self.inside.emitters;
+      wheels = c.end_cycle-4.ensures i;
+      carriage = c.end_cycle-5.ensures i;
+      program = c.end_cycle-6.ensures i;
+    })

@@ -1,0 +1,43 @@
+-- A cycle of the machine. At each of its fourteen points all units emit by their states, wires and closed contacts make of that
+-- the picture of the impulsed hubs, and all units sense it. Behind the last point every unit ends the cycle.
+use Rattle.std.specs.Prelude.{◌≡◌, ℕ, zero, suc, Bool, List, [], ◌∷◌, Option, Some, None, slice_index_or}
+use Rattle.carriage.specs.declared.placed_line.PlacedLine.{PlacedLine}
+use Rattle.hubs.specs.Wiring.{Wiring}
+use Rattle.hubs.specs.declared.hub.Hub.{Hub}
+use Rattle.net.specs.Cycles.{points}
+use Rattle.net.specs.Impulsed.{IsPicture}
+use Rattle.net.specs.declared.cycle.Cycle.{Cycle}
+use Rattle.net.specs.declared.cycle.Point.{Point}
+use Rattle.net.specs.declared.cycle.Point.TheVariants.{K}
+use Rattle.machine.specs.Machine.{MachineState, emits, closes, sensed, ended}
+
+-- One point: there is the picture of what the units emit by the states before it, and they sense that picture.
+pub record PointStep (wiring : Wiring) (cycle : Cycle) (point : Point) (old new : MachineState) : Type 0 where
+  pub picture : Hub → Bool
+  pub is_picture : IsPicture wiring (emits old cycle point) (closes old cycle point) picture
+  pub is_new : new ≡ sensed old cycle point picture
+
+-- the point with this place in a cycle, 0 to 13
+abbrev pub point_at : ℕ → Point
+point_at place = slice_index_or points place K
+
+-- the machine before the point with this place is reached from that before the cycle by the points in between
+unfoldable pub Reached : Wiring → Cycle → ℕ → MachineState → MachineState → Type 0
+Reached wiring cycle zero old now = now ≡ old
+Reached wiring cycle (suc place) old now =
+    (mid : MachineState) × Reached wiring cycle place old mid × PointStep wiring cycle (point_at place) mid now
+
+-- A cycle: its fourteen points, and then its end.
+pub record CycleRun (wiring : Wiring) (cycle : Cycle) (old new : MachineState) : Type 0 where
+  pub at_end : MachineState
+  pub reached : Reached wiring cycle 14 old at_end
+  pub is_new : new ≡ ended at_end cycle
+
+-- a line at the place where the carriage put it, if it put one
+abbrev pub line_at : Option (ℕ × ℕ) → List ℕ → List PlacedLine
+line_at None text = []
+line_at (Some place) text = record { page = place.0; line = place.1; text = text } ∷ []
+
+-- the line that the cycle that ended last placed, if it placed one
+abbrev pub line_of : MachineState → List PlacedLine
+line_of machine = line_at machine.carriage.printed machine.wheels.line

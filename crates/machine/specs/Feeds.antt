@@ -1,0 +1,87 @@
+-- A run goes feed by feed. The first feed gives the machine the first card, and its run-in. Each later feed gives it the next
+-- card, or none behind the last one, and runs the card cycle of the card before, with the heading cycles before that and
+-- all cycles behind it up to those of the next card. The cards move on exactly when a card cycle is due, just before it runs.
+use Rattle.std.specs.Prelude.{◌≡◌, ℕ, Bool, true, false, not, ◌||◌, List, [], ◌∷◌, ◌++◌, Option, Some, None, is_some, if◌then◌else◌}
+use Rattle.carriage.specs.declared.placed_line.PlacedLine.{PlacedLine}
+use Rattle.hubs.specs.Wiring.{Wiring}
+use Rattle.net.specs.declared.cycle.Cycle.{Cycle}
+use Rattle.net.specs.declared.cycle.Cycle.TheVariants.{Card}
+use Rattle.program_unit.specs.CycleOrder.{is_fresh, next_cycle, card_over}
+use Rattle.stations.specs.Stations.{loaded}
+use Rattle.machine.specs.Machine.{MachineState, machine_at_start}
+use Rattle.machine.specs.Cycles.{CycleRun, line_of}
+
+-- the machine with its cards moved on by one
+abbrev pub moved_on : Option (List ℕ) → MachineState → MachineState
+moved_on next machine = record machine { stations = loaded next machine.stations }
+
+-- whether a card stands at first reading
+abbrev pub has_more : MachineState → Bool
+has_more machine = is_some machine.stations.first
+
+-- which cycle is due, if any
+abbrev pub cycle_due : MachineState → Option Cycle
+cycle_due machine = next_cycle machine.program machine.carriage.spot.latch (has_more machine)
+
+-- whether the cycles of the last card are over
+abbrev pub is_over : MachineState → Bool
+is_over machine = card_over machine.program (has_more machine)
+
+-- The machine in a feed: what is fed, and whether that still waits for a card cycle to take it.
+pub record Fed : Type 0 where
+  pub machine : MachineState
+  pub waits : Bool
+  pub next : Option (List ℕ)
+
+-- The start of a feed. The first card goes to first reading at once; what is fed later waits.
+abbrev pub begun : MachineState → Option (List ℕ) → Fed
+begun machine next =
+    if is_fresh machine.program.stage
+    then record { machine = moved_on next machine; waits = false; next = next }
+    else record { machine = machine; waits = true; next = next }
+
+-- a card cycle takes what is fed
+abbrev pub taken : Cycle → Fed → Fed
+taken Card fed = record { machine = moved_on fed.next fed.machine; waits = false; next = fed.next }
+taken cycle fed = fed
+
+-- Which cycle is due in a feed. Where nothing waits any more, none is once the cycles of the card are over.
+abbrev pub due_in : Fed → Option Cycle
+due_in fed = if fed.waits || not (is_over fed.machine) then cycle_due fed.machine else None
+
+-- One cycle of a feed: the one that is due.
+pub record FeedStep (wiring : Wiring) (cycle : Cycle) (old new : Fed) : Type 0 where
+  pub due : due_in old ≡ Some cycle
+  pub ran : CycleRun wiring cycle (taken cycle old).machine new.machine
+  pub waits : new.waits ≡ (taken cycle old).waits
+  pub next : new.next ≡ old.next
+
+-- the cycles of a feed until none is due, the machine that they leave, and the lines that they place
+unfoldable pub FeedRuns : Wiring → List Cycle → Fed → MachineState → List PlacedLine → Type 0
+FeedRuns wiring [] fed new lines = (due_in fed ≡ None) × (new ≡ fed.machine) × (lines ≡ [])
+FeedRuns wiring (cycle ∷ cycles) fed new lines =
+    (mid : Fed)
+    × (others : List PlacedLine)
+    × FeedStep wiring cycle fed mid
+    × FeedRuns wiring cycles mid new others
+    × (lines ≡ line_of mid.machine ++ others)
+
+-- A feed: a card, or none behind the last one, the machine that it leaves, and the lines that it places.
+pub record Feeds (wiring : Wiring) (old : MachineState) (next : Option (List ℕ)) (new : MachineState)
+    (lines : List PlacedLine) : Type 0 where
+  pub cycles : List Cycle
+  pub runs : FeedRuns wiring cycles (begun old next) new lines
+
+-- the lines of a run from now on: those of a feed for each card, and of one for the end
+unfoldable pub LinesFrom : Wiring → MachineState → List (List ℕ) → List PlacedLine → Type 0
+LinesFrom wiring old [] lines = (new : MachineState) × Feeds wiring old None new lines
+LinesFrom wiring old (card ∷ cards) lines =
+    (new : MachineState)
+    × (first others : List PlacedLine)
+    × Feeds wiring old (Some card) new first
+    × LinesFrom wiring new cards others
+    × (lines ≡ first ++ others)
+
+-- the lines of a run over a deck
+abbrev pub MachineLines : Wiring → List (List ℕ) → List PlacedLine → Type 0
+MachineLines wiring cards lines = LinesFrom wiring (machine_at_start wiring) cards lines

@@ -1,0 +1,62 @@
+//! A cycle of the machine: its fourteen points, and its end.
+
+ghost use Rattle.std.specs.Prelude.{◌≡◌, map};
+ghost use Rattle.machine.specs.Steady.{latches_of};
+
+use crate::rows::latches;
+use crate::units::Units;
+use carriage::PlacedLine;
+use net::{Contacts, Cycle, Net, POINTS, Picture, Point};
+use selectors::{steady_contacts, with_splits};
+
+impl Units {
+    ghost use Rattle.std.specs.Prelude.{◌≡◌, option_to_list};
+    ghost use Rattle.hubs.specs.Wiring.{Wiring};
+    ghost use Rattle.net.specs.Nets.{IsNetOf};
+    ghost use Rattle.machine.specs.Cycles.{PointStep, CycleRun, line_of};
+    ghost use Rattle.machine.specs.Ends.{SensesSome, EndsCycle};
+    ghost use Rattle.machine.specs.Steady.{AreSteady};
+
+    // A cycle: its points, and then its end.
+    pub(crate) fn run_cycle(&mut self, net: &Net, cycle: Cycle)
+        ensures ran { (wiring : Wiring) → IsNetOf wiring net.now → CycleRun wiring cycle self.old self.new }
+        ensures ends { EndsCycle cycle self.old self.new }
+    {
+        let closed = self.steady(cycle);
+        for point in POINTS {
+            self.step(net, &closed, cycle, point);
+        }
+        self.end_cycle(cycle);
+    }
+
+    // The closed contacts of a cycle, but those of the splits.
+    fn steady(&self, cycle: Cycle) -> Contacts
+        ensures { AreSteady cycle result self.now }
+    {
+        steady_contacts(cycle, &self.pilots, &self.indicate, &latches(&self.groups))
+    }
+
+    // A point: all units emit, and then all sense the picture that wires and closed contacts make of that.
+    fn step(&mut self, net: &Net, closed: &Contacts, cycle: Cycle, point: Point)
+        requires { AreSteady cycle closed.now self.old }
+        ensures step { (wiring : Wiring) → IsNetOf wiring net.now → PointStep wiring cycle point self.old self.new }
+        ensures senses { SensesSome cycle point self.old self.new }
+    {
+        let mut exits = Picture::new();
+        self.emit(cycle, point, &mut exits);
+        let mut picture = Picture::new();
+        net.picture(&exits, &with_splits(*closed, point), &mut picture);
+        self.sense(cycle, point, &picture);
+    }
+
+    // The line that the cycle that ended last placed, if it placed one.
+    pub(crate) fn placed_line(&self) -> Option<PlacedLine>
+        ensures { option_to_list result ≡ line_of self.now }
+    {
+        self.carriage.printed().map(|(page, line)| PlacedLine {
+            page,
+            line,
+            text: *self.wheels.line(),
+        })
+    }
+}

@@ -1,0 +1,66 @@
+-- Laws of impulsed hubs, for those who show hubs impulsed or not.
+use Rattle.std.proofs.Common.{◌≡◌, ◌∙◌, sym, Bool, true, false, not, ◌&&◌, ◌↔◌, inl, inr}
+use Rattle.std.proofs.lemmas.Bool.{and_parts, false≢true}
+use Rattle.hubs.specs.HubTable.{row_of}
+use Rattle.hubs.specs.Hubs.{is_entry_hub, is_exit_hub, is_hub_in_range, letters_of}
+use Rattle.hubs.specs.Wiring.{LeadsToEntries, Wiring}
+use Rattle.hubs.specs.declared.hub.Hub.{Hub}
+use Rattle.net.specs.Impulsed.{IsImpulsed}
+use Rattle.net.specs.Impulsed.IsImpulsed.{emitting, led_on}
+use Rattle.net.specs.Laws.{AreAllOpen, EmitsOrIsFed, FollowsLeads, HoldsHubs, IsLeastSet}
+
+-- a set that holds the exits and what its hubs lead on to holds the impulsed hubs
+pub impulsed_within :
+    (wiring : Wiring) (exits closed set : Hub → Bool) → HoldsHubs exits set → FollowsLeads wiring closed set
+    → {hub : Hub} → IsImpulsed wiring exits closed hub → set hub ≡ true
+impulsed_within wiring exits closed set holds follows (emitting hub there at) = holds hub there at
+impulsed_within wiring exits closed set holds follows (led_on from to at leads) =
+    follows from to (impulsed_within wiring exits closed set holds follows at) leads
+
+-- the impulsed hubs are the least set
+pub impulsed_least : (wiring : Wiring) (exits closed : Hub → Bool) → IsLeastSet wiring exits closed
+impulsed_least wiring exits closed = record {
+  holds = emitting;
+  follows = led_on;
+  within = λ set holds follows hub at. impulsed_within wiring exits closed set holds follows at;
+}
+
+-- no hub is an exit and an entry
+no_exit_is_entry : (hub : Hub) → is_exit_hub hub ≡ true → is_entry_hub hub ≡ true → ⊥
+no_exit_is_entry hub exit entry = by (row_of (letters_of hub)).is_exit (is_hub_in_range hub) exit entry where
+  by : (a b : Bool) → (a && b) ≡ true → (not a && b) ≡ true → ⊥
+  by true b e f = cc
+  by false b e f = cc
+
+-- where each wire leads from an exit to an entry, and no contact is closed, an impulsed hub emits or is fed
+fed_from_impulsed :
+    (wiring : Wiring) (exits closed : Hub → Bool) → LeadsToEntries wiring → AreAllOpen closed → {hub : Hub}
+    → IsImpulsed wiring exits closed hub → EmitsOrIsFed wiring exits hub
+fed_from_impulsed wiring exits closed to_entries open_all (emitting hub there at) = inl (there, at)
+fed_from_impulsed wiring exits closed to_entries open_all (led_on from to at (inl wire)) =
+    elim (fed_from_impulsed wiring exits closed to_entries open_all at) [
+      | inl emits ↦ inr (record { exit = from; emits = emits.1; wire = wire })
+      | inr fed ↦ absurd (no_exit_is_entry from (to_entries from to wire).0 (to_entries fed.exit from fed.wire).1)
+    ]
+fed_from_impulsed wiring exits closed to_entries open_all (led_on from to at (inr contact)) =
+    absurd (false≢true (sym (open_all to) ∙ contact.1))
+
+-- a hub that emits or is fed is impulsed
+impulsed_from_fed :
+    (wiring : Wiring) (exits closed : Hub → Bool) (hub : Hub) → LeadsToEntries wiring → EmitsOrIsFed wiring exits hub
+    → IsImpulsed wiring exits closed hub
+impulsed_from_fed wiring exits closed hub to_entries (inl emits) = emitting hub emits.0 emits.1
+impulsed_from_fed wiring exits closed hub to_entries (inr fed) =
+    let exit = (to_entries fed.exit hub fed.wire).0 in
+    led_on fed.exit hub
+    (emitting fed.exit (and_parts (row_of (letters_of fed.exit)).is_exit (is_hub_in_range fed.exit) exit).1 fed.emits)
+    (inl fed.wire)
+
+-- so a hub is impulsed there exactly where it emits or is fed
+pub impulsed_fed :
+    (wiring : Wiring) (exits closed : Hub → Bool) (hub : Hub) → LeadsToEntries wiring → AreAllOpen closed
+    → IsImpulsed wiring exits closed hub ↔ EmitsOrIsFed wiring exits hub
+impulsed_fed wiring exits closed hub to_entries open_all = (
+  λ at. fed_from_impulsed wiring exits closed to_entries open_all at,
+  impulsed_from_fed wiring exits closed hub to_entries,
+)

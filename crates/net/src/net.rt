@@ -1,0 +1,71 @@
+//! The wires of a setup, made ready for pictures.
+
+ghost use Rattle.std.specs.Prelude.{◌≡◌, ◌<◌, All, length};
+ghost use Rattle.hubs.specs.Wiring.{IsEntryNumber};
+ghost use Rattle.net.specs.NetRows.{AddsRow};
+
+use crate::contacts::CONTACTS;
+use crate::picture::{Contacts, Picture};
+use hubs::{Hub, Setup};
+use std::alloc::{AllocError, Global};
+use std::marker::Model;
+use words::{EXITS, Rows, reach};
+
+/// The wires of one setup, made ready for pictures at every point of a run.
+#[derive(Drop)]
+pub struct Net {
+    // For each exit the row of the entries that its wires lead to. The hub with the number h is the place h - 1.
+    rows: Rows,
+}
+
+impl Model for Net {
+    ghost use Rattle.net.specs.Nets.{NetRows};
+
+    ghost Value = { NetRows };
+
+    ghost view = { λ net. record { rows = net.rows } };
+}
+
+impl Net {
+    ghost use Rattle.std.specs.Prelude.{IfOk};
+    ghost use Rattle.hubs.specs.Wiring.{Wiring};
+    ghost use Rattle.net.specs.HubSets.{has_hub};
+    ghost use Rattle.net.specs.Impulsed.{IsPicture};
+    ghost use Rattle.net.specs.Nets.{IsNetOf};
+
+    /// The net of a setup, with exactly its wires. Fails only where no memory is left.
+    pub fn of(alloc: Global, setup: &Setup) -> Result<Net, AllocError>
+        ensures { IfOk result (IsNetOf setup.now) }
+    {
+        let mut rows = Rows::new(alloc)?;
+        for number in 1..=EXITS as u32 {
+            if let Some(exit) = Hub::of_number(number) {
+                add_row(&mut rows, number as usize - 1, setup.entries_of(exit));
+            }
+        }
+        Ok(Net { rows })
+    }
+
+    /// Makes `out` the picture of the emitting exits: it then has exactly the impulsed hubs, whatever it had before.
+    /// An entry among the exits is impulsed as an exit is, and the picture goes on from it.
+    pub fn picture(&self, exits: &Picture, contacts: &Contacts, out: &mut Picture)
+        ensures { (wiring : Wiring)
+            → IsNetOf wiring self.now
+            → IsPicture wiring (has_hub exits.now) (has_hub contacts.now) (has_hub out.new) }
+    {
+        out.words = exits.words;
+        reach(&self.rows, &CONTACTS, contacts.words(), &mut out.words);
+    }
+}
+
+// Adds to a place's row the places of the entries with these numbers.
+fn add_row(rows: &mut Rows, place: usize, entries: &[u16])
+    requires place { place < length rows.old }
+    requires entries { All IsEntryNumber entries.now }
+    ensures long { length rows.new ≡ length rows.old }
+    ensures added { AddsRow rows.old rows.new place entries.now }
+{
+    for &to in entries {
+        rows.add(place, to as usize - 1);
+    }
+}

@@ -1,0 +1,150 @@
+//! Pictures of wired panels, by rows from outside: which hubs are impulsed where these exits emit.
+
+use crate::{Contacts, HUBS, Net, Picture};
+use hubs::{Group, Hub, Setup, Tape};
+use std::alloc::Global;
+use std::test::Fail;
+
+fn wired(alloc: Global, wires: &[(Hub, Hub)]) -> Result<Net, Fail> {
+    let mut setup = Setup::new(alloc, Tape::new(66, 4, 60, &[])?);
+    for &(exit, entry) in wires {
+        setup.add(exit, entry)?;
+    }
+    Ok(Net::of(alloc, &setup)?)
+}
+
+fn set(hubs: &[Hub]) -> Picture {
+    let mut set = Picture::new();
+    for &hub in hubs {
+        set.insert(hub);
+    }
+    set
+}
+
+fn closed(exits: &[Hub]) -> Contacts {
+    let mut closed = Contacts::new();
+    for &exit in exits {
+        closed.insert(exit);
+    }
+    closed
+}
+
+// The picture of the emitting exits, in a set that had every hub before.
+fn picture(net: &Net, exits: &[Hub], contacts: &[Hub]) -> Picture {
+    let mut out = Picture::new();
+    for number in 1..=HUBS as u32 {
+        if let Some(hub) = Hub::of_number(number) {
+            out.insert(hub);
+        }
+    }
+    net.picture(&set(exits), &closed(contacts), &mut out);
+    out
+}
+
+// Hubs 1, 64, 65 and 1040 are wired to hubs 1041 and 1936: the first and the last bits of words.
+#[test]
+fn hubs_at_the_ends_of_words(rt: HostRuntime) -> Result<(), Fail> {
+    let net = wired(
+        rt.alloc(),
+        &[
+            (Hub::FR(1), Hub::CA(1)),
+            (Hub::FR(64), Hub::RS),
+            (Hub::FR(65), Hub::CA(1)),
+            (Hub::HX(3), Hub::RS),
+            (Hub::HX(3), Hub::CA(1)),
+        ],
+    )?;
+    let mut words = [0; 31];
+    assert!(rt; *picture(&net, &[], &[]).words() == words);
+    words[0] = 1;
+    words[16] = 1 << 16;
+    assert!(rt; *picture(&net, &[Hub::FR(1)], &[]).words() == words);
+    words[0] = 1 << 63;
+    words[16] = 1 << 15 | 1 << 16;
+    words[30] = 1 << 15;
+    assert!(rt; *picture(&net, &[Hub::FR(64), Hub::HX(3)], &[]).words() == words);
+    words[0] = 0;
+    words[1] = 1;
+    words[16] = 1 << 16;
+    words[30] = 0;
+    assert!(rt; *picture(&net, &[Hub::FR(65)], &[]).words() == words);
+    Ok(())
+}
+
+// Two pilots pass an impulse on to each other, and out where the second is transferred.
+#[test]
+fn contacts_in_a_loop(rt: HostRuntime) -> Result<(), Fail> {
+    let net = wired(
+        rt.alloc(),
+        &[
+            (Hub::SR(1), Hub::PIC(1, 1)),
+            (Hub::PIN(1, 1), Hub::PIC(2, 1)),
+            (Hub::PIN(2, 1), Hub::PIC(1, 1)),
+            (Hub::PIT(2, 1), Hub::W(120)),
+        ],
+    )?;
+    let first = [Hub::SR(1), Hub::PIC(1, 1)];
+    let both = [Hub::SR(1), Hub::PIC(1, 1), Hub::PIN(1, 1), Hub::PIC(2, 1)];
+    assert!(rt; picture(&net, &[Hub::SR(1)], &[]) == set(&first));
+    assert!(rt; picture(&net, &[Hub::SR(1)], &[Hub::PIN(2, 1), Hub::PIT(2, 1)]) == set(&first));
+    assert!(rt; picture(&net, &[Hub::SR(1)], &[Hub::PIN(1, 1)]) == set(&both));
+    let mut all = set(&both);
+    all.insert(Hub::PIN(2, 1));
+    assert!(rt; picture(&net, &[Hub::SR(1)], &[Hub::PIN(1, 1), Hub::PIN(2, 1)]) == all);
+    all.insert(Hub::PIT(2, 1));
+    all.insert(Hub::W(120));
+    let contacts = [Hub::PIN(1, 1), Hub::PIN(2, 1), Hub::PIT(2, 1), Hub::W(1)];
+    assert!(rt; picture(&net, &[Hub::SR(1)], &contacts) == all);
+    Ok(())
+}
+
+// An entry among the exits is impulsed, and a closed contact leads on from it.
+#[test]
+fn entries_that_emit(rt: HostRuntime) -> Result<(), Fail> {
+    let net = wired(rt.alloc(), &[(Hub::CSZ(16), Hub::W(7))])?;
+    let contacts = [Hub::CSZ(16), Hub::IX(3, 30)];
+    assert!(rt; picture(&net, &[Hub::W(7)], &contacts) == set(&[Hub::W(7)]));
+    let led = [Hub::CSE(16), Hub::CSZ(16), Hub::W(7)];
+    assert!(rt; picture(&net, &[Hub::CSE(16)], &contacts) == set(&led));
+    let led = [Hub::IE(3, 30), Hub::IX(3, 30)];
+    assert!(rt; picture(&net, &[Hub::IE(3, 30), Hub::SR(81)], &contacts) == set(&led));
+    Ok(())
+}
+
+// The fullest wiring: each exit to each entry, but each carry exit to its own group's carry entry alone.
+#[test]
+fn every_wire_that_there_can_be(rt: HostRuntime) -> Result<(), Fail> {
+    let mut setup = Setup::new(rt.alloc(), Tape::new(66, 4, 60, &[])?);
+    let mut entries = Picture::new();
+    for to in 1041..=1936 {
+        let Some(entry) = Hub::of_number(to) else {
+            continue;
+        };
+        if let Hub::CI(group) = entry {
+            setup.add(Hub::CO(group), entry)?;
+            continue;
+        }
+        entries.insert(entry);
+        for from in 1..=1040 {
+            match Hub::of_number(from) {
+                Some(Hub::CO(_)) | None => {}
+                Some(exit) => {
+                    setup.add(exit, entry)?;
+                }
+            }
+        }
+    }
+    let net = Net::of(rt.alloc(), &setup)?;
+    let group = Group {
+        width: 8,
+        number: 8,
+    };
+    let mut all = entries;
+    all.insert(Hub::GX(group, 8));
+    assert!(rt; picture(&net, &[Hub::GX(group, 8)], &[]) == all);
+    all.insert(Hub::BAN(group, 4));
+    assert!(rt; picture(&net, &[Hub::GX(group, 8)], &[Hub::BAN(group, 4)]) == all);
+    let carry = [Hub::CO(group), Hub::CI(group)];
+    assert!(rt; picture(&net, &[Hub::CO(group)], &[Hub::BAN(group, 4)]) == set(&carry));
+    Ok(())
+}

@@ -1,0 +1,144 @@
+-- Sets of rows as numbers: how they are gathered from the words of the wheels, and the characters that they print.
+use Rattle.std.proofs.Common.{◌≡◌, ◌≢◌, ◌∙◌, refl, sym, ap, ℕ, ◌+◌, ◌*◌, ◌%◌, ◌^◌, ◌-◌, ◌<◌, ◌==◌, ◌&&◌, ◌||◌, not, ◌⊎◌, inl, inr, nat_lt, Bool, true, false, List, map, length, replicate, slice_index_or, slice_set, bit_and, bit_or, if◌then◌else◌, arith}
+use Rattle.std.proofs.lemmas.Bool.Decides.{eqb_tells, nat_tests}
+use Rattle.std.proofs.lemmas.List.{get_or-set_same, get_or-set_other, get_or-map, get_or-replicate, length-set, length-map}
+use Rattle.std.proofs.lemmas.Nat.{and_le_l}
+use Rattle.std.proofs.lemmas.Nat.Bits.{bit_at-trailing_zeros}
+use Rattle.std.specs.Int.{bit_not, w128, trailing_zeros}
+use Rattle.std.specs.List.{range_with_len}
+use Rattle.card_code.specs.CardCode.{code, deck_character, print_character}
+use Rattle.net.specs.HubSets.{is_bit}
+use Rattle.print_unit.specs.RowSets.{rows_in, TakesRow, TakesLeft, HasSets}
+use Rattle.print_unit.specs.WheelWords.{rows_at, printed_at}
+use Rattle.print_unit.specs.ZeroControl.{character_of}
+use Rattle.print_unit.proofs.Bits.{is_bit-zero, is_bit-and, is_bit-not, is_bit-joined, is_bit-cleared, is_bit-ones}
+use Rattle.print_unit.proofs.Ranges.{list-made, map-same}
+
+-- the place of the lowest bit of a word that has one
+lowest : (left : ℕ) → left ≢ 0 → left < 2 ^ 128 → (trailing_zeros w128 left < 128) × (is_bit left (trailing_zeros w128 left) ≡ true)
+unfolding is_bit
+lowest left some small =
+    let facts = bit_at-trailing_zeros w128 left (omega (arith, some)) small in
+    let on = facts.1 in
+    (facts.0, rw on refl)
+
+-- a word is smaller without its lowest bit
+pub without_lowest-smaller : (left : ℕ) → left ≢ 0 → left < 2 ^ 128
+    → bit_and left (bit_not w128 (1 * 2 ^ trailing_zeros w128 left % 2 ^ 128)) < left
+without_lowest-smaller left some small =
+    by (trailing_zeros w128 left) (lowest left some small).0 (lowest left some small).1
+  where
+    by : (k : ℕ) → k < 128 → is_bit left k ≡ true → bit_and left (bit_not w128 (1 * 2 ^ k % 2 ^ 128)) < left
+    by k below on =
+        let less = and_le_l left (bit_not w128 (1 * 2 ^ k % 2 ^ 128)) in
+        let off = is_bit-cleared left k k below below in
+        let apart : bit_and left (bit_not w128 (1 * 2 ^ k % 2 ^ 128)) ≢ left =
+        λ same. absurd (differ (sym off ∙ ap (λ n. is_bit n k) same ∙ on)) in
+        omega (arith, less, apart)
+      where
+        differ : (is_bit left k && not (k == k)) ≡ true → ⊥
+        differ wrong = grind (arith, nat_tests, wrong)
+
+-- the wheel of a bit takes the row
+takes-bit : (word left rest place k : ℕ) (old now : List ℕ) → k < 128 → place < 12 → is_bit left k ≡ true
+    → ((j : ℕ) → j < 128 → is_bit rest j ≡ (is_bit left j && not (j == k)))
+    → TakesLeft word left place old now
+    → TakesLeft word rest place old (slice_set now k (bit_or (slice_index_or now k 0) (1 * 2 ^ place % 2 ^ 16)))
+takes-bit word left rest place k old now below narrow on cleared takes = record {
+  within = λ j wide. let w = takes.within j wide in rw (cleared j wide) (grind (arith, nat_tests, w));
+  taken = λ j wide p. by j wide p (eqb_tells j k);
+  bits = length-set now k (bit_or (slice_index_or now k 0) (1 * 2 ^ place % 2 ^ 16)) ∙ takes.bits;
+}
+  where
+    by : (j : ℕ) → j < 128 → (p : ℕ) → ((j == k) ≡ true) × (j ≡ k) ⊎ ((j == k) ≡ false) × (j ≢ k)
+        → is_bit (slice_index_or (slice_set now k (bit_or (slice_index_or now k 0) (1 * 2 ^ place % 2 ^ 16))) j 0) p
+        ≡ (is_bit (slice_index_or old j 0) p || (p == place) && (is_bit word j && not (is_bit rest j)))
+    by j wide p (inl same) =
+        let before = takes.taken k below p in
+        let w = takes.within k below in
+        let l = takes.bits in
+        let gone = cleared k below in
+        rw (same.1, get_or-set_same now k (bit_or (slice_index_or now k 0) (1 * 2 ^ place % 2 ^ 16)) 0 (omega (arith, l, below)), is_bit-joined 16 (slice_index_or now k 0) place p (omega (arith, narrow)), before)
+        (grind (arith, nat_tests, w, on, gone))
+    by j wide p (inr other) =
+        let before = takes.taken j wide p in
+        let kept = cleared j wide in
+        let apart = other.0 in
+        rw (get_or-set_other now k j (bit_or (slice_index_or now k 0) (1 * 2 ^ place % 2 ^ 16)) 0 other.1, before, kept, apart)
+        (grind (arith, nat_tests))
+
+-- the wheel of the lowest bit that is left takes the row
+pub takes-lowest : (word left place : ℕ) (old now : List ℕ) → left ≢ 0 → left < 2 ^ 128 → place < 12
+    → TakesLeft word left place old now
+    → TakesLeft word (bit_and left (bit_not w128 (1 * 2 ^ trailing_zeros w128 left % 2 ^ 128))) place old
+    (slice_set now (trailing_zeros w128 left) (bit_or (slice_index_or now (trailing_zeros w128 left) 0) (1 * 2 ^ place % 2 ^ 16)))
+takes-lowest word left place old now some small narrow takes =
+    let at = lowest left some small in
+    let k = trailing_zeros w128 left in
+    takes-bit word left (bit_and left (bit_not w128 (1 * 2 ^ k % 2 ^ 128))) place k old now at.0 narrow at.1 (λ j wide. is_bit-cleared left k j at.0 wide) takes
+
+-- no row yet
+pub HasSets-none : (rows : List ℕ) (hidden : ℕ) → HasSets rows hidden 0 (replicate 128 0)
+HasSets-none rows hidden k wide p = rw (get_or-replicate {A = ℕ} 128 k 0 0 wide, is_bit-zero p) (grind (arith, nat_tests))
+
+-- a row more
+pub HasSets-more : (rows : List ℕ) (hidden place : ℕ) (old new : List ℕ) → hidden < 2 ^ 128
+    → TakesRow (bit_and (slice_index_or rows place 0) (bit_not w128 hidden)) place old new
+    → HasSets rows hidden place old → HasSets rows hidden (place + 1) new
+HasSets-more rows hidden place old new small takes before k wide p =
+    takes k wide p
+    ∙ rw (is_bit-and (slice_index_or rows place 0) (bit_not w128 hidden) k, is_bit-not hidden k small wide, before k wide p) (by (eqb_tells p place))
+  where
+    by : ((p == place) ≡ true) × (p ≡ place) ⊎ ((p == place) ≡ false) × (p ≢ place)
+        → ((nat_lt p place && (is_bit (slice_index_or rows p 0) k && not (is_bit hidden k)))
+        || (p == place) && (is_bit (slice_index_or rows place 0) k && not (is_bit hidden k)))
+        ≡ (nat_lt p (place + 1) && (is_bit (slice_index_or rows p 0) k && not (is_bit hidden k)))
+    by (inl same) = rw (same.0, same.1) (grind (arith, nat_tests))
+    by (inr other) = let apart = other.1 in rw (other.0) (grind (arith, nat_tests, apart))
+
+-- nothing received prints blank
+blank : character_of (map (λ place. false) (range_with_len 0 12)) ≡ 32
+unfolding print_character deck_character code
+blank = refl
+
+-- the character of a wheel's set is what the wheel prints
+pub printed-by_set : (rows : List ℕ) (hidden : ℕ) (sets : List ℕ) (k : ℕ) → length rows ≡ 12 → k < 128
+    → HasSets rows hidden 12 sets → character_of (rows_in (slice_index_or sets k 0)) ≡ printed_at rows hidden k
+printed-by_set rows hidden sets k long wide has = by (is_bit hidden k) refl
+  where
+    by : (b : Bool) → is_bit hidden k ≡ b
+        → character_of (rows_in (slice_index_or sets k 0)) ≡ (if is_bit hidden k then 32 else character_of (rows_at rows k))
+    by true hides =
+        let none : rows_in (slice_index_or sets k 0) ≡ map (λ place. false) (range_with_len 0 12) =
+        map-same (λ place. is_bit (slice_index_or sets k 0) place) (λ place. false) 0 12
+        (λ p low high. has k wide p ∙ rw hides (grind (arith, nat_tests))) in
+        ap character_of none ∙ blank ∙ sym (ap (λ b. if b then 32 else character_of (rows_at rows k)) hides)
+    by false shows =
+        let all : rows_in (slice_index_or sets k 0) ≡ rows_at rows k =
+        map-same (λ place. is_bit (slice_index_or sets k 0) place) (λ place. is_bit (slice_index_or rows place 0) k) 0 12
+        (λ p low high. has k wide p ∙ rw shows (grind (arith, nat_tests, high)))
+        ∙ list-made (λ place. is_bit (slice_index_or rows place 0) k) (rows_at rows k) false 12 (length-map-rows) at in
+        ap character_of all ∙ sym (ap (λ b. if b then 32 else character_of (rows_at rows k)) shows)
+      where
+        length-map-rows : length (rows_at rows k) ≡ 12
+        length-map-rows = length-map rows (λ word. is_bit word k) ∙ long
+
+        at : (p : ℕ) → p < 12 → slice_index_or (rows_at rows k) p false ≡ is_bit (slice_index_or rows p 0) k
+        at p below = get_or-map (λ word. is_bit word k) rows p 0 false (omega (arith, long, below))
+
+-- the lowest twelve bits of a set
+pub rows_in-low : (number : ℕ) → rows_in (bit_and number (2 ^ 12 - 1)) ≡ rows_in number
+rows_in-low number =
+    map-same (λ place. is_bit (bit_and number (2 ^ 12 - 1)) place) (λ place. is_bit number place) 0 12 (λ p low high. masked p high)
+  where
+    ones : (p : ℕ) → p < 12 → is_bit (2 ^ 12 - 1) p ≡ true
+    ones p below = is_bit-ones 12 p below
+
+    masked : (p : ℕ) → p < 12 → is_bit (bit_and number (2 ^ 12 - 1)) p ≡ is_bit number p
+    masked p below = is_bit-and number (2 ^ 12 - 1) p ∙ rw (ones p below) (grind (arith, nat_tests))
+
+-- where none are left all wheels of the word have taken the row
+pub takes-all : (word left place : ℕ) (old new : List ℕ) → left ≡ 0 → TakesLeft word left place old new
+    → TakesRow word place old new
+takes-all word left place old new none takes k wide p =
+    takes.taken k wide p ∙ rw (none, is_bit-zero k) (grind (arith, nat_tests))

@@ -1,0 +1,36 @@
+-- Sets of rows as numbers: bit p stands for the row that comes p rows behind row 9, in the order of the points. What is said
+-- here is for proofs: what wheels print stands in ZeroControl.
+use Rattle.std.specs.Prelude.{◌≡◌, ℕ, ◌<◌, ◌==◌, ◌&&◌, ◌||◌, not, nat_lt, length, slice_index_or, Bool, List, map}
+use Rattle.std.specs.List.{range_with_len}
+use Rattle.net.specs.HubSets.{is_bit}
+use Rattle.print_unit.specs.ZeroControl.{character_of}
+
+-- the rows of a set, by their places in the order of the points
+abbrev pub rows_in : ℕ → List Bool
+rows_in set = map (λ place. is_bit set place) (range_with_len 0 12)
+
+-- the characters of so many sets of rows
+abbrev pub HasCharacters : ℕ → List ℕ → Type 0
+HasCharacters count characters =
+    (set : ℕ) → set < count → slice_index_or characters set 0 ≡ character_of (rows_in set)
+
+-- each wheel of a word takes the row of a place
+abbrev pub TakesRow : ℕ → ℕ → List ℕ → List ℕ → Type 0
+TakesRow word place old new =
+    (k : ℕ) → k < 128 → (p : ℕ)
+    → is_bit (slice_index_or new k 0) p ≡ (is_bit (slice_index_or old k 0) p || (p == place) && is_bit word k)
+
+-- the sets of the rows that the wheels received, of so many rows; none where a wheel is hidden
+abbrev pub HasSets : List ℕ → ℕ → ℕ → List ℕ → Type 0
+HasSets rows hidden count sets =
+    (k : ℕ) → k < 128 → (p : ℕ)
+    → is_bit (slice_index_or sets k 0) p ≡ (nat_lt p count && (is_bit (slice_index_or rows p 0) k && not (is_bit hidden k)))
+
+-- The wheels of a word that are no longer left have taken the row of a place.
+pub record TakesLeft (word left place : ℕ) (old new : List ℕ) : Type 0 where
+  pub within : (k : ℕ) → k < 128 → (is_bit left k && is_bit word k) ≡ is_bit left k
+  pub taken :
+      (k : ℕ) → k < 128 → (p : ℕ)
+      → is_bit (slice_index_or new k 0) p
+      ≡ (is_bit (slice_index_or old k 0) p || (p == place) && (is_bit word k && not (is_bit left k)))
+  pub bits : length new ≡ 128

@@ -1,0 +1,50 @@
+-- Control groups. The one group of level 4 is the deck. The groups of a level are the longest runs of consecutive cards, within
+-- a group of the level above, that are equal on all control fields of the level. A level without control fields cuts nothing.
+use Rattle.std.specs.Prelude.{ℕ, ◌==◌, Bool, List, [], ◌∷◌, Option, None, if◌then◌else◌}
+use Rattle.std.specs.List.{filter_map, list_all}
+use Rattle.chart_text.specs.Levels.{control_number}
+use Rattle.chart_text.specs.declared.chart.Line.{Line}
+use Rattle.chart_text.specs.declared.statement.Field.{Field}
+use Rattle.chart_text.specs.declared.statement.Statement.{Statement}
+use Rattle.chart_text.specs.declared.statement.Statement.TheVariants as says
+use Rattle.chart_rules.specs.Fields.{field_named}
+use Rattle.chart_rules.specs.ValidCard.{column_of}
+use Rattle.report.specs.Amounts.{columns_in}
+
+-- the control field that a line of the chart names for a level, if it does
+abbrev pub control_field : List Line → ℕ → Statement → Option Field
+control_field lines level (says.Control its_level name) =
+    if control_number its_level == level then field_named lines name else None
+control_field lines level other = None
+
+-- the control fields of a level
+abbrev pub control_fields : List Line → ℕ → List Field
+control_fields lines level = filter_map (λ line. control_field lines level line.statement) lines
+
+-- whether two cards have the same punches in all columns of a field
+abbrev pub is_same_on : Field → List ℕ → List ℕ → Bool
+is_same_on field one other = list_all (λ column. column_of one column == column_of other column) (columns_in field)
+
+-- whether two cards are equal on all control fields of a level
+abbrev pub is_same_at : List Line → ℕ → List ℕ → List ℕ → Bool
+is_same_at lines level one other = list_all (λ field. is_same_on field one other) (control_fields lines level)
+
+-- the cards behind a card that go on with its run
+abbrev pub rest_of_run : (List ℕ → List ℕ → Bool) → List ℕ → List (List ℕ) → List (List ℕ)
+rest_of_run same card [] = []
+rest_of_run same card (next ∷ cards) = if same card next then next ∷ rest_of_run same next cards else []
+
+-- the runs behind that of a card
+abbrev pub later_runs : (List ℕ → List ℕ → Bool) → List ℕ → List (List ℕ) → List (List (List ℕ))
+later_runs same card [] = []
+later_runs same card (next ∷ cards) =
+    if same card next then later_runs same next cards else (next ∷ rest_of_run same next cards) ∷ later_runs same next cards
+
+-- the longest runs of consecutive cards that are the same
+abbrev pub runs : (List ℕ → List ℕ → Bool) → List (List ℕ) → List (List (List ℕ))
+runs same [] = []
+runs same (card ∷ cards) = (card ∷ rest_of_run same card cards) ∷ later_runs same card cards
+
+-- the groups of a level within a group of the level above; no field controls level 0, so all cards are one group there
+abbrev pub groups_within : List Line → ℕ → List (List ℕ) → List (List (List ℕ))
+groups_within lines level cards = runs (is_same_at lines level) cards

@@ -1,0 +1,10 @@
+pub mod Amounts
+pub mod Edits
+pub mod Groups
+pub mod Outline
+pub mod Totals
+pub mod BodyLines
+pub mod ChartForm
+pub mod Places
+pub mod Report
+pub mod Laws

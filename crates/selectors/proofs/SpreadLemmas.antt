@@ -1,0 +1,172 @@
+-- Words that have as many bits for each thing of a list.
+use Rattle.std.proofs.Common.{◌≡◌, ◌≤◌, ◌<◌, ◌+◌, ◌-◌, ◌*◌, ◌^◌, ◌%◌, ◌∙◌, inl, inr, ap, refl, sym, arith, ℕ, zero, suc, Bool, true, false, ◌==◌, max, bit_or, List, [], ◌∷◌, length, drop, get_or, slice_index_or}
+use Rattle.std.specs.Prelude.{if◌then◌else◌}
+use Rattle.std.specs.Int.{bit_at}
+use Rattle.std.proofs.lemmas.Bool.{cases_lt}
+use Rattle.std.proofs.lemmas.List.{length-drop}
+use Rattle.std.proofs.lemmas.Nat.{pow_pos, pow-add}
+use Rattle.std.proofs.lemmas.Nat.Bits.{bit_at_or, bit_at-zero, bit_at_above, bit_at_ones, bit_at_cat_low, bit_at_cat_high, same_from_bits}
+use Rattle.std.proofs.Math.Nat.{mod-eq_of_lt, mul-le-mul_right, pow-le-pow_right}
+use Rattle.std.proofs.Math.Seq.{drop-cons}
+use Rattle.net.specs.HubSets.{is_bit}
+use Rattle.selectors.specs.Spread.{is_same, parts_of, spread}
+
+-- a word moved up has no bit below, and the others are its own
+moved_low : (a k i : ℕ) → i < k → bit_at (a * 2 ^ k) i ≡ 0
+moved_low a k i low = let e : a * 2 ^ k ≡ a * 2 ^ k + 0 = omega arith in
+    ap (λ n. bit_at n i) e ∙ bit_at_cat_low a k 0 i low ∙ bit_at-zero i
+
+moved_high : (a k i : ℕ) → k ≤ i → bit_at (a * 2 ^ k) i ≡ bit_at a (i - k)
+moved_high a k i high = let e : a * 2 ^ k ≡ a * 2 ^ k + 0 = omega arith in
+    ap (λ n. bit_at n i) e ∙ bit_at_cat_high a k 0 i (pow_pos k) high
+
+-- low bits joined to a word moved up are added to it
+pub joined_below : (a k b : ℕ) → b < 2 ^ k → bit_or (a * 2 ^ k) b ≡ a * 2 ^ k + b
+joined_below a k b small = same_from_bits (bit_or (a * 2 ^ k) b) (a * 2 ^ k + b) (λ i. bit_at_or (a * 2 ^ k) b i ∙ at i)
+  where
+    larger : (x y z m : ℕ) → x ≡ 0 → z ≡ y → m ≡ z → max x y ≡ m
+    larger x y z m none same is = grind arith
+
+    other_larger : (x y z m : ℕ) → y ≡ 0 → x ≡ z → m ≡ z → max x y ≡ m
+    other_larger x y z m none same is = grind arith
+
+    at : (i : ℕ) → max (bit_at (a * 2 ^ k) i) (bit_at b i) ≡ bit_at (a * 2 ^ k + b) i
+    at i = elim (cases_lt i k) [
+      | inl low ↦ larger _ _ _ _ (moved_low a k i low) refl (bit_at_cat_low a k b i low)
+      | inr high ↦ other_larger _ _ _ _ (bit_at_above b k i small high) (moved_high a k i high) (bit_at_cat_high a k b i small high)
+    ]
+
+pub shifted_in : (a k b p : ℕ) → a * 2 ^ k + 2 ^ k ≤ 2 ^ 128 → b < 2 ^ k → b ≡ p
+    → bit_or (a * 2 ^ k % 340282366920938463463374607431768211456) b ≡ a * 2 ^ k + p
+shifted_in a k b p fits small is =
+    ap (λ n. bit_or n b) (mod-eq_of_lt (omega (arith, fits, pow_pos k))) ∙ joined_below a k b small ∙ ap (λ n. a * 2 ^ k + n) is
+
+-- a group of bits has no more than its parts
+parts_of-below : (parts : ℕ) (test : Bool) → parts_of parts test < 2 ^ parts
+parts_of-below parts true = let some = pow_pos parts in omega (arith, some)
+parts_of-below parts false = pow_pos parts
+
+-- a word that is moved up has room for as many bits
+pub moved_fits : (bits parts n : ℕ) → bits < 2 ^ (parts * n) → bits * 2 ^ parts + 2 ^ parts ≤ 2 ^ (parts * (n + 1))
+moved_fits bits parts n small =
+    let all : 2 ^ (parts * (n + 1)) ≡ 2 ^ (parts * n) * 2 ^ parts = ap (λ e. 2 ^ e) (more parts n) ∙ pow-add 2 (parts * n) parts in
+    let room = mul-le-mul_right {m = bits + 1} {n = 2 ^ (parts * n)} (2 ^ parts) (omega (arith, small)) in
+    rw all (omega (arith, room))
+  where
+    more : (p n : ℕ) → p * (n + 1) ≡ p * n + p
+    more p n = omega arith
+
+moved_below : (bits parts n low : ℕ) → bits < 2 ^ (parts * n) → low < 2 ^ parts → bits * 2 ^ parts + low < 2 ^ (parts * suc n)
+moved_below bits parts n low small below =
+    let one : suc n ≡ n + 1 = omega arith in
+    let room = moved_fits bits parts n small in
+    rw one (omega (arith, room, below))
+
+-- a word has no more bits than its things have parts
+pub spread-below : (value : Bool) (parts : ℕ) (things : List Bool) → spread value parts things < 2 ^ (parts * length things)
+unfolding spread
+spread-below value parts [] = pow_pos (parts * 0)
+spread-below value parts (thing ∷ things) =
+    moved_below (spread value parts things) parts (length things) (parts_of parts (is_same value thing))
+    (spread-below value parts things) (parts_of-below parts (is_same value thing))
+
+-- behind the last thing there is no bit
+pub spread-none : (value : Bool) (parts : ℕ) (things : List Bool) → 0 ≡ spread value parts (drop (length things - 0) things)
+unfolding spread
+spread-none value parts things = let e : length things - 0 ≡ length things = omega arith in
+    sym (ap (λ n. spread value parts (drop n things)) e ∙ ap (spread value parts) (drop_all things))
+  where
+    drop_all : (things : List Bool) → drop (length things) things ≡ []
+    drop_all [] = refl
+    drop_all (thing ∷ things) = drop_all things
+
+-- one more thing's bits fit
+pub has_room :
+    (value : Bool) (parts behind bits : ℕ) (things : List Bool) → bits ≡ spread value parts (drop (length things - behind) things)
+    → behind < length things → parts * length things ≤ 128 → bits * 2 ^ parts + 2 ^ parts ≤ 2 ^ 128
+has_room value parts behind bits things is within all =
+    let long : length (drop (length things - behind) things) ≡ behind = length-drop (length things - behind) things ∙ omega (arith, within) in
+    let small = as_many bits (spread value parts (drop (length things - behind) things)) (length (drop (length things - behind) things)) behind
+    is long (spread-below value parts (drop (length things - behind) things)) in
+    let fits = moved_fits bits parts behind small in
+    let more : parts * (behind + 1) ≤ 128 = at_most parts (behind + 1) (length things) (omega (arith, within)) all in
+    let power : 2 ^ (parts * (behind + 1)) ≤ 2 ^ 128 = pow-le-pow_right {n = 2} (omega arith) more in
+    omega (arith, fits, power)
+  where
+    as_many : (a b m n : ℕ) → a ≡ b → m ≡ n → b < 2 ^ (parts * m) → a < 2 ^ (parts * n)
+    as_many a b m n is long below = rw (is, sym long) below
+
+    at_most : (p m n : ℕ) → m ≤ n → p * n ≤ 128 → p * m ≤ 128
+    at_most p m n upto all = let e = mul-le-mul_right {m = m} {n = n} p upto in omega (arith, e, all)
+
+-- all things are done
+pub spread-all :
+    (value : Bool) (parts behind bits : ℕ) (things : List Bool) → length things ≤ behind
+    → bits ≡ spread value parts (drop (length things - behind) things) → bits ≡ spread value parts things
+spread-all value parts behind bits things done is =
+    let none : length things - behind ≡ 0 = omega (arith, done) in
+    is ∙ ap (λ n. spread value parts (drop n things)) none
+
+-- the bits of those that are set and of those that aren't are all bits
+spread-both : (parts : ℕ) (things : List Bool)
+    → spread false parts things + spread true parts things + 1 ≡ 2 ^ (parts * length things)
+unfolding spread
+spread-both parts [] = let none : parts * 0 ≡ 0 = omega arith in sym (ap (λ n. 2 ^ n) none)
+spread-both parts (thing ∷ things) =
+    let power : 2 ^ (parts * suc (length things)) ≡ 2 ^ (parts * length things) * 2 ^ parts =
+    ap (λ n. 2 ^ n) (more parts (length things)) ∙ pow-add 2 (parts * length things) parts in
+    sym (power ∙ ap (λ n. n * 2 ^ parts) (sym (spread-both parts things))
+    ∙ by thing (spread false parts things) (spread true parts things) (2 ^ parts) (pow_pos parts))
+  where
+    more : (p n : ℕ) → p * suc n ≡ p * n + p
+    more p n = let one : suc n ≡ n + 1 = omega arith in rw one (omega arith)
+
+    by : (thing : Bool) (f t p : ℕ) → 0 < p
+        → (f + t + 1) * p ≡ (f * p + (if is_same false thing then p - 1 else 0)) + (t * p + (if is_same true thing then p - 1 else 0)) + 1
+    by true f t p some = omega (arith, some)
+    by false f t p some = omega (arith, some)
+
+pub others_of : (parts all word : ℕ) (things : List Bool) → all + 1 ≡ 2 ^ (parts * length things) → word ≡ spread true parts things
+    → all - word ≡ spread false parts things
+others_of parts all word things is_all is =
+    let both = spread-both parts things in
+    omega (arith, both, is_all, is)
+
+-- one more thing, from the last one to the first
+pub spread-more :
+    (parts behind bits new : ℕ) (things : List Bool) (d : Bool) → behind < length things
+    → bits ≡ spread true parts (drop (length things - behind) things)
+    → new ≡ bits * 2 ^ parts + parts_of parts (get_or things (length things - 1 - behind) d)
+    → new ≡ spread true parts (drop (length things - (behind + 1)) things)
+unfolding spread
+spread-more parts behind bits new things d within is is_new =
+    is_new
+    ∙ ap (λ n. n * 2 ^ parts + parts_of parts (get_or things (length things - 1 - behind) d)) is
+    ∙ sym (ap (spread true parts) cut)
+  where
+    cut : drop (length things - (behind + 1)) things ≡ get_or things (length things - 1 - behind) d ∷ drop (length things - behind) things
+    cut = let e : length things - (behind + 1) ≡ length things - 1 - behind = omega arith in
+        let f : suc (length things - 1 - behind) ≡ length things - behind = omega (arith, within) in
+        ap (λ n. drop n things) e ∙ drop-cons things (length things - 1 - behind) d (omega (arith, within))
+        ∙ ap (λ n. get_or things (length things - 1 - behind) d ∷ drop n things) f
+
+-- the bits of a part of a thing
+pub spread-bit : (value : Bool) (parts : ℕ) (things : List Bool) (thing part : ℕ) → part < parts → thing < length things
+    → is_bit (spread value parts things) (thing * parts + part) ≡ is_same value (slice_index_or things thing false)
+unfolding spread is_bit
+spread-bit value parts [] thing part within there = absurd (omega (arith, there))
+spread-bit value parts (first ∷ things) zero part within there =
+    let place : 0 * parts + part ≡ part = omega arith in
+    ap (λ i. bit_at (spread value parts things * 2 ^ parts + parts_of parts (is_same value first)) i == 1) place
+    ∙ ap (λ b. b == 1) (bit_at_cat_low (spread value parts things) parts (parts_of parts (is_same value first)) part within)
+    ∙ all_or_none (is_same value first)
+  where
+    all_or_none : (test : Bool) → (bit_at (parts_of parts test) part == 1) ≡ test
+    all_or_none true = ap (λ b. b == 1) (bit_at_ones parts part within)
+    all_or_none false = ap (λ b. b == 1) (bit_at-zero part)
+spread-bit value parts (first ∷ things) (suc thing) part within there =
+    let place : suc thing * parts + part - parts ≡ thing * parts + part = omega arith in
+    ap (λ b. b == 1) (bit_at_cat_high (spread value parts things) parts (parts_of parts (is_same value first)) (suc thing * parts + part)
+    (parts_of-below parts (is_same value first)) (omega arith)
+    ∙ ap (bit_at (spread value parts things)) place)
+    ∙ spread-bit value parts things thing part within (omega (arith, there))

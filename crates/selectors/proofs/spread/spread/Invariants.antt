@@ -1,0 +1,6 @@
+use Rattle.std.proofs.Common.{◌≡◌, true, ◌-◌, length, drop}
+use Rattle.selectors.specs.Spread.{spread}
+use Rattle.selectors.proofs.spread.spread.Given as goal
+
+abbrev pub invariant-loop-behind : goal.invariant-loop-behind
+invariant-loop-behind l = l.bits ≡ spread true l.parts (drop (length l.things - l.behind) l.things)

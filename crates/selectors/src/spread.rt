@@ -1,0 +1,37 @@
+//! Words of a row of contacts in which each thing, as a pilot, has as many contacts.
+
+ghost use Rattle.std.specs.Prelude.{◌≡◌, ◌+◌, ◌-◌, ◌*◌, ◌^◌, ◌≤◌, ◌<◌, true, length};
+ghost use Rattle.selectors.specs.Spread.{parts_of, spread};
+
+// The word with as many bits for each thing, set for those that are set. The first thing has the lowest bits.
+pub(crate) fn spread(things: &[bool], parts: usize) -> u128
+    requires parts { parts ≤ 30 }
+    requires fits { parts * length things.now ≤ 128 }
+    ensures value { result ≡ spread true parts things.now }
+    ensures below { result < 2 ^ (parts * length things.now) }
+{
+    let mut bits = 0;
+    for behind in 0..things.len() {
+        let at = things.len() - 1 - behind;
+        bits = with_parts(bits, parts, things[at]);
+    }
+    bits
+}
+
+// The word moved up, with as many bits below it, all set or none.
+fn with_parts(bits: u128, parts: usize, test: bool) -> u128
+    requires parts { parts ≤ 30 }
+    requires fits { bits * 2 ^ parts + 2 ^ parts ≤ 2 ^ 128 }
+    ensures { result ≡ bits * 2 ^ parts + parts_of parts test }
+{
+    bits << parts | parts_of(parts, test)
+}
+
+// As many bits, all set or none.
+fn parts_of(parts: usize, test: bool) -> u128
+    requires { parts ≤ 30 }
+    ensures value { result ≡ parts_of parts test }
+    ensures below { result < 2 ^ parts }
+{
+    if test { (1 << parts) - 1 } else { 0 }
+}
