@@ -1,4 +1,5 @@
 pub mod CapacityTold
+pub mod CardFeeds
 pub mod Cycles
 pub mod Emitting
 pub mod Exclusions

@@ -107,6 +107,7 @@ impl Hub {
     ghost use Rattle.std.specs.Prelude.{true};
 
     /// Its letters.
+    #[inline(always)]
     pub fn letters(self) -> Letters
         ensures { result ≡ letters_of self }
     {
@@ -153,6 +154,7 @@ impl Hub {
     }
 
     /// Its numbers, in the order in which they are written.
+    #[inline(always)]
     pub fn numbers(self) -> Numbers
         ensures { result ≡ numbers_of self }
     {
@@ -212,6 +214,8 @@ impl Hub {
     }
 
     /// The hub number, 1 to 1936, of a hub in range.
+    // Where the letters are known, as at most calls, little is left of it once it is inlined.
+    #[inline(always)]
     pub fn number(self) -> Option<u32>
         ensures value { result ≡ number_of self }
         ensures range { IfSome result (λ number. (1 ≤ number) × (number ≤ 1936)) }

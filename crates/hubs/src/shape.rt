@@ -44,6 +44,7 @@ impl Shape {
 
     /// The place of the hub with these numbers among the hubs of a kind of this shape, from 1; none where the numbers are
     /// not as many, or out of range.
+    #[inline(always)]
     pub fn place(self, numbers: Numbers) -> Option<u32>
         ensures place { result ≡ place_of self numbers }
         ensures range { IfSome result (λ place. (1 ≤ place) × (place ≤ count_of self)) }

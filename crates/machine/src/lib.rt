@@ -12,6 +12,8 @@ pub mod laws;
 mod machine;
 mod rows;
 mod run;
+#[cfg(test)]
+mod tests;
 mod units;
 
 pub use carriage::{LINE_WHEELS, PlacedLine};

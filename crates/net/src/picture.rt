@@ -44,6 +44,7 @@ impl Picture {
     }
 
     /// Adds a hub. A hub out of range changes nothing.
+    #[inline(always)]
     pub fn insert(&mut self, hub: Hub)
         ensures { GainsHubs (is_hub hub) self.old self.new }
     {
@@ -51,6 +52,7 @@ impl Picture {
     }
 
     /// Adds a hub where the test is true. A hub out of range changes nothing.
+    #[inline(always)]
     pub fn insert_where(&mut self, hub: Hub, test: bool)
         ensures { GainsHubs (λ other. test && is_hub hub other) self.old self.new }
     {
@@ -61,6 +63,7 @@ impl Picture {
 
     /// Adds a row of up to 128 hubs that follow one another: bit k stands for the hub whose number is the first one's and k.
     /// Bits behind the last hub change nothing, and neither does a row from a hub out of range.
+    #[inline(always)]
     pub fn insert_row(&mut self, first: Hub, bits: u128)
         ensures { GainsHubs (is_in_row first bits) self.old self.new }
     {
@@ -70,6 +73,7 @@ impl Picture {
     }
 
     /// Whether the hub is in the set. A hub out of range is in none.
+    #[inline(always)]
     pub fn has(&self, hub: Hub) -> bool
         ensures { result ≡ has_hub self.now hub }
     {
@@ -81,6 +85,7 @@ impl Picture {
 
     /// Which of the 128 hubs that follow one another from the first one are in the set: bit k stands for the hub whose
     /// number is the first one's and k. No hubs follow a first hub out of range, and the answer then says nothing.
+    #[inline(always)]
     pub fn row(&self, first: Hub) -> u128
         ensures { (hub : Hub) → is_in_reach first hub ≡ true → is_in_row first result hub ≡ has_hub self.now hub }
     {

@@ -1,3 +1,4 @@
+pub mod Own
 pub mod PositionWords
 pub mod RowWords
 pub mod RowHubs

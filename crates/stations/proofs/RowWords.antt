@@ -1,11 +1,10 @@
 -- The punches of a card as the words of its rows.
-use Rattle.std.proofs.Common.{◌≡◌, ◌∙◌, ℕ, ◌+◌, ◌-◌, ◌<◌, ◌≤◌, zero, suc, arith, refl, sym, ap, inl, inr, Bool, true, false, ◌&&◌, ◌||◌, List}
-use Rattle.std.proofs.Common.{◌⊎◌, length, replicate, get_or, slice_index, slice_set, nat_lt, nat_le, ◌==◌, Option, Some, None}
+use Rattle.std.proofs.Common.{◌≡◌, ◌∙◌, ℕ, ◌+◌, ◌-◌, ◌<◌, ◌≤◌, arith, refl, sym, ap, inl, inr, Bool, true, false, ◌&&◌, ◌||◌, List}
+use Rattle.std.proofs.Common.{◌⊎◌, length, replicate, get_or, slice_index, nat_lt, nat_le, Option, Some, None}
 use Rattle.std.proofs.lemmas.Bool.Decides.{eqb_tells, nat_tests}
-use Rattle.std.proofs.lemmas.List.{get_or-set_same, get_or-set_other, get_or-replicate}
+use Rattle.std.proofs.lemmas.List.{get_or-replicate}
 use Rattle.std.proofs.lemmas.Nat.Bits.{bit_at-zero}
-use Rattle.card_code.specs.CardCode.{has_row}
-use Rattle.card_code.specs.Rows.{row_number, row_place, rows}
+use Rattle.card_code.specs.Rows.{row_place, rows}
 use Rattle.card_code.specs.declared.row.Row.{Row}
 use Rattle.card_code.specs.declared.row.Row.TheVariants.{Zero, One, Two, Three, Four, Five, Six, Seven, Eight, Nine, Eleven, Twelve}
 use Rattle.hubs.specs.Ranges.{is_within}

@@ -45,7 +45,15 @@ pub(crate) fn word_of_run(bits: u128, from: usize, to: usize) -> u64
 }
 
 // The part of a word that stands in a row of 128 places: the word begins at the place `from`, the row at the place `to`.
+// A word without a bit, as most are, has no part.
 pub(crate) fn run_of_word(word: u64, from: usize, to: usize) -> u128
+    ensures { (j : ℕ) → j < 128 → is_bit result j ≡ is_in_run from word (to + j) }
+{
+    if word == 0 { 0 } else { moved(word, from, to) }
+}
+
+// A word, moved from the place where it begins to the place where a row begins.
+fn moved(word: u64, from: usize, to: usize) -> u128
     ensures { (j : ℕ) → j < 128 → is_bit result j ≡ is_in_run from word (to + j) }
 {
     let bits = u128::from(word);

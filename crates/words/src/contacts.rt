@@ -35,7 +35,11 @@ fn pass_run(contacts: Run, closed: &[u64; WORDS], words: &[u64; WORDS], new: &mu
     requires { IsRunInRange contacts }
     ensures { GainsPlaces (λ place. nat_lt place 1984 && passes_run closed.now words.now contacts place) new.old new.new }
 {
-    let impulsed = run(words, contacts.common) & first_bits(contacts.count);
+    let found = run(words, contacts.common);
+    if found == 0 {
+        return;
+    }
+    let impulsed = found & first_bits(contacts.count);
     if impulsed != 0 {
         let bits = impulsed & run(closed, contacts.exits) & !run(words, contacts.exits);
         put_run(new, contacts.exits, bits);

@@ -1,4 +1,4 @@
-use Rattle.std.proofs.Common.{◌≡◌, ◌∙◌, ◌&&◌, ◌||◌, ◌==◌, ℕ, Bool, refl, sym, ap}
+use Rattle.std.proofs.Common.{◌∙◌, ◌&&◌, ◌||◌, ◌==◌, ℕ, refl, sym, ap}
 use Rattle.std.proofs.Math.ListN.{length-set}
 use Rattle.card_code.specs.CardCode.{has_row}
 use Rattle.card_code.specs.Rows.{row_number}

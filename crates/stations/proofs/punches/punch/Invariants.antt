@@ -1,4 +1,4 @@
-use Rattle.std.proofs.Common.{◌≡◌, ℕ, true, length}
+use Rattle.std.proofs.Common.{◌≡◌, true, length}
 use Rattle.card_code.specs.Rows.{is_row_set}
 use Rattle.stations.specs.Words.{GainsColumnBut}
 use Rattle.stations.proofs.punches.punch.Given as goal

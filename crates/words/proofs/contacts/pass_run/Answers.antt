@@ -1,7 +1,8 @@
-use Rattle.std.proofs.Common.{◌∙◌, sym, ap, ◌&&◌, ◌||◌}
+use Rattle.std.proofs.Common.{◌∙◌, sym, ap, ◌&&◌, ◌||◌, ◌^◌, ◌-◌, bit_and}
 use Rattle.std.specs.Prelude.{nat_lt}
 use Rattle.std.proofs.Math.Bool.{and-false, or-false}
 use Rattle.words.specs.Bits.{has_place}
+use Rattle.words.proofs.BitLemmas.{is_bit-ones}
 use Rattle.words.proofs.ContactLemmas.{run_passes, run_passes_none}
 use Rattle.words.proofs.contacts.pass_run.Goals as goal
 
@@ -9,13 +10,21 @@ pub returns-then-impulsed-ne0 : goal.returns-then-impulsed-ne0
 returns-then-impulsed-ne0 c place =
     c.put_run.ensures place
     ∙ ap (λ b. has_place c.args.new.now place || (nat_lt place 1984 && b))
-    (run_passes c.args.contacts c.args.closed.now c.args.words.now c.run.result c.first_bits.result
-    c.run-then-impulsed-ne0.result c.run-then-impulsed-ne0-2.result place c.requires c.run.ensures c.first_bits.ensures
-    c.run-then-impulsed-ne0.ensures c.run-then-impulsed-ne0-2.ensures c.run-then-impulsed-ne0-2.type_inv)
+    (run_passes c.args.contacts c.args.closed.now c.args.words.now c.run-found.result c.first_bits.result
+    c.run.result c.run-then-impulsed-ne0.result place c.requires c.run-found.ensures c.first_bits.ensures
+    c.run.ensures c.run-then-impulsed-ne0.ensures c.run-then-impulsed-ne0.type_inv)
 
 pub returns-else-impulsed-ne0 : goal.returns-else-impulsed-ne0
 returns-else-impulsed-ne0 c place =
     sym (ap (λ b. has_place c.args.new.now place || (nat_lt place 1984 && b))
-    (run_passes_none c.args.contacts c.args.closed.now c.args.words.now c.run.result c.first_bits.result place c.requires
-    c.run.ensures c.first_bits.ensures c.if-impulsed-ne0.false)
+    (run_passes_none c.args.contacts c.args.closed.now c.args.words.now c.run-found.result c.first_bits.result place
+    c.requires c.run-found.ensures c.first_bits.ensures c.if-impulsed-ne0.false)
+    ∙ ap (λ b. has_place c.args.new.now place || b) (and-false _) ∙ or-false _)
+
+pub returns-then-found-eq0 : goal.returns-then-found-eq0
+returns-then-found-eq0 c place =
+    sym (ap (λ b. has_place c.args.new.now place || (nat_lt place 1984 && b))
+    (run_passes_none c.args.contacts c.args.closed.now c.args.words.now c.run-found.result (2 ^ c.args.contacts.count - 1) place
+    c.requires c.run-found.ensures (λ k. is_bit-ones c.args.contacts.count k)
+    (ap (λ f. bit_and f (2 ^ c.args.contacts.count - 1)) c.if-found-eq0.true))
     ∙ ap (λ b. has_place c.args.new.now place || b) (and-false _) ∙ or-false _)

@@ -1,0 +1,5 @@
+use Rattle.stations.proofs.Own.{tells_differences}
+use Rattle.stations.proofs.laws.comparing_tells_differences.Goals as goal
+
+pub returns : goal.returns
+returns c = tells_differences
