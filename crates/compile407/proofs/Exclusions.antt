@@ -1,5 +1,5 @@
 -- A text that compiles has no fault, and a deck that can be run has none.
-use Rattle.std.proofs.Common.{◌≡◌, ℕ, List, true, false, Some, slice_get, refl, subst, arith}
+use Rattle.std.proofs.Common.{◌≡◌, ℕ, List, true, false, Some, slice_get, subst, arith}
 use Rattle.std.specs.List.{All}
 use Rattle.std.proofs.lemmas.List.Elements.{All-get_or}
 use Rattle.std.proofs.lemmas.Option.{slice_get_within, get_or_from_slice_get}
@@ -35,23 +35,23 @@ none_unserved lines number served first =
 
 pub compiled_texts_have_no_fault : CompiledTextsHaveNoFault
 unfolding IsLawful IsKept
-compiled_texts_have_no_fault bytes compiled chart.TooLarge reads is has = absurd (no_chart bytes compiled.chart text.TooLarge has reads)
+compiled_texts_have_no_fault bytes compiled chart.TooLarge reads is has = (no_chart bytes compiled.chart text.TooLarge has reads)
 compiled_texts_have_no_fault bytes compiled chart.NoFirstLine reads is has =
-    absurd (no_chart bytes compiled.chart text.NoFirstLine has reads)
+    (no_chart bytes compiled.chart text.NoFirstLine has reads)
 compiled_texts_have_no_fault bytes compiled (chart.NotALine line) reads is has =
-    absurd (no_chart bytes compiled.chart (text.NotALine line) has reads)
-compiled_texts_have_no_fault bytes compiled chart.NoEnd reads is has = absurd (no_chart bytes compiled.chart text.NoEnd has reads)
+    (no_chart bytes compiled.chart (text.NotALine line) has reads)
+compiled_texts_have_no_fault bytes compiled chart.NoEnd reads is has = (no_chart bytes compiled.chart text.NoEnd has reads)
 compiled_texts_have_no_fault bytes compiled (chart.Rule broken line) reads is has =
     let P : Chart → Type 0 = λ c. Broken broken c line in
-    absurd (is.lawful broken line (subst P (one_chart bytes has.read compiled.chart has.reads reads) has.first.broken))
+    (is.lawful broken line (subst P (one_chart bytes has.read compiled.chart has.reads reads) has.first.broken))
 compiled_texts_have_no_fault bytes compiled (chart.NotYet line) reads is has =
     let P : Chart → Type 0 = λ c. IsFirstUnserved c.lines line in
-    absurd (none_unserved compiled.chart.lines line is.served (subst P (one_chart bytes has.read compiled.chart has.reads reads) has.first))
+    (none_unserved compiled.chart.lines line is.served (subst P (one_chart bytes has.read compiled.chart has.reads reads) has.first))
 compiled_texts_have_no_fault bytes compiled (chart.Capacity fault) reads is has =
     let P : Chart → Type 0 = λ c. Exceeds (wanted_of c.lines) standard fault in
     let exceeds = subst P (one_chart bytes has.read compiled.chart has.reads reads) has.exceeds in
-    absurd (fitting_charts_have_no_fault (wanted_of compiled.chart.lines) standard fault is.fits exceeds)
-compiled_texts_have_no_fault bytes compiled chart.Memory reads is has = refl
+    (fitting_charts_have_no_fault (wanted_of compiled.chart.lines) standard fault is.fits exceeds)
+compiled_texts_have_no_fault bytes compiled chart.Memory reads is has = has
 
 -- a deck of valid cards has no invalid one
 none_invalid : (of_cards : Chart) (cards : List (List ℕ)) (fault : RunFault) → All (IsValidCard of_cards) cards →
@@ -63,8 +63,8 @@ none_invalid of_cards cards fault valid invalid =
     first.invalid (on first.place (slice_get_within _ first.place first.field first.is_there) first.field first.is_there)
 
 pub runnable_decks_have_no_fault : RunnableDecksHaveNoFault
-runnable_decks_have_no_fault of_cards cards deck.TooManyCards is has = absurd (omega (arith, is.deck.long, has))
-runnable_decks_have_no_fault of_cards cards (deck.NotText number column) is has = absurd (none_invalid of_cards cards _ is.deck.valid has.1)
-runnable_decks_have_no_fault of_cards cards (deck.NotAmount number column) is has = absurd (none_invalid of_cards cards _ is.deck.valid has.1)
-runnable_decks_have_no_fault of_cards cards deck.TooLong is has = absurd (omega (arith, is.one_page, has.1))
-runnable_decks_have_no_fault of_cards cards deck.Memory is has = refl
+runnable_decks_have_no_fault of_cards cards deck.TooManyCards is has = (omega (arith, is.deck.long, has))
+runnable_decks_have_no_fault of_cards cards (deck.NotText number column) is has = (none_invalid of_cards cards _ is.deck.valid has.1)
+runnable_decks_have_no_fault of_cards cards (deck.NotAmount number column) is has = (none_invalid of_cards cards _ is.deck.valid has.1)
+runnable_decks_have_no_fault of_cards cards deck.TooLong is has = (omega (arith, is.one_page, has.1))
+runnable_decks_have_no_fault of_cards cards deck.Memory is has = has

@@ -58,7 +58,7 @@ abbrev pub of_capacity : CapacityFault → ChartFault
 of_capacity capacity.Memory = chart.Memory
 of_capacity other = chart.Capacity other
 
--- What a fault says of the text of a chart; want of memory says nothing of it.
+-- What a fault says of the text of a chart; no text makes memory run out.
 abbrev pub HasChartFault : List ℕ → ChartFault → Type 0
 HasChartFault bytes chart.TooLarge = HasFault bytes text.TooLarge
 HasChartFault bytes chart.NoFirstLine = HasFault bytes text.NoFirstLine
@@ -67,4 +67,4 @@ HasChartFault bytes chart.NoEnd = HasFault bytes text.NoEnd
 HasChartFault bytes (chart.Rule broken line) = BreaksRule bytes broken line
 HasChartFault bytes (chart.NotYet line) = IsUnserved bytes line
 HasChartFault bytes (chart.Capacity fault) = IsTooGreat bytes fault
-HasChartFault bytes chart.Memory = Unit {0}
+HasChartFault bytes chart.Memory = ⊥

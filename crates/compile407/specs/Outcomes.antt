@@ -1,11 +1,9 @@
--- What can be answered excludes what else can be answered, but for want of memory.
-use Rattle.std.specs.Prelude.{◌≡◌, ℕ, List}
+-- What can be answered excludes what else can be told.
+use Rattle.std.specs.Prelude.{ℕ, List}
 use Rattle.chart_text.specs.Chart.{Chart}
 use Rattle.chart_text.specs.ChartText.{Reads}
 use Rattle.compile407.specs.declared.fault.ChartFault.{ChartFault}
-use Rattle.compile407.specs.declared.fault.ChartFault.TheVariants as chart
 use Rattle.compile407.specs.declared.fault.RunFault.{RunFault}
-use Rattle.compile407.specs.declared.fault.RunFault.TheVariants as deck
 use Rattle.compile407.specs.ChartFaults.{HasChartFault}
 use Rattle.compile407.specs.Compilation.{Compilation, IsCompiled}
 use Rattle.compile407.specs.RunFaults.{HasRunFault}
@@ -15,10 +13,10 @@ use Rattle.compile407.specs.Runnable.{IsRunnable}
 abbrev pub CompiledTextsHaveNoFault : Type 0
 CompiledTextsHaveNoFault =
     (bytes : List ℕ) (compiled : Compilation) (fault : ChartFault) → Reads bytes compiled.chart → IsCompiled compiled →
-    HasChartFault bytes fault → fault ≡ chart.Memory
+    ¬ HasChartFault bytes fault
 
 -- a deck that can be run has no fault
 abbrev pub RunnableDecksHaveNoFault : Type 0
 RunnableDecksHaveNoFault =
     (of_cards : Chart) (cards : List (List ℕ)) (fault : RunFault) → IsRunnable of_cards cards →
-    HasRunFault of_cards cards fault → fault ≡ deck.Memory
+    ¬ HasRunFault of_cards cards fault

@@ -25,7 +25,7 @@ pub record IsInvalidDeck (chart : Chart) (cards : List (List ℕ)) (fault : RunF
   pub first : IsFirstInvalid (fields_of chart.lines) card told
   pub is_fault : fault ≡ of_card told (place + 1)
 
--- What a fault says of a deck; want of memory says nothing of it.
+-- What a fault says of a deck; no deck makes memory run out.
 abbrev pub HasRunFault : Chart → List (List ℕ) → RunFault → Type 0
 HasRunFault chart cards deck.TooManyCards = 999999 < length cards
 HasRunFault chart cards (deck.NotText number column) =
@@ -33,4 +33,4 @@ HasRunFault chart cards (deck.NotText number column) =
 HasRunFault chart cards (deck.NotAmount number column) =
     (length cards ≤ 999999) × IsInvalidDeck chart cards (deck.NotAmount number column)
 HasRunFault chart cards deck.TooLong = IsDeck chart cards × HasManyPages chart cards
-HasRunFault chart cards deck.Memory = Unit {0}
+HasRunFault chart cards deck.Memory = ⊥

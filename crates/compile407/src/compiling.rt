@@ -1,9 +1,10 @@
 //! Compiling a chart: from its text to a setup of the panel.
 
-ghost use Rattle.std.specs.Prelude.{◌≡◌, IfOk, IfErr};
+ghost use Rattle.std.specs.Prelude.{◌≡◌, ◌≢◌, IfOk, IfErr};
 ghost use Rattle.chart_text.specs.ChartText.{Reads};
 ghost use Rattle.compile407.specs.Compilation.{IsCompiled};
 ghost use Rattle.compile407.specs.ChartFaults.{HasChartFault};
+ghost use Rattle.compile407.specs.declared.fault.ChartFault.TheVariants as chart;
 ghost use Rattle.compile407.specs.Headline.{PrintsReport};
 
 use crate::compiled::Compiled;
@@ -30,7 +31,7 @@ pub fn compile(alloc: Global, bytes: &[u8]) -> Result<Compiled, ChartFault>
     ensures read { IfOk result (λ compiled. Reads bytes.now compiled.chart) }
     ensures compiled { IfOk result IsCompiled }
     ensures prints { IfOk result (λ compiled. PrintsReport compiled.chart compiled.setup) }
-    ensures refused { IfErr result (HasChartFault bytes.now) }
+    ensures refused { IfErr result (λ fault. fault ≢ chart.Memory → HasChartFault bytes.now fault) }
 {
     let raw = read_chart(alloc, bytes)?;
     let chart = check(alloc, raw)?;

@@ -10,12 +10,12 @@ pub fn wired_setups_print_reports()
     ensures { WiredSetupsPrintReports }
 {}
 
-/// A text that compiles has none of the faults of a chart, but for want of memory.
+/// A text that compiles has none of the faults of a chart.
 pub fn compiled_texts_have_no_fault()
     ensures { CompiledTextsHaveNoFault }
 {}
 
-/// A deck that can be run has none of the faults of a deck, but for want of memory.
+/// A deck that can be run has none of the faults of a deck.
 pub fn runnable_decks_have_no_fault()
     ensures { RunnableDecksHaveNoFault }
 {}

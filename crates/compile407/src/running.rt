@@ -1,7 +1,8 @@
 //! Running a deck of cards, from the cards to the bytes of the pages.
 
-ghost use Rattle.std.specs.Prelude.{◌≡◌, ◌≤◌, ◌<◌, ◌+◌, length, IfOk, IfErr, OnOk, All};
+ghost use Rattle.std.specs.Prelude.{◌≡◌, ◌≢◌, ◌≤◌, ◌<◌, ◌+◌, length, IfOk, IfErr, OnOk, All};
 ghost use Rattle.compile407.specs.RunFaults.{HasRunFault, IsInvalidDeck, of_card};
+ghost use Rattle.compile407.specs.declared.fault.RunFault.TheVariants as deck;
 ghost use Rattle.compile407.specs.Headline.{IsDeck};
 ghost use Rattle.compile407.specs.Report.{Report};
 ghost use Rattle.page_text.specs.Pages.{last_page};
@@ -64,7 +65,7 @@ fn last_page(placed: &[PlacedLine]) -> u64
 pub fn run(alloc: Global, compiled: &Compiled, cards: &[Card]) -> Result<Vec<u8>, RunFault>
     ensures report { IfOk result (λ bytes. bytes.items ≡ Report compiled.now.chart cards.now) }
     ensures served { OnOk result (IsRunnable compiled.now.chart cards.now) }
-    ensures refused { IfErr result (HasRunFault compiled.now.chart cards.now) }
+    ensures refused { IfErr result (λ fault. fault ≢ deck.Memory → HasRunFault compiled.now.chart cards.now fault) }
 {
     if cards.len() > MOST_CARDS {
         return Err(RunFault::TooManyCards);

@@ -1,26 +1,29 @@
 -- The closed contacts of all units are those that the selectors' crate tells by the balance latches of the groups.
-use Rattle.std.proofs.Common.{◌≡◌, ℕ, zero, suc, ◌-◌, ◌<◌, ◌≤◌, ◌==◌, Bool, true, false, not, ◌&&◌, ◌||◌, nat_le, List, [], ◌∷◌, Option, Some, None, map, length, get_or, refl, sym, ap, ◌∙◌, arith}
+use Rattle.std.proofs.Common.{◌≡◌, ℕ, zero, suc, ◌-◌, ◌<◌, ◌≤◌, ◌==◌, Bool, true, false, not, ◌&&◌, ◌||◌, nat_le, List, [], ◌∷◌, Option, Some, None, map, length, get_or, refl, sym, ap, ◌∙◌, arith, if◌then◌else◌}
 use Rattle.std.proofs.lemmas.Bool.Decides.{nat_tests}
 use Rattle.std.specs.List.{list_any}
+use Rattle.card_code.specs.declared.row.Row.{Row as CardRow}
+use Rattle.card_code.specs.declared.row.Row.TheVariants as rows
 use Rattle.counters.specs.Counters.{Counter, counter_number, counter_closes, counter_sensed}
 use Rattle.hubs.specs.Places.{width_place, up_to, part_place}
 use Rattle.hubs.specs.Ranges.{is_within}
 use Rattle.hubs.specs.declared.hub.Group.{Group}
 use Rattle.hubs.specs.declared.hub.Hub.{Hub}
-use Rattle.hubs.specs.declared.hub.Hub.TheVariants.{BAN, BAT, PIN, PIT}
+use Rattle.hubs.specs.declared.hub.Hub.TheVariants.{BAN, BAT, PIN, PIT, CSD, CSZ}
 use Rattle.net.specs.Panel.{unit_of, unit_behind}
 use Rattle.net.specs.declared.cycle.Cycle.{Cycle}
-use Rattle.net.specs.HubSets.{HubSet, has_hub}
+use Rattle.net.specs.HubSets.{GainsHubs, has_hub}
 use Rattle.net.specs.declared.cycle.Point.{Point}
 use Rattle.net.specs.declared.cycle.Point.TheVariants.{C, Row, K}
 use Rattle.selectors.specs.Contacts.{balance_closes, closed_contacts, steady_closes}
 use Rattle.selectors.specs.Indicate.{indicate_closes}
 use Rattle.selectors.specs.Pilots.{PilotStates, pilots_closes, pilots_sensed}
-use Rattle.selectors.specs.Splits.{split_closes}
+use Rattle.selectors.specs.Splits.{is_digit_row, split_closes}
 use Rattle.storage_units.specs.Storage.{storage_sensed}
 use Rattle.machine.specs.Fields.{AreInUnitOrder}
 use Rattle.machine.specs.Machine.{MachineState, closes, sensed, group_units}
-use Rattle.machine.specs.Steady.{latches_of, AreSteady}
+use Rattle.machine.specs.Steady.{latches_of, closed_at, AreSteady}
+use Rattle.machine.specs.declared.closed.Closed.{Closed}
 
 -- the numbers count up from k
 abbrev CountUp : ℕ → List ℕ → Type 0
@@ -28,7 +31,7 @@ CountUp k [] = Unit {0}
 CountUp k (n ∷ ns) = (n ≡ k) × CountUp (suc k) ns
 
 -- the groups are the units from k on
-abbrev AreFrom : ℕ → List Counter → Type 0
+abbrev pub AreFrom : ℕ → List Counter → Type 0
 AreFrom k [] = Unit {0}
 AreFrom k (group ∷ groups) = (counter_number group ≡ k) × AreFrom (suc k) groups
 
@@ -38,7 +41,7 @@ same_head m n ms ns same = cc
 same_tail : (m n : ℕ) (ms ns : List ℕ) → m ∷ ms ≡ n ∷ ns → ms ≡ ns
 same_tail m n ms ns same = cc
 
-are_from : (k : ℕ) (groups : List Counter) (ns : List ℕ) → map counter_number groups ≡ ns → CountUp k ns → AreFrom k groups
+pub are_from : (k : ℕ) (groups : List Counter) (ns : List ℕ) → map counter_number groups ≡ ns → CountUp k ns → AreFrom k groups
 are_from k [] ns same up = tt
 are_from k (group ∷ groups) [] same up = cc
 are_from k (group ∷ groups) (n ∷ ns) same up = (
@@ -46,7 +49,7 @@ are_from k (group ∷ groups) (n ∷ ns) same up = (
   are_from (suc k) groups ns (same_tail (counter_number group) n (map counter_number groups) ns same) up.1,
 )
 
-group_units-up : CountUp 3 group_units
+pub group_units-up : CountUp 3 group_units
 group_units-up = (refl, (refl, (refl, (refl, (refl, (refl, (refl, (refl, (refl, (refl, (refl, (refl, (refl, (refl, (refl, (refl, (refl, (refl, (refl, (refl, (refl, (refl, (refl, (refl, (refl, (refl, (refl, (refl, (refl, (refl, (refl, (refl, tt))))))))))))))))))))))))))))))))
 
 length-from : (groups : List Counter) (ns : List ℕ) → map counter_number groups ≡ ns → length groups ≡ length ns
@@ -116,7 +119,7 @@ unit_of-place (Some w) (Some n) first second =
     let other = second n refl in
     omega (arith, one.0, one.1, other.0, other.1)
 
-unit_of-last : (group : Group) → unit_of group < 35
+pub unit_of-last : (group : Group) → unit_of group < 35
 unit_of-last group =
     unit_of-place (width_place group.width) (up_to 8 group.number) (width_place-four group.width) (up_to-last 8 group.number)
 
@@ -172,17 +175,49 @@ split_last true b c d = refl
 split_last false true c d = refl
 split_last false false c d = refl
 
+-- the splits are closed alike at all digit rows, and at all zone rows
+digits-same : (row : CardRow) (hub : Hub) → is_digit_row row ≡ true → split_closes (Row rows.Nine) hub ≡ split_closes (Row row) hub
+digits-same row (CSD split) is = rw is refl
+digits-same row (CSZ split) is = rw is refl
+digits-same row other is = refl
+
+zones-same : (row : CardRow) (hub : Hub) → is_digit_row row ≡ false → split_closes (Row rows.Twelve) hub ≡ split_closes (Row row) hub
+zones-same row (CSD split) is = rw is refl
+zones-same row (CSZ split) is = rw is refl
+zones-same row other is = refl
+
+or-none : (a : Bool) → a ≡ (a || false)
+or-none true = refl
+or-none false = refl
+
 -- the contacts that are closed once for a cycle
-pub steady-closed : (cycle : Cycle) (closed : HubSet) (machine : MachineState) (latches : List Bool)
+pub steady-closed : (cycle : Cycle) (closed : Closed) (machine : MachineState) (latches : List Bool)
     → AreInUnitOrder machine.groups → latches ≡ latches_of machine.groups
-    → ((point : Point) (hub : Hub) → has_hub closed hub ≡ steady_closes cycle point machine.pilots machine.indicate latches hub)
+    → ((point : Point) (hub : Hub) → has_hub closed.steady hub ≡ steady_closes cycle point machine.pilots machine.indicate latches hub)
+    → GainsHubs (split_closes (Row rows.Nine)) closed.steady closed.digits
+    → GainsHubs (split_closes (Row rows.Twelve)) closed.steady closed.zones
     → AreSteady cycle closed machine
-steady-closed cycle closed machine latches ordered same is point hub =
-    ap (λ (b : Bool). b || split_closes point hub)
-    (is point hub ∙ ap (λ (ls : List Bool). steady_closes cycle point machine.pilots machine.indicate ls hub) same)
-    ∙ split_last (balance_closes (latches_of machine.groups) hub) (pilots_closes machine.pilots cycle point hub)
-    (indicate_closes machine.indicate cycle point hub) (split_closes point hub)
-    ∙ sym (closes-joined machine cycle point hub ordered)
+steady-closed cycle closed machine latches ordered same is digits zones point hub = by point ∙ whole
+  where
+    whole : (has_hub closed.steady hub || split_closes point hub) ≡ closes machine cycle point hub
+    whole =
+        ap (λ (b : Bool). b || split_closes point hub)
+        (is point hub ∙ ap (λ (ls : List Bool). steady_closes cycle point machine.pilots machine.indicate ls hub) same)
+        ∙ split_last (balance_closes (latches_of machine.groups) hub) (pilots_closes machine.pilots cycle point hub)
+        (indicate_closes machine.indicate cycle point hub) (split_closes point hub)
+        ∙ sym (closes-joined machine cycle point hub ordered)
+
+    at_row : (row : CardRow) (digit : Bool) → is_digit_row row ≡ digit
+        → has_hub (if digit then closed.digits else closed.zones) hub ≡ (has_hub closed.steady hub || split_closes (Row row) hub)
+    at_row row true is_digit =
+        digits hub ∙ ap (λ (b : Bool). has_hub closed.steady hub || b) (digits-same row hub is_digit)
+    at_row row false is_digit =
+        zones hub ∙ ap (λ (b : Bool). has_hub closed.steady hub || b) (zones-same row hub is_digit)
+
+    by : (p : Point) → has_hub (closed_at closed p) hub ≡ (has_hub closed.steady hub || split_closes p hub)
+    by C = or-none (has_hub closed.steady hub)
+    by (Row row) = at_row row (is_digit_row row) refl
+    by K = or-none (has_hub closed.steady hub)
 
 -- What a unit senses in a cycle changes none of its contacts in it.
 counter-steady : (group : Counter) (cycle : Cycle) (at point : Point) (picture : Hub → Bool) (hub : Hub)
@@ -220,7 +255,7 @@ closes-steady machine cycle at point picture hub =
     )
     refl
 
-pub AreSteady-sensed : (cycle : Cycle) (closed : HubSet) (machine : MachineState) (at : Point) (picture : Hub → Bool)
+pub AreSteady-sensed : (cycle : Cycle) (closed : Closed) (machine : MachineState) (at : Point) (picture : Hub → Bool)
     → AreSteady cycle closed machine → AreSteady cycle closed (sensed machine cycle at picture)
 AreSteady-sensed cycle closed machine at picture steady point hub =
     steady point hub ∙ sym (closes-steady machine cycle at point picture hub)

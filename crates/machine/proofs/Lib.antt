@@ -12,4 +12,5 @@ mod Moving
 mod Going
 mod Pictures
 mod Points
+mod Rest
 mod UnitOrder

@@ -3,7 +3,6 @@ use Rattle.std.proofs.Common.{ℕ, ◌+◌, ◌<◌, get_or, refl, subst, sym, a
 use Rattle.std.proofs.lemmas.List.{get_or_default}
 use Rattle.hubs.specs.Wiring.{Wiring}
 use Rattle.net.specs.Cycles.{points}
-use Rattle.net.specs.HubSets.{HubSet}
 use Rattle.net.specs.declared.cycle.Cycle.{Cycle}
 use Rattle.net.specs.declared.cycle.Point.{Point}
 use Rattle.net.specs.declared.cycle.Point.TheVariants.{K}
@@ -11,6 +10,7 @@ use Rattle.machine.specs.Cycles.{PointStep, Reached, point_at}
 use Rattle.machine.specs.Ends.{SensesSome}
 use Rattle.machine.specs.Machine.{MachineState, sensed}
 use Rattle.machine.specs.Steady.{AreSteady}
+use Rattle.machine.specs.declared.closed.Closed.{Closed}
 use Rattle.machine.proofs.ClosedContacts.{AreSteady-sensed}
 use Rattle.machine.proofs.Keeps.{Keeps, Keeps-none, Keeps-both, sensed-keeps}
 
@@ -40,7 +40,7 @@ Keeps-more cycle point old mid now kept senses =
     (Keeps-both cycle mid (sensed mid cycle point senses.picture) now (sensed-keeps mid cycle point senses.picture)
     (Keeps-none cycle (sensed mid cycle point senses.picture) now senses.is_new))
 
-pub AreSteady-more : (cycle : Cycle) (closed : HubSet) (point : Point) (mid now : MachineState)
+pub AreSteady-more : (cycle : Cycle) (closed : Closed) (point : Point) (mid now : MachineState)
     → AreSteady cycle closed mid → SensesSome cycle point mid now → AreSteady cycle closed now
 AreSteady-more cycle closed point mid now steady senses =
     subst (λ (m : MachineState). AreSteady cycle closed m) (sym senses.is_new)

@@ -5,5 +5,6 @@ pub mod Laws
 pub mod Running
 pub mod Fields
 pub mod Ends
+pub mod Rest
 pub mod Steady
 pub mod Gains

@@ -3,10 +3,12 @@
 ghost use Rattle.std.specs.Prelude.{◌≡◌, map};
 ghost use Rattle.machine.specs.Steady.{latches_of};
 
-use crate::rows::latches;
+use crate::closed::Closed;
+use crate::groups::latches;
 use crate::units::Units;
+use card_code::Row;
 use carriage::PlacedLine;
-use net::{Contacts, Cycle, Net, POINTS, Picture, Point};
+use net::{Cycle, Net, POINTS, Picture, Point};
 use selectors::{steady_contacts, with_splits};
 
 impl Units {
@@ -22,22 +24,27 @@ impl Units {
         ensures ran { (wiring : Wiring) → IsNetOf wiring net.now → CycleRun wiring cycle self.old self.new }
         ensures ends { EndsCycle cycle self.old self.new }
     {
-        let closed = self.steady(cycle);
+        let closed = self.closed(cycle);
         for point in POINTS {
             self.step(net, &closed, cycle, point);
         }
         self.end_cycle(cycle);
     }
 
-    // The closed contacts of a cycle, but those of the splits.
-    fn steady(&self, cycle: Cycle) -> Contacts
+    // The closed contacts of a cycle.
+    fn closed(&self, cycle: Cycle) -> Closed
         ensures { AreSteady cycle result self.now }
     {
-        steady_contacts(cycle, &self.pilots, &self.indicate, &latches(&self.groups))
+        let steady = steady_contacts(cycle, &self.pilots, &self.indicate, &latches(&self.groups));
+        Closed {
+            steady,
+            digits: with_splits(steady, Point::Row(Row::Nine)),
+            zones: with_splits(steady, Point::Row(Row::Twelve)),
+        }
     }
 
     // A point: all units emit, and then all sense the picture that wires and closed contacts make of that.
-    fn step(&mut self, net: &Net, closed: &Contacts, cycle: Cycle, point: Point)
+    fn step(&mut self, net: &Net, closed: &Closed, cycle: Cycle, point: Point)
         requires { AreSteady cycle closed.now self.old }
         ensures step { (wiring : Wiring) → IsNetOf wiring net.now → PointStep wiring cycle point self.old self.new }
         ensures senses { SensesSome cycle point self.old self.new }
@@ -45,7 +52,7 @@ impl Units {
         let mut exits = Picture::new();
         self.emit(cycle, point, &mut exits);
         let mut picture = Picture::new();
-        net.picture(&exits, &with_splits(*closed, point), &mut picture);
+        net.picture(&exits, closed.at(point), &mut picture);
         self.sense(cycle, point, &picture);
     }
 

@@ -5,9 +5,11 @@
 //! that is, for every setup of the panel and every deck, is told in `specs/`.
 #![tactic(auto)]
 
+mod closed;
 mod cycle;
 mod fault;
 mod feed;
+mod groups;
 pub mod laws;
 mod machine;
 mod rows;

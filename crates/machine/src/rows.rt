@@ -3,11 +3,8 @@
 ghost use Rattle.std.specs.Prelude.{◌≡◌, map};
 ghost use Rattle.std.specs.List.{list_any};
 ghost use Rattle.net.specs.HubSets.{GainsHubs, has_hub};
-ghost use Rattle.machine.specs.Steady.{latches_of};
 
-use counters::Group;
 use net::{Cycle, Picture, Point, Unit};
-use selectors::GROUPS;
 
 // All units emit.
 pub(crate) fn emit_all<U: Unit>(units: &[U], cycle: Cycle, point: Point, exits: &mut Picture)
@@ -34,15 +31,4 @@ pub(crate) fn end_all<U: Unit>(units: &mut [U], cycle: Cycle)
     for unit in units {
         unit.end_cycle(cycle);
     }
-}
-
-// The balance latches of the counter groups.
-pub(crate) fn latches(groups: &[Group; GROUPS]) -> [bool; GROUPS]
-    ensures { result ≡ latches_of groups.now }
-{
-    let mut latches = [false; GROUPS];
-    for place in 0..GROUPS {
-        latches[place] = groups[place].latch();
-    }
-    latches
 }

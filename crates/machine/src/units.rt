@@ -1,9 +1,6 @@
 //! The units of a machine.
 
-ghost use Rattle.std.specs.Prelude.{◌≡◌, map};
-ghost use Rattle.counters.specs.Counters.{counter_at_start};
-ghost use Rattle.machine.specs.Machine.{group_units};
-
+use crate::groups::{emit_groups, groups, sense_groups};
 use crate::rows::{emit_all, end_all, sense_all};
 use carriage::Carriage;
 use counters::Group;
@@ -35,17 +32,19 @@ pub(crate) struct Units {
     pub(crate) wheels: Wheels,
     pub(crate) carriage: Carriage,
     pub(crate) program: Program,
+    // Whether a counter group may be under a control.
+    is_busy: bool,
 }
 
 impl Model for Units {
     ghost use Rattle.machine.specs.Machine.{MachineState};
-    ghost use Rattle.machine.specs.Fields.{machine_in, AreInUnitOrder};
+    ghost use Rattle.machine.specs.Fields.{machine_in, AreLawful};
 
     ghost Value = { MachineState };
 
     ghost view = { machine_in };
 
-    ghost invariant = { λ units. AreInUnitOrder units.groups };
+    ghost invariant = { AreLawful };
 }
 
 impl Units {
@@ -74,6 +73,7 @@ impl Units {
             wheels: Wheels::new(setup),
             carriage: Carriage::new(setup),
             program: Program::new(setup),
+            is_busy: false,
         }
     }
 
@@ -83,7 +83,7 @@ impl Units {
     {
         self.stations.emit(cycle, point, exits);
         self.comparing.emit(cycle, point, exits);
-        emit_all(&self.groups, cycle, point, exits);
+        emit_groups(&self.groups, self.is_busy, cycle, point, exits);
         emit_all(&self.storage, cycle, point, exits);
         self.emitters.emit(cycle, point, exits);
         self.program.emit(cycle, point, exits);
@@ -94,7 +94,8 @@ impl Units {
         ensures { self.new ≡ sensed self.old cycle point (has_hub picture.now) }
     {
         self.comparing.sense(cycle, point, picture);
-        sense_all(&mut self.groups, cycle, point, picture);
+        let is_busy = sense_groups(&mut self.groups, self.is_busy, cycle, point, picture);
+        self.is_busy = is_busy;
         sense_all(&mut self.storage, cycle, point, picture);
         self.pilots.sense(cycle, point, picture);
         self.wheels.sense(cycle, point, picture);
@@ -108,6 +109,7 @@ impl Units {
     {
         self.comparing.end_cycle(cycle);
         end_all(&mut self.groups, cycle);
+        self.is_busy = false;
         end_all(&mut self.storage, cycle);
         self.pilots.end_cycle(cycle);
         self.indicate.end_cycle(cycle);
@@ -115,44 +117,4 @@ impl Units {
         self.carriage.end_cycle(cycle);
         self.program.end_cycle(cycle);
     }
-}
-
-// The counter groups of a setup in the order of their units.
-fn groups(setup: &Setup) -> [Group; GROUPS]
-    ensures { result ≡ map (counter_at_start setup.now) group_units }
-{
-    [
-        Group::new(3, setup),
-        Group::new(4, setup),
-        Group::new(5, setup),
-        Group::new(6, setup),
-        Group::new(7, setup),
-        Group::new(8, setup),
-        Group::new(9, setup),
-        Group::new(10, setup),
-        Group::new(11, setup),
-        Group::new(12, setup),
-        Group::new(13, setup),
-        Group::new(14, setup),
-        Group::new(15, setup),
-        Group::new(16, setup),
-        Group::new(17, setup),
-        Group::new(18, setup),
-        Group::new(19, setup),
-        Group::new(20, setup),
-        Group::new(21, setup),
-        Group::new(22, setup),
-        Group::new(23, setup),
-        Group::new(24, setup),
-        Group::new(25, setup),
-        Group::new(26, setup),
-        Group::new(27, setup),
-        Group::new(28, setup),
-        Group::new(29, setup),
-        Group::new(30, setup),
-        Group::new(31, setup),
-        Group::new(32, setup),
-        Group::new(33, setup),
-        Group::new(34, setup),
-    ]
 }

@@ -135,6 +135,7 @@ impl Contacts {
 
     /// Closes the contact with this exit. A hub out of range changes nothing. Any other hub is held, and is passed
     /// over where no contact leads to it.
+    #[inline(always)]
     pub fn insert(&mut self, exit: Hub)
         ensures { GainsHubs (is_hub exit) self.old self.new }
     {
@@ -142,6 +143,7 @@ impl Contacts {
     }
 
     /// Closes the contact with this exit where the test is true.
+    #[inline(always)]
     pub fn insert_where(&mut self, exit: Hub, test: bool)
         ensures { GainsHubs (λ other. test && is_hub exit other) self.old self.new }
     {
@@ -149,6 +151,7 @@ impl Contacts {
     }
 
     /// Closes a row of up to 128 contacts whose exits follow one another, as [`Picture::insert_row`] adds hubs.
+    #[inline(always)]
     pub fn insert_row(&mut self, first: Hub, bits: u128)
         ensures { GainsHubs (is_in_row first bits) self.old self.new }
     {

@@ -7,6 +7,8 @@ use Rattle.capacity.specs.Capacities.{Capacities}
 use Rattle.chart_text.specs.ChartText.{Reads}
 use Rattle.compile407.specs.ChartFaults.{HasChartFault}
 use Rattle.compile407.specs.Compilation.{Compilation}
+use Rattle.compile407.specs.declared.fault.ChartFault.{ChartFault}
+use Rattle.compile407.specs.declared.fault.ChartFault.TheVariants as chart
 use Rattle.compile407.specs.Headline.{PrintsReport}
 use Rattle.compile407.specs.Served.{AreServed}
 use Rattle.compile407.proofs.CapacityTold.{capacity_told}
@@ -38,4 +40,5 @@ returns-in_err-plan-clause-refused c =
     c.lines.ensures.lawful
     (subst AreServed c.lines.ensures.value c.in_default.ensures.none)
     (subst Exceeding c.standard.ensures c.in_err-plan.ensures.refused) in
-    rw refusal.1 (subst (HasChartFault bytes) (sym refusal.2) told)
+    let Told : ChartFault → Type 0 = λ f. f ≢ chart.Memory → HasChartFault bytes f in
+    rw refusal.1 (subst Told (sym refusal.2) told)

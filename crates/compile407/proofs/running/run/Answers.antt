@@ -5,7 +5,7 @@ use Rattle.compile407.proofs.Headline.{compiled_lines, compiled_deck}
 use Rattle.compile407.proofs.running.run.Goals as goal
 
 pub returns-then-last_page-gt1-clause-refused : goal.returns-then-last_page-gt1-clause-refused
-returns-then-last_page-gt1-clause-refused c =
+returns-then-last_page-gt1-clause-refused c other =
     let lines = compiled_lines c.args.compiled.now c.chart.result.now c.setup.result.now c.args.cards.now
     c.in_ok-lines.lines.items
     c.chart.ensures.compiled c.chart.ensures.value c.setup.ensures.value c.if-cards-gt-MOST_CARDS.false

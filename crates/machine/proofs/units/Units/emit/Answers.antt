@@ -26,9 +26,9 @@ returns c hub =
     ∙ ap (λ (b : Bool). b || program)
     (c.emit-3.ensures hub
     ∙ ap (λ (b : Bool). b || emitters)
-    (c.emit_all-2.ensures hub
-    ∙ ap (λ (b : Bool). b || storage)
     (c.emit_all.ensures hub
+    ∙ ap (λ (b : Bool). b || storage)
+    (c.emit_groups.ensures hub
     ∙ ap (λ (b : Bool). b || groups)
     (c.emit-2.ensures hub ∙ ap (λ (b : Bool). b || comparing) (c.emit.ensures hub)))))
     ∙ all-emit (has_hub c.args.exits.now hub) stations comparing groups storage emitters program)

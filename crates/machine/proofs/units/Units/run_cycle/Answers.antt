@@ -10,7 +10,7 @@ loop-point-init c =
     record {
       reached = λ wiring is_net. Reached-none wiring c.args.cycle machine;
       keeps = Keeps-none c.args.cycle machine machine refl;
-      steady = c.steady-closed.ensures;
+      steady = c.closed-closed.ensures;
     }
 
 pub loop-point-preserved : goal.loop-point-preserved
@@ -25,5 +25,5 @@ loop-point-preserved c =
           Reached-more wiring cycle old mid now place (c.loop-point.invariant.reached wiring is_net)
           (PointStep-at wiring cycle mid now place C c.loop-point-test.true (c.step.ensures.step wiring is_net));
       keeps = Keeps-more cycle _ old mid now c.loop-point.invariant.keeps c.step.ensures.senses;
-      steady = AreSteady-more cycle c.steady-closed.result _ mid now c.loop-point.invariant.steady c.step.ensures.senses;
+      steady = AreSteady-more cycle c.closed-closed.result _ mid now c.loop-point.invariant.steady c.step.ensures.senses;
     }

@@ -3,9 +3,12 @@ use Rattle.machine.proofs.UnitOrder.{sensed-in_order}
 use Rattle.machine.proofs.units.Units.sense.Goals as goal
 
 pub invariant_of-self : goal.invariant_of-self
-invariant_of-self c =
-    sensed-in_order c.self.inside.groups c.sense_all.new.units c.args.cycle c.args.point (has_hub c.args.picture.now)
-    c.sense_all.ensures c.self.invariant
+invariant_of-self c = record {
+  ordered =
+      sensed-in_order c.self.inside.groups c.sense_groups-is_busy.new.groups c.args.cycle c.args.point
+      (has_hub c.args.picture.now) c.sense_groups-is_busy.ensures.sensed c.self.invariant.ordered;
+  rest = c.sense_groups-is_busy.ensures.rest;
+}
 
 pub returns : goal.returns
 returns c =
@@ -13,8 +16,8 @@ returns c =
     (λ i. record {
       stations = c.self.inside.stations;
       comparing = c.sense.ensures i;
-      groups = c.sense_all.ensures i;
-      storage = c.sense_all-2.ensures i;
+      groups = c.sense_groups-is_busy.ensures.sensed i;
+      storage = c.sense_all.ensures i;
       pilots = c.sense-2.ensures i;
       indicate = c.self.inside.indicate;
       splits = c.self.inside.splits;

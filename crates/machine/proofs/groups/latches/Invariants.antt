@@ -1,6 +1,6 @@
 use Rattle.std.proofs.Common.{◌≡◌, take, length}
 use Rattle.machine.specs.Steady.{latches_of}
-use Rattle.machine.proofs.rows.latches.Given as goal
+use Rattle.machine.proofs.groups.latches.Given as goal
 
 -- the groups so far have told their latches
 abbrev pub invariant-loop-place : goal.invariant-loop-place
