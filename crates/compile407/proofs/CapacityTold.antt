@@ -9,25 +9,24 @@ use Rattle.chart_rules.specs.Rules.{IsLawful}
 use Rattle.chart_text.specs.Chart.{Chart}
 use Rattle.chart_text.specs.ChartText.{Reads}
 use Rattle.compile407.specs.ChartFaults.{HasChartFault, of_capacity}
-use Rattle.compile407.specs.Served.{IsServed}
 use Rattle.compile407.specs.declared.fault.ChartFault.TheVariants as chart
 
--- where a chart that is read, lawful and served exceeds a capacity, the fault of the capacity is the chart's
+-- where a chart that is read and lawful exceeds a capacity, the fault of the capacity is the chart's
 pub capacity_told : (bytes : List ℕ) (read : Chart) (fault : CapacityFault) → Reads bytes read → IsLawful read →
-    IsServed read → (fault ≢ exceeds.Memory → Exceeds (wanted_of read.lines) standard fault)
+    (fault ≢ exceeds.Memory → Exceeds (wanted_of read.lines) standard fault)
     → of_capacity fault ≢ chart.Memory → HasChartFault bytes (of_capacity fault)
-capacity_told bytes read (exceeds.Counters width count there) reads lawful served has other =
-    record { read = read; reads = reads; lawful = lawful; served = served; is_cause = λ same. cc; exceeds = has (λ same. cc) }
-capacity_told bytes read (exceeds.Pilots count there) reads lawful served has other =
-    record { read = read; reads = reads; lawful = lawful; served = served; is_cause = λ same. cc; exceeds = has (λ same. cc) }
-capacity_told bytes read (exceeds.Comparing count there) reads lawful served has other =
-    record { read = read; reads = reads; lawful = lawful; served = served; is_cause = λ same. cc; exceeds = has (λ same. cc) }
-capacity_told bytes read (exceeds.StorageWidth line) reads lawful served has other =
-    record { read = read; reads = reads; lawful = lawful; served = served; is_cause = λ same. cc; exceeds = has (λ same. cc) }
-capacity_told bytes read (exceeds.StorageUnits count there) reads lawful served has other =
-    record { read = read; reads = reads; lawful = lawful; served = served; is_cause = λ same. cc; exceeds = has (λ same. cc) }
-capacity_told bytes read (exceeds.Splits count there) reads lawful served has other =
-    record { read = read; reads = reads; lawful = lawful; served = served; is_cause = λ same. cc; exceeds = has (λ same. cc) }
-capacity_told bytes read (exceeds.Indicate level count there) reads lawful served has other =
-    record { read = read; reads = reads; lawful = lawful; served = served; is_cause = λ same. cc; exceeds = has (λ same. cc) }
-capacity_told bytes read exceeds.Memory reads lawful served has other = absurd (other refl)
+capacity_told bytes read (exceeds.Counters width count there) reads lawful has other =
+    record { read = read; reads = reads; lawful = lawful; is_cause = λ same. cc; exceeds = has (λ same. cc) }
+capacity_told bytes read (exceeds.Pilots count there) reads lawful has other =
+    record { read = read; reads = reads; lawful = lawful; is_cause = λ same. cc; exceeds = has (λ same. cc) }
+capacity_told bytes read (exceeds.Comparing count there) reads lawful has other =
+    record { read = read; reads = reads; lawful = lawful; is_cause = λ same. cc; exceeds = has (λ same. cc) }
+capacity_told bytes read (exceeds.StorageWidth line) reads lawful has other =
+    record { read = read; reads = reads; lawful = lawful; is_cause = λ same. cc; exceeds = has (λ same. cc) }
+capacity_told bytes read (exceeds.StorageUnits count there) reads lawful has other =
+    record { read = read; reads = reads; lawful = lawful; is_cause = λ same. cc; exceeds = has (λ same. cc) }
+capacity_told bytes read (exceeds.Splits count there) reads lawful has other =
+    record { read = read; reads = reads; lawful = lawful; is_cause = λ same. cc; exceeds = has (λ same. cc) }
+capacity_told bytes read (exceeds.Indicate level count there) reads lawful has other =
+    record { read = read; reads = reads; lawful = lawful; is_cause = λ same. cc; exceeds = has (λ same. cc) }
+capacity_told bytes read exceeds.Memory reads lawful has other = absurd (other refl)

@@ -1,5 +1,5 @@
 -- A text that compiles has no fault, and a deck that can be run has none.
-use Rattle.std.proofs.Common.{◌≡◌, ℕ, List, true, false, Some, slice_get, subst, arith}
+use Rattle.std.proofs.Common.{◌≡◌, ◌∙◌, sym, ap, ℕ, List, Some, None, slice_get, subst, arith}
 use Rattle.std.specs.List.{All}
 use Rattle.std.proofs.lemmas.List.Elements.{All-get_or}
 use Rattle.std.proofs.lemmas.Option.{slice_get_within, get_or_from_slice_get}
@@ -8,30 +8,21 @@ use Rattle.allocate.specs.Exceeded.{HasFault as Exceeds}
 use Rattle.allocate.specs.Wanted.{wanted_of}
 use Rattle.capacity.specs.Capacities.{standard}
 use Rattle.chart_text.specs.Chart.{Chart}
-use Rattle.chart_text.specs.declared.chart.Line.{Line}
 use Rattle.chart_text.specs.declared.fault.TextFault.TheVariants as text
 use Rattle.chart_text.proofs.ChartGrammar.{one_chart, no_chart}
 use Rattle.chart_rules.specs.Rules.{Broken, IsKept, IsLawful}
 use Rattle.chart_rules.specs.ValidCard.{IsValidCard}
+use Rattle.report.specs.Totals.{first_of}
 use Rattle.compile407.specs.declared.fault.ChartFault.TheVariants as chart
 use Rattle.compile407.specs.declared.fault.RunFault.{RunFault}
 use Rattle.compile407.specs.declared.fault.RunFault.TheVariants as deck
 use Rattle.compile407.specs.Outcomes.{CompiledTextsHaveNoFault, RunnableDecksHaveNoFault}
 use Rattle.compile407.specs.RunFaults.{IsInvalidDeck}
-use Rattle.compile407.specs.Served.{is_served, AreServed, IsFirstUnserved}
 
 -- what holds of all of a list holds of what is found at a place
 at_place : {X : Type 0} (P : X → Type 0) (xs : List X) (place : ℕ) (x : X) → slice_get xs place ≡ Some x → All P xs → P x
 at_place P xs place x is_there all =
     subst P (get_or_from_slice_get xs place x x is_there) (All-get_or P xs place x (slice_get_within xs place x is_there) all)
-
--- a served list of lines has no first one that isn't
-none_unserved : (lines : List Line) (number : ℕ) → AreServed lines → IsFirstUnserved lines number → ⊥
-none_unserved lines number served first =
-    let on : is_served first.line.statement ≡ true =
-    at_place (λ line. is_served line.statement ≡ true) lines first.place first.line first.is_there served in
-    let off : is_served first.line.statement ≡ false = first.unserved in
-    cc
 
 pub compiled_texts_have_no_fault : CompiledTextsHaveNoFault
 unfolding IsLawful IsKept
@@ -43,10 +34,7 @@ compiled_texts_have_no_fault bytes compiled (chart.NotALine line) reads is has =
 compiled_texts_have_no_fault bytes compiled chart.NoEnd reads is has = (no_chart bytes compiled.chart text.NoEnd has reads)
 compiled_texts_have_no_fault bytes compiled (chart.Rule broken line) reads is has =
     let P : Chart → Type 0 = λ c. Broken broken c line in
-    (is.lawful broken line (subst P (one_chart bytes has.read compiled.chart has.reads reads) has.first.broken))
-compiled_texts_have_no_fault bytes compiled (chart.NotYet line) reads is has =
-    let P : Chart → Type 0 = λ c. IsFirstUnserved c.lines line in
-    (none_unserved compiled.chart.lines line is.served (subst P (one_chart bytes has.read compiled.chart has.reads reads) has.first))
+    (is.sound.lawful broken line (subst P (one_chart bytes has.read compiled.chart has.reads reads) has.first.broken))
 compiled_texts_have_no_fault bytes compiled (chart.Capacity fault) reads is has =
     let P : Chart → Type 0 = λ c. Exceeds (wanted_of c.lines) standard fault in
     let exceeds = subst P (one_chart bytes has.read compiled.chart has.reads reads) has.exceeds in
@@ -66,5 +54,6 @@ pub runnable_decks_have_no_fault : RunnableDecksHaveNoFault
 runnable_decks_have_no_fault of_cards cards deck.TooManyCards is has = (omega (arith, is.deck.long, has))
 runnable_decks_have_no_fault of_cards cards (deck.NotText number column) is has = (none_invalid of_cards cards _ is.deck.valid has.1)
 runnable_decks_have_no_fault of_cards cards (deck.NotAmount number column) is has = (none_invalid of_cards cards _ is.deck.valid has.1)
-runnable_decks_have_no_fault of_cards cards deck.TooLong is has = (omega (arith, is.one_page, has.1))
+runnable_decks_have_no_fault of_cards cards (deck.DoesNotFit level name card) is has =
+    let none : None ≡ Some has.1.misfit = ap first_of (sym is.fits) ∙ has.1.is_first in cc
 runnable_decks_have_no_fault of_cards cards deck.Memory is has = has

@@ -1,79 +1,88 @@
--- The pages that the machine prints, wired for a listing, are the report of the deck.
-use Rattle.std.proofs.Common.{◌≡◌, ℕ, ◌^◌, ◌≤◌, true, if◌then◌else◌, List, [], ◌∷◌, ◌++◌, map, length, refl, sym, ap, subst, ◌∙◌, arith}
-use Rattle.std.specs.List.{All, flat_map}
-use Rattle.hubs.specs.Wiring.{Wiring}
-use Rattle.chart_text.specs.Chart.{Chart}
-use Rattle.chart_text.specs.declared.chart.Line.{Line}
+-- The pages that the machine prints, wired for a chart, are the chart's report of the deck.
+use Rattle.std.proofs.Common.{◌≡◌, ◌∙◌, ℕ, ◌≤◌, List, length, ap, subst, sym}
+use Rattle.std.specs.List.{All}
+use Rattle.allocate.specs.Plans.{Lists, IsFor}
 use Rattle.carriage.specs.declared.placed_line.PlacedLine.{PlacedLine}
-use Rattle.machine.specs.Feeds.{MachineLines}
-use Rattle.compile407.specs.ChartForm.{prints_details, form_of}
-use Rattle.compile407.specs.Outline.{details}
-use Rattle.compile407.specs.BodyLines.{card_line, lines_for}
-use Rattle.compile407.specs.Places.{placed, before_all}
-use Rattle.compile407.specs.Report.{report_lines}
 use Rattle.chart_rules.specs.Rules.{IsLawful}
-use Rattle.compile407.specs.Served.{IsServed}
-use Rattle.compile407.specs.Compilation.{Compilation, IsCompiled}
-use Rattle.compile407.specs.WiredFor.{WiredFor}
-use Rattle.compile407.specs.Listing.{IsListing}
-use Rattle.compile407.proofs.Cycles.{IsGathered}
-use Rattle.page_text.specs.Pages.{Pages}
 use Rattle.chart_rules.specs.ValidCard.{IsValidCard}
-use Rattle.compile407.specs.Headline.{IsDeck, WiredSetupsPrintReports}
-use Rattle.std.proofs.lemmas.List.Elements.{All-weaker}
-use Rattle.compile407.proofs.Lawful.{listing_of}
-use Rattle.compile407.proofs.Validity.{valid_gathered}
-use Rattle.compile407.proofs.WholeRun.{run_lines}
+use Rattle.chart_runs.proofs.Reports.{machine_prints_reports}
+use Rattle.chart_text.specs.Chart.{Chart, NumbersRise}
+use Rattle.chart_text.specs.ChartText.{Reads}
+use Rattle.chart_text.specs.declared.chart.Line.{Line}
+use Rattle.hubs.specs.Wiring.{Wiring}
+use Rattle.machine.specs.Feeds.{MachineLines}
+use Rattle.page_text.specs.Pages.{Pages}
+use Rattle.printed_lines.proofs.Premises.{read_literals}
+use Rattle.report.specs.ChartForm.{form_of}
+use Rattle.report.specs.Report.{report_lines}
+use Rattle.report.specs.Totals.{Fits}
+use Rattle.wire_chart.proofs.Answered.{one_setup}
+use Rattle.wire_chart.specs.Laws.{IsSameSetup}
+use Rattle.wire_gen.specs.WiredFor.{WiredFor}
+use Rattle.compile407.specs.Compilation.{Compilation, IsCompiled}
+use Rattle.compile407.specs.Headline.{IsDeck, IsSound, WiredSetupsPrintReports, WrittenSetupsPrintReports}
 
--- under PRINT DETAIL the body lines are the lines of the cards
-body_lines-details : (lines : List Line) (opens : ℕ) (cards : List (List ℕ)) → prints_details lines ≡ true →
-    flat_map (lines_for lines) (details opens cards) ≡ map (card_line lines) cards
-body_lines-details lines opens [] prints = refl
-body_lines-details lines opens (card ∷ cards) prints =
-    ap (λ b. (if b then card_line lines card ∷ [] else []) ++ flat_map (lines_for lines) (details 0 cards)) prints
-    ∙ ap (λ others. card_line lines card ∷ others) (body_lines-details lines 0 cards prints)
+-- a chart that was read and breaks no rule is sound
+pub sound_read : (bytes : List ℕ) (raw chart : Chart) → Reads bytes raw → chart ≡ raw → IsLawful chart →
+    NumbersRise chart.lines chart.end → IsSound chart
+sound_read bytes raw chart reads same lawful rising =
+    record { lawful = lawful; rising = rising; literals = read_literals bytes chart (subst (Reads bytes) (sym same) reads) }
 
--- the lines that the machine places are those of the report
-pub machine_lines : (chart : Chart) (wiring : Wiring) (cards : List (List ℕ)) (lines : List PlacedLine) →
-    WiredFor chart wiring → IsListing chart →
-    All (IsGathered chart) cards → length cards ≤ 2 ^ 32 → MachineLines wiring cards lines → lines
-    ≡ report_lines chart cards
-machine_lines chart wiring cards lines wired listing whole room run =
-    run_lines chart wiring cards lines wired listing whole room run
-    ∙ sym (ap (placed (form_of chart.lines) before_all) (body_lines-details chart.lines 4 cards listing.prints))
-
--- a setup wired for a served chart that breaks no rule places the lines of its reports
-placed_lines : (chart : Chart) (wiring : Wiring) (cards : List (List ℕ)) (lines : List PlacedLine) → IsLawful chart →
-    IsServed chart →
-    WiredFor chart wiring → IsDeck chart cards → MachineLines wiring cards lines → lines ≡ report_lines chart cards
-placed_lines chart wiring cards lines lawful served wired deck run =
-    machine_lines chart wiring cards lines wired (listing_of chart lawful served)
-    (All-weaker (IsValidCard chart) (IsGathered chart)
-    (λ card valid. valid_gathered chart card lawful valid) cards deck.valid)
-    (omega (arith, deck.long)) run
+-- a setup wired for a sound chart places the lines of its reports
+placed_lines : (chart : Chart) (plan : Lists) (wiring : Wiring) (cards : List (List ℕ)) (lines : List PlacedLine) →
+    IsSound chart → IsFor chart.lines plan → WiredFor chart.lines plan wiring → IsDeck chart cards → Fits chart.lines cards →
+    MachineLines wiring cards lines → lines ≡ report_lines chart cards
+placed_lines chart plan wiring cards lines sound serves wired deck fits run =
+    machine_prints_reports chart plan wiring cards lines
+    (record { lawful = sound.lawful; planned = serves; wired = wired }) sound.rising sound.literals deck.valid deck.long fits run
 
 -- the headline
 pub wired_setups_print_reports : WiredSetupsPrintReports
-wired_setups_print_reports chart wiring lawful served wired cards lines deck run =
+wired_setups_print_reports chart plan wiring sound serves wired cards lines deck fits run =
     ap (λ placed. Pages placed (form_of chart.lines).lines)
-    (placed_lines chart wiring cards lines lawful served wired deck run)
+    (placed_lines chart plan wiring cards lines sound serves wired deck fits run)
 
--- the lines that a compiled setup places for a deck are those of its report
-pub compiled_lines : (compiled : Compilation) (chart : Chart) (wiring : Wiring) (cards : List (List ℕ))
-    (lines : List PlacedLine) → IsCompiled compiled →
-    chart ≡ compiled.chart → wiring ≡ compiled.setup → length cards ≤ 999999 → All (IsValidCard chart) cards →
-    MachineLines wiring cards lines →
-    lines ≡ report_lines compiled.chart cards
-compiled_lines compiled chart wiring cards lines is_compiled same_chart same_setup long valid run =
-    let V : Chart → Type 0 = λ c. All (IsValidCard c) cards in
-    let M : Wiring → Type 0 = λ w. MachineLines w cards lines in
-    placed_lines compiled.chart compiled.setup cards lines is_compiled.lawful is_compiled.served is_compiled.wired
-    (record { valid = subst V same_chart valid; long = long }) (subst M same_setup run)
-
--- its deck can be run
+-- a deck can be run by the chart of a compilation
 pub compiled_deck : (compiled : Compilation) (chart : Chart) (cards : List (List ℕ)) → chart ≡ compiled.chart →
-    length cards ≤ 999999 →
-    All (IsValidCard chart) cards → IsDeck compiled.chart cards
+    length cards ≤ 999999 → All (IsValidCard chart) cards → IsDeck compiled.chart cards
 compiled_deck compiled chart cards same_chart long valid =
     let V : Chart → Type 0 = λ c. All (IsValidCard c) cards in
     record { valid = subst V same_chart valid; long = long }
+
+-- the lines that a compiled setup places for a deck are those of its report
+pub compiled_lines : (compiled : Compilation) (wiring : Wiring) (cards : List (List ℕ)) (lines : List PlacedLine) →
+    IsCompiled compiled → wiring ≡ compiled.setup → IsDeck compiled.chart cards → Fits compiled.chart.lines cards →
+    MachineLines wiring cards lines → lines ≡ report_lines compiled.chart cards
+compiled_lines compiled wiring cards lines is same_setup deck fits run =
+    let M : Wiring → Type 0 = λ w. MachineLines w cards lines in
+    placed_lines compiled.chart compiled.plan compiled.setup cards lines is.sound is.serves is.wired deck fits
+    (subst M same_setup run)
+
+-- a setup that is the same as one that is wired for a chart is wired for it
+same_wired : (lines : List Line) (plan : Lists) (one other : Wiring) → IsSameSetup one other → WiredFor lines plan one →
+    WiredFor lines plan other
+same_wired lines plan one other same wired = record {
+  wires = λ exit entry. (
+    λ has. (wired.wires exit entry).0 ((same.wires exit entry).0 has),
+    λ asked. (same.wires exit entry).1 ((wired.wires exit entry).1 asked),
+  );
+  jacks = λ jack. (
+    λ has. (wired.jacks jack).0 (sym (same.jacks jack) ∙ has),
+    λ asked. same.jacks jack ∙ (wired.jacks jack).1 asked,
+  );
+  tape = record {
+    form_lines = same.lines ∙ wired.tape.form_lines;
+    first = same.first ∙ wired.tape.first;
+    overflow = same.overflow ∙ wired.tape.overflow;
+    stops = λ channel line. (
+      λ has. (wired.tape.stops channel line).0 (sym (same.stops channel line) ∙ has),
+      λ listed. same.stops channel line ∙ (wired.tape.stops channel line).1 listed,
+    );
+  };
+}
+
+-- the headline as the wiring chart says
+pub written_setups_print_reports : WrittenSetupsPrintReports
+written_setups_print_reports chart plan wiring text read sound serves wired written reads =
+    wired_setups_print_reports chart plan read sound serves
+    (same_wired chart.lines plan wiring read (one_setup text wiring read written reads) wired)

@@ -1,15 +1,3 @@
 pub mod CapacityTold
-pub mod CardFeeds
-pub mod Cycles
-pub mod Emitting
 pub mod Exclusions
-pub mod Feeds
-pub mod Gathered
 pub mod Headline
-pub mod Impulses
-pub mod Lawful
-pub mod NumberTests
-pub mod Sets
-pub mod Validity
-pub mod WholeRun
-pub mod WiringSteps

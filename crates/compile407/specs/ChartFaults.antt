@@ -16,7 +16,6 @@ use Rattle.chart_rules.specs.declared.fault.RuleFault.{RuleFault}
 use Rattle.chart_rules.specs.declared.fault.RuleFault.TheVariants as rule
 use Rattle.compile407.specs.declared.fault.ChartFault.{ChartFault}
 use Rattle.compile407.specs.declared.fault.ChartFault.TheVariants as chart
-use Rattle.compile407.specs.Served.{IsServed, IsFirstUnserved}
 
 -- the fault of a text, as one of a chart
 abbrev pub of_text : TextFault → ChartFault
@@ -37,19 +36,11 @@ pub record BreaksRule (bytes : List ℕ) (broken : Rule) (line : ℕ) : Type 0 w
   pub reads : Reads bytes read
   pub first : IsFirstBroken read broken line
 
--- the text reads as a chart that breaks no rule, and this is its first line that isn't served
-pub record IsUnserved (bytes : List ℕ) (line : ℕ) : Type 0 where
-  pub read : Chart
-  pub reads : Reads bytes read
-  pub lawful : IsLawful read
-  pub first : IsFirstUnserved read.lines line
-
--- the text reads as a chart that breaks no rule, is served, and exceeds a capacity of the standard machine as the fault says
+-- the text reads as a chart that breaks no rule and exceeds a capacity of the standard machine as the fault says
 pub record IsTooGreat (bytes : List ℕ) (fault : CapacityFault) : Type 0 where
   pub read : Chart
   pub reads : Reads bytes read
   pub lawful : IsLawful read
-  pub served : IsServed read
   pub is_cause : fault ≢ capacity.Memory
   pub exceeds : Exceeds (wanted_of read.lines) standard fault
 
@@ -65,6 +56,5 @@ HasChartFault bytes chart.NoFirstLine = HasFault bytes text.NoFirstLine
 HasChartFault bytes (chart.NotALine line) = HasFault bytes (text.NotALine line)
 HasChartFault bytes chart.NoEnd = HasFault bytes text.NoEnd
 HasChartFault bytes (chart.Rule broken line) = BreaksRule bytes broken line
-HasChartFault bytes (chart.NotYet line) = IsUnserved bytes line
 HasChartFault bytes (chart.Capacity fault) = IsTooGreat bytes fault
 HasChartFault bytes chart.Memory = ⊥

@@ -1,5 +1,4 @@
--- The numbers by which the faults of charts and decks are told. A chart that is not served yet, a report of several pages and want of
--- memory are told without one.
+-- The numbers by which the faults of charts and decks are told. Want of memory is told without one.
 use Rattle.std.specs.Prelude.{ℕ, Option, Some, None}
 use Rattle.allocate.specs.Exceeded.{fault_number}
 use Rattle.chart_rules.specs.Rules.{rule_number}
@@ -15,7 +14,6 @@ chart_fault_number chart.NoFirstLine = Some 12
 chart_fault_number (chart.NotALine line) = Some 13
 chart_fault_number chart.NoEnd = Some 14
 chart_fault_number (chart.Rule rule line) = Some (rule_number rule)
-chart_fault_number (chart.NotYet line) = None
 chart_fault_number (chart.Capacity fault) = fault_number fault
 chart_fault_number chart.Memory = None
 
@@ -24,5 +22,5 @@ abbrev pub run_fault_number : RunFault → Option ℕ
 run_fault_number deck.TooManyCards = Some 3
 run_fault_number (deck.NotText card column) = Some 41
 run_fault_number (deck.NotAmount card column) = Some 42
-run_fault_number deck.TooLong = None
+run_fault_number (deck.DoesNotFit level name card) = Some 43
 run_fault_number deck.Memory = None

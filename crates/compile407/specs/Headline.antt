@@ -1,30 +1,45 @@
 -- The headline: the pages that the machine prints, wired for a chart, are the chart's report of the deck.
 use Rattle.std.specs.Prelude.{◌≡◌, ℕ, ◌≤◌, List, length, All}
-use Rattle.hubs.specs.Wiring.{Wiring}
-use Rattle.chart_text.specs.Chart.{Chart}
-use Rattle.chart_rules.specs.Rules.{IsLawful}
+use Rattle.allocate.specs.Plans.{Lists, IsFor}
 use Rattle.carriage.specs.declared.placed_line.PlacedLine.{PlacedLine}
-use Rattle.machine.specs.Feeds.{MachineLines}
-use Rattle.compile407.specs.ChartForm.{form_of}
-use Rattle.page_text.specs.Pages.{Pages}
-use Rattle.compile407.specs.Report.{Report}
-use Rattle.compile407.specs.Served.{IsServed}
+use Rattle.chart_rules.specs.Rules.{IsLawful}
 use Rattle.chart_rules.specs.ValidCard.{IsValidCard}
-use Rattle.compile407.specs.WiredFor.{WiredFor}
+use Rattle.chart_text.specs.Chart.{Chart, NumbersRise}
+use Rattle.hubs.specs.Wiring.{Wiring}
+use Rattle.machine.specs.Feeds.{MachineLines}
+use Rattle.page_text.specs.Pages.{Pages}
+use Rattle.printed_lines.specs.Held.{HaveLiteralTexts}
+use Rattle.report.specs.ChartForm.{form_of}
+use Rattle.report.specs.Report.{Report}
+use Rattle.report.specs.Totals.{Fits}
+use Rattle.wire_chart.specs.WiringText.{ReadsAs}
+use Rattle.wire_gen.specs.WiredFor.{WiredFor}
+
+-- A chart that breaks no rule; as in every chart that is read, the numbers of its lines rise and its literals are print characters.
+pub record IsSound (chart : Chart) : Type 0 where
+  pub lawful : IsLawful chart
+  pub rising : NumbersRise chart.lines chart.end
+  pub literals : HaveLiteralTexts chart.lines
 
 -- a deck that can be run: valid cards, at most 999,999 of them
 pub record IsDeck (chart : Chart) (cards : List (List ℕ)) : Type 0 where
   pub valid : All (IsValidCard chart) cards
   pub long : length cards ≤ 999999
 
--- for every such deck, the pages of the lines that the machine places are the report, byte by byte
+-- for every such deck whose totals fit, the pages of the lines that the machine places are the report, byte by byte
 abbrev pub PrintsReport : Chart → Wiring → Type 0
 PrintsReport chart wiring =
-    (cards : List (List ℕ)) (lines : List PlacedLine) → IsDeck chart cards → MachineLines wiring cards lines →
-    Pages lines (form_of chart.lines).lines ≡ Report chart cards
+    (cards : List (List ℕ)) (lines : List PlacedLine) → IsDeck chart cards → Fits chart.lines cards →
+    MachineLines wiring cards lines → Pages lines (form_of chart.lines).lines ≡ Report chart cards
 
--- a setup wired for a served chart that breaks no rule prints its reports
+-- every setup that is wired for a sound chart by a plan of it prints the chart's reports
 abbrev pub WiredSetupsPrintReports : Type 0
 WiredSetupsPrintReports =
-    (chart : Chart) (wiring : Wiring) → IsLawful chart → IsServed chart → WiredFor chart wiring →
-    PrintsReport chart wiring
+    (chart : Chart) (plan : Lists) (wiring : Wiring) → IsSound chart → IsFor chart.lines plan →
+    WiredFor chart.lines plan wiring → PrintsReport chart wiring
+
+-- Wired as a wiring chart of such a setup says, the machine prints the chart's reports too: every setup that the text reads as does.
+abbrev pub WrittenSetupsPrintReports : Type 0
+WrittenSetupsPrintReports =
+    (chart : Chart) (plan : Lists) (wiring : Wiring) (text : List ℕ) (read : Wiring) → IsSound chart → IsFor chart.lines plan →
+    WiredFor chart.lines plan wiring → ReadsAs text wiring → ReadsAs text read → PrintsReport chart read

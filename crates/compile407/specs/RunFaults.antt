@@ -5,10 +5,10 @@ use Rattle.chart_rules.specs.Fields.{fields_of}
 use Rattle.chart_rules.specs.ValidCard.{IsValidCard, IsFirstInvalid}
 use Rattle.chart_rules.specs.declared.card.CardFault.{CardFault}
 use Rattle.chart_rules.specs.declared.card.CardFault.TheVariants as card
+use Rattle.report.specs.Totals.{Misfit, first_of, misfits}
 use Rattle.compile407.specs.declared.fault.RunFault.{RunFault}
 use Rattle.compile407.specs.declared.fault.RunFault.TheVariants as deck
 use Rattle.compile407.specs.Headline.{IsDeck}
-use Rattle.compile407.specs.Runnable.{HasManyPages}
 
 -- the fault of a card with a number, as one of a deck
 abbrev pub of_card : CardFault → ℕ → RunFault
@@ -25,6 +25,12 @@ pub record IsInvalidDeck (chart : Chart) (cards : List (List ℕ)) (fault : RunF
   pub first : IsFirstInvalid (fields_of chart.lines) card told
   pub is_fault : fault ≡ of_card told (place + 1)
 
+-- the fault tells of the first total that has more digits than its total line has room for
+pub record IsMisfit (chart : Chart) (cards : List (List ℕ)) (fault : RunFault) : Type 0 where
+  pub misfit : Misfit
+  pub is_first : first_of (misfits chart.lines cards) ≡ Some misfit
+  pub is_fault : fault ≡ deck.DoesNotFit misfit.level misfit.name misfit.card
+
 -- What a fault says of a deck; no deck makes memory run out.
 abbrev pub HasRunFault : Chart → List (List ℕ) → RunFault → Type 0
 HasRunFault chart cards deck.TooManyCards = 999999 < length cards
@@ -32,5 +38,6 @@ HasRunFault chart cards (deck.NotText number column) =
     (length cards ≤ 999999) × IsInvalidDeck chart cards (deck.NotText number column)
 HasRunFault chart cards (deck.NotAmount number column) =
     (length cards ≤ 999999) × IsInvalidDeck chart cards (deck.NotAmount number column)
-HasRunFault chart cards deck.TooLong = IsDeck chart cards × HasManyPages chart cards
+HasRunFault chart cards (deck.DoesNotFit level name card) =
+    IsDeck chart cards × IsMisfit chart cards (deck.DoesNotFit level name card)
 HasRunFault chart cards deck.Memory = ⊥

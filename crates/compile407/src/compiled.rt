@@ -8,9 +8,9 @@ use std::marker::Model;
 /// A planning chart with its plan, which says what of the machine serves what of the chart, and the setup of the panel that is
 /// wired for it.
 ///
-/// Contracts see it as the chart, the plan and the setup. The chart breaks no rule, its forms are served, it exceeds no
-/// capacity of the standard machine, the plan is the one that the rule of allocation gives, and the setup has the chart's wires, jacks
-/// and tape, and no others.
+/// Contracts see it as the chart, the plan and the setup. The chart breaks no rule and exceeds no capacity of the
+/// standard machine, the plan is the one that the rule of allocation gives, and the setup has the chart's wires, jacks and tape, and no
+/// others.
 #[derive(Drop)]
 pub struct Compiled {
     chart: Chart,

@@ -9,24 +9,22 @@ ghost use Rattle.compile407.specs.Headline.{PrintsReport};
 
 use crate::compiled::Compiled;
 use crate::fault::ChartFault;
-use crate::served::first_unserved;
-use crate::wiring::wire;
 use allocate::allocate;
 use capacity::Profile;
 use chart_rules::check;
 use chart_text::read_chart;
 use std::alloc::Global;
+use wire_gen::wire;
 
 /// The chart of a text with its plan on the standard machine and the setup that is wired for it.
 ///
-/// For every deck of at most 999,999 valid cards, the pages that the machine prints in that setup are the chart's
-/// report.
+/// For every deck of at most 999,999 valid cards whose totals fit, the pages that the machine prints in that setup are byte by byte the
+/// chart's report.
 ///
 /// # Errors
 ///
 /// `TooLarge`, `NoFirstLine`, `NotALine` or `NoEnd` where the text is no chart, else `Rule` where the chart breaks a
-/// rule, else `NotYet` where a line's form is not served yet, else `Capacity` where the machine has too little of something for the
-/// chart; `Memory` where a growth was refused.
+/// rule, else `Capacity` where the machine has too little of something for the chart; `Memory` where a growth was refused.
 pub fn compile(alloc: Global, bytes: &[u8]) -> Result<Compiled, ChartFault>
     ensures read { IfOk result (λ compiled. Reads bytes.now compiled.chart) }
     ensures compiled { IfOk result IsCompiled }
@@ -35,10 +33,9 @@ pub fn compile(alloc: Global, bytes: &[u8]) -> Result<Compiled, ChartFault>
 {
     let raw = read_chart(alloc, bytes)?;
     let chart = check(alloc, raw)?;
-    if let Some(line) = first_unserved(chart.lines()) {
-        return Err(ChartFault::NotYet { line });
-    }
+    // What is known of the lines of every chart is told with them.
+    let _lines = chart.lines();
     let plan = allocate(alloc, &chart, &Profile::standard())?;
-    let setup = wire(alloc, &chart)?;
+    let setup = wire(alloc, &chart, &plan)?;
     Ok(Compiled::of(chart, plan, setup))
 }

@@ -6,7 +6,7 @@ ghost use Rattle.compile407.specs.declared.fault.RunFault.TheVariants as deck;
 
 use allocate::CapacityFault;
 use chart_rules::{Rule, RuleFault};
-use chart_text::TextFault;
+use chart_text::{Level, Name, TextFault};
 use std::alloc::AllocError;
 use thiserror::Error;
 
@@ -36,13 +36,7 @@ pub enum ChartFault {
         /// The number of the lowest line that breaks it.
         line: u16,
     },
-    /// The chart is good, and the line with this number is the first whose form is not served yet.
-    #[error("line {line} is not served yet")]
-    NotYet {
-        /// The number of the line.
-        line: u16,
-    },
-    /// The chart is good and its forms are served, and the machine has too little of something for it.
+    /// The chart is good, and the machine has too little of something for it.
     #[error("{fault}")]
     Capacity {
         /// The first capacity that it exceeds.
@@ -57,7 +51,7 @@ impl ChartFault {
     ghost use Rattle.std.specs.Prelude.{◌≡◌};
     ghost use Rattle.compile407.specs.FaultNumbers.{chart_fault_number};
 
-    /// The number by which the fault is told, 11 to 67; none where a form is not served yet, and where memory was refused.
+    /// The number by which the fault is told, 11 to 67; none where memory was refused.
     pub fn number(self) -> Option<u8>
         ensures { result ≡ chart_fault_number self }
     {
@@ -67,7 +61,6 @@ impl ChartFault {
             ChartFault::NotALine { .. } => Some(13),
             ChartFault::NoEnd => Some(14),
             ChartFault::Rule { rule, .. } => Some(rule.number()),
-            ChartFault::NotYet { .. } => None,
             ChartFault::Capacity { fault } => fault.number(),
             ChartFault::Memory => None,
         }
@@ -146,9 +139,17 @@ pub enum RunFault {
         /// The first column of its first invalid field.
         column: u16,
     },
-    /// The report has more than one page, which is not served yet.
-    #[error("the report has more than one page")]
-    TooLong,
+    /// A total has more digits than its total line has room for: the first such total, by its group's last card, then by its level, then by
+    /// its line of the chart.
+    #[error("a total that ends with card {card} has too many digits")]
+    DoesNotFit {
+        /// The level of the total line.
+        level: Level,
+        /// The name of the amount.
+        name: Name,
+        /// The number of the last card of the total's group, from 1.
+        card: u32,
+    },
     /// A growth was refused.
     #[error("out of memory")]
     Memory,
@@ -158,8 +159,7 @@ impl RunFault {
     ghost use Rattle.std.specs.Prelude.{◌≡◌};
     ghost use Rattle.compile407.specs.FaultNumbers.{run_fault_number};
 
-    /// The number by which the fault is told, 3, 41 or 42; none where the report has several pages, and where memory was
-    /// refused.
+    /// The number by which the fault is told, 3 or 41 to 43; none where memory was refused.
     pub fn number(self) -> Option<u8>
         ensures { result ≡ run_fault_number self }
     {
@@ -167,7 +167,7 @@ impl RunFault {
             RunFault::TooManyCards => Some(3),
             RunFault::NotText { .. } => Some(41),
             RunFault::NotAmount { .. } => Some(42),
-            RunFault::TooLong => None,
+            RunFault::DoesNotFit { .. } => Some(43),
             RunFault::Memory => None,
         }
     }

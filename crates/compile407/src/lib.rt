@@ -2,8 +2,8 @@
 //!
 //! `compile` reads a chart, checks it and wires a setup of the panel for it; `run` runs a deck of cards through the
 //! machine, wired so, and answers the bytes of its pages. These are byte by byte the chart's report of the deck, which
-//! knows fields, lines and pages, and nothing of the machine. So far listings are served: text fields, PRINT DETAIL,
-//! DETAIL lines with a field alone, and FORM.
+//! knows fields, lines and pages, and nothing of the machine. Every chart that breaks no rule and exceeds no capacity is served, and
+//! every deck of valid cards whose totals fit.
 #![tactic(auto)]
 
 mod compiled;
@@ -11,16 +11,15 @@ mod compiling;
 mod fault;
 mod laws;
 mod running;
-mod served;
-mod wiring;
 
 pub use compiled::Compiled;
 pub use compiling::compile;
 pub use fault::{ChartFault, RunFault};
 pub use laws::{
     compiled_texts_have_no_fault, runnable_decks_have_no_fault, wired_setups_print_reports,
+    written_setups_print_reports,
 };
-pub use running::{MOST_CARDS, run};
+pub use running::{MOST_CARDS, first_misfit, run};
 
 #[cfg(test)]
 mod tests;

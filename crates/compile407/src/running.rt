@@ -1,20 +1,21 @@
 //! Running a deck of cards, from the cards to the bytes of the pages.
 
-ghost use Rattle.std.specs.Prelude.{◌≡◌, ◌≢◌, ◌≤◌, ◌<◌, ◌+◌, length, IfOk, IfErr, OnOk, All};
-ghost use Rattle.compile407.specs.RunFaults.{HasRunFault, IsInvalidDeck, of_card};
+ghost use Rattle.std.specs.Prelude.{◌≡◌, ◌≢◌, ◌≤◌, ◌<◌, ◌+◌, length, IfOk, IfErr, OnOk, All, option_map};
+ghost use Rattle.misfits.specs.Told.{told};
+ghost use Rattle.report.specs.Totals.{Fits, first_of, misfits};
+ghost use Rattle.compile407.specs.RunFaults.{HasRunFault, IsInvalidDeck, IsMisfit, of_card};
 ghost use Rattle.compile407.specs.declared.fault.RunFault.TheVariants as deck;
 ghost use Rattle.compile407.specs.Headline.{IsDeck};
-ghost use Rattle.compile407.specs.Report.{Report};
-ghost use Rattle.page_text.specs.Pages.{last_page};
+ghost use Rattle.report.specs.Report.{Report};
 ghost use Rattle.compile407.specs.Runnable.{IsRunnable};
 ghost use Rattle.chart_rules.specs.ValidCard.{IsValidCard};
 
 use crate::compiled::Compiled;
 use crate::fault::RunFault;
 use card_code::Card;
-use carriage::PlacedLine;
 use chart_rules::{CardFault, Chart, valid_card};
 use machine::simulate;
+use misfits::Misfit;
 use page_text::page_bytes;
 use std::alloc::Global;
 
@@ -45,15 +46,25 @@ fn check_cards(chart: &Chart, cards: &[Card]) -> Result<(), RunFault>
     Ok(())
 }
 
-// The last page that has a line, and 0 without lines.
-fn last_page(placed: &[PlacedLine]) -> u64
-    ensures { result ≡ last_page placed.now }
+/// The first total of a deck that has more digits than its total line has room for: by the last card of its group, then by its level, the
+/// lowest first, then by its line of the chart.
+pub fn first_misfit(compiled: &Compiled, cards: &[Card]) -> Option<Misfit>
+    requires { length cards.now ≤ 999999 }
+    ensures { option_map told result ≡ first_of (misfits compiled.now.chart.lines cards.now) }
 {
-    let mut last = 0;
-    for there in placed {
-        last = last.max(there.page);
+    misfits::first_misfit(compiled.chart(), cards)
+}
+
+// Refuses a deck with a total that doesn't fit, by the first such total.
+fn check_totals(compiled: &Compiled, cards: &[Card]) -> Result<(), RunFault>
+    requires { length cards.now ≤ 999999 }
+    ensures fits { OnOk result (Fits compiled.now.chart.lines cards.now) }
+    ensures misfit { IfErr result (IsMisfit compiled.now.chart cards.now) }
+{
+    match first_misfit(compiled, cards) {
+        Some(Misfit { level, name, card }) => Err(RunFault::DoesNotFit { level, name, card }),
+        None => Ok(()),
     }
-    last
 }
 
 /// The report of a deck of cards: what the machine prints, wired as compiled, as the bytes of its pages.
@@ -61,7 +72,8 @@ fn last_page(placed: &[PlacedLine]) -> u64
 /// # Errors
 ///
 /// `TooManyCards` for more than 999,999 cards, else `NotText` or `NotAmount` for the first card that is not valid for
-/// the chart, else `TooLong` where the report has more than one page; `Memory` where a growth was refused.
+/// the chart, else `DoesNotFit` for the first total that does not fit; `Memory` where a growth
+/// was refused.
 pub fn run(alloc: Global, compiled: &Compiled, cards: &[Card]) -> Result<Vec<u8>, RunFault>
     ensures report { IfOk result (λ bytes. bytes.items ≡ Report compiled.now.chart cards.now) }
     ensures served { OnOk result (IsRunnable compiled.now.chart cards.now) }
@@ -71,10 +83,8 @@ pub fn run(alloc: Global, compiled: &Compiled, cards: &[Card]) -> Result<Vec<u8>
         return Err(RunFault::TooManyCards);
     }
     check_cards(compiled.chart(), cards)?;
+    check_totals(compiled, cards)?;
     let lines = simulate(alloc, compiled.setup(), cards)?;
-    if last_page(&lines) > 1 {
-        return Err(RunFault::TooLong);
-    }
     let long = compiled.setup().tape().lines();
     let bytes = page_bytes(alloc, &lines, u32::from(long))?;
     Ok(bytes)

@@ -31,7 +31,7 @@ fn pages_of(alloc: Global, chart: &[u8], deck: &[u8]) -> Result<Vec<u8>, Fail> {
 
 #[test]
 fn reports(rt: HostRuntime) -> Result<(), Fail> {
-    let rows: [(&[u8], &[u8], &[u8]); 6] = [
+    let rows: [(&[u8], &[u8], &[u8]); 7] = [
         (PRINTED_TWICE, b"N12", b"\nN12  N12\n\n\n\x0c"),
         (
             BOLTS,
@@ -39,6 +39,12 @@ fn reports(rt: HostRuntime) -> Result<(), Fail> {
             b"\nBOLT    A01\nNUT     B22\nWASHER  C30\n\n\n\n\n\n\n\n\n\x0c",
         ),
         (BOLTS, b"", b""),
+        // The eighth line stands on the overflow line: the ninth is the first body line of the next page.
+        (
+            BOLTS,
+            b"A\nB\nC\nD\nE\nF\nG\nH\nI\n",
+            b"\nA\nB\nC\nD\nE\nF\nG\nH\n\n\n\n\x0c\nI\n\n\n\n\n\n\n\n\n\n\n\x0c",
+        ),
         (
             OUT_OF_ORDER,
             b"BOLT   A01",
@@ -64,7 +70,7 @@ fn reports(rt: HostRuntime) -> Result<(), Fail> {
 
 #[test]
 fn charts_are_refused(rt: HostRuntime) -> Result<(), Fail> {
-    let rows: [(&[u8], ChartFault); 5] = [
+    let rows: [(&[u8], ChartFault); 4] = [
         (b"", ChartFault::NoFirstLine),
         (b"CHART407 1\nPRINT DETAIL\n", ChartFault::NoEnd),
         (
@@ -78,10 +84,6 @@ fn charts_are_refused(rt: HostRuntime) -> Result<(), Fail> {
                 line: 5,
             },
         ),
-        (
-            b"CHART407 1\nFIELD N TEXT 80 80\nPRINT DETAIL\nDETAIL 1 N\nHEAD 1 1 'N'\nFORM 4 1 2\nEND\n",
-            ChartFault::NotYet { line: 5 },
-        ),
     ];
     for (chart, fault) in rows {
         assert!(rt; compile(rt.alloc(), chart).err() == Some(fault));
@@ -92,15 +94,8 @@ fn charts_are_refused(rt: HostRuntime) -> Result<(), Fail> {
 #[test]
 fn decks_are_refused(rt: HostRuntime) -> Result<(), Fail> {
     let compiled = compile(rt.alloc(), BOLTS)?;
-    let full = read_deck(rt.alloc(), b"A\nB\nC\nD\nE\nF\nG\nH\n")?;
-    assert!(rt; run(rt.alloc(), &compiled, full.as_slice()).is_ok());
-    let rows: [(&[u8], RunFault); 2] = [
-        (b"A\nB\nC\nD\nE\nF\nG\nH\nI\n", RunFault::TooLong),
-        (b"A\n       !\n", RunFault::NotText { card: 2, column: 8 }),
-    ];
-    for (deck, fault) in rows {
-        let cards = read_deck(rt.alloc(), deck)?;
-        assert!(rt; run(rt.alloc(), &compiled, cards.as_slice()).err() == Some(fault));
-    }
+    let cards = read_deck(rt.alloc(), b"A\n       !\n")?;
+    let fault = run(rt.alloc(), &compiled, cards.as_slice()).err();
+    assert!(rt; fault == Some(RunFault::NotText { card: 2, column: 8 }));
     Ok(())
 }

@@ -5,7 +5,7 @@ pub mod FewCycles
 pub mod OneOutcome
 pub mod Order
 pub mod SameSetups
-mod ClosedContacts
+pub mod ClosedContacts
 mod Decks
 mod Exits
 mod Moving

@@ -43,6 +43,7 @@ impl Net {
                 add_row(&mut rows, number as usize - 1, setup.entries_of(exit));
             }
         }
+        rows.bundle(alloc)?;
         Ok(Net { rows })
     }
 

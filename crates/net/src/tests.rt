@@ -148,3 +148,32 @@ fn every_wire_that_there_can_be(rt: HostRuntime) -> Result<(), Fail> {
     assert!(rt; picture(&net, &[Hub::CO(group)], &[Hub::BAN(group, 4)]) == set(&carry));
     Ok(())
 }
+
+// All columns of a card are wired to wheels one by one, some columns to a second wheel, and one to another unit besides.
+#[test]
+fn wires_side_by_side(rt: HostRuntime) -> Result<(), Fail> {
+    let mut setup = Setup::new(rt.alloc(), Tape::new(66, 4, 60, &[])?);
+    let mut exits = Picture::new();
+    let mut all = Picture::new();
+    for column in 1..=80 {
+        setup.add(Hub::SR(column), Hub::W(column))?;
+        exits.insert(Hub::SR(column));
+        all.insert(Hub::SR(column));
+        all.insert(Hub::W(column));
+    }
+    for column in 21..=30 {
+        setup.add(Hub::SR(column), Hub::W(column + 80))?;
+        all.insert(Hub::W(column + 80));
+    }
+    setup.add(Hub::SR(40), Hub::RS)?;
+    all.insert(Hub::RS);
+    let net = Net::of(rt.alloc(), &setup)?;
+    let mut out = Picture::new();
+    net.picture(&exits, &Contacts::new(), &mut out);
+    assert!(rt; out == all);
+    let one = [Hub::SR(22), Hub::W(22), Hub::W(102)];
+    assert!(rt; picture(&net, &[Hub::SR(22)], &[]) == set(&one));
+    let ends = [Hub::SR(1), Hub::SR(80), Hub::W(1), Hub::W(80)];
+    assert!(rt; picture(&net, &[Hub::SR(1), Hub::SR(80)], &[]) == set(&ends));
+    Ok(())
+}

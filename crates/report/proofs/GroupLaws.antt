@@ -24,7 +24,7 @@ groups_whole lines level [] = refl
 groups_whole lines level (card ∷ cards) = ap (λ l. card ∷ l) (run_and_rest (is_same_at lines level) card cards)
 
 -- the total of two groups, one behind the other
-total-append : (field : Field) (one other : List (List ℕ))
+pub total-append : (field : Field) (one other : List (List ℕ))
     → total_of field (one ++ other) ≡ total_of field one +ℤ total_of field other
 total-append field [] other = omega (arith, ints)
 total-append field (card ∷ cards) other =

@@ -1,2 +1,10 @@
 pub mod GroupLaws
 pub mod EditLaws
+pub mod ReadBack
+pub mod PageBytes
+pub mod OutlineByCards
+pub mod Runs
+pub mod LawfulForms
+pub mod NextStops
+pub mod LinePlaces
+pub mod RisingPlaces

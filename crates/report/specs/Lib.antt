@@ -8,3 +8,7 @@ pub mod ChartForm
 pub mod Places
 pub mod Report
 pub mod Laws
+pub mod AmountLaws
+pub mod OutlineLaws
+pub mod PageLaws
+pub mod PlaceLaws

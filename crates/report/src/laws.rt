@@ -1,5 +1,9 @@
 //! Laws by which a reader can check what a report is. The functions do nothing: the contract of each is the law.
 
+ghost use Rattle.report.specs.AmountLaws.{EditsReadBack, SignByPunch, SignByAbsence, SizesAreOfDigits};
+ghost use Rattle.report.specs.OutlineLaws.{GroupsAreLongestRuns, OutlineIsByCards, IndicatedOnFirstCards};
+ghost use Rattle.report.specs.PageLaws.{PagesHaveTheirLines};
+ghost use Rattle.report.specs.PlaceLaws.{LinesStandByTheLineBefore, PlacesRise};
 ghost use Rattle.report.specs.Laws.{GroupsMakeTheWhole, TotalsAddUp, EditsFillTheirItems, LinesHave120Characters, NoCardsNoBytes};
 
 /// The groups of a level, put together, are the group above them, in order.
@@ -17,6 +21,19 @@ pub fn edits_fill_their_items()
     ensures { EditsFillTheirItems }
 {}
 
+/// An edited amount with room for its digits and its sign reads back as the number.
+pub fn edits_read_back()
+    ensures { EditsReadBack }
+{}
+
+/// Values by the rule X are below 0 where the sign column has row 11, values by the rule NX where it has none, and the size of each
+/// is the number of its digits.
+pub fn values_have_their_signs()
+    ensures punch { SignByPunch }
+    ensures absence { SignByAbsence }
+    ensures size { SizesAreOfDigits }
+{}
+
 /// Every line has 120 characters.
 pub fn lines_have_120_characters()
     ensures { LinesHave120Characters }
@@ -25,4 +42,35 @@ pub fn lines_have_120_characters()
 /// A report of no card is empty.
 pub fn no_cards_give_no_bytes()
     ensures { NoCardsNoBytes }
+{}
+
+/// A page has as many line feeds as lines, and one form feed.
+pub fn pages_have_their_lines()
+    ensures { PagesHaveTheirLines }
+{}
+
+/// The cards of a group are alike on its level's control fields, and neighbouring groups differ.
+pub fn groups_are_longest_runs()
+    ensures { GroupsAreLongestRuns }
+{}
+
+/// A change of a level ends the groups of the lower ones too, and their totals stand from the lowest level to the highest.
+pub fn the_outline_is_by_cards()
+    ensures { OutlineIsByCards }
+{}
+
+/// An indicated field stands on the first cards of the groups of its level alone.
+pub fn indicated_fields_stand_on_first_cards()
+    ensures { IndicatedOnFirstCards }
+{}
+
+/// Each line stands by the line before it: its spacing below where that one and its skip came to, or first on the next page exactly
+/// where that one came to the overflow line or past it, asked for a page, or had no further stop.
+pub fn lines_stand_by_the_line_before()
+    ensures { LinesStandByTheLineBefore }
+{}
+
+/// Places rise, and stand on the form.
+pub fn places_rise()
+    ensures { PlacesRise }
 {}

@@ -27,10 +27,8 @@ pub enum Fault<'a> {
     Capacity(u8, usize, u32),
     /// A numbered capacity, the indicate positions of a level: the level, how many are wanted, and how many are there.
     Indicate(u8, u8, usize, u32),
-    /// A line of the chart that is good but has a form that the compiler does not serve yet.
-    NotYet(u32),
-    /// The report has more than one page.
-    TooLong,
+    /// A numbered fault of a total: its level, the name of its amount, filled with blanks, and its group's last card, from 1.
+    Total(u8, u8, [u8; 8], u32),
     /// A file that can't be read.
     File(&'a str),
     /// The output can't be written.
@@ -58,8 +56,7 @@ impl Fault<'_> {
             | Fault::Counters(..)
             | Fault::Capacity(..)
             | Fault::Indicate(..)
-            | Fault::NotYet(_)
-            | Fault::TooLong => 3,
+            | Fault::Total(..) => 3,
         }
     }
 }
@@ -73,10 +70,7 @@ impl From<ChartFault> for Fault<'_> {
 
     fn from(fault: ChartFault) -> Self {
         let Some(number) = fault.number() else {
-            return match fault {
-                ChartFault::NotYet { line } => Fault::NotYet(u32::from(line)),
-                _ => Fault::Memory,
-            };
+            return Fault::Memory;
         };
         match fault {
             ChartFault::NotALine { line } | ChartFault::Rule { line, .. } => {
@@ -86,7 +80,6 @@ impl From<ChartFault> for Fault<'_> {
             ChartFault::TooLarge
             | ChartFault::NoFirstLine
             | ChartFault::NoEnd
-            | ChartFault::NotYet { .. }
             | ChartFault::Memory => Fault::Whole(number),
         }
     }
@@ -150,16 +143,16 @@ impl From<RunFault> for Fault<'_> {
 
     fn from(fault: RunFault) -> Self {
         let Some(number) = fault.number() else {
-            return match fault {
-                RunFault::TooLong => Fault::TooLong,
-                _ => Fault::Memory,
-            };
+            return Fault::Memory;
         };
-        match fault {
+        match &fault {
             RunFault::NotText { card, column } | RunFault::NotAmount { card, column } => {
-                Fault::Column(number, card, u32::from(column))
+                Fault::Column(number, *card, u32::from(*column))
             }
-            RunFault::TooManyCards | RunFault::TooLong | RunFault::Memory => Fault::Whole(number),
+            RunFault::DoesNotFit { level, name, card } => {
+                Fault::Total(number, level.number(), name.characters(), *card)
+            }
+            RunFault::TooManyCards | RunFault::Memory => Fault::Whole(number),
         }
     }
 }
@@ -215,6 +208,17 @@ fn write_number<W: fmt::Write>(
     f.write_str(Buffer::new().format(number))
 }
 
+// The letters and digits of a name, without the blanks that fill it.
+fn write_name<W: fmt::Write>(f: &mut fmt::Formatter<W>, before: &str, name: &[u8]) -> fmt::Result {
+    f.write_str(before)?;
+    for character in name {
+        if *character != b' ' {
+            f.write_char(char::from(*character))?;
+        }
+    }
+    Ok(())
+}
+
 impl fmt::Display for Fault<'_> {
     fn fmt<W: fmt::Write>(&self, f: &mut fmt::Formatter<W>) -> fmt::Result {
         match self {
@@ -251,8 +255,12 @@ impl fmt::Display for Fault<'_> {
                 write_number(f, " level ", u32::from(*level))?;
                 write_counts(f, *wanted, *there)
             }
-            Fault::NotYet(line) => write_number(f, "fault notyet line ", *line),
-            Fault::TooLong => f.write_str("fault toolong"),
+            Fault::Total(number, level, name, card) => {
+                write_number(f, "fault ", u32::from(*number))?;
+                write_number(f, " level ", u32::from(*level))?;
+                write_name(f, " name ", name)?;
+                write_number(f, " card ", *card)
+            }
             Fault::File(path) => {
                 f.write_str("fault file ")?;
                 f.write_str(path)

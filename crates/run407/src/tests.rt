@@ -179,8 +179,20 @@ fn tells_of_capacities(rt: HostRuntime) -> Result<(), Fail> {
     Ok(())
 }
 
+#[test]
+fn tells_of_a_total_that_does_not_fit(rt: HostRuntime) -> Result<(), Fail> {
+    let mut told = Vec::new(rt.alloc());
+    let status = tell(&Fault::Total(43, 1, *b"AMT2    ", 4), &mut told);
+    assert_eq!(rt;
+        told.as_slice(),
+        b"fault 43 level 1 name AMT2 card 4\n".as_slice()
+    );
+    assert_eq!(rt; status, 3);
+    Ok(())
+}
+
 // Decks that the bolts listing's chart refuses, and what is told of them.
-const REFUSED_DECKS: [(&str, &str); 9] = [
+const REFUSED_DECKS: [(&str, &str); 8] = [
     ("BOLT\nbolt\n", "fault 2 card 2 column 1\n"),
     ("NUT !\n\tA\n", "fault 2 card 2 column 1\n"),
     (
@@ -190,7 +202,6 @@ const REFUSED_DECKS: [(&str, &str); 9] = [
     ("A!\n", "fault 41 card 1 column 1\n"),
     ("BOLT   A01\nNUT    !22\n", "fault 41 card 2 column 8\n"),
     ("BOLT!  !01\n", "fault 41 card 1 column 1\n"),
-    ("A\nB\nC\nD\nE\nF\nG\nH\nI\n", "fault toolong\n"),
     ("A\nB\nC\nD\nE\nF\nG\nH\nI!\n", "fault 41 card 9 column 1\n"),
     ("A\r \n", "fault 2 card 1 column 2\n"),
 ];

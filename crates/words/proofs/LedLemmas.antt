@@ -8,7 +8,7 @@ use Rattle.std.proofs.lemmas.Bool.{cases_lt, false≢true}
 use Rattle.std.proofs.lemmas.List.{get_or_past, get_or-replicate, length-replicate}
 use Rattle.std.proofs.Math.Bool.{and-false}
 use Rattle.words.specs.Bits.{is_bit, has_place, is_in_run}
-use Rattle.words.specs.Rows.{AreRows, GainsLed, is_in_entries, leads}
+use Rattle.words.specs.Rows.{GainsLed, is_in_entries, leads}
 use Rattle.words.proofs.BitLemmas.{is_bit-and, is_bit-taken, is_bit-above, none_set}
 use Rattle.words.proofs.PlaceLemmas.{has_place-past, has_place-zeros, word_bits}
 
@@ -156,36 +156,38 @@ module _ (rows : List (List ℕ)) where
         forth : (a b : Bool) → (a && not b) ≡ true → a ≡ true
         forth a b e = grind (arith, nat_tests)
 
--- the words of new exits whose rows are in
-module _ (rows : List (List ℕ)) (marked new : List ℕ) (are_rows : AreRows marked rows) where
-  pub GainsLed-begin : (words : List ℕ) → GainsLed rows (λ place. nat_lt place 0 && has_place new place) words words
-  GainsLed-begin words = GainsLed-none rows (λ place. nat_lt place 0 && has_place new place) words
-      (λ from to at leads. never from (has_place new from) at) where
+-- whether a place is new and marked, and in a word below this one
+abbrev pub is_new_below : List ℕ → List ℕ → ℕ → ℕ → Bool
+is_new_below marked new number place = nat_lt place (64 * number) && (has_place new place && has_place marked place)
+
+-- the words of new and marked places whose rows are in
+module _ (rows : List (List ℕ)) (marked new : List ℕ) (short : length rows ≤ 1040) where
+  pub GainsLed-begin : (words : List ℕ) → GainsLed rows (is_new_below marked new 0) words words
+  GainsLed-begin words = GainsLed-none rows (is_new_below marked new 0) words
+      (λ from to at leads. never from (has_place new from && has_place marked from) at) where
         never : (n : ℕ) (b : Bool) → (nat_lt n 0 && b) ≡ true → ⊥
         never n b e = absurd (grind (arith, nat_tests, e))
 
-  pub GainsLed-next : (number : ℕ) (old now after : List ℕ)
-      → GainsLed rows (λ place. nat_lt place (64 * number) && has_place new place) old now
+  pub GainsLed-next : (number : ℕ) (old now after : List ℕ) → GainsLed rows (is_new_below marked new number) old now
       → GainsLed rows (is_in_run (64 * number) (bit_and (slice_index_or new number 0) (slice_index_or marked number 0))) now after
       → slice_index_or new number 0 < 2 ^ 64
-      → GainsLed rows (λ place. nat_lt place (64 * (number + 1)) && has_place new place) old after
+      → GainsLed rows (is_new_below marked new (number + 1)) old after
   GainsLed-next number old now after before gains small =
       GainsLed-like rows
-      (λ place. (nat_lt place (64 * number) && has_place new place)
+      (λ place. is_new_below marked new number place
       || is_in_run (64 * number) (bit_and (slice_index_or new number 0) (slice_index_or marked number 0)) place)
-      (λ place. nat_lt place (64 * (number + 1)) && has_place new place) old after
+      (is_new_below marked new (number + 1)) old after
       (λ from to is leads. ⊎_elim
       (λ (low : from < 64 * number).
       let yes : nat_lt from (64 * number) ≡ true = grind (arith, nat_tests) in
-      from_left _ _ (ap (λ b. b && has_place new from) yes ∙ right _ _ is))
+      from_left _ _ (ap (λ b. b && (has_place new from && has_place marked from)) yes ∙ right _ _ is))
       (λ high.
       let test : nat_lt from (64 * (number + 1)) ≡ true = left _ _ is in
       let near : from < 64 * (number + 1) = grind (arith, nat_tests, test) in
       let there : nat_le (64 * number) from ≡ true = grind (arith, nat_tests) in
-      from_right (nat_lt from (64 * number) && has_place new from) _
+      from_right (is_new_below marked new number from) _
       (ap (λ b. b && is_bit (bit_and (slice_index_or new number 0) (slice_index_or marked number 0)) (from - 64 * number)) there
-      ∙ at_word from high near
-      ∙ both _ _ (right _ _ is) (are_rows.marks from to leads)))
+      ∙ at_word from high near ∙ right _ _ is))
       (cases_lt from (64 * number)))
       (λ from is. ⊎_elim
       (λ before.
@@ -201,13 +203,13 @@ module _ (rows : List (List ℕ)) (marked new : List ℕ) (are_rows : AreRows ma
       ⊎_elim
       (λ (near : from < 64 * (number + 1)).
       let yes : nat_lt from (64 * (number + 1)) ≡ true = grind (arith, nat_tests) in
-      both _ _ yes (left _ _ (sym (at_word from there near) ∙ right _ _ in_run)))
+      both _ _ yes (sym (at_word from there near) ∙ right _ _ in_run))
       (λ far. absurd (false≢true
       (sym (is_bit-above (slice_index_or new number 0) 64 (from - 64 * number) small (omega arith)) ∙ left _ _ bit)))
       (cases_lt from (64 * (number + 1))))
-      (either (nat_lt from (64 * number) && has_place new from)
+      (either (is_new_below marked new number from)
       (is_in_run (64 * number) (bit_and (slice_index_or new number 0) (slice_index_or marked number 0)) from) is))
-      (GainsLed-then rows (λ place. nat_lt place (64 * number) && has_place new place)
+      (GainsLed-then rows (is_new_below marked new number)
       (is_in_run (64 * number) (bit_and (slice_index_or new number 0) (slice_index_or marked number 0))) old now after before gains) where
         left : (a b : Bool) → (a && b) ≡ true → a ≡ true
         left a b e = grind (arith, nat_tests)
@@ -229,15 +231,15 @@ module _ (rows : List (List ℕ)) (marked new : List ℕ) (are_rows : AreRows ma
             (word_bits new number (from - 64 * number) short ∙ ap (has_place new) index)
             ∙ ap (λ b. has_place new from && b) (word_bits marked number (from - 64 * number) short ∙ ap (has_place marked) index)
 
-  pub GainsLed-end : (number : ℕ) (old after : List ℕ) → 17 ≤ number
-      → GainsLed rows (λ place. nat_lt place (64 * number) && has_place new place) old after
-      → GainsLed rows (has_place new) old after
+  pub GainsLed-end : (number : ℕ) (old after : List ℕ) → 17 ≤ number → GainsLed rows (is_new_below marked new number) old after
+      → GainsLed rows (λ place. has_place new place && has_place marked place) old after
   GainsLed-end number old after end gains =
-      GainsLed-like rows (λ place. nat_lt place (64 * number) && has_place new place) (has_place new) old after
+      GainsLed-like rows (is_new_below marked new number) (λ place. has_place new place && has_place marked place) old after
       (λ from to is leads. ⊎_elim
-      (λ (low : from < 1088). let yes : nat_lt from (64 * number) ≡ true = grind (arith, nat_tests) in ap (λ b. b && has_place new from) yes ∙ is)
-      (λ high. let short = are_rows.short in
-      absurd (false≢true (sym (leads-past rows from to (omega arith)) ∙ leads)))
+      (λ (low : from < 1088).
+      let yes : nat_lt from (64 * number) ≡ true = grind (arith, nat_tests) in
+      ap (λ b. b && (has_place new from && has_place marked from)) yes ∙ is)
+      (λ high. absurd (false≢true (sym (leads-past rows from to (omega (arith, short, high))) ∙ leads)))
       (cases_lt from 1088))
       (λ from is. right _ _ is) gains where
         right : (a b : Bool) → (a && b) ≡ true → b ≡ true
@@ -259,11 +261,3 @@ leads-zeros count from to rows are =
 
 pub length-zeros : (count : ℕ) (rows : List (List ℕ)) → rows ≡ are_zeros count → length rows ≡ count
 length-zeros count rows are = ap (λ (r : List (List ℕ)). length r) are ∙ length-replicate count (replicate {A = ℕ} 15 0)
-
-pub AreRows-zeros : (count : ℕ) (marked : List ℕ) (rows : List (List ℕ)) → count ≤ 1040 → rows ≡ are_zeros count
-    → AreRows marked rows
-AreRows-zeros count marked rows low are = record {
-  short = omega (arith, length-zeros count rows are);
-  onward = λ from to at. absurd (false≢true (sym (leads-zeros count from to rows are) ∙ at));
-  marks = λ from to at. absurd (false≢true (sym (leads-zeros count from to rows are) ∙ at));
-}

@@ -3,4 +3,5 @@ pub mod PlaceLemmas
 pub mod JoinLemmas
 pub mod ContactLemmas
 pub mod LedLemmas
+pub mod BundleLemmas
 pub mod SearchLemmas

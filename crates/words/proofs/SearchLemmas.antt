@@ -272,3 +272,23 @@ module _ (rows : List (List ℕ)) (runs : List Run) (emits closed words new now 
 pub smaller : (now before : ℕ) (had : Bool) → had ≡ true → now ≤ before → now < before + (if had then 1 else 0)
 smaller now before true is le = omega arith
 smaller now before false is le = cc
+
+-- where no contact is closed, what the rows of the emitting places lead to is all that is reached
+pub IsReached-at_once : (rows : List (List ℕ)) (runs : List Run) (emits closed words : List ℕ) → length rows ≤ 1040
+    → ((from to : ℕ) → leads rows from to ≡ true → 1040 ≤ to) → ((place : ℕ) → has_place closed place ≡ false)
+    → GainsLed rows (has_place emits) emits words → (place : ℕ)
+    → (has_place words place ≡ true) ↔ IsReached rows runs emits closed place
+IsReached-at_once rows runs emits closed words short onward none gains place = (sound, found) where
+  sound : has_place words place ≡ true → IsReached rows runs emits closed place
+  sound at = ⊎_elim (emitting place) (λ led. by_row led.0 place (emitting led.0 led.1) led.2) (gains.only place at)
+
+  found : {place : ℕ} → IsReached rows runs emits closed place → has_place words place ≡ true
+  found (emitting place at) = gains.kept place at
+  found (by_row from to at leads) =
+      ⊎_elim
+      (λ emits_on. gains.led from to emits_on leads)
+      (λ led.
+      let high = onward led.0 from led.2 in
+      absurd (false≢true (sym (leads-past rows from to (omega (arith, short, high))) ∙ leads)))
+      (gains.only from (found at))
+  found (by_contact from to at contact shut) = absurd (false≢true (sym (none to) ∙ shut))

@@ -1,4 +1,5 @@
 pub mod Bits
+pub mod Bundles
 pub mod Contacts
 pub mod Joins
 pub mod Reached

@@ -1,5 +1,5 @@
 -- Rows of places: which places each place leads to. A row stands for the places from 1024 on.
-use Rattle.std.specs.Prelude.{◌≡◌, ℕ, ◌-◌, ◌≤◌, ◌&&◌, ◌⊎◌, nat_le, Bool, true, List, [], length, slice_index_or}
+use Rattle.std.specs.Prelude.{◌≡◌, ℕ, ◌-◌, ◌&&◌, ◌⊎◌, nat_le, Bool, true, List, [], slice_index_or}
 use Rattle.words.specs.Bits.{has_place}
 
 -- whether a row has a place
@@ -9,13 +9,6 @@ is_in_entries row to = nat_le 1024 to && has_place row (to - 1024)
 -- whether one place leads to another
 abbrev pub leads : List (List ℕ) → ℕ → ℕ → Bool
 leads rows from to = is_in_entries (slice_index_or rows from []) to
-
--- The rows of exits: they are those of places below 1040, they lead to places from there on, and the places with a row
--- that has any place are marked.
-pub record AreRows (marked : List ℕ) (rows : List (List ℕ)) : Type 0 where
-  pub short : length rows ≤ 1040
-  pub onward : (from to : ℕ) → leads rows from to ≡ true → 1040 ≤ to
-  pub marks : (from to : ℕ) → leads rows from to ≡ true → has_place marked from ≡ true
 
 -- new has what old has and what the places of the test lead to, and no more
 pub record GainsLed (rows : List (List ℕ)) (test : ℕ → Bool) (old new : List ℕ) : Type 0 where

@@ -7,7 +7,7 @@ ghost use Rattle.words.specs.Contacts.{passes, passes_run, IsRunInRange};
 use crate::places::{WORDS, put_run, run};
 
 /// A run of contacts: for each k below `count` a contact leads from the place `common + k` to the place `exits + k`. A
-/// contact is named by the place that it leads to.
+/// contact is named by the place that it leads to. Wires side by side are a run too.
 #[derive(Clone, Copy)]
 pub struct Run {
     /// The place that the first contact leads from.
@@ -47,7 +47,7 @@ fn pass_run(contacts: Run, closed: &[u64; WORDS], words: &[u64; WORDS], new: &mu
 }
 
 // A row with so many bits from the first on, and no other.
-fn first_bits(count: usize) -> u128
+pub(crate) fn first_bits(count: usize) -> u128
     requires { count ≤ 128 }
     ensures { (k : ℕ) → is_bit result k ≡ nat_lt k count }
 {

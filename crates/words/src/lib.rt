@@ -5,6 +5,7 @@
 #![tactic(auto)]
 
 mod bits;
+mod bundles;
 mod contacts;
 mod joins;
 mod places;

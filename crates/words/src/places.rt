@@ -15,7 +15,14 @@ pub const PLACES: usize = 1984;
 pub fn has(words: &[u64; WORDS], place: usize) -> bool
     ensures { result ≡ has_place words.now place }
 {
-    place < PLACES && has_bit(words[place / 64], place % 64)
+    has_in(words, place)
+}
+
+// Whether these words have a place; none behind their last.
+pub(crate) fn has_in(words: &[u64], place: usize) -> bool
+    ensures { result ≡ has_place words.now place }
+{
+    place / 64 < words.len() && has_bit(words[place / 64], place % 64)
 }
 
 /// Adds a place where the test is true.

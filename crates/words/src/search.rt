@@ -18,6 +18,22 @@ pub fn reach(rows: &Rows, runs: &[Run], closed: &[u64; WORDS], words: &mut [u64;
     ensures short { length rows.now ≤ EXITS }
 {
     rows.known();
+    if has_any(closed) {
+        search(rows, runs, closed, words);
+    } else {
+        // No row leads to a place that has a row: one step finds all.
+        let new = *words;
+        rows.join_all(&new, words);
+    }
+}
+
+// Adds the places that are reached where contacts are closed, step by step as long as there are new ones.
+fn search(rows: &Rows, runs: &[Run], closed: &[u64; WORDS], words: &mut [u64; WORDS])
+    requires { All IsRunInRange runs.now }
+    ensures { (place : ℕ)
+        → (has_place words.new place ≡ true) ↔ IsReached rows.now runs.now words.old closed.now place }
+{
+    rows.known();
     let mut new = *words;
     let mut has_new = has_any(&new);
     while has_new {

@@ -1,7 +1,7 @@
 //! Charts that are refused, and what is told of them, a few in a table so that each stays quick to prove.
 //!
 //! Charts stand with their lines in a row, without the first line and END. Each breaks the rule that is told and no earlier
-//! one; then come charts that break two neighbouring rules, in both orders, and good charts that are not served yet.
+//! one; then come charts that break two neighbouring rules, in both orders, and one whose control text is too wide for a storage unit.
 
 #[rattlefmt::skip]
 pub const CHARTS_1: [(&str, &str); 9] = [
@@ -173,12 +173,9 @@ pub const CHARTS_13: [(&str, &str); 9] = [
 ];
 
 #[rattlefmt::skip]
-pub const CHARTS_14: [(&str, &str); 5] = [
+pub const CHARTS_14: [(&str, &str); 2] = [
+    ("FIELD CITY TEXT 1 17;FIELD A AMOUNT 20 22 0;CONTROL 1 CITY;PRINT GROUP;TOTAL 1 1 CITY;TOTAL 1 30 A 5;FORM 12 1 9", "fault 64 line 6\n"),
     ("AFTER DETAIL SKIP 3;PRINT DETAIL;FORM 12 1 11;FIELD N TEXT 1 1;DETAIL 1 N", "fault 36 line 4\n"),
-    ("PRINT DETAIL;FORM 12 1 9;FIELD N TEXT 1 1;DETAIL 1 N;HEAD 1 1 'H'", "fault notyet line 6\n"),
-    ("PRINT DETAIL;FORM 12 1 9;FIELD A AMOUNT 1 3 0;FIELD N TEXT 4 4;DETAIL 9 N;DETAIL 1 A", "fault notyet line 4\n"),
-    ("PRINT DETAIL;FORM 12 1 9;FIELD N TEXT 1 1;DETAIL 1 N;TAPE 3 5", "fault notyet line 6\n"),
-    ("PRINT DETAIL;FORM 12 1 9;FIELD N TEXT 1 1;DETAIL 1 N;SPACE DETAIL 1", "fault notyet line 6\n"),
 ];
 
 /// Whole texts, and the line that is told.

@@ -1,6 +1,7 @@
 use Rattle.std.proofs.Common.{◌≢◌, subst, sym}
 use Rattle.std.proofs.lemmas.Result.{err_from_is_err_and}
-use Rattle.allocate.specs.Exceeded.{HasFault as Exceeds}
+use Rattle.allocate.specs.Exceeded.{Fits, HasFault as Exceeds}
+use Rattle.allocate.specs.Plans.{IsPlanOf}
 use Rattle.allocate.specs.Wanted.{wanted_of}
 use Rattle.allocate.specs.declared.fault.CapacityFault.TheVariants as exceeds
 use Rattle.capacity.specs.Capacities.{Capacities}
@@ -10,22 +11,30 @@ use Rattle.compile407.specs.Compilation.{Compilation}
 use Rattle.compile407.specs.declared.fault.ChartFault.{ChartFault}
 use Rattle.compile407.specs.declared.fault.ChartFault.TheVariants as chart
 use Rattle.compile407.specs.Headline.{PrintsReport}
-use Rattle.compile407.specs.Served.{AreServed}
 use Rattle.compile407.proofs.CapacityTold.{capacity_told}
-use Rattle.compile407.proofs.Headline.{wired_setups_print_reports}
-use Rattle.compile407.proofs.Lawful.{listing_of}
+use Rattle.compile407.proofs.Headline.{sound_read, wired_setups_print_reports}
 use Rattle.compile407.proofs.compiling.compile.Goals as goal
 
-pub wire-requires : goal.wire-requires
-wire-requires c = listing_of c.in_ok-chart.chart c.lines.ensures.lawful
-    (subst AreServed c.lines.ensures.value c.in_default.ensures.none)
+pub of-requires : goal.of-requires
+of-requires c =
+    record {
+      sound = sound_read c.args.bytes.now c.in_ok-raw.raw c.in_ok-chart.chart c.in_ok-raw.ensures.read c.in_ok-chart.ensures.same
+          c.lines-lines.ensures.lawful c.lines-lines.ensures.rising;
+      fits = subst (Fits (wanted_of c.in_ok-chart.chart.lines)) c.standard.ensures c.in_ok-plan.ensures.fits;
+      planned = subst (λ machine. IsPlanOf (wanted_of c.in_ok-chart.chart.lines) machine c.in_ok-plan.plan) c.standard.ensures
+          c.in_ok-plan.ensures.plan;
+      serves = c.in_ok-plan.ensures.serves;
+      wired = c.in_ok-setup.ensures;
+    }
 
 pub returns-clause-prints : goal.returns-clause-prints
 returns-clause-prints c =
     let P : Compilation → Type 0 = λ compiled. PrintsReport compiled.chart compiled.setup in
+    let sound = sound_read c.args.bytes.now c.in_ok-raw.raw c.in_ok-chart.chart c.in_ok-raw.ensures.read c.in_ok-chart.ensures.same
+    c.lines-lines.ensures.lawful c.lines-lines.ensures.rising in
     subst P (sym c.of.ensures)
-    (wired_setups_print_reports c.in_ok-chart.chart c.in_ok-setup.setup c.lines.ensures.lawful
-    (subst AreServed c.lines.ensures.value c.in_default.ensures.none) c.in_ok-setup.ensures)
+    (wired_setups_print_reports c.in_ok-chart.chart c.in_ok-plan.plan c.in_ok-setup.setup sound c.in_ok-plan.ensures.serves
+    c.in_ok-setup.ensures)
 
 pub returns-in_err-plan-clause-refused : goal.returns-in_err-plan-clause-refused
 returns-in_err-plan-clause-refused c =
@@ -37,8 +46,7 @@ returns-in_err-plan-clause-refused c =
     let refusal = err_from_is_err_and c.from_residual-in_err-plan.result c.from_residual-in_err-plan.ensures.1 in
     let told = capacity_told bytes read fault
     (subst (Reads bytes) (sym c.in_ok-chart.ensures.same) c.in_ok-raw.ensures.read)
-    c.lines.ensures.lawful
-    (subst AreServed c.lines.ensures.value c.in_default.ensures.none)
+    c.lines-lines.ensures.lawful
     (subst Exceeding c.standard.ensures c.in_err-plan.ensures.refused) in
     let Told : ChartFault → Type 0 = λ f. f ≢ chart.Memory → HasChartFault bytes f in
     rw refusal.1 (subst Told (sym refusal.2) told)

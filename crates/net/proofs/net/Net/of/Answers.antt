@@ -25,4 +25,5 @@ loop-number-preserved c =
 pub returns : goal.returns
 returns c =
     let end : c.loop-number.number ≡ 1041 = omega arith in
-    IsNetOf-all c.loop-number.number c.args.setup.now (record { rows = c.loop-number.rows }) end c.loop-number.invariant.below
+    rw c.bundle.ensures
+    (IsNetOf-all c.loop-number.number c.args.setup.now (record { rows = c.loop-number.rows }) end c.loop-number.invariant.below)

@@ -1,22 +1,23 @@
-use Rattle.std.proofs.Common.{List, ℕ, subst}
-use Rattle.words.specs.Rows.{AreRows}
-use Rattle.words.proofs.LedLemmas.{GainsLed-begin, GainsLed-next, GainsLed-end}
+use Rattle.std.proofs.Common.{List, ℕ, subst, ◌∙◌, ap, ◌&&◌, ◌||◌}
+use Rattle.std.specs.Prelude.{nat_lt}
+use Rattle.words.specs.Bits.{has_place}
+use Rattle.words.specs.Bundles.{AreRows, follows}
+use Rattle.words.specs.declared.contacts.Run.{Run}
+use Rattle.words.proofs.BundleLemmas.{GainsLed-bundled, GainsLed-marked}
 use Rattle.words.proofs.rows.Rows.join_all.Goals as goal
 
-pub loop-number-init : goal.loop-number-init
-loop-number-init c =
-    let are_rows = subst (λ (rows : List (List ℕ)). AreRows c.self.inside.marked rows) c.self.view_is c.self.invariant in
-    GainsLed-begin c.args.self.now c.self.inside.marked c.args.new.now are_rows c.args.words.now
+pub returns-then-has_more_exits : goal.returns-then-has_more_exits
+returns-then-has_more_exits c =
+    let are_rows = subst (λ (rows : List (List ℕ)). AreRows c.self.inside.marked c.self.inside.apart c.self.inside.runs.items rows) c.self.view_is c.self.invariant in
+    GainsLed-bundled c.args.self.now c.self.inside.marked c.self.inside.apart c.args.new.now c.self.inside.runs.items
+    c.args.words.now c.follow_runs.new.words c.join_marked.new.words are_rows
+    (λ place. c.follow_runs.ensures place
+    ∙ ap (λ (runs : List Run). has_place c.args.words.now place || (nat_lt place 1984 && follows c.args.new.now runs place))
+    c.deref.ensures.value)
+    c.join_marked.ensures
 
-pub loop-number-preserved : goal.loop-number-preserved
-loop-number-preserved c =
-    let are_rows = subst (λ (rows : List (List ℕ)). AreRows c.self.inside.marked rows) c.self.view_is c.self.invariant in
-    GainsLed-next c.args.self.now c.self.inside.marked c.args.new.now are_rows c.loop-number.number c.args.words.now
-    c.loop-number.words c.join_bits.new.words c.loop-number.invariant c.join_bits.ensures
-    (c.fits-new c.loop-number.number)
-
-pub returns : goal.returns
-returns c =
-    let are_rows = subst (λ (rows : List (List ℕ)). AreRows c.self.inside.marked rows) c.self.view_is c.self.invariant in
-    GainsLed-end c.args.self.now c.self.inside.marked c.args.new.now are_rows c.loop-number.number c.args.words.now
-    c.loop-number.words c.loop-number-test.false c.loop-number.invariant
+pub returns-else-has_more_exits : goal.returns-else-has_more_exits
+returns-else-has_more_exits c =
+    let are_rows = subst (λ (rows : List (List ℕ)). AreRows c.self.inside.marked c.self.inside.apart c.self.inside.runs.items rows) c.self.view_is c.self.invariant in
+    GainsLed-marked c.args.self.now c.self.inside.marked c.self.inside.apart c.args.new.now c.self.inside.runs.items
+    c.args.words.now c.join_marked-else-has_more_exits.new.words are_rows c.join_marked-else-has_more_exits.ensures

@@ -1,6 +1,7 @@
 use Rattle.std.proofs.Common.{◌∙◌, ap, sym, replicate, ◌++◌, ◌∷◌, [], ◌≡◌, ℕ, List, arith}
 use Rattle.std.proofs.lemmas.Grind.{replicate_next}
-use Rattle.words.proofs.LedLemmas.{AreRows-zeros, leads-zeros, length-zeros}
+use Rattle.words.proofs.LedLemmas.{leads-zeros, length-zeros}
+use Rattle.words.proofs.BundleLemmas.{AreRows-zeros}
 use Rattle.words.proofs.rows.Rows.new.Goals as goal
 
 pub loop-exit-preserved : goal.loop-exit-preserved
@@ -9,7 +10,7 @@ loop-exit-preserved c =
     ∙ sym (replicate_next c.loop-exit._exit (replicate {A = ℕ} 15 0))
 
 pub invariant_of-result : goal.invariant_of-result
-invariant_of-result c = AreRows-zeros c.loop-exit._exit _ c.loop-exit.rows.items (omega arith) c.loop-exit.invariant
+invariant_of-result c = AreRows-zeros c.loop-exit._exit _ _ c.new.result.items c.loop-exit.rows.items (omega arith) c.new.ensures.items c.loop-exit.invariant
 
 pub returns-clause-long : goal.returns-clause-long
 returns-clause-long c =

@@ -1,0 +1,6 @@
+pub mod ActLemmas
+pub mod AskLemmas
+pub mod DigitLemmas
+pub mod EntryLemmas
+pub mod ShownLemmas
+pub mod TopLemmas

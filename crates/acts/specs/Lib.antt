@@ -1,0 +1,4 @@
+pub mod Acts
+pub mod Digits
+pub mod GroupCycles
+pub mod Laws

@@ -1,6 +1,0 @@
-use Rattle.std.proofs.Common.{◌≡◌, drop}
-use Rattle.compile407.specs.ChartForm.{form_of}
-use Rattle.compile407.proofs.wiring.form_of.Given as goal
-
-abbrev pub invariant-loop-line : goal.invariant-loop-line
-invariant-loop-line l = form_of (drop l.line-index l.lines) ≡ form_of l.lines

@@ -1,0 +1,11 @@
+pub mod Order
+pub mod Numbered
+pub mod Misfits
+pub mod FirstMisfits
+pub mod Places
+pub mod Pages
+pub mod Alike
+pub mod Fitting
+pub mod Begins
+pub mod Running
+pub mod Feeding

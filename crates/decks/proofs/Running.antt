@@ -1,0 +1,135 @@
+-- A machine that goes by cards prints the report of every deck.
+use Rattle.std.proofs.Common.{◌≡◌, ◌∙◌, sym, ap, subst, ℕ, suc, ◌+◌, ◌*◌, ◌^◌, ◌≤◌, ◌<◌, List, [], ◌∷◌, ◌++◌, Option, Some, None, length, arith}
+use Rattle.std.specs.List.{All}
+use Rattle.std.proofs.lemmas.Grind.{flat_map-append}
+use Rattle.std.proofs.lemmas.List.Elements.{All-head, All-tail}
+use Rattle.carriage.specs.declared.placed_line.PlacedLine.{PlacedLine}
+use Rattle.chart_text.specs.declared.chart.Line.{Line}
+use Rattle.report.specs.Places.{before_all, placed}
+use Rattle.report.specs.Report.{body_of, report_lines}
+use Rattle.report.specs.Totals.{Fits, Misfit, misfits, first_of}
+use Rattle.decks.specs.Alike.{AlikeWith}
+use Rattle.decks.specs.Breaks.{ended_behind, no_cards, taking, cleared, chunk_of, flat}
+use Rattle.decks.specs.CardMisfits.{FitFrom, FirstFit}
+use Rattle.decks.specs.Left.{bodies_of}
+use Rattle.decks.specs.Runner.{Runner, GoesByCards, Runs, Fed}
+use Rattle.decks.specs.Stands.{Stand, at_first, card_bodies, stand_behind, bodies_before, stand_before, last_of, report_before}
+use Rattle.decks.proofs.Alike.{alike-behind, alike-first}
+use Rattle.decks.proofs.Begins.{reports_begin}
+use Rattle.decks.proofs.FirstMisfits.{fit_before_first}
+use Rattle.decks.proofs.Order.{outlines_by_breaks}
+use Rattle.decks.proofs.Pages.{behind-most, card_bodies-few}
+use Rattle.decks.proofs.Places.{placed-append}
+
+-- a card leaves room for the pages of the cards behind it
+room-behind : (lines : List Line) (stand : Stand) (card : List ℕ) (next : Option (List ℕ)) (count : ℕ)
+    → stand.left.page + 5 * suc count < 2 ^ 32 → (stand_behind lines stand card next).left.page + 5 * count < 2 ^ 32
+room-behind lines stand card next count room =
+    let most = behind-most lines stand.left (card_bodies lines stand card next) in
+    let few = card_bodies-few lines stand card next in
+    omega (arith, room, most, few)
+
+-- From a state in which a card waits on, a run places the lines of that card and of the cards behind it.
+runs_from : {S : Type 0} (runner : Runner S) → GoesByCards runner → (stand : Stand) (card : List ℕ) (cards : List (List ℕ))
+    (old : S) (placed_lines : List PlacedLine) → All runner.Reads (card ∷ cards)
+    → stand.left.page + 5 * suc (length cards) < 2 ^ 32 → AlikeWith runner.chart.lines stand.so_far card
+    → FitFrom runner.chart.lines stand.so_far card cards (suc (length cards)) → runner.Follows stand card old
+    → Runs runner old cards placed_lines
+    → placed_lines
+    ≡ placed runner.chart.lines stand.left
+    (bodies_of runner.chart.lines (flat runner.chart.lines stand.so_far stand.opens card cards))
+runs_from runner goes stand card [] old placed_lines reads room alike fit follows (new, feed) =
+    (goes.goes stand card None old new placed_lines (All-head runner.Reads card [] reads) tt (omega (arith, room)) alike fit follows feed).0
+runs_from runner goes stand card (next ∷ cards) old placed_lines reads room alike fit follows
+    (new, first, others, feed, run, is) =
+    let lines = runner.chart.lines in
+    let ended = ended_behind lines card (Some next) in
+    let behind = stand_behind lines stand card (Some next) in
+    let later = All-tail runner.Reads card (next ∷ cards) reads in
+    let one = goes.goes stand card (Some next) old new first (All-head runner.Reads card (next ∷ cards) reads)
+    (All-head runner.Reads next cards later) (omega (arith, room)) alike fit.0 follows feed in
+    let more = runs_from runner goes behind next cards new others later
+    (room-behind lines stand card (Some next) (suc (length cards)) room) (alike-behind lines stand card next alike) fit.1 one.1 run in
+    let rest = flat lines behind.so_far behind.opens next cards in
+    is
+    ∙ (λ i. one.0 i ++ more i)
+    ∙ sym (placed-append lines stand.left (card_bodies lines stand card (Some next)) (bodies_of lines rest))
+    ∙ sym (ap (placed lines stand.left) (flat_map-append (body_of lines) (chunk_of stand.opens stand.so_far card ended) rest))
+
+-- From a state in which a card waits on, feeds of cards place the lines before the last of them, which then waits.
+fed_from : {S : Type 0} (runner : Runner S) → GoesByCards runner → (stand : Stand) (card : List ℕ) (cards : List (List ℕ))
+    (old new : S) (placed_lines : List PlacedLine) → All runner.Reads (card ∷ cards)
+    → stand.left.page + 5 * length cards < 2 ^ 32 → AlikeWith runner.chart.lines stand.so_far card
+    → FitFrom runner.chart.lines stand.so_far card cards (length cards)
+    → runner.Follows stand card old → Fed runner old cards new placed_lines
+    → (placed_lines ≡ placed runner.chart.lines stand.left (bodies_before runner.chart.lines stand card cards))
+    × runner.Follows (stand_before runner.chart.lines stand card cards) (last_of card cards) new
+fed_from runner goes stand card [] old new placed_lines reads room alike fit follows fed =
+    (fed.1, subst (runner.Follows stand card) (sym fed.0) follows)
+fed_from runner goes stand card (next ∷ cards) old new placed_lines reads room alike fit follows
+    (mid, first, others, feed, fed, is) =
+    let lines = runner.chart.lines in
+    let behind = stand_behind lines stand card (Some next) in
+    let later = All-tail runner.Reads card (next ∷ cards) reads in
+    let one = goes.goes stand card (Some next) old mid first (All-head runner.Reads card (next ∷ cards) reads)
+    (All-head runner.Reads next cards later) (omega (arith, room)) alike fit.0 follows feed in
+    let more = fed_from runner goes behind next cards mid new others later
+    (room-behind lines stand card (Some next) (length cards) room) (alike-behind lines stand card next alike) fit.1 one.1 fed in (
+      is
+          ∙ (λ i. one.0 i ++ more.0 i)
+          ∙ sym (placed-append lines stand.left (card_bodies lines stand card (Some next)) (bodies_before lines behind next cards)),
+      more.1,
+    )
+
+-- A machine that goes by cards prints the report of every deck that fits.
+pub runs_follow_decks : {S : Type 0} (runner : Runner S) → GoesByCards runner → (cards : List (List ℕ))
+    (placed_lines : List PlacedLine) → All runner.Reads cards → length cards ≤ 999999 → Fits runner.chart.lines cards
+    → Runs runner runner.start cards placed_lines → placed_lines ≡ report_lines runner.chart cards
+runs_follow_decks runner goes [] placed_lines reads long fits (new, feed) = goes.ends new placed_lines feed
+runs_follow_decks runner goes (card ∷ cards) placed_lines reads long fits (new, first, others, feed, run, is) =
+    let lines = runner.chart.lines in
+    let begun = goes.starts card new first (All-head runner.Reads card cards reads) feed in
+    let fit = (fit_before_first lines (card ∷ cards) (suc (length cards))).1
+    (λ misfit some. absurd (no_misfit (misfits lines (card ∷ cards)) misfit fits some)) in
+    is
+    ∙ ap (λ l. l ++ others) begun.0
+    ∙ runs_from runner goes at_first card cards new others reads (omega (arith, long)) (alike-first runner.chart.lines card) fit begun.1 run
+    ∙ sym (ap (λ outline. placed lines before_all (bodies_of lines outline)) (outlines_by_breaks lines (card ∷ cards)))
+  where
+    no_misfit : (all : List Misfit) (misfit : Misfit) → all ≡ [] → first_of all ≡ Some misfit → ⊥
+    no_misfit [] misfit none some = cc
+    no_misfit (one ∷ more) misfit none some = cc
+
+-- A machine that goes by cards, fed some cards, has placed the lines before the last of them, and stands where the report does.
+pub feeds_follow_decks : {S : Type 0} (runner : Runner S) → GoesByCards runner → (card : List ℕ) (cards : List (List ℕ))
+    (new : S) (placed_lines : List PlacedLine) → All runner.Reads (card ∷ cards) → length (card ∷ cards) ≤ 999999
+    → FirstFit runner.chart.lines (card ∷ cards) (length cards) → Fed runner runner.start (card ∷ cards) new placed_lines
+    → (placed_lines ≡ placed runner.chart.lines before_all (bodies_before runner.chart.lines at_first card cards))
+    × runner.Follows (stand_before runner.chart.lines at_first card cards) (last_of card cards) new
+feeds_follow_decks runner goes card cards new placed_lines reads long fit (mid, first, others, feed, fed, is) =
+    let begun = goes.starts card mid first (All-head runner.Reads card cards reads) feed in
+    let more = fed_from runner goes at_first card cards mid new others reads (omega (arith, long)) (alike-first runner.chart.lines card) fit begun.1 fed in
+    (is ∙ ap (λ l. l ++ others) begun.0 ∙ more.0, more.1)
+
+-- groups that fit before a card fit whatever comes behind it
+fit-before : (lines : List Line) (so_far : ℕ → List (List ℕ)) (card : List ℕ) (cards behind : List (List ℕ))
+    → FitFrom lines so_far card (cards ++ behind) (length cards) → FitFrom lines so_far card cards (length cards)
+fit-before lines so_far card [] behind fit = tt
+fit-before lines so_far card (next ∷ cards) behind fit =
+    let ended = ended_behind lines card (Some next) in
+    (fit.0, fit-before lines (cleared ended (taking card so_far)) next cards behind fit.1)
+
+-- Up to the card of the first misfit a machine that goes by cards has placed the lines of the report that stand before that card.
+pub feeds_begin_reports : {S : Type 0} (runner : Runner S) → GoesByCards runner → (card : List ℕ)
+    (cards behind : List (List ℕ)) (new : S) (placed_lines : List PlacedLine) → All runner.Reads (card ∷ cards)
+    → length (card ∷ cards) ≤ 999999
+    → ((misfit : Misfit) → first_of (misfits runner.chart.lines (card ∷ (cards ++ behind))) ≡ Some misfit
+    → length cards < misfit.card)
+    → Fed runner runner.start (card ∷ cards) new placed_lines
+    → placed_lines ≡ report_before runner.chart (card ∷ (cards ++ behind)) (length cards)
+feeds_begin_reports runner goes card cards behind new placed_lines reads long late fed =
+    let lines = runner.chart.lines in
+    let fit = fit-before lines no_cards card cards behind
+    ((fit_before_first lines (card ∷ (cards ++ behind)) (length cards)).1 late) in
+    (feeds_follow_decks runner goes card cards new placed_lines reads long fit fed).0
+    ∙ sym (reports_begin runner.chart card cards behind).0

@@ -1,0 +1,7 @@
+pub mod Breaks
+pub mod CardMisfits
+pub mod Alike
+pub mod Left
+pub mod Stands
+pub mod Runner
+pub mod Laws

@@ -1,0 +1,53 @@
+//! Laws of decks. The functions do nothing: the contract of each is the law.
+
+ghost use Rattle.decks.specs.Laws.{OutlinesGoByBreaks, MisfitsGoByCards, GroupsFitBeforeTheFirstMisfit, PlacesSplit, ReportsBeginByCards, PagesAreFew, PagesHaveNumbers, GroupsAreAlike, TotalTextsAreTheLastCards, FittingTotalsHaveRoom};
+
+/// Groups within groups give the lines of the cards by their breaks.
+pub fn outlines_go_by_breaks()
+    ensures { OutlinesGoByBreaks }
+{}
+
+/// The misfits of a deck are those of its cards.
+pub fn misfits_go_by_cards()
+    ensures { MisfitsGoByCards }
+{}
+
+/// The groups that end before the card of the first misfit fit.
+pub fn groups_fit_before_the_first_misfit()
+    ensures { GroupsFitBeforeTheFirstMisfit }
+{}
+
+/// Body lines stand where the body lines before them leave the form.
+pub fn places_split()
+    ensures { PlacesSplit }
+{}
+
+/// A report begins with the lines of its first cards.
+pub fn reports_begin_by_cards()
+    ensures { ReportsBeginByCards }
+{}
+
+/// A deck has few body lines, and these start few pages.
+pub fn pages_are_few()
+    ensures { PagesAreFew }
+{}
+
+/// No page number reaches 2 to the 32nd.
+pub fn pages_have_numbers()
+    ensures { PagesHaveNumbers }
+{}
+
+/// The cards of a group have the same punches in the control fields of its level and above.
+pub fn groups_are_alike()
+    ensures { GroupsAreAlike }
+{}
+
+/// A text on a total line is that of the group's last card.
+pub fn total_texts_are_the_last_cards()
+    ensures { TotalTextsAreTheLastCards }
+{}
+
+/// Each total of a group that fits has room on its total line.
+pub fn fitting_totals_have_room()
+    ensures { FittingTotalsHaveRoom }
+{}

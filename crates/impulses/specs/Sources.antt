@@ -1,0 +1,48 @@
+-- What emits at a point of a whole cycle, told by exits.
+use Rattle.std.specs.Prelude.{◌≡◌, ℕ, ◌≤◌, ◌-◌, Bool, true, List, Contains, Some, length, slice_index}
+use Rattle.card_code.specs.Rows.{row_number}
+use Rattle.card_code.specs.declared.row.Row.{Row as CardRow}
+use Rattle.counters.specs.Counters.{Counter}
+use Rattle.hubs.specs.declared.hub.Hub.{Hub}
+use Rattle.hubs.specs.declared.hub.Hub.TheVariants.{FR, SR, GX, SX, EM, CC, PX, HX, RO, SO}
+use Rattle.machine.specs.Machine.{MachineState}
+use Rattle.net.specs.Cycles.{level_number, ordinal_number}
+use Rattle.net.specs.declared.cycle.Cycle.{Cycle}
+use Rattle.net.specs.declared.cycle.Cycle.TheVariants.{RunIn, Card, Prog, Head}
+use Rattle.net.specs.declared.cycle.Level.{Level}
+use Rattle.net.specs.declared.cycle.Ordinal.{Ordinal}
+use Rattle.net.specs.declared.cycle.Point.{Point}
+use Rattle.net.specs.declared.cycle.Point.TheVariants.{C}
+use Rattle.print_unit.specs.Emitters.{emitter_of}
+use Rattle.stations.specs.Punches.{is_punched_at}
+use Rattle.storage_units.specs.Storage.{StorageState, holds, storage_place}
+
+-- The exit that tells of a cycle at its control point.
+pub data Tells : Cycle → Hub → Type 0 where
+  card : Tells Card CC
+  prog : (level : Level) (ordinal : Ordinal) → Tells (Prog level ordinal) (PX (level_number level) (ordinal_number ordinal))
+  head : (heading : Ordinal) → Tells (Head heading) (HX (ordinal_number heading))
+
+-- the digit of a group at a position, counted from the units
+abbrev pub digit_at : List ℕ → ℕ → ℕ
+digit_at digits position = slice_index digits (length digits - position)
+
+-- the cycles in which the card at first reading is read
+pub data ReadsFirst : Cycle → Type 0 where
+  run_in : ReadsFirst RunIn
+  card : ReadsFirst Card
+
+-- The exits that emit at a row: punches of the two cards, digits of the groups that read out, columns of the storage units that read
+-- out, and the emitter of the cycle.
+pub data Sends (old : MachineState) (pictures : Point → Hub → Bool) (cycle : Cycle) (row : CardRow) : Hub → Type 0 where
+  first : (column : ℕ) → ReadsFirst cycle → is_punched_at old.stations.first row column ≡ true
+      → Sends old pictures cycle row (FR column)
+  second : (column : ℕ) → cycle ≡ Card → is_punched_at old.stations.second row column ≡ true
+      → Sends old pictures cycle row (SR column)
+  digit : (group : Counter) (position : ℕ) → Contains old.groups group → pictures C (RO group.name) ≡ true
+      → 1 ≤ position → position ≤ length group.digits → digit_at group.digits position ≡ row_number row
+      → Sends old pictures cycle row (GX group.name position)
+  column : (storage : StorageState) (column : ℕ) → Contains old.storage storage
+      → pictures C (SO (storage_place storage)) ≡ true → holds storage row column ≡ true
+      → Sends old pictures cycle row (SX (storage_place storage) column)
+  emitter : (emitter : ℕ) → emitter_of cycle ≡ Some emitter → Sends old pictures cycle row (EM emitter (row_number row))

@@ -1,0 +1,4 @@
+pub mod HelperAmounts
+pub mod HelperGroups
+pub mod HelperTotals
+pub mod Told

@@ -1,0 +1,36 @@
+-- Which cycle is due, as the cards' cycles go on.
+use Rattle.std.specs.Prelude.{ℕ, Bool, true, false, not, ◌||◌, Option, Some, None, if◌then◌else◌}
+use Rattle.net.specs.declared.cycle.Cycle.{Cycle}
+use Rattle.net.specs.declared.cycle.Cycle.TheVariants.{Head}
+use Rattle.net.specs.declared.cycle.Level.{Level}
+use Rattle.net.specs.declared.cycle.Ordinal.TheVariants.{First, Second, Third}
+use Rattle.program_unit.specs.CycleOrder.{next_cycle, card_over}
+use Rattle.program_unit.specs.Program.{ProgramState}
+use Rattle.program_unit.specs.declared.stage.Stage.{Stage}
+use Rattle.program_unit.specs.declared.stage.Stage.TheVariants.{Fresh, RanIn, RanCard, RanProg, BeforeCard, BeforeTotal}
+
+-- The cycle that is due, if any: waits says that a card waits for its card cycle. Without such a card none is due once the cycles of
+-- the card are over.
+abbrev pub due : ProgramState → (waits restore more : Bool) → Option Cycle
+due program waits restore more = if waits || not (card_over program more) then next_cycle program restore more else None
+
+-- whether a stage lies between cards, before heading cycles: behind the run-in, a card cycle, or the third cycle of a level
+abbrev pub is_between : Stage → Bool
+is_between Fresh = false
+is_between RanIn = true
+is_between RanCard = true
+is_between (RanProg level First) = false
+is_between (RanProg level Second) = false
+is_between (RanProg level Third) = true
+is_between (BeforeCard heading) = false
+is_between (BeforeTotal level heading) = false
+
+-- the stage behind the cycles of these levels: without a level, behind the card cycle
+abbrev pub stage_behind : Option Level → Stage
+stage_behind None = RanCard
+stage_behind (Some level) = RanProg level Third
+
+-- the cycle that comes where a printing cycle is due: the first heading cycle where its line starts a page
+abbrev pub begun_by : Option ℕ → Cycle → Cycle
+begun_by None cycle = Head First
+begun_by (Some line) cycle = cycle

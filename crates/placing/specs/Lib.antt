@@ -1,0 +1,5 @@
+pub mod Placing
+pub mod CarriageCycles
+pub mod DueCycles
+pub mod FormFacts
+pub mod Laws

@@ -1,0 +1,30 @@
+-- On each printed line of a lawful chart the items keep apart.
+use Rattle.std.proofs.Common.{Bool, Option}
+use Rattle.chart_text.specs.Chart.{Chart}
+use Rattle.chart_text.specs.declared.statement.Statement.{Statement}
+use Rattle.chart_rules.specs.declared.items.PrintedLine.{PrintedLine}
+use Rattle.chart_rules.specs.Rules.{IsLawful}
+use Rattle.printed_lines.specs.Laws.{HasItemSets, LawfulItemsKeepApart}
+use Rattle.printed_lines.specs.Shown.{Shown, card_sends, total_sends, heading_sends}
+use Rattle.printed_lines.proofs.Cards.{on_card_line, card-sending}
+use Rattle.printed_lines.proofs.Headings.{on_heading_line, heading-sending}
+use Rattle.printed_lines.proofs.Sending.{IsSending, sets_on, own-set, no-set}
+use Rattle.printed_lines.proofs.TotalLines.{on_total_line, total-sending}
+
+-- what is sent to one printed line
+item-sets : (chart : Chart) → IsLawful chart → (kind : PrintedLine → Bool) (sends : Statement → Option Shown)
+    → IsSending chart.lines kind sends → HasItemSets chart.lines sends (sets_on chart sends)
+item-sets chart lawful kind sends sending = record {
+  own = λ line shown v there sent on. own-set chart lawful kind sends sending line shown v there sent on;
+  none = λ v none. no-set sends v chart.lines none;
+}
+
+pub lawful_items : LawfulItemsKeepApart
+lawful_items chart lawful = record {
+  on_card = λ opens card.
+      item-sets chart lawful on_card_line (card_sends chart.lines opens card) (card-sending chart.lines opens card);
+  on_total = λ level held card.
+      item-sets chart lawful (on_total_line level) (total_sends chart.lines level held card)
+      (total-sending chart lawful level held card);
+  on_heading = λ number. item-sets chart lawful (on_heading_line number) (heading_sends number) (heading-sending chart.lines number);
+}

@@ -1,0 +1,168 @@
+-- What a lawful chart keeps of its fields and items: where they stand, and how many digits amounts have.
+use Rattle.std.proofs.Common.{◌≡◌, ◌∙◌, refl, sym, ap, subst, ℕ, ◌≤◌, ◌&&◌, ◌||◌, nat_lt, Bool, true, false, List, Contains, slice_get, Option, Some, None, option_map, is_some, arith}
+use Rattle.std.specs.List.{position_or_len}
+use Rattle.std.proofs.lemmas.Bool.Decides.{nat_tests}
+use Rattle.std.proofs.lemmas.List.Folds.{find_at}
+use Rattle.std.proofs.lemmas.Option.{slice_get_within}
+use Rattle.chart_text.specs.Chart.{Chart}
+use Rattle.chart_text.specs.Field.{columns_of, decimals_of, sign_column}
+use Rattle.chart_text.specs.Name.{is_same_name}
+use Rattle.chart_text.specs.declared.chart.Line.{Line}
+use Rattle.chart_text.specs.declared.statement.DetailOption.{DetailOption}
+use Rattle.chart_text.specs.declared.statement.Field.{Field}
+use Rattle.chart_text.specs.declared.statement.FieldKind.{FieldKind}
+use Rattle.chart_text.specs.declared.statement.FieldKind.TheVariants as holds
+use Rattle.chart_text.specs.declared.statement.Mark.{Mark}
+use Rattle.chart_text.specs.declared.statement.Statement.{Statement}
+use Rattle.chart_text.specs.declared.statement.Statement.TheVariants as says
+use Rattle.chart_rules.specs.declared.items.Figure.{Figure}
+use Rattle.chart_rules.specs.declared.items.Item.{Item}
+use Rattle.chart_rules.specs.declared.rule.Rule.TheVariants as rule
+use Rattle.chart_rules.specs.Columns.{breaks_amount_size, is_too_large}
+use Rattle.chart_rules.specs.Digits.{breaks_digits_range, is_out_of_digits}
+use Rattle.chart_rules.specs.Fields.{fields_of, field_named}
+use Rattle.chart_rules.specs.declared.items.PrintedLine.TheVariants.{Body}
+use Rattle.chart_text.specs.declared.level.Level.{Level}
+use Rattle.chart_text.specs.declared.statement.BodyLine.TheVariants as body
+use Rattle.chart_rules.specs.Items.{item_of, mark_shown, text_item, detail_item, total_item}
+use Rattle.chart_rules.specs.Rules.{IsLawful}
+use Rattle.chart_rules.specs.ValidCard.{IsValidCard, IsValidField}
+use Rattle.chart_rules.specs.Wheels.{is_off_wheels}
+use Rattle.chart_rules.proofs.Laws.{breaks-lawful, LineOf-field, statement-field, AreOnCard-lawful}
+use Rattle.printed_lines.proofs.Meeting.{Place-line}
+
+-- where the field of a name stands among the fields
+named-place : (lines : List Line) (name : List ℕ) (field : Field) → field_named lines name ≡ Some field
+    → (place : ℕ) × (slice_get (fields_of lines) place ≡ Some field)
+named-place lines name field named =
+    let test = λ (other : Field). is_same_name other.name name in
+    (position_or_len test (fields_of lines), sym (find_at test (fields_of lines)) ∙ named)
+
+-- a field that a name stands for is valid on a valid card
+pub named-valid : (chart : Chart) (card name : List ℕ) (field : Field) → IsValidCard chart card
+    → field_named chart.lines name ≡ Some field → IsValidField field card
+unfolding IsValidCard
+named-valid chart card name field valid named =
+    let at = named-place chart.lines name field named in
+    valid at.0 (slice_get_within (fields_of chart.lines) at.0 field at.1) field at.1
+
+-- A field has a column, and no more decimals than columns.
+pub record IsGoodField (field : Field) : Type 0 where
+  pub order : field.first ≤ field.last
+  pub decimals : decimals_of field.kind ≤ columns_of field
+
+-- decimals that keep the rule on the size of amounts
+few_decimals : (kind : FieldKind) (columns : ℕ) → is_too_large kind columns ≡ false → decimals_of kind ≤ columns
+few_decimals holds.Text columns kept = omega arith
+few_decimals (holds.Amount decimals rule) columns kept =
+    by (nat_lt 8 columns) (nat_lt 3 decimals) (nat_lt columns decimals) refl kept
+  where
+    by : (a b c : Bool) → nat_lt columns decimals ≡ c → (a || b || c) ≡ false → decimals ≤ columns
+    by false false false test kept = grind (arith, nat_tests, test)
+    by true b c test kept = cc
+    by false true c test kept = cc
+    by false false true test kept = cc
+
+-- the fields of a lawful chart are good
+pub named-good : (chart : Chart) → IsLawful chart → (name : List ℕ) (field : Field) → field_named chart.lines name ≡ Some field
+    → IsGoodField field
+named-good chart lawful name field named =
+    let at = named-place chart.lines name field named in
+    let found = LineOf-field chart.lines at.0 field at.1 in
+    let kept = breaks-lawful rule.AmountSize chart found.earlier found.line found.later lawful found.split in
+    record {
+      order = (AreOnCard-lawful chart lawful at.0 field at.1).order;
+      decimals = few_decimals field.kind (columns_of field)
+          (ap breaks_amount_size (sym (statement-field found.line.statement field found.says_it)) ∙ kept);
+    }
+
+-- An item stands on wheels of the machine.
+pub record IsOnWheels (item : Item) : Type 0 where
+  pub first : 1 ≤ item.first
+  pub end : item.end ≤ 121
+
+pub item-on_wheels : (chart : Chart) → IsLawful chart → (line : Line) (item : Item) → Contains chart.lines line
+    → item_of (fields_of chart.lines) line.statement ≡ Some item → IsOnWheels item
+item-on_wheels chart lawful line item there is =
+    let place = Place-line chart.lines line there in
+    let kept : is_off_wheels (Some item) ≡ false
+    = sym (ap is_off_wheels is) ∙ breaks-lawful rule.WheelRange chart place.earlier line place.later lawful place.split in
+    record { first = grind (arith, nat_tests, kept); end = grind (arith, nat_tests, kept) }
+
+-- An amount has a digit, and no more decimals than digits.
+pub record IsGoodFigure (figure : Figure) : Type 0 where
+  pub some : 1 ≤ figure.digits
+  pub decimals : figure.decimals ≤ figure.digits
+
+-- a total has as many digits as its field has columns, or more
+enough_digits : (field : Field) (digits : ℕ) → is_out_of_digits (Some field) digits ≡ false → columns_of field ≤ digits
+enough_digits field digits kept =
+    by (nat_lt digits (columns_of field)) (nat_lt 8 digits) (is_some (sign_column field.kind) && nat_lt 7 digits) refl kept
+  where
+    by : (a b c : Bool) → nat_lt digits (columns_of field) ≡ a → (a || b || c) ≡ false → columns_of field ≤ digits
+    by false b c test kept = grind (arith, nat_tests, test)
+    by true b c test kept = cc
+
+-- the amounts of a lawful chart are good
+pub figure-good : (chart : Chart) → IsLawful chart → (line : Line) (item : Item) (figure : Figure) → Contains chart.lines line
+    → item_of (fields_of chart.lines) line.statement ≡ Some item → item.figure ≡ Some figure → IsGoodFigure figure
+figure-good chart lawful line item figure there is has =
+    let place = Place-line chart.lines line there in
+    by line.statement (breaks-lawful rule.DigitsRange chart place.earlier line place.later lawful place.split) is
+  where
+    -- the figure of the item is this one
+    is_good : (other : Figure) → Some other ≡ item.figure → IsGoodFigure other → IsGoodFigure figure
+    is_good other same good =
+        let equal : Some other ≡ Some figure = same ∙ has in
+        let is : other ≡ figure = cc in
+        subst IsGoodFigure is good
+
+    detail : (wheel : ℕ) (shown : DetailOption) (field : Field) (kind : FieldKind) → IsGoodField field
+        → field.kind ≡ kind → detail_item wheel shown (columns_of field) kind ≡ item → IsGoodFigure figure
+    detail wheel shown field holds.Text good kind same =
+        let none : None ≡ item.figure = ap (λ (i : Item). i.figure) same in cc
+    detail wheel shown field (holds.Amount decimals rule) good kind same =
+        is_good (record { digits = columns_of field; decimals = decimals; mark = mark_shown shown })
+        (ap (λ (i : Item). i.figure) same)
+        (record {
+          some = let order = good.order in omega (arith, order);
+          decimals = subst (λ (k : FieldKind). decimals_of k ≤ columns_of field) kind good.decimals;
+        })
+
+    total : (level : Level) (wheel digits : ℕ) (mark : Option Mark) (field : Field) → IsGoodField field
+        → is_out_of_digits (Some field) digits ≡ false → total_item level wheel digits mark field.kind ≡ item
+        → IsGoodFigure figure
+    total level wheel digits mark field good kept same =
+        is_good (record { digits = digits; decimals = decimals_of field.kind; mark = mark })
+        (ap (λ (i : Item). i.figure) same)
+        (let order = good.order in
+        let few = good.decimals in
+        let enough = enough_digits field digits kept in
+        record { some = omega (arith, order, enough); decimals = omega (arith, few, enough) })
+
+    by : (statement : Statement) → breaks_digits_range (fields_of chart.lines) statement ≡ false
+        → item_of (fields_of chart.lines) statement ≡ Some item → IsGoodFigure figure
+    by (says.Head its_line wheel literal) kept is = cc
+    by (says.DetailLiteral wheel literal) kept is = cc
+    by (says.TotalLiteral level wheel literal) kept is = cc
+    by (says.DetailField wheel name shown) kept is = named (field_named chart.lines name) refl is
+      where
+        named : (o : Option Field) → field_named chart.lines name ≡ o
+            → option_map (λ field. detail_item wheel shown (columns_of field) field.kind) o ≡ Some item → IsGoodFigure figure
+        named None none is = cc
+        named (Some field) there is =
+            detail wheel shown field field.kind (named-good chart lawful name field there) refl cc
+    by (says.TotalText level wheel name) kept is = named (field_named chart.lines name) is
+      where
+        named : (o : Option Field) → option_map (λ field. text_item (Body (body.Total level)) wheel (columns_of field)) o ≡ Some item
+            → IsGoodFigure figure
+        named None is = cc
+        named (Some field) is = cc
+    by (says.TotalAmount level wheel name digits mark) kept is = named (field_named chart.lines name) refl kept is
+      where
+        named : (o : Option Field) → field_named chart.lines name ≡ o → is_out_of_digits o digits ≡ false
+            → option_map (λ field. total_item level wheel digits mark field.kind) o ≡ Some item → IsGoodFigure figure
+        named None none kept is = cc
+        named (Some field) there kept is =
+            total level wheel digits mark field (named-good chart lawful name field there) kept cc
+    by other kept is = cc

@@ -1,0 +1,214 @@
+-- What the rules on print wheels say of two items of a lawful chart that have a wheel in common.
+use Rattle.std.proofs.Common.{◌≡◌, ◌∙◌, ◌⊎◌, inl, inr, refl, sym, ap, ap₂, ℕ, zero, suc, ◌==◌, ◌&&◌, ◌||◌, not, Bool, true, false, List, [], ◌∷◌, ◌++◌, Contains, Option, Some, None, is_none, arith}
+use Rattle.std.specs.List.{list_any}
+use Rattle.std.proofs.lemmas.Bool.{eqb-true}
+use Rattle.std.proofs.lemmas.Bool.Decides.{nat_tests}
+use Rattle.chart_text.specs.Chart.{Chart}
+use Rattle.chart_text.specs.declared.chart.Line.{Line}
+use Rattle.chart_text.specs.declared.statement.Mark.{Mark}
+use Rattle.chart_text.specs.declared.statement.Mark.TheVariants as mark
+use Rattle.chart_rules.specs.declared.items.Figure.{Figure}
+use Rattle.chart_rules.specs.declared.items.Item.{Item}
+use Rattle.chart_rules.specs.declared.rule.Rule.TheVariants as rule
+use Rattle.chart_rules.specs.Fields.{fields_of}
+use Rattle.chart_rules.specs.Items.{item_of, is_same_line}
+use Rattle.chart_rules.specs.Rules.{IsLawful}
+use Rattle.chart_rules.specs.Wheels.{HasWheel, meet, overlap, clash, is_body, may_share, is_same_style, is_same_mark}
+use Rattle.chart_rules.proofs.Laws.{breaks-lawful}
+use Rattle.printed_lines.proofs.Characters.{both_true}
+
+-- where a line stands among others
+pub record Place (lines : List Line) (line : Line) : Type 0 where
+  pub earlier : List Line
+  pub later : List Line
+  pub split : lines ≡ earlier ++ line ∷ later
+
+-- behind one line more
+Place-behind : (first : Line) (lines : List Line) (line : Line) → Place lines line → Place (first ∷ lines) line
+Place-behind first lines line place =
+    record { earlier = first ∷ place.earlier; later = place.later; split = ap (λ others. first ∷ others) place.split }
+
+-- a line of a list stands somewhere
+pub Place-line : (lines : List Line) (line : Line) → Contains lines line → Place lines line
+Place-line [] line (k, within, is) = absurd (omega (arith, within))
+Place-line (first ∷ lines) line (zero, within, is) = record { earlier = []; later = lines; split = ap (λ l. l ∷ lines) is }
+Place-line (first ∷ lines) line (suc k, within, is) =
+    Place-behind first lines line (Place-line lines line (k, omega (arith, within), is))
+
+-- Two lines of a list are the same, or one stands before the other.
+pub data Order (lines : List Line) (one other : Line) : Type 0 where
+  same : one ≡ other → Order lines one other
+  before : (a b c : List Line) → lines ≡ (a ++ one ∷ b) ++ other ∷ c → Order lines one other
+  behind : (a b c : List Line) → lines ≡ (a ++ other ∷ b) ++ one ∷ c → Order lines one other
+
+Order-behind : (first : Line) (lines : List Line) (one other : Line) → Order lines one other → Order (first ∷ lines) one other
+Order-behind first lines one other (same is) = same is
+Order-behind first lines one other (before a b c split) = before (first ∷ a) b c (ap (λ others. first ∷ others) split)
+Order-behind first lines one other (behind a b c split) = behind (first ∷ a) b c (ap (λ others. first ∷ others) split)
+
+Order-lines : (lines : List Line) (one other : Line) → Contains lines one → Contains lines other → Order lines one other
+Order-lines [] one other (k, within, is) there = absurd (omega (arith, within))
+Order-lines (first ∷ lines) one other (zero, within, is) (zero, within_other, is_other) = same (sym is ∙ is_other)
+Order-lines (first ∷ lines) one other (zero, within, is) (suc k, within_other, is_other) =
+    let place = Place-line lines other (k, omega (arith, within_other), is_other) in
+    before [] place.earlier place.later (ap₂ (λ l others. l ∷ others) is place.split)
+Order-lines (first ∷ lines) one other (suc k, within, is) (zero, within_other, is_other) =
+    let place = Place-line lines one (k, omega (arith, within), is) in
+    behind [] place.earlier place.later (ap₂ (λ l others. l ∷ others) is_other place.split)
+Order-lines (first ∷ lines) one other (suc k, within, is) (suc j, within_other, is_other) =
+    Order-behind first lines one other
+    (Order-lines lines one other (k, omega (arith, within), is) (j, omega (arith, within_other), is_other))
+
+-- a test that no line of a list passes is not passed by one that stands among them
+not_there : (test : Line → Bool) (a : List Line) (line : Line) (b : List Line) → list_any test (a ++ line ∷ b) ≡ false
+    → test line ≡ false
+not_there test [] line b none = by (test line) none
+  where
+    by : (t : Bool) → (t || list_any test b) ≡ false → t ≡ false
+    by true none = none
+    by false none = refl
+not_there test (first ∷ a) line b none = not_there test a line b (by (test first) none)
+  where
+    by : (t : Bool) → (t || list_any test (a ++ line ∷ b)) ≡ false → list_any test (a ++ line ∷ b) ≡ false
+    by true none = cc
+    by false none = none
+
+-- Two items agree where neither is an amount, or both are amounts with the same last wheel, decimals and mark.
+pub data Agree (one other : Item) : Type 0 where
+  texts : one.figure ≡ None → other.figure ≡ None → Agree one other
+  amounts :
+      (figure same_figure : Figure) → one.figure ≡ Some figure → other.figure ≡ Some same_figure → one.end ≡ other.end
+      → figure.decimals ≡ same_figure.decimals → figure.mark ≡ same_figure.mark → Agree one other
+
+Agree-turned : (one other : Item) → Agree one other → Agree other one
+Agree-turned one other (texts first second) = texts second first
+Agree-turned one other (amounts f g first second end decimals mark) =
+    amounts g f second first (sym end) (sym decimals) (sym mark)
+
+-- marks that pass the test are the same
+marks-same : (one other : Option Mark) → is_same_mark one other ≡ true → one ≡ other
+marks-same None None is = refl
+marks-same (Some mark.Credit) (Some mark.Credit) is = refl
+marks-same (Some mark.Minus) (Some mark.Minus) is = refl
+marks-same None (Some other) is = cc
+marks-same (Some mark.Credit) None is = cc
+marks-same (Some mark.Minus) None is = cc
+marks-same (Some mark.Credit) (Some mark.Minus) is = cc
+marks-same (Some mark.Minus) (Some mark.Credit) is = cc
+
+-- items that may share wheels agree
+Agree-shared : (one other : Item) → may_share one other ≡ true → Agree one other
+Agree-shared one other shared = by one.figure other.figure refl refl shared
+  where
+    same : (f g : Figure) → one.figure ≡ Some f → other.figure ≡ Some g
+        → ((one.end == other.end) && ((f.decimals == g.decimals) && is_same_mark f.mark g.mark)) ≡ true → Agree one other
+    same f g first second test =
+        let parts = both_true (one.end == other.end) _ test in
+        let style = both_true (f.decimals == g.decimals) _ parts.1 in
+        amounts f g first second (eqb-true one.end other.end parts.0) (eqb-true f.decimals g.decimals style.0)
+        (marks-same f.mark g.mark style.1)
+
+    no : (b : Bool) → (b && false) ≡ true → ⊥
+    no true wrong = cc
+    no false wrong = cc
+
+    by : (f g : Option Figure) → one.figure ≡ f → other.figure ≡ g
+        → ((is_none f && is_none g) || ((one.end == other.end) && is_same_style f g)) ≡ true → Agree one other
+    by None None first second test = texts first second
+    by None (Some g) first second test = absurd (no (one.end == other.end) test)
+    by (Some f) None first second test = absurd (no (one.end == other.end) test)
+    by (Some f) (Some g) first second test = same f g first second test
+
+-- items with a wheel in common meet
+meet-wheel : (one other : Item) (wheel : ℕ) → HasWheel one wheel → HasWheel other wheel → meet one other ≡ true
+meet-wheel one other wheel (low, high) (low_other, high_other) = grind (arith, nat_tests, low, high, low_other, high_other)
+
+-- two items of a printed line that meet don't keep the rule on overlaps
+overlap-false : (one other : Item) → overlap (Some one) (Some other) ≡ false → meet one other ≡ true
+    → is_same_line one.line other.line ≡ false
+overlap-false one other none meets = by (is_same_line one.line other.line) (meet one other) none meets
+  where
+    by : (a b : Bool) → (a && b) ≡ false → b ≡ true → a ≡ false
+    by true b none on = sym on ∙ none
+    by false b none on = refl
+
+-- two body items that meet, and are not on one line, may share their wheels
+clash-false : (one other : Item) → clash (Some one) (Some other) ≡ false → is_body one.line ≡ true → is_body other.line ≡ true
+    → is_same_line one.line other.line ≡ false → meet one other ≡ true → may_share one other ≡ true
+clash-false one other none first second apart meets =
+    by (is_body one.line) (is_body other.line) (is_same_line one.line other.line) (meet one other) (may_share one other) none first
+    second apart meets
+  where
+    by : (a b c d e : Bool) → (a && b && not c && d && not e) ≡ false → a ≡ true → b ≡ true → c ≡ false → d ≡ true → e ≡ true
+    by true true false true true none first second apart meets = refl
+    by true true false true false none first second apart meets = sym none
+    by false b c d e none first second apart meets = cc
+    by true false c d e none first second apart meets = cc
+    by true true true d e none first second apart meets = cc
+    by true true false false e none first second apart meets = cc
+
+-- what the rules on wheels say of an item and a later one
+pub record KeepApart (one other : Item) : Type 0 where
+  pub overlap : meet one other ≡ true → is_same_line one.line other.line ≡ false
+  pub clash :
+      is_body one.line ≡ true → is_body other.line ≡ true → meet one other ≡ true → Agree one other
+
+KeepApart-lines : (chart : Chart) → IsLawful chart → (line other_line : Line) (a b c : List Line) (one other : Item)
+    → chart.lines ≡ (a ++ line ∷ b) ++ other_line ∷ c → item_of (fields_of chart.lines) line.statement ≡ Some one
+    → item_of (fields_of chart.lines) other_line.statement ≡ Some other → KeepApart one other
+KeepApart-lines chart lawful line other_line a b c one other split is is_other =
+    let fields = fields_of chart.lines in
+    let no_overlap : overlap (Some one) (Some other) ≡ false
+    = sym (ap₂ overlap is is_other)
+    ∙ not_there (λ l. overlap (item_of fields l.statement) (item_of fields other_line.statement)) a line b
+    (breaks-lawful rule.WheelOverlap chart (a ++ line ∷ b) other_line c lawful split) in
+    let no_clash : clash (Some one) (Some other) ≡ false
+    = sym (ap₂ clash is is_other)
+    ∙ not_there (λ l. clash (item_of fields l.statement) (item_of fields other_line.statement)) a line b
+    (breaks-lawful rule.WheelClash chart (a ++ line ∷ b) other_line c lawful split) in
+    record {
+      overlap = overlap-false one other no_overlap;
+      clash = λ first second meets.
+          Agree-shared one other (clash-false one other no_clash first second (overlap-false one other no_overlap meets) meets);
+    }
+
+-- two items of one printed line that have a wheel in common are from the same line of the chart
+pub one-line : (chart : Chart) → IsLawful chart → (line other_line : Line) (one other : Item) (wheel : ℕ)
+    → Contains chart.lines line → Contains chart.lines other_line
+    → item_of (fields_of chart.lines) line.statement ≡ Some one → item_of (fields_of chart.lines) other_line.statement ≡ Some other
+    → is_same_line one.line other.line ≡ true → is_same_line other.line one.line ≡ true
+    → HasWheel one wheel → HasWheel other wheel → line ≡ other_line
+one-line chart lawful line other_line one other wheel there there_other is is_other first second on on_other =
+    by (Order-lines chart.lines line other_line there there_other)
+  where
+    by : Order chart.lines line other_line → line ≡ other_line
+    by (same it) = it
+    by (before a b c split) =
+        let apart = (KeepApart-lines chart lawful line other_line a b c one other split is is_other).overlap
+        (meet-wheel one other wheel on on_other) in
+        cc
+    by (behind a b c split) =
+        let apart = (KeepApart-lines chart lawful other_line line a b c other one split is_other is).overlap
+        (meet-wheel other one wheel on_other on) in
+        cc
+
+-- two body items that have a wheel in common are the same or agree
+pub same-or-agree : (chart : Chart) → IsLawful chart → (line other_line : Line) (one other : Item) (wheel : ℕ)
+    → Contains chart.lines line → Contains chart.lines other_line
+    → item_of (fields_of chart.lines) line.statement ≡ Some one → item_of (fields_of chart.lines) other_line.statement ≡ Some other
+    → is_body one.line ≡ true → is_body other.line ≡ true
+    → HasWheel one wheel → HasWheel other wheel → (one ≡ other) ⊎ Agree one other
+same-or-agree chart lawful line other_line one other wheel there there_other is is_other first second on on_other =
+    by (Order-lines chart.lines line other_line there there_other)
+  where
+    by : Order chart.lines line other_line → (one ≡ other) ⊎ Agree one other
+    by (same it) =
+        let items : Some one ≡ Some other = sym is ∙ ap (λ l. item_of (fields_of chart.lines) l.statement) it ∙ is_other in
+        inl cc
+    by (before a b c split) =
+        inr ((KeepApart-lines chart lawful line other_line a b c one other split is is_other).clash first second
+        (meet-wheel one other wheel on on_other))
+    by (behind a b c split) =
+        inr (Agree-turned other one
+        ((KeepApart-lines chart lawful other_line line a b c other one split is_other is).clash second first
+        (meet-wheel other one wheel on_other on)))

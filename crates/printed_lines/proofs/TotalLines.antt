@@ -1,0 +1,205 @@
+-- The total line of a level: what the chart's lines send to it comes from their items, and spells what the report puts there.
+use Rattle.std.proofs.Common.{◌≡◌, ◌∙◌, refl, ap, subst, ℕ, ◌==◌, not, if◌then◌else◌, Bool, true, false, List, length, map, Contains, Option, Some, None, option_map, arith}
+use Rattle.std.proofs.lemmas.Bool.Decides.{nat_tests}
+use Rattle.chart_text.specs.Chart.{Chart}
+use Rattle.chart_text.specs.Field.{columns_of, decimals_of, is_amount}
+use Rattle.chart_text.specs.Levels.{level_number}
+use Rattle.chart_text.specs.declared.chart.Line.{Line}
+use Rattle.chart_text.specs.declared.level.Level.{Level}
+use Rattle.chart_text.specs.declared.statement.BodyLine.TheVariants as body
+use Rattle.chart_text.specs.declared.statement.Field.{Field}
+use Rattle.chart_text.specs.declared.statement.Mark.{Mark}
+use Rattle.chart_text.specs.declared.statement.Statement.{Statement}
+use Rattle.chart_text.specs.declared.statement.Statement.TheVariants as says
+use Rattle.chart_rules.specs.declared.items.Figure.{Figure}
+use Rattle.chart_rules.specs.declared.items.PrintedLine.{PrintedLine}
+use Rattle.chart_rules.specs.declared.items.PrintedLine.TheVariants.{Heading, Body}
+use Rattle.chart_rules.specs.declared.rule.Rule.TheVariants as rule
+use Rattle.chart_rules.specs.Fields.{fields_of, field_named}
+use Rattle.chart_rules.specs.Items.{is_same_line, text_item, total_item}
+use Rattle.chart_rules.specs.Names.{breaks_wrong_kind, names_text}
+use Rattle.chart_rules.specs.Rules.{IsLawful}
+use Rattle.chart_rules.specs.ValidCard.{column_of}
+use Rattle.chart_rules.specs.Wheels.{is_body}
+use Rattle.chart_rules.proofs.Laws.{breaks-lawful}
+use Rattle.report.specs.Amounts.{columns_in}
+use Rattle.report.specs.BodyLines.{piece_at, total_piece, text_on, a_card_of}
+use Rattle.report.specs.Edits.{last_digits, edited}
+use Rattle.report.specs.Totals.{total_of}
+use Rattle.wire_gen.specs.Figures.{on_total, total_emitter}
+use Rattle.printed_lines.specs.Held.{HaveLiteralTexts, literal_of, HoldsLine}
+use Rattle.printed_lines.specs.Laws.{TotalLinesPrint}
+use Rattle.printed_lines.specs.Shown.{Shown, Characters, Amount, Printed, total_sends, set_of_character}
+use Rattle.printed_lines.proofs.AmountLines.{total-amount, last_digits-length}
+use Rattle.printed_lines.proofs.LawfulItems.{named-good}
+use Rattle.printed_lines.proofs.Lines.{SpellsPiece, body-line}
+use Rattle.printed_lines.proofs.Meeting.{Place-line}
+use Rattle.printed_lines.proofs.Sending.{IsItems, IsSending}
+use Rattle.printed_lines.proofs.Spelled.{literal-spelled, columns-spelled, literal-item, text-item, amount-item}
+
+-- the items of totals of a level stand on its total line
+abbrev pub on_total_line : ℕ → PrintedLine → Bool
+on_total_line level (Body (body.Total its_level)) = level_number its_level == level
+on_total_line level other = false
+
+total-line : (level : ℕ) (first second : PrintedLine) → on_total_line level first ≡ true → on_total_line level second ≡ true
+    → is_same_line first second ≡ true
+total-line level (Body (body.Total one)) (Body (body.Total other)) on also = grind (arith, nat_tests, on, also)
+total-line level (Body body.Detail) second on also = cc
+total-line level (Heading heading) second on also = cc
+total-line level (Body (body.Total one)) (Body body.Detail) on also = cc
+total-line level (Body (body.Total one)) (Heading heading) on also = cc
+
+total-body : (level : ℕ) (on : PrintedLine) → on_total_line level on ≡ true → is_body on ≡ true
+total-body level (Body (body.Total its_level)) on = refl
+total-body level (Body body.Detail) on = cc
+total-body level (Heading heading) on = cc
+
+-- what is no text is an amount
+no_text : (b : Bool) → not b ≡ false → b ≡ true
+no_text true is = refl
+no_text false is = cc
+
+-- what is sent to a total line comes from its items
+total-items : (lines : List Line) (level : ℕ) (held : List ℕ → Printed) (card : List ℕ) (statement : Statement) (shown : Shown)
+    → breaks_wrong_kind (fields_of lines) statement ≡ false → total_sends lines level held card statement ≡ Some shown
+    → IsItems lines (on_total_line level) statement shown
+total-items lines level held card (says.TotalLiteral its_level wheel literal) shown kept sent =
+    by (level_number its_level == level) refl sent
+  where
+    by : (b : Bool) → (level_number its_level == level) ≡ b
+        → (if b then Some (Characters wheel (map set_of_character literal)) else None) ≡ Some shown
+        → IsItems lines (on_total_line level) (says.TotalLiteral its_level wheel literal) shown
+    by false on sent = cc
+    by true on sent =
+        let is : Characters wheel (map set_of_character literal) ≡ shown = cc in
+        subst (IsItems lines (on_total_line level) (says.TotalLiteral its_level wheel literal)) is
+        (record {
+          amount = tt;
+          line = Body (body.Total its_level);
+          is_on = on;
+          is_item = literal-item (Body (body.Total its_level)) wheel literal;
+        })
+total-items lines level held card (says.TotalText its_level wheel name) shown kept sent =
+    by (level_number its_level == level) (field_named lines name) refl refl sent
+  where
+    by : (b : Bool) (o : Option Field) → (level_number its_level == level) ≡ b → field_named lines name ≡ o
+        → (if b then option_map (λ field. Characters wheel (map (column_of card) (columns_in field))) o else None) ≡ Some shown
+        → IsItems lines (on_total_line level) (says.TotalText its_level wheel name) shown
+    by false o on named sent = cc
+    by true None on named sent = cc
+    by true (Some field) on named sent =
+        let is : Characters wheel (map (column_of card) (columns_in field)) ≡ shown = cc in
+        subst (IsItems lines (on_total_line level) (says.TotalText its_level wheel name)) is
+        (record {
+          amount = tt;
+          line = Body (body.Total its_level);
+          is_on = on;
+          is_item =
+              ap (option_map (λ f. text_item (Body (body.Total its_level)) wheel (columns_of f))) named
+              ∙ text-item (Body (body.Total its_level)) wheel card field;
+        })
+total-items lines level held card (says.TotalAmount its_level wheel name digits mark) shown kept sent =
+    by (level_number its_level == level) (field_named lines name) refl refl kept sent
+  where
+    figure : Field → Figure
+    figure field = record { digits = digits; decimals = decimals_of field.kind; mark = mark }
+
+    columns : List (Option ℕ)
+    columns = map Some (last_digits digits (held name).figure)
+
+    by : (b : Bool) (o : Option Field) → (level_number its_level == level) ≡ b → field_named lines name ≡ o
+        → names_text o ≡ false
+        → (if b then option_map (λ field. Amount wheel (figure field) columns (held name).latch) o else None) ≡ Some shown
+        → IsItems lines (on_total_line level) (says.TotalAmount its_level wheel name digits mark) shown
+    by false o on named kept sent = cc
+    by true None on named kept sent = cc
+    by true (Some field) on named kept sent =
+        let is : Amount wheel (figure field) columns (held name).latch ≡ shown = cc in
+        let long : length columns ≡ digits = last_digits-length digits (held name).figure in
+        subst (IsItems lines (on_total_line level) (says.TotalAmount its_level wheel name digits mark)) is
+        (record {
+          amount = (
+            total_emitter (level_number its_level),
+            on_total its_level wheel name digits mark field
+                (record { named = named; holds_amount = no_text (is_amount field.kind) kept }),
+            long,
+          );
+          line = Body (body.Total its_level);
+          is_on = on;
+          is_item =
+              ap (option_map (λ f. total_item its_level wheel digits mark f.kind)) named
+              ∙ amount-item (Body (body.Total its_level)) wheel (figure field) columns (held name).latch long;
+        })
+total-items lines level held card other shown kept sent = cc
+
+pub total-sending : (chart : Chart) → IsLawful chart → (level : ℕ) (held : List ℕ → Printed) (card : List ℕ)
+    → IsSending chart.lines (on_total_line level) (total_sends chart.lines level held card)
+total-sending chart lawful level held card = record {
+  one = total-line level;
+  items = λ line shown there sent.
+      let place = Place-line chart.lines line there in
+      total-items chart.lines level held card line.statement shown
+      (breaks-lawful rule.WrongKind chart place.earlier line place.later lawful place.split) sent;
+}
+
+-- each line of the chart spells what the report puts on the total line of a group
+total-spells : (chart : Chart) (level : ℕ) (group : List (List ℕ)) (held : List ℕ → Printed) (card : List ℕ) → IsLawful chart
+    → HaveLiteralTexts chart.lines → HoldsLine chart.lines level group held card → (line : Line) → Contains chart.lines line
+    → SpellsPiece (total_sends chart.lines level held card line.statement) (total_piece chart.lines level group line.statement)
+total-spells chart level group held card lawful texts holds line there = by line.statement refl
+  where
+    literal_on : (wheel : ℕ) (literal : List ℕ) → literal_of line.statement ≡ Some literal → (b : Bool)
+        → SpellsPiece (if b then Some (Characters wheel (map set_of_character literal)) else None)
+        (if b then Some (piece_at wheel literal) else None)
+    literal_on wheel literal is true = (refl, literal-spelled literal (texts line literal there is).printable)
+    literal_on wheel literal is false = tt
+
+    text_held : (its_level : Level) (wheel : ℕ) (name : List ℕ) → line.statement ≡ says.TotalText its_level wheel name
+        → (b : Bool) (o : Option Field) → (level_number its_level == level) ≡ b → field_named chart.lines name ≡ o
+        → SpellsPiece (if b then option_map (λ field. Characters wheel (map (column_of card) (columns_in field))) o else None)
+        (if b then option_map (λ field. piece_at wheel (text_on (a_card_of group) field)) o else None)
+    text_held its_level wheel name is false o on named = tt
+    text_held its_level wheel name is true None on named = tt
+    text_held its_level wheel name is true (Some field) on named =
+        let text = holds.texts line its_level wheel name field there is (grind (arith, nat_tests, on)) named in
+        let order = (named-good chart lawful name field named).order in (
+          refl,
+          columns-spelled card (a_card_of group) field.first (columns_of field)
+              (λ column low high. text.same column low (omega (arith, high, order)))
+              (λ column low high. text.is_text column low (omega (arith, high, order))),
+        )
+
+    amount_held : (its_level : Level) (wheel : ℕ) (name : List ℕ) (digits : ℕ) (mark : Option Mark)
+        → line.statement ≡ says.TotalAmount its_level wheel name digits mark
+        → (b : Bool) (o : Option Field) → (level_number its_level == level) ≡ b → field_named chart.lines name ≡ o
+        → SpellsPiece
+        (if b then option_map
+        (λ field. Amount wheel (record { digits = digits; decimals = decimals_of field.kind; mark = mark })
+        (map Some (last_digits digits (held name).figure)) (held name).latch) o else None)
+        (if b then option_map (λ field. piece_at wheel (edited (total_of field group) digits (decimals_of field.kind) mark)) o else None)
+    amount_held its_level wheel name digits mark is false o on named = tt
+    amount_held its_level wheel name digits mark is true None on named = tt
+    amount_held its_level wheel name digits mark is true (Some field) on named = (
+      refl,
+      total-amount wheel digits (decimals_of field.kind) mark (total_of field group) (held name)
+          (holds.amounts line its_level wheel name digits mark field there is (grind (arith, nat_tests, on)) named),
+    )
+
+    by : (statement : Statement) → line.statement ≡ statement
+        → SpellsPiece (total_sends chart.lines level held card statement) (total_piece chart.lines level group statement)
+    by (says.TotalLiteral its_level wheel literal) is =
+        literal_on wheel literal (ap literal_of is) (level_number its_level == level)
+    by (says.TotalText its_level wheel name) is =
+        text_held its_level wheel name is (level_number its_level == level) (field_named chart.lines name) refl refl
+    by (says.TotalAmount its_level wheel name digits mark) is =
+        amount_held its_level wheel name digits mark is (level_number its_level == level) (field_named chart.lines name) refl refl
+    by other is = tt
+
+-- the total line of a group prints as the report has it
+pub total_lines : TotalLinesPrint
+total_lines chart link suppress symbol level group held card lawful texts jacks holds =
+    body-line chart link suppress symbol (on_total_line level) (total_sends chart.lines level held card)
+    (total_piece chart.lines level group)
+    (record { lawful = lawful; jacks = jacks; body = total-body level; sending = total-sending chart lawful level held card })
+    (total-spells chart level group held card lawful texts holds)

@@ -1,0 +1,52 @@
+-- What a total line rests on: what the totals and the storage units hold when a group ends, and texts that can be printed.
+use Rattle.std.specs.Prelude.{◌≡◌, ℕ, ℤ, ◌<◌, ◌^◌, true, false, List, Contains, Option, Some, None, is_some}
+use Rattle.chart_text.specs.Levels.{level_number}
+use Rattle.chart_text.specs.Literal.{IsLiteralText}
+use Rattle.chart_text.specs.declared.chart.Line.{Line}
+use Rattle.chart_text.specs.declared.level.Level.{Level}
+use Rattle.chart_text.specs.declared.statement.Field.{Field}
+use Rattle.chart_text.specs.declared.statement.Mark.{Mark}
+use Rattle.chart_text.specs.declared.statement.Statement.{Statement}
+use Rattle.chart_text.specs.declared.statement.Statement.TheVariants as says
+use Rattle.chart_rules.specs.Fields.{field_named}
+use Rattle.chart_rules.specs.ValidCard.{EachColumn, IsText, column_of}
+use Rattle.report.specs.BodyLines.{a_card_of}
+use Rattle.report.specs.Edits.{size, is_below_zero}
+use Rattle.report.specs.Totals.{total_of}
+use Rattle.printed_lines.specs.Shown.{Printed}
+
+-- the literal that a line of the chart puts on the report, if it does
+abbrev pub literal_of : Statement → Option (List ℕ)
+literal_of (says.Head line wheel literal) = Some literal
+literal_of (says.DetailLiteral wheel literal) = Some literal
+literal_of (says.TotalLiteral level wheel literal) = Some literal
+literal_of other = None
+
+-- The literals of a chart have print characters and blanks alone.
+abbrev pub HaveLiteralTexts : List Line → Type 0
+HaveLiteralTexts lines =
+    (line : Line) (literal : List ℕ) → Contains lines line → literal_of line.statement ≡ Some literal → IsLiteralText literal
+
+-- What is held of a total prints it in so many digits: the total fits, the figure is its size, and where it has a mark the balance
+-- latch is set for a total below 0 and not set for one above 0.
+pub record HoldsTotal (digits : ℕ) (mark : Option Mark) (total : ℤ) (held : Printed) : Type 0 where
+  pub fits : size total < 10 ^ digits
+  pub figure : held.figure ≡ size total
+  pub below : is_some mark ≡ true → is_below_zero total ≡ true → held.latch ≡ true
+  pub above : is_some mark ≡ true → is_below_zero total ≡ false → 0 < size total → held.latch ≡ false
+
+-- What is held of a text field are the columns of another card, on which it is a text.
+pub record HoldsText (field : Field) (held original : List ℕ) : Type 0 where
+  pub same : EachColumn field.first field.last (λ column. column_of held column ≡ column_of original column)
+  pub is_text : IsText field.first field.last original
+
+-- Each amount and each text on the total line of a level is held for a group.
+pub record HoldsLine (lines : List Line) (level : ℕ) (group : List (List ℕ)) (held : List ℕ → Printed) (card : List ℕ) : Type 0 where
+  pub amounts :
+      (line : Line) (its_level : Level) (wheel : ℕ) (name : List ℕ) (digits : ℕ) (mark : Option Mark) (field : Field)
+      → Contains lines line → line.statement ≡ says.TotalAmount its_level wheel name digits mark → level_number its_level ≡ level
+      → field_named lines name ≡ Some field → HoldsTotal digits mark (total_of field group) (held name)
+  pub texts :
+      (line : Line) (its_level : Level) (wheel : ℕ) (name : List ℕ) (field : Field)
+      → Contains lines line → line.statement ≡ says.TotalText its_level wheel name → level_number its_level ≡ level
+      → field_named lines name ≡ Some field → HoldsText field card (a_card_of group)

@@ -1,0 +1,158 @@
+-- Lines that stand by the line before them are in order.
+use Rattle.std.proofs.Common.{◌≡◌, refl, ap, ℕ, zero, suc, ◌+◌, ◌-◌, ◌*◌, ◌^◌, ◌<◌, ◌≤◌, inl, inr, ◌==◌, Bool, true, false, List, [], ◌∷◌, ◌++◌, length, map, if◌then◌else◌, length-append, arith}
+use Rattle.std.specs.List.{flat_map, range_with_len}
+use Rattle.std.proofs.lemmas.Bool.Decides.{nat_tests}
+use Rattle.carriage.specs.InOrder.{IsAfter, FollowInOrder, IsInOrder}
+use Rattle.carriage.specs.declared.placed_line.PlacedLine.{PlacedLine}
+use Rattle.chart_text.specs.declared.chart.Line.{Line}
+use Rattle.report.specs.ChartForm.{form_of, headings, spacing_of, prints_details, prints_totals}
+use Rattle.report.specs.Outline.{OutlineLine, Detail, Total, outline_of}
+use Rattle.report.specs.OutlineLaws.{break_level, totals_up_to, with_card, without_ended, by_cards}
+use Rattle.report.specs.PlaceLaws.{ComesTo, stays, skips, standing, headings_on, first_body_line, Follow, no_more, on_its_page, on_the_next, Stand, nothing, from_page_1, PlacesRise}
+use Rattle.report.specs.Places.{BodyText, heading_on}
+use Rattle.report.specs.Report.{body_of, body_lines}
+use Rattle.report.proofs.LawfulForms.{HasRoom, room_of, spacing-range}
+use Rattle.report.proofs.LinePlaces.{lines_stand}
+use Rattle.report.proofs.OutlineByCards.{break-within, deck_by_cards}
+
+-- so many total lines
+totals-length : (level : ℕ) (groups : ℕ → List (List ℕ)) → length (totals_up_to level groups) ≡ level
+totals-length zero groups = refl
+totals-length (suc level) groups =
+    let more = totals-length level groups in
+    let both = length-append (totals_up_to level groups) (Total (suc level) (groups (suc level)) ∷ []) in omega (arith, more, both)
+
+-- at most five lines of the outline for each card
+outline-length : (lines : List Line) (unfinished : ℕ → List (List ℕ)) (opens : ℕ) (card : List ℕ) (cards : List (List ℕ))
+    → length (by_cards lines 3 4 unfinished opens card cards) ≤ 5 * (1 + length cards)
+outline-length lines unfinished opens card [] = let last = totals-length 4 (with_card card unfinished) in omega (arith, last)
+outline-length lines unfinished opens card (next ∷ cards) =
+    by (break_level lines 3 card next) (break-within lines 3 card next)
+    (λ some opened. outline-length lines some opened next cards)
+  where
+    by : (ended : ℕ) → ended ≤ 3
+        → ((some : ℕ → List (List ℕ)) (opened : ℕ) → length (by_cards lines 3 4 some opened next cards) ≤ 5 * (1 + length cards))
+        → length (Detail opens card ∷ (totals_up_to ended (with_card card unfinished) ++ by_cards lines 3 4 (without_ended ended (with_card card unfinished)) ended next cards))
+        ≤ 5 * (1 + length (next ∷ cards))
+    by ended low more =
+        let later = more (without_ended ended (with_card card unfinished)) ended in
+        let here = totals-length ended (with_card card unfinished) in
+        let both = length-append (totals_up_to ended (with_card card unfinished))
+        (by_cards lines 3 4 (without_ended ended (with_card card unfinished)) ended next cards) in
+        omega (arith, low, later, here, both)
+
+-- at most one body line for each line of the outline
+bodies-length : (lines : List Line) (outline : List OutlineLine) → length (flat_map (body_of lines) outline) ≤ length outline
+bodies-length lines [] = omega arith
+bodies-length lines (line ∷ outline) =
+    let here = one line in
+    let more = bodies-length lines outline in
+    let both = length-append (body_of lines line) (flat_map (body_of lines) outline) in omega (arith, here, more, both)
+  where
+    chosen : (b : Bool) (body : BodyText) → length (if b then body ∷ [] else []) ≤ 1
+    chosen true body = omega arith
+    chosen false body = omega arith
+
+    one : (line : OutlineLine) → length (body_of lines line) ≤ 1
+    one (Detail opens card) = chosen (prints_details lines) _
+    one (Total level group) = chosen (prints_totals lines level) _
+
+deck-length : (lines : List Line) (cards : List (List ℕ)) → length (body_lines lines cards) ≤ 5 * length cards
+deck-length lines [] = omega arith
+deck-length lines (card ∷ cards) =
+    let bodies = bodies-length lines (outline_of lines (card ∷ cards)) in
+    let same = ap length (deck_by_cards lines card cards) in
+    let most = outline-length lines (λ level. []) 4 card cards in omega (arith, bodies, same, most)
+
+module _ (lines : List Line) (room : HasRoom (headings lines) (form_of lines)) where
+  abbrev long : ℕ
+  long = (form_of lines).lines
+
+  abbrev at : ℕ → ℕ
+  at number = (form_of lines).first + number - 1
+
+  -- the first body line of a page stands below its heading lines, and on the form
+  below_headings : (kind : ℕ) → (1 ≤ first_body_line lines kind) × ((form_of lines).first + headings lines ≤ first_body_line lines kind) × (first_body_line lines kind ≤ long)
+  below_headings kind = by (headings lines == 0) refl
+    where
+      by : (b : Bool) → (headings lines == 0) ≡ b
+          → (1 ≤ (if b then (form_of lines).first else at (headings lines)) + spacing_of lines kind)
+          × ((form_of lines).first + headings lines ≤ (if b then (form_of lines).first else at (headings lines)) + spacing_of lines kind)
+          × ((if b then (form_of lines).first else at (headings lines)) + spacing_of lines kind ≤ long)
+      by true none =
+          let space = spacing-range lines kind in
+          let none_at : headings lines ≡ 0 = grind (arith, nat_tests, none) in (
+            omega (arith, room.first_line),
+            omega (arith, none_at),
+            grind (arith, nat_tests, none_at, space.1, room.overflow_line, room.last_line),
+          )
+      by false some =
+          let space = spacing-range lines kind in
+          let one : 1 ≤ headings lines = grind (arith, nat_tests, some) in (
+            omega (arith, room.first_line, one),
+            omega (arith, space.0, one),
+            grind (arith, nat_tests, one, space.1, room.overflow_line, room.last_line),
+          )
+
+  -- heading lines and what follows them are in order
+  heads : (page number count bottom : ℕ) (rest : List PlacedLine) → 1 ≤ page → page ≤ 2 ^ 32 → 1 ≤ number
+      → at number + count ≤ bottom → bottom ≤ long
+      → ((before line : ℕ) → IsAfter before line page bottom → FollowInOrder long before line rest)
+      → (before line : ℕ) → IsAfter before line page (at number)
+      → FollowInOrder long before line (map (heading_on lines page) (range_with_len number count) ++ rest)
+  heads page number zero bottom rest from to some fits within next before line after = next before line (lower after)
+    where
+      lower : IsAfter before line page (at number) → IsAfter before line page bottom
+      lower (inl later) = inl later
+      lower (inr below) = inr (below.0, omega (arith, below.1, fits))
+  heads page number (suc count) bottom rest from to some fits within next before line after = (
+    after,
+    record { page_from = from; page_to = to; line_from = omega (arith, some, room.first_line); line_to = omega (arith, fits, within) },
+    heads page (number + 1) count bottom rest from to (omega arith) (omega (arith, fits, some)) within next page (at number)
+        (inr (refl, omega (arith, some))),
+  )
+
+  -- a page begins behind all lines of the page before it
+  turn : (page line : ℕ) (body : BodyText) (others : List PlacedLine) → page < 2 ^ 32
+      → FollowInOrder long (page + 1) (first_body_line lines body.kind) others
+      → FollowInOrder long page line (headings_on lines (page + 1) ++ (standing body (page + 1) (first_body_line lines body.kind) ∷ others))
+  turn page line body others most more =
+      let place = below_headings body.kind in
+      heads (page + 1) 1 (headings lines) (first_body_line lines body.kind) _ (omega arith) (omega (arith, most)) (omega arith)
+      (omega (arith, place.1)) place.2
+      (λ before above after. (
+        after,
+        record { page_from = omega arith; page_to = omega (arith, most); line_from = place.0; line_to = omega (arith, place.2) },
+        more,
+      ))
+      page line
+      (inl (omega arith))
+
+  comes_down : {kind line to : ℕ} → ComesTo lines kind line to → line ≤ to
+  comes_down (stays is) = omega arith
+  comes_down (skips channel stop is next) = omega (arith, next.below)
+
+  rises : {kind page line : ℕ} {bodies : List BodyText} {others : List PlacedLine} → Follow lines kind page line bodies others
+      → 1 ≤ page → 1 ≤ line → page + length bodies ≤ 2 ^ 32 → FollowInOrder long page line others
+  rises (no_more kind page line) from down most = tt
+  rises (on_its_page kind page line to body bodies others comes above more) from down most =
+      let low = comes_down comes in
+      let space = spacing-range lines body.kind in (
+        inr (refl, omega (arith, low, space.0)),
+        record { page_from = from; page_to = omega (arith, most); line_from = omega (arith, low, down); line_to = omega (arith, above, space.1, room.last_line) },
+        rises more from (omega (arith, low, down)) (omega (arith, most)),
+      )
+  rises (on_the_next kind page line body bodies others ends more) from down most =
+      turn page line body others (omega (arith, most))
+      (rises more (omega arith) (below_headings body.kind).0 (omega (arith, most)))
+
+  all_rise : {bodies : List BodyText} {others : List PlacedLine} → Stand lines bodies others → length bodies ≤ 2 ^ 32
+      → IsInOrder long others
+  all_rise nothing most = tt
+  all_rise (from_page_1 body bodies behind more) most =
+      turn 0 0 body behind (omega (arith, most)) (rises more (omega arith) (below_headings body.kind).0 (omega (arith, most)))
+
+pub places_rise : PlacesRise
+places_rise chart cards lawful few =
+    let most = deck-length chart.lines cards in
+    all_rise chart.lines (room_of chart lawful) (lines_stand chart cards lawful) (omega (arith, most, few))

@@ -1,0 +1,5 @@
+use Rattle.report.proofs.Runs.{indicated}
+use Rattle.report.proofs.laws.indicated_fields_stand_on_first_cards.Goals as goal
+
+pub returns : goal.returns
+returns c = indicated

@@ -1,0 +1,92 @@
+-- The ways of an impulse where no wire leads from one contact to the next.
+use Rattle.std.proofs.Common.{◌≡◌, ◌∙◌, sym, ap, refl, inl, inr, Bool, true, false, not, ◌&&◌, Some, is_some}
+use Rattle.std.proofs.lemmas.Bool.{false≢true}
+use Rattle.hubs.specs.HubTable.{row_of}
+use Rattle.hubs.specs.Hubs.{is_entry_hub, is_exit_hub, is_hub_in_range, letters_of}
+use Rattle.hubs.specs.Wiring.{HasWire, Wiring}
+use Rattle.hubs.specs.declared.hub.Hub.{Hub}
+use Rattle.hubs.specs.declared.hub.Hub.TheVariants.{BAN, BAT, PIN, PIT, IX, CSD, CSZ, BAC, PIC, IE, CSE}
+use Rattle.net.specs.Impulsed.{IsImpulsed}
+use Rattle.net.specs.Impulsed.IsImpulsed.{emitting, led_on}
+use Rattle.net.specs.Panel.{contact_of}
+use Rattle.whole_cycles.specs.Laws.{ContactsAreOneDeep}
+use Rattle.whole_cycles.specs.OneContactDeep.{is_common, IsOneContactDeep, IsWithinOneContact, NoCommonEmits}
+use Rattle.whole_cycles.specs.OneContactDeep.IsWithinOneContact.{emits, wired, through, behind}
+
+-- a contact leads from a common hub
+common_of : (hub common : Hub) → contact_of hub ≡ Some common → is_common common ≡ true
+common_of (BAN group position) common is = cc
+common_of (BAT group position) common is = cc
+common_of (PIN pilot position) common is = cc
+common_of (PIT pilot position) common is = cc
+common_of (IX level position) common is = cc
+common_of (CSD split) common is = cc
+common_of (CSZ split) common is = cc
+common_of other common is = cc
+
+-- a contact's exit is no common hub
+not_common : (hub common : Hub) → contact_of hub ≡ Some common → is_common hub ≡ false
+not_common (BAC group position) common is = cc
+not_common (PIC pilot position) common is = cc
+not_common (IE level position) common is = cc
+not_common (CSE split) common is = cc
+not_common other common is = refl
+
+-- no hub is an exit and an entry
+not_both : (hub : Hub) → is_exit_hub hub ≡ true → is_entry_hub hub ≡ true → ⊥
+not_both hub exit entry = by (row_of (letters_of hub)).is_exit (is_hub_in_range hub) exit entry where
+  by : (a b : Bool) → (a && b) ≡ true → (not a && b) ≡ true → ⊥
+  by true b e f = cc
+  by false b e f = cc
+
+-- where a wire leads to, no wire leads on
+ends : (wiring : Wiring) (x y z : Hub) → IsOneContactDeep wiring → HasWire wiring x y → HasWire wiring y z → ⊥
+ends wiring x y z deep to on = not_both y (deep.leads y z on).0 (deep.leads x y to).1
+
+-- a hub with a number is in range
+in_range : (wiring : Wiring) (exit entry : Hub) → HasWire wiring exit entry → is_hub_in_range exit ≡ true
+in_range wiring exit entry wire = ap is_some wire.numbered
+
+-- an impulse goes one of the four ways
+within : (wiring : Wiring) (exits closed : Hub → Bool) → IsOneContactDeep wiring → NoCommonEmits exits → {hub : Hub}
+    → IsImpulsed wiring exits closed hub → IsWithinOneContact wiring exits closed hub
+within wiring exits closed deep silent (emitting hub there at) = emits hub there at
+within wiring exits closed deep silent (led_on from to at (inl wire)) =
+    along wire (within wiring exits closed deep silent at)
+  where
+    along : {x y : Hub} → HasWire wiring x y → IsWithinOneContact wiring exits closed x → IsWithinOneContact wiring exits closed y
+    along {x} {y} wire (emits hub there on) = wired x y on wire
+    along {x} {y} wire (wired exit hub on first) = absurd (ends wiring exit x y deep first wire)
+    along {x} {y} wire (through exit common hub on first leads shut) = behind exit common x y on first leads shut wire
+    along {x} {y} wire (behind exit common contact hub on first leads shut last) = absurd (ends wiring contact x y deep last wire)
+within wiring exits closed deep silent (led_on from to at (inr contact)) =
+    across contact (within wiring exits closed deep silent at)
+  where
+    across : {x y : Hub} → (contact_of y ≡ Some x) × (closed y ≡ true) → IsWithinOneContact wiring exits closed x
+        → IsWithinOneContact wiring exits closed y
+    across {x} {y} contact (emits hub there on) = absurd (false≢true (sym (silent x (common_of y x contact.0)) ∙ on))
+    across {x} {y} contact (wired exit hub on first) = through exit x y on first contact.0 contact.1
+    across {x} {y} contact (through exit common hub on first leads shut) =
+        absurd (false≢true (sym (not_common x common leads) ∙ common_of y x contact.0))
+    across {x} {y} contact (behind exit common last hub on first leads shut wire) =
+        absurd (deep.shallow last x wire (ap is_some leads) (common_of y x contact.0))
+
+-- what an emitting exit is wired to is impulsed
+fed : (wiring : Wiring) (exits closed : Hub → Bool) (exit hub : Hub) → exits exit ≡ true → HasWire wiring exit hub
+    → IsImpulsed wiring exits closed hub
+fed wiring exits closed exit hub on wire =
+    led_on exit hub (emitting exit (in_range wiring exit hub wire) on) (inl wire)
+
+-- each of the four ways is one of an impulse
+impulsed : (wiring : Wiring) (exits closed : Hub → Bool) → {hub : Hub} → IsWithinOneContact wiring exits closed hub
+    → IsImpulsed wiring exits closed hub
+impulsed wiring exits closed (emits hub there on) = emitting hub there on
+impulsed wiring exits closed (wired exit hub on wire) = fed wiring exits closed exit hub on wire
+impulsed wiring exits closed (through exit common hub on wire leads shut) =
+    led_on common hub (fed wiring exits closed exit common on wire) (inr (leads, shut))
+impulsed wiring exits closed (behind exit common contact hub on wire leads shut last) =
+    led_on contact hub (led_on common contact (fed wiring exits closed exit common on wire) (inr (leads, shut))) (inl last)
+
+pub contacts-one_deep : ContactsAreOneDeep
+contacts-one_deep wiring exits closed hub deep silent =
+    (λ at. within wiring exits closed deep silent at, λ way. impulsed wiring exits closed way)

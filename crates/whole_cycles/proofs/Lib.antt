@@ -1,0 +1,12 @@
+pub mod Sources
+pub mod Contacts
+pub mod Walks
+pub mod Parts
+pub mod Emitted
+pub mod Wheels
+pub mod Wholes
+pub mod Staying
+pub mod Ready
+pub mod Places
+pub mod Alone
+pub mod Units

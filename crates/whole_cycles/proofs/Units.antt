@@ -1,0 +1,169 @@
+-- Counter groups and storage units by their names.
+use Rattle.std.proofs.Common.{◌≡◌, ◌≢◌, ◌∙◌, sym, ap, refl, ℕ, ◌+◌, ◌-◌, ◌<◌, ◌≤◌, ◌==◌, ◌&&◌, not, Bool, false, List, length, get_or, arith}
+use Rattle.std.proofs.lemmas.Bool.Decides.{nat_tests}
+use Rattle.std.proofs.lemmas.List.{get_or-map}
+use Rattle.std.proofs.lemmas.List.FromFn.{get_or-range_with_len}
+use Rattle.card_code.specs.Rows.{row_number}
+use Rattle.card_code.specs.declared.row.Row.{Row as CardRow}
+use Rattle.counters.specs.Counters.{Counter, counter_at_start, counter_closes, counter_number, counter_of, group_of_unit, shows}
+use Rattle.hubs.specs.Ranges.{is_within}
+use Rattle.hubs.specs.Wiring.{Wiring, is_wired}
+use Rattle.hubs.specs.declared.hub.Group.{Group}
+use Rattle.hubs.specs.declared.hub.Hub.{Hub}
+use Rattle.hubs.specs.declared.hub.Hub.TheVariants.{GX, CO, CI, BAN, BAT, SX, RO, SO}
+use Rattle.net.specs.Panel.{unit_of}
+use Rattle.net.specs.declared.cycle.Point.{Point}
+use Rattle.net.specs.declared.cycle.Point.TheVariants.{C}
+use Rattle.storage_units.specs.Storage.{StorageState, holds, storage_at_start, storage_number, storage_place}
+use Rattle.storage_units.specs.WholeCycles as columns
+use Rattle.machine.specs.Machine.{MachineState, group_units, machine_at_start, storage_units}
+use Rattle.whole_cycles.specs.Between.{IsBetween, IsIdle}
+use Rattle.whole_cycles.specs.Laws.{UnitsAreByName}
+use Rattle.whole_cycles.specs.Units.{IsGroup, IsGroupByName, IsStorageByNumber, UnitsStart, group_at, storage_at}
+use Rattle.whole_cycles.specs.WholeCycles.{counter_behind, group_reads_out, storage_reads_out}
+use Rattle.whole_cycles.proofs.Alone.{are_alone, at_balances, at_columns, at_positions, group-silent}
+use Rattle.whole_cycles.proofs.Places.{any-one, as_many, in_units, same_group, told_at}
+use Rattle.whole_cycles.proofs.Staying.{starts}
+
+-- What stands in the list of groups: at the place of the name's unit a group of that unit, and at the others groups of others.
+record Stands (machine : MachineState) (name : Group) : Type 0 where
+  place : unit_of name - 3 < length machine.groups
+  named : (group_at machine name).name ≡ name
+  idle : IsIdle (group_at machine name)
+  others : (j : ℕ) → j < length machine.groups → j ≢ unit_of name - 3
+      → counter_number (get_or machine.groups j (counter_of name false)) ≢ unit_of name
+
+stands : (machine : MachineState) (name : Group) → IsBetween machine → IsGroup name → Stands machine name
+stands machine name between is =
+    let units = in_units name is in
+    let many : length machine.groups ≡ 32 = as_many counter_number machine.groups group_units between.ordered in
+    let k : ℕ = unit_of name - 3 in
+    let d : Counter = counter_of name false in
+    let low : k < 32 = omega (arith, units.0, units.1) in
+    let inside : k < length machine.groups = omega (arith, many, low) in
+    let idle : IsIdle (group_at machine name) = between.groups k d inside in
+    let number : counter_number (group_at machine name) ≡ 3 + k =
+    told_at counter_number machine.groups group_units k d between.ordered inside ∙ get_or-range_with_len 3 32 k 0 low in
+    let same : counter_number (group_at machine name) ≡ unit_of name = omega (arith, number, units.0) in
+    record {
+      place = inside;
+      named =
+          same_group (group_at machine name).name name (record { width = idle.lawful.width; number = idle.lawful.named }) is same;
+      idle = idle;
+      others = λ j within other same_unit.
+          let there : counter_number (get_or machine.groups j d) ≡ 3 + j =
+          told_at counter_number machine.groups group_units j d between.ordered within
+          ∙ get_or-range_with_len 3 32 j 0 (omega (arith, within, many)) in
+          other (omega (arith, there, same_unit));
+    }
+
+-- a test of units holds of no other
+own_test : (u k : ℕ) (a b : Bool) → k ≢ u → (((u == k) && a) && b) ≡ false
+own_test u k a b differ = grind (arith, nat_tests, differ)
+
+own_here : (u k : ℕ) (a b : Bool) → k ≡ u → (((u == k) && a) && b) ≡ (a && b)
+own_here u k a b same = grind (arith, nat_tests, same)
+
+by_name : (machine : MachineState) (name : Group) → IsBetween machine → IsGroup name → IsGroupByName machine name
+by_name machine name between is =
+    let at = stands machine name between is in
+    let k : ℕ = unit_of name - 3 in
+    let d : Counter = counter_of name false in
+    let unit : counter_number (group_at machine name) ≡ unit_of name = ap unit_of at.named in
+    record {
+      named = at.named;
+      idle = at.idle;
+      reads_out = λ pictures cycle row position.
+          at_positions machine pictures cycle row name position
+          ∙ any-one (λ group. group_reads_out pictures row group (GX name position)) machine.groups k d at.place
+          (λ j within other. group-silent pictures row (GX name position) (get_or machine.groups j d)
+          (λ p same. at.others j within other (unit_same (get_or machine.groups j d).name name p position same)))
+          ∙ ap (λ (n : Group). pictures C (RO n) && shows n (row_number row) (group_at machine name).digits (GX name position)) at.named;
+      normal = λ cycle point position.
+          at_balances machine cycle point (BAN name position) refl (λ level p e. cc) (λ split e. cc) (λ split e. cc)
+          ∙ any-one (λ group. counter_closes group cycle point (BAN name position)) machine.groups k d at.place
+          (λ j within other. own_test (unit_of name) (counter_number (get_or machine.groups j d)) (is_within position 4)
+          (not (get_or machine.groups j d).latch) (at.others j within other))
+          ∙ own_here (unit_of name) (counter_number (group_at machine name)) (is_within position 4)
+          (not (group_at machine name).latch) unit;
+      transferred = λ cycle point position.
+          at_balances machine cycle point (BAT name position) refl (λ level p e. cc) (λ split e. cc) (λ split e. cc)
+          ∙ any-one (λ group. counter_closes group cycle point (BAT name position)) machine.groups k d at.place
+          (λ j within other. own_test (unit_of name) (counter_number (get_or machine.groups j d)) (is_within position 4)
+          (get_or machine.groups j d).latch (at.others j within other))
+          ∙ own_here (unit_of name) (counter_number (group_at machine name)) (is_within position 4)
+          (group_at machine name).latch unit;
+      behind = λ wiring cycle new whole.
+          ap (λ (gs : List Counter). get_or gs k d) whole.groups
+          ∙ get_or-map (counter_behind cycle whole.pictures) machine.groups k d d at.place;
+    }
+  where
+    unit_same : (one other : Group) (p q : ℕ) → GX one p ≡ GX other q → unit_of one ≡ unit_of other
+    unit_same one other p q same = let names : one ≡ other = cc in ap unit_of names
+
+-- a storage unit reads out at exits of its own number
+storage-silent : (pictures : Point → Hub → Bool) (row : CardRow) (number column : ℕ) (storage : StorageState)
+    → number ≢ storage_place storage → storage_reads_out pictures row storage (SX number column) ≡ false
+storage-silent pictures row number column storage differ =
+    by (pictures C (SO (storage_place storage))) (holds storage row column)
+  where
+    by : (a b : Bool) → ((a && (number == storage_place storage)) && b) ≡ false
+    by a b = grind (arith, nat_tests, differ)
+
+storage-here : (pictures : Point → Hub → Bool) (row : CardRow) (number column : ℕ) (storage : StorageState)
+    → storage_place storage ≡ number
+    → storage_reads_out pictures row storage (SX number column) ≡ (pictures C (SO number) && holds storage row column)
+storage-here pictures row number column storage same =
+    by (pictures C (SO (storage_place storage))) (holds storage row column)
+    ∙ ap (λ (n : ℕ). pictures C (SO n) && holds storage row column) same
+  where
+    by : (a b : Bool) → ((a && (number == storage_place storage)) && b) ≡ (a && b)
+    by a b = grind (arith, nat_tests, same)
+
+by_number : (machine : MachineState) (number : ℕ) → IsBetween machine → 1 ≤ number → number ≤ 4 → IsStorageByNumber machine number
+by_number machine number between low high =
+    let many : length machine.storage ≡ 4 = as_many storage_number machine.storage storage_units between.numbered in
+    let k : ℕ = number - 1 in
+    let d : StorageState = storage_at_start (34 + number) in
+    let inside : k < length machine.storage = omega (arith, many, low, high) in
+    let unit_at : (j : ℕ) → j < length machine.storage → storage_number (get_or machine.storage j d) ≡ 35 + j =
+    λ j within. told_at storage_number machine.storage storage_units j d between.numbered within
+    ∙ get_or-range_with_len 35 4 j 0 (omega (arith, within, many)) in
+    let unit : (storage_at machine number).unit ≡ 34 + number = (let is = unit_at k inside in omega (arith, is, low)) in
+    record {
+      numbered = unit;
+      has_rows = between.storage k d inside;
+      reads_out = λ pictures cycle row column.
+          at_columns machine pictures cycle row number column
+          ∙ any-one (λ storage. storage_reads_out pictures row storage (SX number column)) machine.storage k d inside
+          (λ j within other. storage-silent pictures row number column (get_or machine.storage j d)
+          (λ same. let is = unit_at j within in other (omega (arith, is, same, low))))
+          ∙ storage-here pictures row number column (storage_at machine number) (omega (arith, unit));
+      behind = λ wiring cycle new whole.
+          ap (λ (us : List StorageState). get_or us k d) whole.storage
+          ∙ get_or-map (columns.after_cycle cycle whole.pictures) machine.storage k d d inside;
+    }
+
+-- the units at the start
+units-start : (wiring : Wiring) → UnitsStart wiring
+units-start wiring = record {
+  groups = λ name is.
+      let at = stands (machine_at_start wiring) name (starts wiring) is in
+      let units = in_units name is in
+      let made : group_at (machine_at_start wiring) name ≡ counter_at_start wiring (get_or group_units (unit_of name - 3) 0) =
+      get_or-map (counter_at_start wiring) group_units (unit_of name - 3) 0 (counter_of name false) (omega (arith, units.0, units.1)) in
+      let called : group_of_unit (get_or group_units (unit_of name - 3) 0) ≡ name =
+      ap (λ (g : Counter). g.name) (sym made) ∙ at.named in
+      made ∙ ap (λ (n : Group). counter_of n (is_wired wiring (CO n) (CI n))) called;
+  storage = λ number low high.
+      let unit : get_or storage_units (number - 1) 0 ≡ 34 + number =
+      get_or-range_with_len 35 4 (number - 1) 0 (omega (arith, low, high)) ∙ plain number low in
+      get_or-map storage_at_start storage_units (number - 1) 0 (storage_at_start (34 + number)) (omega (arith, low, high))
+      ∙ ap storage_at_start unit;
+}
+  where
+    plain : (number : ℕ) → 1 ≤ number → 35 + (number - 1) ≡ 34 + number
+    plain number low = omega (arith, low)
+
+pub units-by_name : UnitsAreByName
+units-by_name = record { groups = by_name; storage = by_number; others = are_alone; start = units-start }

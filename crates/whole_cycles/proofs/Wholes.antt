@@ -1,0 +1,118 @@
+-- A cycle, point by point, is a whole cycle.
+use Rattle.std.proofs.Common.{◌≡◌, ◌∙◌, ap, refl, ℕ, zero, suc, Bool, ◌∷◌, map, subst}
+use Rattle.card_code.specs.Rows.{rows}
+use Rattle.carriage.specs.Carriage.{CarriageState, carriage_ended}
+use Rattle.counters.specs.Counters.{counter_ended}
+use Rattle.hubs.specs.Wiring.{Wiring}
+use Rattle.hubs.specs.declared.hub.Hub.{Hub}
+use Rattle.net.specs.Cycles.{points}
+use Rattle.net.specs.Impulsed.{IsPicture}
+use Rattle.net.specs.declared.cycle.Cycle.{Cycle}
+use Rattle.net.specs.declared.cycle.Cycle.TheVariants.{RunIn, Card, Prog, Head}
+use Rattle.net.specs.declared.cycle.Point.{Point}
+use Rattle.net.specs.declared.cycle.Point.TheVariants.{C, Row, K}
+use Rattle.print_unit.specs.Wheels.{WheelsState, emptied}
+use Rattle.print_unit.specs.ZeroControl.{printed_line, has_zero_control}
+use Rattle.program_unit.specs.Program.{ProgramState, program_sensed, program_ended}
+use Rattle.selectors.specs.Indicate.{Latches, indicate_ended}
+use Rattle.selectors.specs.Pilots.{PilotStates, pilots_ended}
+use Rattle.storage_units.specs.Storage.{storage_ended}
+use Rattle.machine.specs.Cycles.{Reached}
+use Rattle.machine.specs.Machine.{MachineState, emits, closes, sensed, ended}
+use Rattle.whole_cycles.specs.Laws.{CyclesAreWhole}
+use Rattle.whole_cycles.specs.WholeCycles.{control_emits, row_emits, closing_emits}
+use Rattle.whole_cycles.proofs.Emitted.{emits-control, emits-row, emits-closing, closes-before}
+use Rattle.whole_cycles.proofs.Parts.{Parts, parts, map-both, machine_after, group_after, unit_after, program_after}
+use Rattle.whole_cycles.proofs.Walks.{IsWalked, Walk, rows_before, walked}
+use Rattle.whole_cycles.proofs.Wheels.{wheels-collected, wheels-emptied}
+
+-- what a machine senses, and the picture that it has
+abbrev senses : Cycle → MachineState → Point → (Hub → Bool) → MachineState
+senses cycle machine point picture = sensed machine cycle point picture
+
+abbrev HasPicture : Wiring → Cycle → MachineState → Point → (Hub → Bool) → Type 0
+HasPicture wiring cycle machine point picture =
+    IsPicture wiring (emits machine cycle point) (closes machine cycle point) picture
+
+-- the points of a cycle are a walk
+walk_of : (wiring : Wiring) (cycle : Cycle) (place : ℕ) (old now : MachineState)
+    → Reached wiring cycle place old now → Walk (senses cycle) (HasPicture wiring cycle) place old now
+unfolding Reached Walk
+walk_of wiring cycle zero old now same = same
+walk_of wiring cycle (suc place) old now (mid, reached, step) = (
+  mid,
+  walk_of wiring cycle place old mid reached,
+  record { picture = step.picture; has = step.is_picture; is_new = step.is_new },
+)
+
+-- the picture is the same for exits and contacts that are the same
+same_picture : (wiring : Wiring) (exits others closed shut picture : Hub → Bool)
+    → ((hub : Hub) → exits hub ≡ others hub) → ((hub : Hub) → closed hub ≡ shut hub)
+    → IsPicture wiring exits closed picture → IsPicture wiring others shut picture
+same_picture wiring exits others closed shut picture same alike is =
+    subst (λ (e : Hub → Bool). IsPicture wiring e shut picture) (λ i hub. same hub i)
+    (subst (λ (c : Hub → Bool). IsPicture wiring exits c picture) (λ i hub. alike hub i) is)
+
+-- the program unit senses at the closing point alone
+program-closing : (cycle : Cycle) (pictures : Point → Hub → Bool) (program : ProgramState)
+    → program_after cycle pictures points program ≡ program_sensed program cycle K (pictures K)
+program-closing RunIn pictures program = refl
+program-closing Card pictures program = refl
+program-closing (Prog level ordinal) pictures program = refl
+program-closing (Head heading) pictures program = refl
+
+pub cycles-whole : CyclesAreWhole
+cycles-whole wiring cycle old new between run =
+    let is : IsWalked (senses cycle) (HasPicture wiring cycle) old run.at_end =
+    walked (senses cycle) (HasPicture wiring cycle) old run.at_end (walk_of wiring cycle 14 old run.at_end run.reached) in
+    let pictures : Point → Hub → Bool = is.pictures in
+    let part : Parts cycle pictures points old (machine_after cycle pictures points old) = parts cycle pictures points old in
+    let end : new ≡ ended (machine_after cycle pictures points old) cycle =
+    run.is_new ∙ ap (λ (m : MachineState). ended m cycle) is.reached in
+    record {
+      pictures = pictures;
+      control =
+          same_picture wiring (emits old cycle C) (control_emits cycle) (closes old cycle C) (closes old cycle C) (pictures C)
+          (emits-control old cycle) (λ hub. refl) is.control;
+      rows = λ row.
+          let before = machine_after cycle pictures (C ∷ map Row (rows_before row)) old in
+          same_picture wiring (emits before cycle (Row row)) (row_emits old pictures cycle row) (closes before cycle (Row row))
+          (closes old cycle (Row row)) (pictures (Row row)) (emits-row old cycle pictures (rows_before row) row)
+          (closes-before old cycle pictures (C ∷ map Row (rows_before row)) (Row row)) (is.at_rows row);
+      closing =
+          let before = machine_after cycle pictures (C ∷ map Row rows) old in
+          same_picture wiring (emits before cycle K) (closing_emits pictures cycle) (closes before cycle K) (closes old cycle K)
+          (pictures K) (λ hub. emits-closing old cycle pictures hub between.comparing)
+          (closes-before old cycle pictures (C ∷ map Row rows) K) is.closing;
+      stations = ap (λ (m : MachineState). m.stations) end ∙ part.stations;
+      comparing = ap (λ (m : MachineState). m.comparing) end;
+      groups =
+          ap (λ (m : MachineState). m.groups) end
+          ∙ ap (map (λ group. counter_ended group cycle)) part.groups
+          ∙ map-both (group_after cycle pictures points) (λ group. counter_ended group cycle) old.groups;
+      storage =
+          ap (λ (m : MachineState). m.storage) end
+          ∙ ap (map (λ storage. storage_ended storage cycle)) part.storage
+          ∙ map-both (unit_after cycle pictures points) (λ storage. storage_ended storage cycle) old.storage;
+      pilots =
+          ap (λ (m : MachineState). m.pilots) end ∙ ap (λ (p : PilotStates). pilots_ended p cycle) part.pilots;
+      indicate =
+          ap (λ (m : MachineState). m.indicate) end ∙ ap (λ (l : Latches). indicate_ended l cycle) part.indicate;
+      splits = ap (λ (m : MachineState). m.splits) end ∙ part.splits;
+      emitters = ap (λ (m : MachineState). m.emitters) end ∙ part.emitters;
+      wheels =
+          ap (λ (m : MachineState). m.wheels.wheels) end
+          ∙ ap (λ (w : WheelsState). map emptied w.wheels) part.wheels
+          ∙ wheels-emptied cycle pictures points old.wheels;
+      line =
+          ap (λ (m : MachineState). m.wheels.line) end
+          ∙ ap (λ (w : WheelsState). printed_line (has_zero_control cycle) w.wheels) part.wheels
+          ∙ ap (printed_line (has_zero_control cycle))
+          (wheels-collected cycle pictures old.wheels between.many_wheels between.wheels);
+      carriage =
+          ap (λ (m : MachineState). m.carriage) end ∙ ap (λ (c : CarriageState). carriage_ended c cycle) part.carriage;
+      program =
+          ap (λ (m : MachineState). m.program) end
+          ∙ ap (λ (p : ProgramState). program_ended p cycle)
+          (part.program ∙ program-closing cycle pictures old.program);
+    }

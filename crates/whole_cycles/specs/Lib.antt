@@ -1,0 +1,5 @@
+pub mod WholeCycles
+pub mod Between
+pub mod OneContactDeep
+pub mod Units
+pub mod Laws

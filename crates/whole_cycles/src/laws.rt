@@ -1,0 +1,40 @@
+//! Laws of cycles as a whole. Each is a function that does nothing: its contract is the law.
+
+ghost use Rattle.whole_cycles.specs.Laws.{ContactsAreOneDeep, CyclesAreWhole, CyclesEmitAtSources, MachinesStayBetween, MachinesStayReady, UnitsAreByName, WheelsHaveTheirJacks};
+
+/// A cycle of a machine between cycles is its control point, its twelve rows side by side and its closing point, and leaves each
+/// unit as these pictures have it.
+pub fn cycles_are_whole()
+    ensures { CyclesAreWhole }
+{}
+
+/// A machine starts between cycles, and is between cycles behind each of its cycles.
+pub fn machines_stay_between()
+    ensures { MachinesStayBetween }
+{}
+
+/// A machine is between cycles, and as its setup has it, at the start, behind each of its cycles and behind each feed.
+pub fn machines_stay_ready()
+    ensures { MachinesStayReady }
+{}
+
+/// The wheels of a cycle, each with all that it receives, have the jacks that the setup has plugged.
+pub fn wheels_have_their_jacks()
+    ensures { WheelsHaveTheirJacks }
+{}
+
+/// Where no wire leads from a contact's exit to a common hub, an impulse passes one contact at most, and goes one of four ways.
+pub fn contacts_are_one_deep()
+    ensures { ContactsAreOneDeep }
+{}
+
+/// In each cycle the exits of stations, comparing, counter groups, storage, emitters and program unit emit, and no other hub does.
+pub fn cycles_emit_at_sources()
+    ensures { CyclesEmitAtSources }
+{}
+
+/// A counter group or a storage unit, told by its name, alone emits at its exits and closes its contacts, and goes through a
+/// cycle by itself.
+pub fn units_are_by_name()
+    ensures { UnitsAreByName }
+{}

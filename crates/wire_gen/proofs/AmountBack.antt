@@ -1,0 +1,109 @@
+-- The wires of the table for a total of an amount are among those that the code adds.
+use Rattle.std.proofs.Common.{◌≡◌, ℕ, ◌+◌, ◌-◌, List, Option, Some, None, refl, sym, ap, ◌∙◌}
+use Rattle.std.proofs.lemmas.Option.{slice_get_within}
+use Rattle.allocate.specs.Plans.{Lists}
+use Rattle.chart_rules.specs.Fields.{field_named}
+use Rattle.chart_text.specs.Field.{columns_of, decimals_of}
+use Rattle.chart_text.specs.declared.chart.Line.{Line}
+use Rattle.chart_text.specs.declared.level.Level.{Level}
+use Rattle.chart_text.specs.declared.statement.Field.{Field}
+use Rattle.chart_text.specs.declared.statement.Mark.{Mark}
+use Rattle.chart_text.specs.declared.statement.Statement.TheVariants as says
+use Rattle.hubs.specs.declared.hub.Hub.{Hub}
+use Rattle.hubs.specs.declared.hub.Hub.TheVariants.{SR, GX, GE, W}
+use Rattle.wire_gen.specs.Figures.{IsText, IsAmount, IsSigned, IsUnsigned, IsLiteral, on_heading, on_detail, on_total, IsFigure, HasPunch, HasPunchAt, rule_of, digit_wheel, point_wheel, mark_wheel, mark_characters, detail_emitter, heading_emitter, total_emitter}
+use Rattle.wire_gen.specs.Figures as figures
+use Rattle.wire_gen.specs.HelperAdds.{One, one, first, second, below, some, given, punched}
+use Rattle.wire_gen.specs.HelperItems.{IsGoodTotal, IsNamed}
+use Rattle.wire_gen.specs.HelperLevels.{next}
+use Rattle.wire_gen.specs.HelperLines.{StatementWires}
+use Rattle.wire_gen.specs.Wires.{LineWire}
+use Rattle.wire_gen.specs.Wires as table
+use Rattle.wire_gen.proofs.JoinAmount.{known-total, known-wires, sense-wires, transfer-wires}
+use Rattle.wire_gen.proofs.JoinLines.{at-position}
+
+named-same : (a b : Field) → Some a ≡ Some b → a ≡ b
+named-same a b e = cc
+
+pub total-back : (lines : List Line) (plan : Lists) (number : ℕ) (level : Level) (wheel : ℕ) (name : List ℕ) (digits : ℕ)
+    (mark : Option Mark) → IsNamed (field_named lines name) (IsGoodTotal lines plan number level wheel name digits mark)
+    → (exit to : Hub) → LineWire lines plan number (says.TotalAmount level wheel name digits mark) exit to
+    → StatementWires lines plan number (says.TotalAmount level wheel name digits mark) exit to
+total-back lines plan number level wheel name digits mark good _ _ (table.entry _ _ _ _ _ field group position lowest at is from within) =
+    known-wires lines plan number level wheel name digits mark field group _ _ is.named at
+    (first (given lowest (first (at-position (λ p. One (SR (field.last + 1 - p)) (GE group p)) (columns_of field) position from within one))))
+total-back lines plan number level wheel name digits mark good _ _ (table.entry_adds _ _ _ _ _ group lowest at unsigned) =
+    known-wires lines plan number level wheel name digits mark unsigned.field group _ _ unsigned.is_amount.named at
+    (first (given lowest (second (sense-wires lines plan number level wheel name digits mark group (rule_of unsigned.field.kind) None _ _ unsigned.unruled one))))
+total-back lines plan number level wheel name digits mark good _ _ (table.entry_sign _ _ _ _ _ rule pilot lowest signed is_pilot) =
+    let known = known-total lines plan number level wheel name digits mark good in
+    let group = known.good.group.group in
+    known-wires lines plan number level wheel name digits mark signed.field group _ _ signed.named known.good.group.there
+    (first (given lowest (second (sense-wires lines plan number level wheel name digits mark group (rule_of signed.field.kind) (Some rule) _ _ signed.ruled (some pilot is_pilot (first one))))))
+total-back lines plan number level wheel name digits mark good _ _ (table.entry_plus _ _ _ _ _ rule pilot group lowest at signed is_pilot) =
+    known-wires lines plan number level wheel name digits mark signed.field group _ _ signed.named at
+    (first (given lowest (second (sense-wires lines plan number level wheel name digits mark group (rule_of signed.field.kind) (Some rule) _ _ signed.ruled (some pilot is_pilot (second (first one)))))))
+total-back lines plan number level wheel name digits mark good _ _ (table.entry_minus _ _ _ _ _ rule pilot group lowest at signed is_pilot) =
+    known-wires lines plan number level wheel name digits mark signed.field group _ _ signed.named at
+    (first (given lowest (second (sense-wires lines plan number level wheel name digits mark group (rule_of signed.field.kind) (Some rule) _ _ signed.ruled (some pilot is_pilot (second (second one)))))))
+total-back lines plan number level wheel name digits mark good _ _ (table.read_out _ _ _ _ _ group at) =
+    let known = known-total lines plan number level wheel name digits mark good in
+    known-wires lines plan number level wheel name digits mark known.field group _ _ known.named at
+    (second (first (first one)))
+total-back lines plan number level wheel name digits mark good _ _ (table.total_digit _ _ _ _ _ field group position at is from within) =
+    known-wires lines plan number level wheel name digits mark field group _ _ is.named at
+    (second (first (second (at-position (λ p. One (GX group p) (W (digit_wheel wheel digits (decimals_of field.kind) p))) digits position from within one))))
+total-back lines plan number level wheel name digits mark good _ _ (table.ring _ _ _ _ _ rule group at signed) =
+    known-wires lines plan number level wheel name digits mark signed.field group _ _ signed.named at
+    (second (second (second (first (some rule signed.ruled (first (first (first one))))))))
+total-back lines plan number level wheel name digits mark good _ _ (table.balance_test _ _ _ _ _ rule group at signed) =
+    known-wires lines plan number level wheel name digits mark signed.field group _ _ signed.named at
+    (second (second (second (first (some rule signed.ruled (first (first (second (first one)))))))))
+total-back lines plan number level wheel name digits mark good _ _ (table.conversion _ _ _ _ _ rule group at signed) =
+    known-wires lines plan number level wheel name digits mark signed.field group _ _ signed.named at
+    (second (second (second (first (some rule signed.ruled (first (first (second (second (first one))))))))))
+total-back lines plan number level wheel name digits mark good _ _ (table.conversion_read_out _ _ _ _ _ rule group at signed) =
+    known-wires lines plan number level wheel name digits mark signed.field group _ _ signed.named at
+    (second (second (second (first (some rule signed.ruled (first (first (second (second (second (first one)))))))))))
+total-back lines plan number level wheel name digits mark good _ _ (table.conversion_minus _ _ _ _ _ rule group at signed) =
+    known-wires lines plan number level wheel name digits mark signed.field group _ _ signed.named at
+    (second (second (second (first (some rule signed.ruled (first (first (second (second (second (second one)))))))))))
+total-back lines plan number level wheel name digits mark good _ _ (table.feedback _ _ _ _ _ rule group position at signed from within) =
+    known-wires lines plan number level wheel name digits mark signed.field group _ _ signed.named at
+    (second (second (second (first (some rule signed.ruled (first (second (at-position (λ p. One (GX group p) (GE group p)) group.width position from within one))))))))
+total-back lines plan number level wheel name digits _ good _ _ (table.total_mark_in _ _ _ _ its_mark rule group k row at signed punch) =
+    known-wires lines plan number level wheel name digits (Some its_mark) signed.field group _ _ signed.named at
+    (second (second (second (first (some rule signed.ruled (second (some its_mark refl
+    (below k (slice_get_within (mark_characters its_mark) k punch.character punch.there)
+    (some punch.character punch.there (first (punched row punch.punch one)))))))))))
+total-back lines plan number level wheel name digits _ good _ _ (table.total_mark_out _ _ _ _ its_mark rule field group k row at signed named punch) =
+    known-wires lines plan number level wheel name digits (Some its_mark) field group _ _ named at
+    (second (second (second (first (some rule (ap (λ f. rule_of f.kind) (sym (named-same signed.field field (sym signed.named ∙ named))) ∙ signed.ruled)
+    (second (some its_mark refl (below k (slice_get_within (mark_characters its_mark) k punch.character punch.there)
+    (some punch.character punch.there (second one))))))))))
+total-back lines plan number level wheel name digits mark good _ _ (table.transfer _ _ _ _ _ group upper other position at is_next at_upper from within) =
+    let known = known-total lines plan number level wheel name digits mark good in
+    known-wires lines plan number level wheel name digits mark known.field group _ _ known.named at
+    (second (second (second (second (next other is_next (some upper at_upper (first (at-position (λ p. One (GX group p) (GE upper p)) digits position from within one))))))))
+total-back lines plan number level wheel name digits mark good _ _ (table.transfer_adds _ _ _ _ _ upper other unsigned is_next at_upper) =
+    let known = known-total lines plan number level wheel name digits mark good in
+    let group = known.good.group.group in
+    known-wires lines plan number level wheel name digits mark unsigned.field group _ _ unsigned.is_amount.named known.good.group.there
+    (second (second (second (second (next other is_next (some upper at_upper (second (transfer-wires lines plan number level wheel name digits mark group upper (rule_of unsigned.field.kind) None _ _ unsigned.unruled one))))))))
+total-back lines plan number level wheel name digits mark good _ _ (table.transfer_sign _ _ _ _ _ rule group other at signed is_next) =
+    let known = known-total lines plan number level wheel name digits mark good in
+    let above = known.good.upper other is_next in
+    known-wires lines plan number level wheel name digits mark signed.field group _ _ signed.named at
+    (second (second (second (second (next other is_next (some above.group above.there (second (transfer-wires lines plan number level wheel name digits mark group above.group (rule_of signed.field.kind) (Some rule) _ _ signed.ruled (first one)))))))))
+total-back lines plan number level wheel name digits mark good _ _ (table.transfer_plus _ _ _ _ _ rule group upper other at signed is_next at_upper) =
+    known-wires lines plan number level wheel name digits mark signed.field group _ _ signed.named at
+    (second (second (second (second (next other is_next (some upper at_upper (second (transfer-wires lines plan number level wheel name digits mark group upper (rule_of signed.field.kind) (Some rule) _ _ signed.ruled (second (first one))))))))))
+total-back lines plan number level wheel name digits mark good _ _ (table.transfer_minus _ _ _ _ _ rule group upper other at signed is_next at_upper) =
+    known-wires lines plan number level wheel name digits mark signed.field group _ _ signed.named at
+    (second (second (second (second (next other is_next (some upper at_upper (second (transfer-wires lines plan number level wheel name digits mark group upper (rule_of signed.field.kind) (Some rule) _ _ signed.ruled (second (second one))))))))))
+total-back lines plan number level wheel name digits mark good _ _ (table.literal _ emitter _ text j row is punch) =
+    elim is [ ]
+total-back lines plan number level wheel name digits mark good _ _ (table.point _ emitter _ figure row (figures.IsFigure.on_total _ _ _ _ _ field is) has punch) =
+    let known = known-total lines plan number level wheel name digits mark good in
+    known-wires lines plan number level wheel name digits mark field known.good.group.group _ _ is.named known.good.group.there
+    (second (second (first (given has (punched row punch one)))))

@@ -1,0 +1,223 @@
+-- The amounts of a line of a lawful chart as its items, and the jacks of a chart.
+use Rattle.std.proofs.Common.{option_map, ◌≡◌, ℕ, ◌+◌, ◌≤◌, true, List, Option, Some, None, refl, sym, ap, ◌∙◌, subst, arith}
+use Rattle.allocate.specs.Plans.{Lists}
+use Rattle.chart_rules.specs.Fields.{field_named}
+use Rattle.chart_rules.specs.Items.{mark_shown, item_of, detail_item, total_item}
+use Rattle.chart_text.specs.Field.{columns_of, decimals_of, is_amount}
+use Rattle.chart_text.specs.Levels.{level_number}
+use Rattle.chart_text.specs.declared.chart.Line.{Line}
+use Rattle.chart_text.specs.declared.level.Level.{Level}
+use Rattle.chart_text.specs.declared.statement.DetailOption.{DetailOption}
+use Rattle.chart_text.specs.declared.statement.Field.{Field}
+use Rattle.chart_text.specs.declared.statement.FieldKind.{FieldKind}
+use Rattle.chart_text.specs.declared.statement.FieldKind.TheVariants as holds
+use Rattle.chart_text.specs.declared.statement.Mark.{Mark}
+use Rattle.chart_text.specs.declared.statement.Statement.{Statement}
+use Rattle.chart_text.specs.declared.statement.Statement.TheVariants as says
+use Rattle.wire_gen.specs.Figures.{IsText, IsAmount, IsSigned, IsUnsigned, IsLiteral, on_heading, on_detail, on_total, IsFigure, HasPunch, HasPunchAt, rule_of, digit_wheel, point_wheel, mark_wheel, mark_characters, detail_emitter, heading_emitter, total_emitter}
+use Rattle.wire_gen.specs.Figures as figures
+use Rattle.wire_gen.specs.HelperItems.{HasFigureWheels, DetailRanges, IsGood, IsGoodDetail, IsGoodTotal, IsNamed}
+use Rattle.chart_rules.specs.Fields.{fields_of}
+use Rattle.chart_rules.specs.declared.items.Figure.{Figure}
+use Rattle.chart_rules.specs.declared.items.Item.{Item}
+use Rattle.hubs.specs.declared.jack.Jack.{Jack}
+use Rattle.hubs.specs.Wiring.{Wiring}
+use Rattle.wire_gen.specs.HelperJacks.{FiguresAre, FigureJacks, IsGoodFigure, ItemWith, LineJacks, Plugs}
+use Rattle.wire_gen.proofs.Fields.{named-field, named-has}
+use Rattle.wire_gen.proofs.Plugging.{plugs-as, plugs-none}
+
+named-same : (a b : Field) → Some a ≡ Some b → a ≡ b
+named-same a b e = cc
+
+module _ (lines : List Line) where
+  -- a line that puts no amount anywhere
+  none-are : (statement : Statement)
+      → ((emitter wheel : ℕ) (figure : Figure) → IsFigure lines statement emitter wheel figure → ⊥)
+      → ((item : Item) (figure : Figure) → item_of (fields_of lines) statement ≡ Some item → item.figure ≡ Some figure → ⊥)
+      → FiguresAre lines statement
+  none-are statement none none-item = record {
+    good = λ emitter wheel figure is. absurd (none emitter wheel figure is);
+    there = λ item figure is has. absurd (none-item item figure is has);
+    back = λ emitter wheel figure is. absurd (none emitter wheel figure is);
+  }
+
+  no-figure : (item other : Item) (figure : Figure) → Some item ≡ Some other → item.figure ≡ None → other.figure ≡ Some figure → ⊥
+  no-figure item other figure same none some_figure =
+      let e : item ≡ other = cc in
+      let f = ap (λ i. i.figure) e in
+      let g = sym none ∙ f ∙ some_figure in cc
+
+  detail-figure : (wheel : ℕ) (field : Field) (shown : DetailOption) (kind : FieldKind) → is_amount kind ≡ true
+      → DetailRanges wheel field shown kind → HasFigureWheels wheel (columns_of field) (decimals_of field.kind) (mark_shown shown)
+  detail-figure wheel field shown holds.Text is ranges = cc
+  detail-figure wheel field shown (holds.Amount decimals rule) is ranges = ranges
+
+  good-figure : (wheel digits decimals : ℕ) (mark : Option Mark) → HasFigureWheels wheel digits decimals mark → 1 ≤ digits
+      → IsGoodFigure wheel (record { digits = digits; decimals = decimals; mark = mark })
+  good-figure wheel digits decimals mark wheels many =
+      let last = wheels.last in
+      record { from = wheels.first; last = omega (arith, last); some_digits = many; whole = wheels.whole }
+
+  as-figure : (statement : Statement) (emitter wheel : ℕ) (former latter : Figure) (first_wheel : ℕ) → wheel ≡ first_wheel
+      → Some former ≡ Some latter → IsFigure lines statement emitter wheel former → IsFigure lines statement emitter first_wheel latter
+  as-figure statement emitter wheel former latter first_wheel e f is =
+      let same : former ≡ latter = cc in
+      let P : Figure → Type 0 = λ x. IsFigure lines statement emitter first_wheel x in
+      let Q : ℕ → Type 0 = λ x. IsFigure lines statement emitter x former in
+      subst P same (subst Q e is)
+
+  detail-are : (wheel : ℕ) (name : List ℕ) (shown : DetailOption) → IsNamed (field_named lines name) (IsGoodDetail wheel shown)
+      → FiguresAre lines (says.DetailField wheel name shown)
+  detail-are wheel name shown named_good = record {
+    good = detail-fine;
+    there = λ item figure is has. (4, onward item figure is has);
+    back = back-again;
+  }
+    where
+      detail-fine : (emitter at : ℕ) (figure : Figure) → IsFigure lines (says.DetailField wheel name shown) emitter at figure
+          → IsGoodFigure at figure
+      detail-fine emitter at figure (figures.IsFigure.on_detail _ _ _ field is) =
+          let known = named-has (field_named lines name) (IsGoodDetail wheel shown) named_good field is.named in
+          let order = known.card.order in
+          good-figure wheel (columns_of field) (decimals_of field.kind) (mark_shown shown)
+          (detail-figure wheel field shown field.kind is.holds_amount known.wheels) (omega (arith, order))
+
+      by : (field : Field) (item : Item) (figure : Figure) → field_named lines name ≡ Some field → (kind : FieldKind)
+          → field.kind ≡ kind → Some (detail_item wheel shown (columns_of field) kind) ≡ Some item → item.figure ≡ Some figure
+          → IsFigure lines (says.DetailField wheel name shown) 4 item.first figure
+      by field item figure named holds.Text is_kind is has =
+          absurd (no-figure (detail_item wheel shown (columns_of field) holds.Text) item figure is refl has)
+      by field item figure named (holds.Amount decimals rule) is_kind is has =
+          let e : detail_item wheel shown (columns_of field) (holds.Amount decimals rule) ≡ item = cc in
+          let amount : IsAmount lines name field = record { named = named; holds_amount = ap is_amount is_kind } in
+          let decimals_are : decimals_of field.kind ≡ decimals = ap decimals_of is_kind in
+          as-figure (says.DetailField wheel name shown) 4 wheel
+          (record { digits = columns_of field; decimals = decimals_of field.kind; mark = mark_shown shown }) figure item.first
+          (ap (λ i. i.first) e)
+          (ap (λ d. Some (record { digits = columns_of field; decimals = d; mark = mark_shown shown })) decimals_are
+          ∙ ap (λ i. i.figure) e ∙ has)
+          (figures.IsFigure.on_detail wheel name shown field amount)
+
+      onward : (item : Item) (figure : Figure) → item_of (fields_of lines) (says.DetailField wheel name shown) ≡ Some item
+          → item.figure ≡ Some figure → IsFigure lines (says.DetailField wheel name shown) 4 item.first figure
+      onward item figure is has =
+          let known = named-field (field_named lines name) (IsGoodDetail wheel shown) named_good in
+          by known.0 item figure known.1 known.0.kind refl
+          (sym (ap (option_map (λ f. detail_item wheel shown (columns_of f) f.kind)) known.1) ∙ is) has
+
+      item-with : (field : Field) (kind : FieldKind) → is_amount kind ≡ true
+          → (((detail_item wheel shown (columns_of field) kind).first) ≡ wheel)
+          × (((detail_item wheel shown (columns_of field) kind).figure)
+          ≡ Some (record { digits = columns_of field; decimals = decimals_of kind; mark = mark_shown shown }))
+      item-with field holds.Text is = cc
+      item-with field (holds.Amount decimals rule) is = (refl, refl)
+
+      back-again : (emitter at : ℕ) (figure : Figure) → IsFigure lines (says.DetailField wheel name shown) emitter at figure
+          → ItemWith lines (says.DetailField wheel name shown) at figure
+      back-again emitter at figure (figures.IsFigure.on_detail _ _ _ field is) =
+          let with_it = item-with field field.kind is.holds_amount in
+          record {
+            item = detail_item wheel shown (columns_of field) field.kind;
+            is_item = ap (option_map (λ f. detail_item wheel shown (columns_of f) f.kind)) is.named;
+            from = with_it.0;
+            has = with_it.1;
+          }
+
+  amount-are : (plan : Lists) (number : ℕ) (level : Level) (wheel : ℕ) (name : List ℕ) (digits : ℕ) (mark : Option Mark)
+      → IsNamed (field_named lines name) (IsGoodTotal lines plan number level wheel name digits mark)
+      → FiguresAre lines (says.TotalAmount level wheel name digits mark)
+  amount-are plan number level wheel name digits mark named_good = record {
+    good = total-fine;
+    there = λ item figure is has. (4 + level_number level, onward item figure is has);
+    back = back-again;
+  }
+    where
+      total-fine : (emitter at : ℕ) (figure : Figure) → IsFigure lines (says.TotalAmount level wheel name digits mark) emitter at figure
+          → IsGoodFigure at figure
+      total-fine emitter at figure (figures.IsFigure.on_total _ _ _ _ _ field is) =
+          let known = named-has (field_named lines name) (IsGoodTotal lines plan number level wheel name digits mark) named_good field is.named in
+          let order = known.card.order in
+          let enough = known.enough in
+          good-figure wheel digits (decimals_of field.kind) mark known.wheels (omega (arith, order, enough))
+
+      onward : (item : Item) (figure : Figure)
+          → item_of (fields_of lines) (says.TotalAmount level wheel name digits mark) ≡ Some item
+          → item.figure ≡ Some figure
+          → IsFigure lines (says.TotalAmount level wheel name digits mark) (4 + level_number level) item.first figure
+      onward item figure is has =
+          let known = named-field (field_named lines name) (IsGoodTotal lines plan number level wheel name digits mark) named_good in
+          let said = sym (ap (option_map (λ f. total_item level wheel digits mark f.kind)) known.1) ∙ is in
+          let e : total_item level wheel digits mark known.0.kind ≡ item = cc in
+          let amount : IsAmount lines name known.0 = record { named = known.1; holds_amount = known.2.holds_amount } in
+          as-figure (says.TotalAmount level wheel name digits mark) (4 + level_number level) wheel
+          (record { digits = digits; decimals = decimals_of known.0.kind; mark = mark }) figure item.first
+          (ap (λ i. i.first) e) (ap (λ i. i.figure) e ∙ has)
+          (figures.IsFigure.on_total level wheel name digits mark known.0 amount)
+
+      back-again : (emitter at : ℕ) (figure : Figure) → IsFigure lines (says.TotalAmount level wheel name digits mark) emitter at figure
+          → ItemWith lines (says.TotalAmount level wheel name digits mark) at figure
+      back-again emitter at figure (figures.IsFigure.on_total _ _ _ _ _ field is) =
+          record {
+            item = total_item level wheel digits mark field.kind;
+            is_item = ap (option_map (λ f. total_item level wheel digits mark f.kind)) is.named;
+            from = refl;
+            has = refl;
+          }
+
+  text-none : (found : Option Field) (item : Item) (figure : Figure) (make : Field → Item) → ((field : Field) → (make field).figure ≡ None)
+      → option_map make found ≡ Some item → item.figure ≡ Some figure → ⊥
+  text-none None item figure make none is has = cc
+  text-none (Some field) item figure make none is has = no-figure (make field) item figure is (none field) has
+
+  -- the amounts of a line of which enough is known
+  pub figures-are : (plan : Lists) (number : ℕ) (statement : Statement) → IsGood lines plan number statement
+      → FiguresAre lines statement
+  figures-are plan number (says.DetailField wheel name shown) is = detail-are wheel name shown is
+  figures-are plan number (says.TotalAmount level wheel name digits mark) is = amount-are plan number level wheel name digits mark is
+  figures-are plan number (says.TotalText level wheel name) is =
+      none-are (says.TotalText level wheel name) (λ emitter at figure wrong. elim wrong [ ])
+      (λ item figure. text-none (field_named lines name) item figure _ (λ field. refl))
+  figures-are plan number (says.Head line wheel text) is =
+      none-are (says.Head line wheel text) (λ emitter at figure wrong. elim wrong [ ]) (λ item figure same has. no-figure _ item figure same refl has)
+  figures-are plan number (says.DetailLiteral wheel text) is =
+      none-are (says.DetailLiteral wheel text) (λ emitter at figure wrong. elim wrong [ ]) (λ item figure same has. no-figure _ item figure same refl has)
+  figures-are plan number (says.TotalLiteral level wheel text) is =
+      none-are (says.TotalLiteral level wheel text) (λ emitter at figure wrong. elim wrong [ ]) (λ item figure same has. no-figure _ item figure same refl has)
+  figures-are plan number other is = none-are other (λ emitter at figure wrong. elim wrong [ ]) (λ item figure same has. cc)
+
+-- the jacks of a line by its item
+pub line-jacks : (lines : List Line) (statement : Statement) (item : Item) (figure : Figure) (old new : Wiring)
+    → FiguresAre lines statement → item_of (fields_of lines) statement ≡ Some item → item.figure ≡ Some figure
+    → Plugs (FigureJacks item.first figure) old new → Plugs (LineJacks lines statement) old new
+line-jacks lines statement item figure old new known is has added = plugs-as onward back-again added
+  where
+    onward : (each : Jack) → FigureJacks item.first figure each → LineJacks lines statement each
+    onward each jacks =
+        let from = known.there item figure is has in
+        record { emitter = from.0; wheel = item.first; figure = figure; is_figure = from.1; jacks = jacks }
+
+    back-again : (each : Jack) → LineJacks lines statement each → FigureJacks item.first figure each
+    back-again each jacks =
+        let from = known.back jacks.emitter jacks.wheel jacks.figure jacks.is_figure in
+        let same : from.item ≡ item = item-same from.item item (sym from.is_item ∙ is) in
+        let e : jacks.wheel ≡ item.first = sym from.from ∙ ap (λ i. i.first) same in
+        let f : jacks.figure ≡ figure = figure-same jacks.figure figure (sym from.has ∙ ap (λ i. i.figure) same ∙ has) in
+        let P : ℕ → Type 0 = λ w. FigureJacks w figure each in
+        let Q : Figure → Type 0 = λ x. FigureJacks jacks.wheel x each in
+        subst P e (subst Q f jacks.jacks)
+      where
+        item-same : (a b : Item) → Some a ≡ Some b → a ≡ b
+        item-same a b e = cc
+
+        figure-same : (a b : Figure) → Some a ≡ Some b → a ≡ b
+        figure-same a b e = cc
+
+-- a line without an item, or with one that is no amount, has no jacks
+pub no-jacks : (lines : List Line) (statement : Statement) (setup : Wiring) → FiguresAre lines statement
+    → ((item : Item) → item_of (fields_of lines) statement ≡ Some item → item.figure ≡ None) → Plugs (LineJacks lines statement) setup setup
+no-jacks lines statement setup known none = plugs-none nothing
+  where
+    nothing : (each : Jack) → LineJacks lines statement each → ⊥
+    nothing each jacks =
+        let from = known.back jacks.emitter jacks.wheel jacks.figure jacks.is_figure in
+        let e = sym (none from.item from.is_item) ∙ from.has in cc

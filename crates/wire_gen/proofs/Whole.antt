@@ -1,0 +1,37 @@
+-- A setup with the tape, the jacks and the wires of a chart is wired for it.
+use Rattle.std.proofs.Common.{◌≡◌, inl, inr, true, false, List, sym, ◌∙◌, subst}
+use Rattle.allocate.specs.Plans.{Lists}
+use Rattle.chart_text.specs.declared.chart.Line.{Line}
+use Rattle.hubs.specs.Tapes.{Form}
+use Rattle.hubs.specs.Wiring.{Wiring, HasWire, is_plugged}
+use Rattle.hubs.specs.declared.hub.Hub.{Hub}
+use Rattle.hubs.specs.declared.jack.Jack.{Jack}
+use Rattle.wire_gen.specs.HelperAdds.{Adds}
+use Rattle.wire_gen.specs.HelperJacks.{Plugs}
+use Rattle.wire_gen.specs.Jacks.{ChartJack}
+use Rattle.wire_gen.specs.Wires.{ChartWire}
+use Rattle.wire_gen.specs.WiredFor.{IsTapeOf, WiredFor}
+
+pub whole : (lines : List Line) (plan : Lists) (tape : Form) (bare plugged wired : Wiring) → IsTapeOf lines tape
+    → ((exit entry : Hub) → ¬ HasWire bare exit entry) → ((jack : Jack) → is_plugged bare jack ≡ false) → bare.tape ≡ tape
+    → Plugs (ChartJack lines) bare plugged → Adds (ChartWire lines plan) plugged wired → WiredFor lines plan wired
+whole lines plan tape bare plugged wired is_tape no_wires no_jacks same plugs adds = record {
+  wires = λ exit entry. (
+    λ has. elim ((adds.wires exit entry).0 has) [
+      | inl before ↦ absurd (no_wires exit entry ((plugs.wires exit entry).0 before))
+      | inr wire ↦ wire
+    ],
+    λ wire. (adds.wires exit entry).1 (inr wire),
+  );
+  jacks = λ jack. (
+    λ has. elim ((plugs.jacks jack).0 (sym (adds.jacks jack) ∙ has)) [
+      | inl before ↦ absurd (wrong (sym before ∙ no_jacks jack))
+      | inr due ↦ due
+    ],
+    λ due. adds.jacks jack ∙ (plugs.jacks jack).1 (inr due),
+  );
+  tape = subst (IsTapeOf lines) (sym (adds.tape ∙ plugs.tape ∙ same)) is_tape;
+}
+  where
+    wrong : true ≡ false → ⊥
+    wrong is = cc

@@ -1,0 +1,7 @@
+use Rattle.wire_gen.proofs.WholeLines.{line-wired}
+use Rattle.wire_gen.proofs.lines.wire_line.Goals as goal
+
+pub returns : goal.returns
+returns c =
+    line-wired c.args.chart.now.lines c.args.plan.now c.args.line.now.number c.args.line.now.statement _ _ c.requires
+    c.in_ok-wire_statement.ensures

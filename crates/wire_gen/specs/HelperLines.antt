@@ -1,0 +1,40 @@
+-- A helper of the code: the wires of a line of the chart as the code adds them.
+use Rattle.std.specs.Prelude.{ℕ, List, slice_get}
+use Rattle.allocate.specs.Plans.{Lists}
+use Rattle.chart_rules.specs.Fields.{field_named}
+use Rattle.chart_text.specs.Headings.{heading_number}
+use Rattle.chart_text.specs.Levels.{level_number}
+use Rattle.chart_text.specs.declared.chart.Line.{Line}
+use Rattle.chart_text.specs.declared.statement.Statement.{Statement}
+use Rattle.chart_text.specs.declared.statement.Statement.TheVariants as says
+use Rattle.wire_gen.specs.Figures.{detail_emitter, heading_emitter, total_emitter}
+use Rattle.wire_gen.specs.HelperAdds.{OfSome, Upto}
+use Rattle.wire_gen.specs.HelperItems.{DetailWires, NoWires, TotalWires}
+use Rattle.wire_gen.specs.HelperRows.{AfterWires, ComparedWires, LiteralWires, PickupWires, SpaceWires, TotalTextWires, Wires}
+use Rattle.wire_gen.specs.Parts.{group_for, unit_for}
+use Rattle.wire_gen.specs.Wires.{LineWire}
+
+-- the wires that a line of the chart gives, by its number and what it says
+abbrev pub StatementWires : List Line → Lists → ℕ → Statement → Wires
+StatementWires lines plan number (says.Field field) = PickupWires plan field
+StatementWires lines plan number (says.Control level name) =
+    OfSome (field_named lines name) (λ field. ComparedWires plan level number field)
+StatementWires lines plan number (says.Head line wheel literal) =
+    LiteralWires (heading_emitter (heading_number line)) wheel literal
+StatementWires lines plan number (says.DetailLiteral wheel literal) = LiteralWires detail_emitter wheel literal
+StatementWires lines plan number (says.DetailField wheel name shown) =
+    OfSome (field_named lines name) (λ field. DetailWires plan number wheel name field shown field.kind)
+StatementWires lines plan number (says.TotalLiteral level wheel literal) =
+    LiteralWires (total_emitter (level_number level)) wheel literal
+StatementWires lines plan number (says.TotalText level wheel name) =
+    OfSome (field_named lines name) (λ field. OfSome (unit_for plan number) (λ unit. TotalTextWires level unit wheel field))
+StatementWires lines plan number (says.TotalAmount level wheel name digits mark) =
+    OfSome (field_named lines name) (λ field. OfSome (group_for lines plan number) (λ group.
+    TotalWires lines plan name level wheel digits mark field group))
+StatementWires lines plan number (says.Space line spacing) = SpaceWires line spacing
+StatementWires lines plan number (says.After line action) = AfterWires line action
+StatementWires lines plan number other = NoWires
+
+-- the wires of the lines before a place of the chart
+abbrev pub WiresBefore : List Line → Lists → (place : ℕ) → Wires
+WiresBefore lines plan place = Upto place (λ j. OfSome (slice_get lines j) (λ line. LineWire lines plan line.number line.statement))

@@ -1,0 +1,24 @@
+-- A helper of the code: the ranges of what a chart's lines say.
+use Rattle.std.specs.Prelude.{◌≡◌, ℕ, ◌+◌, ◌≤◌, true, length, Option, Some, None}
+use Rattle.chart_text.specs.declared.statement.After.{After}
+use Rattle.chart_text.specs.declared.statement.After.TheVariants as action
+use Rattle.chart_text.specs.declared.statement.Mark.{Mark}
+use Rattle.hubs.specs.Places.{is_width}
+use Rattle.hubs.specs.declared.hub.Group.{Group}
+use Rattle.wire_gen.specs.Figures.{mark_characters}
+
+-- a channel that a line skips to is one of the carriage
+abbrev pub HasChannel : After → Type 0
+HasChannel action.Page = Unit {0}
+HasChannel (action.Skip channel) = (1 ≤ channel) × (channel ≤ 12)
+
+-- the panel has a counter group
+pub record IsOnPanel (group : Group) : Type 0 where
+  pub width : is_width group.width ≡ true
+  pub from : 1 ≤ group.number
+  pub to : group.number ≤ 8
+
+-- a mark stands on wheels of the machine from a wheel on
+abbrev pub HasWheelsForMark : (wheel : ℕ) → Option Mark → Type 0
+HasWheelsForMark wheel None = Unit {0}
+HasWheelsForMark wheel (Some mark) = (1 ≤ wheel) × (wheel + length (mark_characters mark) ≤ 121)

@@ -1,0 +1,12 @@
+pub mod Figures
+pub mod Parts
+pub mod Wires
+pub mod Jacks
+pub mod WiredFor
+pub mod HelperAdds
+pub mod HelperRows
+pub mod HelperRanges
+pub mod HelperLevels
+pub mod HelperItems
+pub mod HelperLines
+pub mod HelperJacks

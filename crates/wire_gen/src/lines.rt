@@ -1,0 +1,182 @@
+//! The lines of a chart, one by one.
+
+ghost use Rattle.std.specs.Prelude.{◌≡◌, ℕ, OnOk, Some, slice_get, length};
+ghost use Rattle.chart_rules.specs.Fields.{field_named};
+ghost use Rattle.chart_rules.specs.HelperOnCard.{IsOnCard};
+ghost use Rattle.chart_text.specs.declared.chart.Line.{Line};
+ghost use Rattle.wire_gen.specs.HelperAdds.{Adds, OfSome};
+ghost use Rattle.wire_gen.specs.HelperItems.{DetailWires, IsGood, IsGoodDetail, IsGoodTotal, IsGoodTotalText, IsNamed, TotalWires};
+ghost use Rattle.wire_gen.specs.HelperLines.{StatementWires, WiresBefore};
+ghost use Rattle.wire_gen.specs.HelperRows.{ComparedWires, TotalTextWires};
+ghost use Rattle.wire_gen.specs.Parts.{group_for, unit_for};
+ghost use Rattle.wire_gen.specs.Wires.{LineWire};
+
+use crate::character::wire_literal;
+use crate::control::wire_control;
+use crate::items::{wire_detail, wire_total};
+use crate::pilot::wire_pickup;
+use crate::spacing::{wire_after, wire_space};
+use crate::total_text::wire_total_text;
+use allocate::Plan;
+use chart_rules::Chart;
+use chart_text::{ControlLevel, DetailOption, Level, Line, Mark, Name, Statement};
+use hubs::Setup;
+use std::alloc::AllocError;
+
+// Wires a control field.
+fn wire_control_line(
+    setup: &mut Setup,
+    chart: &Chart,
+    plan: &Plan,
+    line: u16,
+    level: ControlLevel,
+    name: Name,
+) -> Result<(), AllocError>
+    requires { IsNamed (field_named chart.now.lines name) IsOnCard }
+    ensures { OnOk result (Adds (OfSome (field_named chart.now.lines name)
+        (λ field. ComparedWires plan.now level line field)) setup.old setup.new) }
+{
+    if let Some(field) = chart.field(name) {
+        wire_control(setup, plan, level, line, field)?;
+    }
+    Ok(())
+}
+
+// Wires a field on the line of a card.
+fn wire_detail_line(
+    setup: &mut Setup,
+    chart: &Chart,
+    plan: &Plan,
+    line: u16,
+    wheel: u16,
+    name: Name,
+    shown: DetailOption,
+) -> Result<(), AllocError>
+    requires { IsNamed (field_named chart.now.lines name) (IsGoodDetail wheel shown) }
+    ensures { OnOk result (Adds (OfSome (field_named chart.now.lines name)
+        (λ field. DetailWires plan.now line wheel name field shown field.kind)) setup.old setup.new) }
+{
+    if let Some(field) = chart.field(name) {
+        wire_detail(setup, plan, line, wheel, name, field, shown)?;
+    }
+    Ok(())
+}
+
+// Wires a text on a total line.
+fn wire_text_line(
+    setup: &mut Setup,
+    chart: &Chart,
+    plan: &Plan,
+    line: u16,
+    level: Level,
+    wheel: u16,
+    name: Name,
+) -> Result<(), AllocError>
+    requires { IsNamed (field_named chart.now.lines name) (IsGoodTotalText wheel) }
+    ensures { OnOk result (Adds (OfSome (field_named chart.now.lines name) (λ field.
+        OfSome (unit_for plan.now line) (λ unit. TotalTextWires level unit wheel field))) setup.old setup.new) }
+{
+    if let Some(field) = chart.field(name) {
+        wire_total_text(setup, plan, line, level, wheel, field)?;
+    }
+    Ok(())
+}
+
+// Wires a total.
+fn wire_total_line(
+    setup: &mut Setup,
+    chart: &Chart,
+    plan: &Plan,
+    line: u16,
+    level: Level,
+    wheel: u16,
+    name: Name,
+    digits: u16,
+    mark: Option<Mark>,
+) -> Result<(), AllocError>
+    requires { IsNamed (field_named chart.now.lines name)
+        (IsGoodTotal chart.now.lines plan.now line level wheel name digits mark) }
+    ensures { OnOk result (Adds (OfSome (field_named chart.now.lines name) (λ field.
+        OfSome (group_for chart.now.lines plan.now line) (λ group.
+        TotalWires chart.now.lines plan.now name level wheel digits mark field group))) setup.old setup.new) }
+{
+    if let Some(field) = chart.field(name) {
+        wire_total(
+            setup, chart, plan, line, level, wheel, name, digits, mark, field,
+        )?;
+    }
+    Ok(())
+}
+
+// Wires what a line of the chart says.
+fn wire_statement(
+    setup: &mut Setup,
+    chart: &Chart,
+    plan: &Plan,
+    line: u16,
+    statement: &Statement,
+) -> Result<(), AllocError>
+    requires { IsGood chart.now.lines plan.now line statement.now }
+    ensures { OnOk result (Adds (StatementWires chart.now.lines plan.now line statement.now) setup.old setup.new) }
+{
+    match statement {
+        Statement::Field(field) => wire_pickup(setup, plan, *field),
+        Statement::Control { level, name } => {
+            wire_control_line(setup, chart, plan, line, *level, *name)
+        }
+        Statement::Head {
+            line,
+            wheel,
+            literal,
+        } => wire_literal(setup, line.number(), *wheel, literal.characters()),
+        Statement::DetailLiteral { wheel, literal } => {
+            wire_literal(setup, 4, *wheel, literal.characters())
+        }
+        Statement::DetailField { wheel, name, shown } => {
+            wire_detail_line(setup, chart, plan, line, *wheel, *name, *shown)
+        }
+        Statement::TotalLiteral {
+            level,
+            wheel,
+            literal,
+        } => wire_literal(setup, 4 + level.number(), *wheel, literal.characters()),
+        Statement::TotalText { level, wheel, name } => {
+            wire_text_line(setup, chart, plan, line, *level, *wheel, *name)
+        }
+        Statement::TotalAmount {
+            level,
+            wheel,
+            name,
+            digits,
+            mark,
+        } => wire_total_line(
+            setup, chart, plan, line, *level, *wheel, *name, *digits, *mark,
+        ),
+        Statement::Space { line, spacing } => wire_space(setup, *line, *spacing),
+        Statement::After { line, action } => wire_after(setup, *line, *action),
+        Statement::Print(_) | Statement::Form { .. } | Statement::Tape { .. } => Ok(()),
+    }
+}
+
+// Wires a line of the chart.
+fn wire_line(setup: &mut Setup, chart: &Chart, plan: &Plan, line: &Line) -> Result<(), AllocError>
+    requires { IsGood chart.now.lines plan.now line.now.number line.now.statement }
+    ensures { OnOk result (Adds
+        (LineWire chart.now.lines plan.now line.now.number line.now.statement) setup.old setup.new) }
+{
+    wire_statement(setup, chart, plan, line.number, &line.statement)?;
+    Ok(())
+}
+
+/// Wires all lines of the chart.
+pub(crate) fn wire_lines(setup: &mut Setup, chart: &Chart, plan: &Plan) -> Result<(), AllocError>
+    requires { (place : ℕ) (line : Line) → slice_get chart.now.lines place ≡ Some line
+        → IsGood chart.now.lines plan.now line.number line.statement }
+    ensures { OnOk result (Adds
+        (WiresBefore chart.now.lines plan.now (length chart.now.lines)) setup.old setup.new) }
+{
+    for line in chart.lines() {
+        wire_line(setup, chart, plan, line)?;
+    }
+    Ok(())
+}

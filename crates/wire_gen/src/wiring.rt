@@ -1,0 +1,27 @@
+//! Wiring a setup for a chart and its plan.
+
+ghost use Rattle.std.specs.Prelude.{IfOk};
+ghost use Rattle.allocate.specs.Plans.{IsFor};
+ghost use Rattle.wire_gen.specs.WiredFor.{WiredFor};
+
+use crate::chart_tape::tape_of;
+use crate::lines::wire_lines;
+use crate::panel_jacks::plug_jacks;
+use allocate::Plan;
+use chart_rules::Chart;
+use hubs::Setup;
+use std::alloc::{AllocError, Global};
+
+/// The setup that is wired for a chart by its plan: exactly the wires, jacks and tape that they ask for. Its only refusal is
+/// memory.
+pub fn wire(alloc: Global, chart: &Chart, plan: &Plan) -> Result<Setup, AllocError>
+    requires { IsFor chart.now.lines plan.now }
+    ensures { IfOk result (WiredFor chart.now.lines plan.now) }
+{
+    // What is known of the lines of every chart is told with them.
+    let _lines = chart.lines();
+    let mut setup = Setup::new(alloc, tape_of(chart));
+    plug_jacks(&mut setup, chart);
+    wire_lines(&mut setup, chart, plan)?;
+    Ok(setup)
+}
