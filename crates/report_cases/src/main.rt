@@ -71,7 +71,13 @@ fn write_cases<W: Write>(
         if with_wiring {
             out.write_all(wiring_chart.as_bytes())?;
         }
-        write_pages(alloc, out, &compiled, wiring_chart.as_bytes(), deck.as_slice())?;
+        write_pages(
+            alloc,
+            out,
+            &compiled,
+            wiring_chart.as_bytes(),
+            deck.as_slice(),
+        )?;
     }
     Ok(())
 }
