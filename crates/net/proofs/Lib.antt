@@ -1,3 +1,5 @@
+pub mod EachPicture
+pub mod GrownSets
 pub mod ImpulsedLaws
 pub mod KindRows
 pub mod NetWires

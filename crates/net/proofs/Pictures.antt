@@ -25,11 +25,16 @@ has_hub-place set hub place is =
     ap (has_number set) is ∙ ap (has_place set.words) index
 
 -- a hub's number, as its place and one
-numbered_from : (hub : Hub) (n : ℕ) → number_of hub ≡ Some n → (place : ℕ) × (number_of hub ≡ Some (place + 1))
+record HubPlace (hub : Hub) : Type 0 where
+  place : ℕ
+  numbered : number_of hub ≡ Some (place + 1)
+  low : place < 1936
+
+numbered_from : (hub : Hub) (n : ℕ) → number_of hub ≡ Some n → HubPlace hub
 numbered_from hub n is =
     let range = number_of-range hub n is in
     let index : n ≡ n - 1 + 1 = omega (arith, range.0) in
-    (n - 1, is ∙ ap Some index)
+    record { place = n - 1; numbered = is ∙ ap Some index; low = omega (arith, range.0, range.1) }
 
 module _ (wiring : Wiring) (net : NetRows) (is_net : IsNetOf wiring net) (short : length net.rows ≤ 1040)
     (exits closed : HubSet) where
@@ -72,8 +77,8 @@ module _ (wiring : Wiring) (net : NetRows) (is_net : IsNetOf wiring net) (short 
   reached (emitting hub there at) place is = emits place (sym (has_hub-place exits hub place is) ∙ at)
   reached (led_on from to at (inl wire)) place is =
       let common = numbered_from from wire.number wire.numbered in
-      by_row common.0 place (reached at common.0 common.1)
-      (sym (leads_on-place from to common.0 place common.1 is) ∙ (is_net from to).1 wire)
+      by_row common.place place (reached at common.place common.numbered)
+      (sym (leads_on-place from to common.place place common.numbered is) ∙ (is_net from to).1 wire)
   reached (led_on from to at (inr contact)) place is =
       let common = contact_numbered from to place contact.0 is in
       by_contact common.0 place (reached at common.0 common.1) (of_runs CONTACTS common.0 place common.2)
@@ -87,15 +92,18 @@ module _ (wiring : Wiring) (net : NetRows) (is_net : IsNetOf wiring net) (short 
 
   -- the set of what is reached is the picture
   pub IsPicture-reached : (out : HubSet)
-      → ((place : ℕ) → (has_place out.words place ≡ true) ↔ IsReached net.rows CONTACTS exits.words closed.words place)
+      → ((place : ℕ) → place < 1936 → (has_place out.words place ≡ true) ↔ IsReached net.rows CONTACTS exits.words closed.words place)
       → IsPicture wiring (has_hub exits) (has_hub closed) (has_hub out)
   IsPicture-reached out found hub = by (number_of hub) refl where
     by : (number : Option ℕ) → number_of hub ≡ number
         → (has_hub out hub ≡ true) ↔ IsImpulsed wiring (has_hub exits) (has_hub closed) hub
     by (Some n) is =
-        let place = numbered_from hub n is in (
-          λ at. impulsed ((found place.0).0 (sym (has_hub-place out hub place.0 place.1) ∙ at)) hub place.1,
-          λ at. has_hub-place out hub place.0 place.1 ∙ (found place.0).1 (reached at place.0 place.1),
+        let at_place = numbered_from hub n is in
+        let place = at_place.place in
+        let same = has_hub-place out hub place at_place.numbered in
+        let there = found place at_place.low in (
+          λ at. impulsed (there.0 (sym same ∙ at)) hub at_place.numbered,
+          λ at. same ∙ there.1 (reached at place at_place.numbered),
         )
     by None is = (
       λ at. absurd (false≢true (sym (ap (has_number out) is) ∙ at)),
@@ -104,19 +112,22 @@ module _ (wiring : Wiring) (net : NetRows) (is_net : IsNetOf wiring net) (short 
 
 -- the same, as the search finds it
 pub picture_found :
-    (wiring : Wiring) (rows : List (List ℕ)) (net : NetRows) (exit_words closed_words out : List ℕ) (exits closed : HubSet)
+    (wiring : Wiring) (rows : List (List ℕ)) (net : NetRows) (exit_words closed_words found_words out : List ℕ)
+    (exits closed : HubSet)
     → record { rows = rows } ≡ net → record { words = exit_words } ≡ exits → closed_words ≡ closed.words
     → length rows ≤ 1040
-    → ((place : ℕ) → (has_place out place ≡ true) ↔ IsReached rows CONTACTS exit_words closed_words place)
+    → ((place : ℕ) → (has_place found_words place ≡ true) ↔ IsReached rows CONTACTS exit_words closed_words place)
+    → ((place : ℕ) → place < 1936 → has_place out place ≡ has_place found_words place)
     → IsNetOf wiring net → IsPicture wiring (has_hub exits) (has_hub closed) (has_hub (record { words = out }))
-picture_found wiring rows net exit_words closed_words out exits closed is_net_of is_exits is_closed short found is_net =
+picture_found wiring rows net exit_words closed_words found_words out exits closed is_net_of is_exits is_closed short found kept is_net =
     let same : rows ≡ net.rows = ap (λ (n : NetRows). n.rows) is_net_of in
     let same_exits : exit_words ≡ exits.words = ap (λ (set : HubSet). set.words) is_exits in
-    let by_rows = subst (λ (r : List (List ℕ)). (place : ℕ) → (has_place out place ≡ true) ↔ IsReached r CONTACTS exit_words closed_words place)
+    let by_rows = subst (λ (r : List (List ℕ)). (place : ℕ) → (has_place found_words place ≡ true) ↔ IsReached r CONTACTS exit_words closed_words place)
     same found in
-    let by_exits = subst (λ (w : List ℕ). (place : ℕ) → (has_place out place ≡ true) ↔ IsReached net.rows CONTACTS w closed_words place)
+    let by_exits = subst (λ (w : List ℕ). (place : ℕ) → (has_place found_words place ≡ true) ↔ IsReached net.rows CONTACTS w closed_words place)
     same_exits by_rows in
-    let by_closed = subst (λ (w : List ℕ). (place : ℕ) → (has_place out place ≡ true) ↔ IsReached net.rows CONTACTS exits.words w place)
+    let by_closed = subst (λ (w : List ℕ). (place : ℕ) → (has_place found_words place ≡ true) ↔ IsReached net.rows CONTACTS exits.words w place)
     is_closed by_exits in
     IsPicture-reached wiring net is_net (subst (λ (r : List (List ℕ)). length r ≤ 1040) same short) exits closed
-    (record { words = out }) by_closed
+    (record { words = out })
+    (λ place low. (λ at. (by_closed place).0 (sym (kept place low) ∙ at), λ at. kept place low ∙ (by_closed place).1 at))

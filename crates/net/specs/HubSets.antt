@@ -1,5 +1,5 @@
 -- Sets of hubs are tests on hubs. A stored set is asked by a hub's number; a hub out of range is in none.
-use Rattle.std.specs.Prelude.{◌≡◌, ℕ, ◌+◌, ◌-◌, ◌==◌, ◌&&◌, ◌||◌, nat_le, nat_lt, Bool, false, List, Option, Some, None}
+use Rattle.std.specs.Prelude.{◌≡◌, ℕ, ◌≤◌, ◌+◌, ◌-◌, ◌==◌, ◌&&◌, ◌||◌, nat_le, nat_lt, Bool, false, List, Option, Some, None}
 use Rattle.hubs.specs.declared.hub.Hub.{Hub}
 use Rattle.hubs.specs.Hubs.{number_of}
 unfoldable pub use Rattle.words.specs.Bits.{is_bit}
@@ -8,6 +8,10 @@ use Rattle.words.specs.Bits.{has_place}
 -- A stored set: 31 words of 64 bits. The hub with the number h is bit h - 1, counted through the words.
 pub record HubSet : Type 0 where
   pub words : List ℕ
+
+-- A set's words hold hubs alone: each bit behind that of the last hub, place 1935, is 0.
+abbrev pub HoldsHubsAlone : List ℕ → Type 0
+HoldsHubsAlone words = (place : ℕ) → 1936 ≤ place → has_place words place ≡ false
 
 -- whether two numbers are there and are the same
 abbrev pub is_same_number : Option ℕ → Option ℕ → Bool

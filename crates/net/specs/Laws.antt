@@ -1,9 +1,9 @@
--- What the impulsed hubs are as a set, and where one wire is all that leads to a hub.
+-- What the impulsed hubs are as a set, that there is a picture of them, and where one wire is all that leads to a hub.
 use Rattle.std.specs.Prelude.{◌≡◌, Bool, true, false, ◌⊎◌}
 use Rattle.hubs.specs.declared.hub.Hub.{Hub}
 use Rattle.hubs.specs.Hubs.{is_hub_in_range}
 use Rattle.hubs.specs.Wiring.{Wiring, HasWire}
-use Rattle.net.specs.Impulsed.{IsImpulsed, LeadsOn}
+use Rattle.net.specs.Impulsed.{IsImpulsed, IsPicture, LeadsOn}
 
 -- the set has each hub of the panel that the test has
 abbrev pub HoldsHubs : (Hub → Bool) → (Hub → Bool) → Type 0
@@ -22,6 +22,11 @@ pub record IsLeastSet (wiring : Wiring) (exits closed : Hub → Bool) : Type 0 w
   pub within :
       (set : Hub → Bool) → HoldsHubs exits set → FollowsLeads wiring closed set → (hub : Hub)
       → IsImpulsed wiring exits closed hub → set hub ≡ true
+
+-- Every set of emitting exits has a picture, whatever the wires are and whichever contacts are closed.
+abbrev pub ExitsHaveAPicture : Type 0
+ExitsHaveAPicture =
+    (wiring : Wiring) (exits closed : Hub → Bool) → (picture : Hub → Bool) × IsPicture wiring exits closed picture
 
 -- a wire leads to the hub from an emitting exit
 pub record IsFed (wiring : Wiring) (exits : Hub → Bool) (hub : Hub) : Type 0 where

@@ -4,12 +4,17 @@ ghost use Rattle.std.specs.Prelude.{Bool, ◌↔◌};
 ghost use Rattle.hubs.specs.Wiring.{Wiring, LeadsToEntries};
 ghost use Rattle.hubs.specs.declared.hub.Hub.{Hub};
 ghost use Rattle.net.specs.Impulsed.{IsImpulsed};
-ghost use Rattle.net.specs.Laws.{AreAllOpen, EmitsOrIsFed, IsLeastSet};
+ghost use Rattle.net.specs.Laws.{AreAllOpen, EmitsOrIsFed, ExitsHaveAPicture, IsLeastSet};
 
 /// The impulsed hubs are the least set that holds the emitting exits and all that wires and closed contacts lead to
 /// from it.
 pub fn impulsed_hubs_are_the_least_set()
     ensures { (wiring : Wiring) (exits closed : Hub → Bool) → IsLeastSet wiring exits closed }
+{}
+
+/// Every set of emitting exits has a picture, whatever the wires are and whichever contacts are closed.
+pub fn emitting_exits_have_a_picture()
+    ensures { ExitsHaveAPicture }
 {}
 
 /// Where no contact is closed, wires to entries lead no further: a hub is impulsed exactly where it emits or a wire

@@ -10,7 +10,10 @@ mod printing;
 mod unit;
 
 pub use cycle::{Cycle, Level, Ordinal, POINTS, Point};
-pub use laws::{impulsed_hubs_are_the_least_set, wires_to_entries_lead_no_further};
+pub use laws::{
+    emitting_exits_have_a_picture, impulsed_hubs_are_the_least_set,
+    wires_to_entries_lead_no_further,
+};
 pub use net::Net;
 pub use picture::{Contacts, HUBS, Picture};
 pub use printing::Printing;

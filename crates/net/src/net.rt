@@ -5,7 +5,7 @@ ghost use Rattle.hubs.specs.Wiring.{IsEntryNumber};
 ghost use Rattle.net.specs.NetRows.{AddsRow};
 
 use crate::contacts::CONTACTS;
-use crate::picture::{Contacts, Picture};
+use crate::picture::{Contacts, Picture, cut_behind_hubs};
 use hubs::{Hub, Setup};
 use std::alloc::{AllocError, Global};
 use std::marker::Model;
@@ -56,6 +56,8 @@ impl Net {
     {
         out.words = exits.words;
         reach(&self.rows, &CONTACTS, contacts.words(), &mut out.words);
+        // Wires lead to hubs alone. The rows do not tell so, and a cut costs next to nothing.
+        cut_behind_hubs(&mut out.words);
     }
 }
 

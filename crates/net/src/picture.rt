@@ -1,5 +1,9 @@
 //! Sets of hubs: pictures of the panel, and the closed contacts.
 
+ghost use Rattle.std.specs.Prelude.{◌≡◌, ℕ, ◌<◌};
+ghost use Rattle.words.specs.Bits.{has_place};
+ghost use Rattle.net.specs.HubSets.{HoldsHubsAlone};
+
 use hubs::Hub;
 use std::marker::Model;
 use words::WORDS;
@@ -10,16 +14,19 @@ pub const HUBS: usize = 1936;
 /// A set of hubs, as the exits that emit at a point or the hubs that are impulsed then.
 #[derive(Clone, Copy, Debug, PartialEq, Eq)]
 pub struct Picture {
-    // The hub with the number h is bit h - 1, counted through the words.
+    // The hub with the number h is bit h - 1, counted through the words. The bits behind the last hub are 0: so equal sets
+    // have equal words.
     pub(crate) words: [u64; WORDS],
 }
 
 impl Model for Picture {
-    ghost use Rattle.net.specs.HubSets.{HubSet};
+    ghost use Rattle.net.specs.HubSets.{HubSet, HoldsHubsAlone};
 
     ghost Value = { HubSet };
 
     ghost view = { λ picture. record { words = picture.words } };
+
+    ghost invariant = { λ picture. HoldsHubsAlone picture.words };
 
     ghost inverse = { λ hubs. record { words = hubs.words } };
 }
@@ -27,7 +34,7 @@ impl Model for Picture {
 impl Picture {
     ghost use Rattle.std.specs.Prelude.{◌≡◌, ◌&&◌, true, false};
     ghost use Rattle.hubs.specs.declared.hub.Hub.{Hub};
-    ghost use Rattle.net.specs.HubSets.{has_hub, is_hub, is_in_row, is_in_reach, GainsHubs};
+    ghost use Rattle.net.specs.HubSets.{has_hub, is_hub, is_in_row, is_in_reach, GainsHubs, HoldsHubsAlone};
 
     /// The empty set.
     pub fn new() -> Self
@@ -36,9 +43,11 @@ impl Picture {
         Picture { words: [0; WORDS] }
     }
 
-    /// Its words: the hub with the number h, 1 to 1936, is bit (h - 1) % 64 of word (h - 1) / 64.
+    /// Its words: the hub with the number h, 1 to 1936, is bit (h - 1) % 64 of word (h - 1) / 64. The bits behind the last hub
+    /// are 0.
     pub fn words(&self) -> &[u64; WORDS]
-        ensures { result.now ≡ self.now.words }
+        ensures words { result.now ≡ self.now.words }
+        ensures hubs { HoldsHubsAlone self.now.words }
     {
         &self.words
     }
@@ -69,6 +78,7 @@ impl Picture {
     {
         if let Some(number) = first.number() {
             words::put_run(&mut self.words, number as usize - 1, bits);
+            cut_behind_hubs(&mut self.words);
         }
     }
 
@@ -84,7 +94,8 @@ impl Picture {
     }
 
     /// Which of the 128 hubs that follow one another from the first one are in the set: bit k stands for the hub whose
-    /// number is the first one's and k. No hubs follow a first hub out of range, and the answer then says nothing.
+    /// number is the first one's and k. The bits behind the last hub are 0. No hubs follow a first hub out of range, and the
+    /// answer then says nothing.
     #[inline(always)]
     pub fn row(&self, first: Hub) -> u128
         ensures { (hub : Hub) → is_in_reach first hub ≡ true → is_in_row first result hub ≡ has_hub self.now hub }
@@ -94,6 +105,15 @@ impl Picture {
             None => 0,
         }
     }
+}
+
+// Cuts the bits behind the last hub, whose own bit is bit 15 of the last word.
+#[inline(always)]
+pub(crate) fn cut_behind_hubs(words: &mut [u64; WORDS])
+    ensures hubs { HoldsHubsAlone words.new }
+    ensures kept { (place : ℕ) → place < HUBS → has_place words.new place ≡ has_place words.old place }
+{
+    words[WORDS - 1] &= 0xffff;
 }
 
 /// The closed contacts, as the set of their exits: each contact has an exit of its own.
@@ -115,7 +135,7 @@ impl Model for Contacts {
 impl Contacts {
     ghost use Rattle.std.specs.Prelude.{◌≡◌, ◌&&◌, false};
     ghost use Rattle.hubs.specs.declared.hub.Hub.{Hub};
-    ghost use Rattle.net.specs.HubSets.{has_hub, is_hub, is_in_row, GainsHubs};
+    ghost use Rattle.net.specs.HubSets.{has_hub, is_hub, is_in_row, GainsHubs, HoldsHubsAlone};
 
     /// No contact is closed.
     pub fn new() -> Self
@@ -128,7 +148,8 @@ impl Contacts {
 
     /// The words of the set of exits, as [`Picture::words`].
     pub fn words(&self) -> &[u64; WORDS]
-        ensures { result.now ≡ self.now.words }
+        ensures words { result.now ≡ self.now.words }
+        ensures hubs { HoldsHubsAlone self.now.words }
     {
         self.exits.words()
     }

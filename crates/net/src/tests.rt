@@ -71,6 +71,33 @@ fn hubs_at_the_ends_of_words(rt: HostRuntime) -> Result<(), Fail> {
     Ok(())
 }
 
+// A row that reaches behind hub 1936 is cut there: from that hub it is one hub long, and from the last wheel, hub 1918, 19.
+#[test]
+fn rows_that_reach_behind_the_last_hub(rt: HostRuntime) -> Result<(), Fail> {
+    let mut last = Picture::new();
+    last.insert_row(Hub::RS, u128::MAX);
+    let mut words = [0; 31];
+    words[30] = 1 << 15;
+    assert!(rt; *last.words() == words);
+    assert!(rt; last == set(&[Hub::RS]));
+    assert!(rt; last.row(Hub::RS) == 1);
+    let mut contacts = Contacts::new();
+    contacts.insert_row(Hub::RS, u128::MAX);
+    assert!(rt; *contacts.words() == words);
+    assert!(rt; contacts == closed(&[Hub::RS]));
+    let net = wired(rt.alloc(), &[(Hub::FR(1), Hub::RS)])?;
+    let mut out = Picture::new();
+    net.picture(&last, &contacts, &mut out);
+    assert!(rt; out == last);
+    let mut from_wheel = Picture::new();
+    from_wheel.insert_row(Hub::W(120), u128::MAX);
+    words[29] = 7 << 61;
+    words[30] = 0xffff;
+    assert!(rt; *from_wheel.words() == words);
+    assert!(rt; from_wheel.row(Hub::W(120)) == (1 << 19) - 1);
+    Ok(())
+}
+
 // Two pilots pass an impulse on to each other, and out where the second is transferred.
 #[test]
 fn contacts_in_a_loop(rt: HostRuntime) -> Result<(), Fail> {
