@@ -5,10 +5,12 @@ pub mod FewCycles
 pub mod OneOutcome
 pub mod Order
 pub mod SameSetups
+pub mod SomeOutcome
 pub mod ClosedContacts
 mod Decks
 mod Exits
 mod Moving
+mod Parts
 mod Going
 mod Pictures
 mod Points

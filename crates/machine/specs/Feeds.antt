@@ -72,6 +72,17 @@ pub record Feeds (wiring : Wiring) (old : MachineState) (next : Option (List ℕ
   pub cycles : List Cycle
   pub runs : FeedRuns wiring cycles (begun old next) new lines
 
+-- Cards fed one after another: the machine that the last of these feeds leaves, and the lines that they place. A feed places the lines
+-- of the card before it, so those of the last card are still to come.
+unfoldable pub FedLines : Wiring → MachineState → List (List ℕ) → MachineState → List PlacedLine → Type 0
+FedLines wiring old [] new lines = (new ≡ old) × (lines ≡ [])
+FedLines wiring old (card ∷ cards) new lines =
+    (mid : MachineState)
+    × (first others : List PlacedLine)
+    × Feeds wiring old (Some card) mid first
+    × FedLines wiring mid cards new others
+    × (lines ≡ first ++ others)
+
 -- the lines of a run from now on: those of a feed for each card, and of one for the end
 unfoldable pub LinesFrom : Wiring → MachineState → List (List ℕ) → List PlacedLine → Type 0
 LinesFrom wiring old [] lines = (new : MachineState) × Feeds wiring old None new lines

@@ -5,7 +5,7 @@ use Rattle.carriage.specs.declared.placed_line.PlacedLine.{PlacedLine}
 use Rattle.hubs.specs.Tapes.{IsForm}
 use Rattle.hubs.specs.Wiring.{Wiring, SameWires, SameJacks}
 use Rattle.net.specs.declared.cycle.Cycle.{Cycle}
-use Rattle.machine.specs.Feeds.{Fed, FeedStep, LinesFrom, MachineLines}
+use Rattle.machine.specs.Feeds.{Fed, FedLines, FeedStep, LinesFrom, MachineLines}
 use Rattle.machine.specs.Machine.{MachineState, machine_at_start}
 
 -- all cycles of a run, feed by feed
@@ -42,11 +42,28 @@ OneCycleFollows =
     (wiring : Wiring) (old one other : Fed) (cycle also : Cycle)
     → FeedStep wiring cycle old one → FeedStep wiring also old other → (cycle ≡ also) × (one ≡ other)
 
+-- Every setup and every deck have a list of lines.
+abbrev pub RunsHaveAnOutcome : Type 0
+RunsHaveAnOutcome =
+    (wiring : Wiring) (cards : List (List ℕ)) → (lines : List PlacedLine) × MachineLines wiring cards lines
+
 -- A setup and a deck have one list of lines at most.
 abbrev pub RunsHaveOneOutcome : Type 0
 RunsHaveOneOutcome =
     (wiring : Wiring) (cards : List (List ℕ)) (one other : List PlacedLine)
     → MachineLines wiring cards one → MachineLines wiring cards other → one ≡ other
+
+-- The lines of a run over a deck in two parts are those of the feeds of its first cards, and then those of a run over the others from the
+-- machine that these feeds leave.
+abbrev pub RunsGoInParts : Type 0
+RunsGoInParts =
+    (wiring : Wiring) (old : MachineState) (cards behind : List (List ℕ)) (lines : List PlacedLine)
+    → LinesFrom wiring old (cards ++ behind) lines
+    → (mid : MachineState)
+    × (first rest : List PlacedLine)
+    × FedLines wiring old cards mid first
+    × LinesFrom wiring mid behind rest
+    × (lines ≡ first ++ rest)
 
 -- Setups with the same wires, jacks and tape have the same lines.
 abbrev pub SameSetupsPrintAlike : Type 0

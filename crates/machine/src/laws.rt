@@ -1,7 +1,8 @@
 //! Laws of whole runs, for every setup of the panel and every deck. Each is a function that does nothing: its contract
 //! is the law.
 
-ghost use Rattle.machine.specs.Laws.{LinesComeInOrder, OneCycleFollows, RunsHaveFewCycles, RunsHaveOneOutcome, SameSetupsPrintAlike};
+ghost use Rattle.machine.specs.Laws.{LinesComeInOrder, OneCycleFollows, RunsGoInParts, RunsHaveAnOutcome, RunsHaveFewCycles};
+ghost use Rattle.machine.specs.Laws.{RunsHaveOneOutcome, SameSetupsPrintAlike};
 
 /// The lines of a run come in the order of their places.
 pub fn lines_come_in_order()
@@ -18,9 +19,19 @@ pub fn one_cycle_follows()
     ensures { OneCycleFollows }
 {}
 
-/// A setup and a deck have one list of lines.
+/// Every setup and every deck have a list of lines.
+pub fn runs_have_an_outcome()
+    ensures { RunsHaveAnOutcome }
+{}
+
+/// A setup and a deck have at most one list of lines.
 pub fn runs_have_one_outcome()
     ensures { RunsHaveOneOutcome }
+{}
+
+/// The lines of a run are those of the feeds of its first cards, and then those of a run over the others.
+pub fn runs_go_in_parts()
+    ensures { RunsGoInParts }
 {}
 
 /// Setups with the same wires, jacks and tape have the same lines.
