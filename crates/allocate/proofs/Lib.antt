@@ -6,6 +6,7 @@ pub mod Exclusions
 pub mod GroupPlaces
 pub mod Lowest
 pub mod Needs
+pub mod OneFault
 pub mod OneList
 pub mod Order
 pub mod Orders

@@ -1,5 +1,5 @@
 -- Laws of capacities.
-use Rattle.std.specs.Prelude.{ℕ, All, List}
+use Rattle.std.specs.Prelude.{◌≡◌, ℕ, All, List}
 use Rattle.capacity.specs.Capacities.{Capacities, widths}
 use Rattle.capacity.specs.declared.group.CounterGroup.{CounterGroup}
 use Rattle.chart_text.specs.Chart.{Chart}
@@ -31,3 +31,9 @@ ChartsOverHaveNone =
 abbrev pub FittingChartsHaveNoFault : Type 0
 FittingChartsHaveNoFault =
     (wanted : Wanted) (machine : Capacities) (told : CapacityFault) → Fits wanted machine → ¬ HasFault wanted machine told
+
+-- what is wanted has at most one fault on a machine
+abbrev pub ChartsExceedOneCapacity : Type 0
+ChartsExceedOneCapacity =
+    (wanted : Wanted) (machine : Capacities) (one other : CapacityFault) → HasFault wanted machine one
+    → HasFault wanted machine other → one ≡ other

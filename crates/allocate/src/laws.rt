@@ -8,7 +8,7 @@ ghost use Rattle.chart_rules.specs.Rules.{IsLawful};
 ghost use Rattle.allocate.specs.ChartTotals.{totals_of};
 ghost use Rattle.allocate.specs.Totals.{NeedsFit};
 ghost use Rattle.allocate.specs.Groups.{IsByRule};
-ghost use Rattle.allocate.specs.Laws.{ChartsWithinHaveAnAssignment, ChartsOverHaveNone, FittingChartsHaveNoFault};
+ghost use Rattle.allocate.specs.Laws.{ChartsWithinHaveAnAssignment, ChartsOverHaveNone, FittingChartsHaveNoFault, ChartsExceedOneCapacity};
 ghost use Rattle.allocate.specs.declared.total.Total.{Total};
 
 /// For every chart that breaks no rule: no total needs more positions than the widest counter group has; where the
@@ -29,4 +29,9 @@ pub fn the_rule_gives_one_list()
 /// What fits a machine has no fault on it.
 pub fn fitting_charts_have_no_fault()
     ensures { FittingChartsHaveNoFault }
+{}
+
+/// What doesn't fit a machine has one fault on it: the first capacity that is exceeded is one, and so is what is told of it.
+pub fn charts_exceed_one_capacity()
+    ensures { ChartsExceedOneCapacity }
 {}

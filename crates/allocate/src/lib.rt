@@ -26,7 +26,7 @@ mod wanted;
 pub use allocation::allocate;
 pub use fault::CapacityFault;
 pub use laws::{
-    fitting_charts_have_no_fault, the_rule_gives_one_list,
+    charts_exceed_one_capacity, fitting_charts_have_no_fault, the_rule_gives_one_list,
     totals_fit_exactly_where_no_width_is_over,
 };
 pub use plan::Plan;

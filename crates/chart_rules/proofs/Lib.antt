@@ -3,3 +3,4 @@ pub mod Lowest
 pub mod InOrder
 pub mod Laws
 pub mod ValidCards
+pub mod OneFault

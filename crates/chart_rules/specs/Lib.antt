@@ -14,6 +14,7 @@ pub mod Tapes
 pub mod Rules
 pub mod RuleFaults
 pub mod ValidCard
+pub mod Outcomes
 pub mod HelperChecked
 pub mod HelperIndex
 pub mod HelperOnCard

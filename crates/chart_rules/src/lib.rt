@@ -13,6 +13,7 @@ mod forms;
 mod items;
 mod marks;
 mod names;
+mod outcomes;
 mod printing;
 mod repeats;
 mod rule;
@@ -25,6 +26,7 @@ pub use chart::Chart;
 pub use checking::check;
 pub use fault::RuleFault;
 pub use items::{Figure, Item, PrintedLine};
+pub use outcomes::{cards_have_one_fault, charts_have_one_fault};
 pub use rule::Rule;
 
 #[cfg(test)]

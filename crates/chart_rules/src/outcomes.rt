@@ -1,0 +1,13 @@
+//! Laws over definitions alone: functions without a body, whose contracts are proved.
+
+ghost use Rattle.chart_rules.specs.Outcomes.{ChartsHaveOneFault, CardsHaveOneFault};
+
+/// A chart that breaks a rule has one fault: the lowest rule that it breaks and the lowest line that breaks it are one each.
+pub fn charts_have_one_fault()
+    ensures { ChartsHaveOneFault }
+{}
+
+/// A card that is not valid has one fault, that of the first field that is not valid on it.
+pub fn cards_have_one_fault()
+    ensures { CardsHaveOneFault }
+{}
