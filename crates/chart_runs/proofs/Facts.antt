@@ -34,7 +34,8 @@ use Rattle.selectors.specs.Indicate.{indicate_ended}
 use Rattle.totals.specs.Amounts.{IsLawful as IsLawfulAmount, IsOnCard, IsSmall, state_after}
 use Rattle.whole_cycles.specs.Between.{IsReady}
 use Rattle.wire_gen.specs.Figures.{IsAmount}
-use Rattle.chart_runs.proofs.Content.{asked_in, held, kind_for}
+use Rattle.chart_runs.proofs.Asked.{asked_in}
+use Rattle.chart_runs.specs.Content.{held, kind_for}
 
 -- A cycle leaves the machine ready and the cards where they were, and the carriage was asked for what the chart asks in it.
 pub record Cycled (chart : Chart) (wiring : Wiring) (cycle : Cycle) (old new : MachineState) : Type 0 where

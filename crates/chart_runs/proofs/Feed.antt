@@ -9,7 +9,6 @@ use Rattle.decks.specs.Breaks.{ended_behind, taking, totals_to}
 use Rattle.decks.specs.Left.{bodies_of, left_behind}
 use Rattle.decks.specs.Stands.{Stand, card_bodies}
 use Rattle.hubs.specs.Wiring.{Wiring}
-use Rattle.machine.specs.Cycles.{CycleRun}
 use Rattle.machine.specs.Feeds.{Feeds, FeedRuns, begun, due_in, has_more, moved_on}
 use Rattle.machine.specs.Machine.{MachineState}
 use Rattle.net.specs.Printing.{prints}
@@ -30,18 +29,10 @@ use Rattle.report.specs.BodyLines.{card_line}
 use Rattle.report.specs.Outline.{OutlineLine, Total}
 use Rattle.report.specs.Places.{BodyText, Left, placed}
 use Rattle.chart_runs.proofs.Bodies.{BodyRan, bodies_for, printed_ran, silent_ran}
-use Rattle.chart_runs.proofs.Headings.{CanWait, HeadsKeep, readied}
-use Rattle.chart_runs.proofs.Levels.{LevelsGo, levels_ran, totals_behind}
+use Rattle.chart_runs.proofs.Headings.{CanWait, readied}
+use Rattle.chart_runs.proofs.Levels.{levels_ran, totals_behind}
 use Rattle.chart_runs.proofs.Steps.{fed_with, GoesFrom}
-use Rattle.chart_runs.specs.Steps.{RunsCard}
-
--- What the card cycle does to a machine in which a card waits.
-pub record CardGoes (chart : Chart) (wiring : Wiring) (stand : Stand) (card : List ℕ) (next : Option (List ℕ))
-    (Waits : MachineState → Type 0) (Behind : ℕ → MachineState → Type 0) : Type 0 where
-  pub heads : HeadsKeep chart wiring Waits
-  pub runs :
-      (old new : MachineState) → Waits old → old.stations.first ≡ Some card → CycleRun wiring Card (moved_on next old) new
-      → Behind 0 new × RunsCard chart stand card next (moved_on next old) new
+use Rattle.chart_runs.specs.Goes.{CardGoes, HeadsKeep, LevelsGo}
 
 -- The machine stands between two cards: the card waits at first reading.
 pub record IsWaiting (chart : Chart) (Waits : MachineState → Type 0) (left : Left) (card : List ℕ) (machine : MachineState) :

@@ -27,7 +27,7 @@ use Rattle.report.specs.Amounts.{is_negated}
 use Rattle.report.specs.Edits.{size}
 use Rattle.report.specs.Totals.{total_of}
 use Rattle.wire_gen.specs.Figures.{IsAmount}
-use Rattle.chart_runs.proofs.Content.{held}
+use Rattle.chart_runs.specs.Content.{held}
 
 -- an amount without a sign rule is never negated
 pub never_negated :

@@ -40,7 +40,7 @@ use Rattle.whole_cycles.specs.Between.{IsBetween, IsIdle, IsReady}
 use Rattle.whole_cycles.specs.WholeCycles.{WholeCycle}
 use Rattle.wire_gen.specs.Figures.{IsAmount}
 use Rattle.wire_gen.specs.Parts.{group_for}
-use Rattle.chart_runs.proofs.Content.{held, kind_for}
+use Rattle.chart_runs.specs.Content.{held, kind_for}
 use Rattle.chart_runs.proofs.Facts.{IsRead}
 use Rattle.chart_runs.proofs.FromCycles.{whole}
 

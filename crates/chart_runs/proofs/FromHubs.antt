@@ -22,7 +22,7 @@ use Rattle.whole_cycles.proofs.Contacts.{contacts-one_deep}
 use Rattle.whole_cycles.proofs.Ready.{machines-ready}
 use Rattle.whole_cycles.proofs.Sources.{emit_at_sources}
 use Rattle.whole_cycles.specs.Between.{IsReady}
-use Rattle.chart_runs.proofs.Content.{asked_in}
+use Rattle.chart_runs.proofs.Asked.{asked_in}
 use Rattle.chart_runs.proofs.Facts.{Cycled}
 use Rattle.chart_runs.proofs.FromCycles.{whole, printing_stays}
 

@@ -66,7 +66,7 @@ use Rattle.whole_cycles.specs.Units.{group_at, storage_at}
 use Rattle.whole_cycles.specs.WholeCycles.{WholeCycle}
 use Rattle.wire_gen.specs.Figures.{IsAmount, IsText}
 use Rattle.wire_gen.specs.Parts.{HasTotal, group_for, unit_for}
-use Rattle.chart_runs.proofs.Content.{held}
+use Rattle.chart_runs.specs.Content.{held}
 use Rattle.chart_runs.proofs.Facts.{ShowsTotal}
 use Rattle.chart_runs.proofs.FromCounters.{held_there, panel_cycle}
 use Rattle.chart_runs.proofs.FromCycles.{whole}

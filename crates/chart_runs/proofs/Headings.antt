@@ -7,7 +7,7 @@ use Rattle.carriage.specs.Carriage.{CarriageState}
 use Rattle.carriage.specs.declared.placed_line.PlacedLine.{PlacedLine}
 use Rattle.chart_text.specs.Chart.{Chart}
 use Rattle.hubs.specs.Wiring.{Wiring}
-use Rattle.machine.specs.Cycles.{CycleRun, line_of}
+use Rattle.machine.specs.Cycles.{line_of}
 use Rattle.machine.specs.Feeds.{due_in, has_more}
 use Rattle.machine.specs.Machine.{MachineState}
 use Rattle.net.specs.Printing.{prints}
@@ -30,19 +30,13 @@ use Rattle.report.specs.BodyLines.{heading_line}
 use Rattle.report.specs.ChartForm.{headings}
 use Rattle.report.specs.Places.{Left, headed}
 use Rattle.chart_runs.proofs.Steps.{fed_with, GoesFrom, stepped}
-use Rattle.chart_runs.specs.Steps.{Heads}
+use Rattle.chart_runs.specs.Goes.{HeadsKeep}
 
 -- A printing cycle can wait behind heading cycles: the stages in which it waits.
 pub record CanWait (cycle : Cycle) (waits more : Bool) (before : Ordinal → Stage) : Type 0 where
   pub follows : (program : ProgramState) (heading : Ordinal) (restore : Bool) → program.stage ≡ before heading
       → due program waits restore more ≡ Some (behind_heading heading cycle)
   pub stays : (heading other : Ordinal) → stage_ended (before heading) (Head other) ≡ before other
-
--- what heading cycles keep and print
-abbrev pub HeadsKeep : Chart → Wiring → (MachineState → Type 0) → Type 0
-HeadsKeep chart wiring Content =
-    (heading : Ordinal) (old new : MachineState) → Content old → CycleRun wiring (Head heading) old new
-    → Content new × Heads chart heading old new
 
 -- The machine stands ready for a line, and the cycle that prints it is due.
 pub record IsReadyFor (chart : Chart) (wiring : Wiring) (Content : MachineState → Type 0) (cycle : Cycle) (left : Left) (waits : Bool)

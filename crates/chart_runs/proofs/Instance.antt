@@ -37,12 +37,10 @@ use Rattle.totals.specs.Standing.{StandsAll}
 use Rattle.whole_cycles.specs.Between.{IsReady}
 use Rattle.whole_cycles.proofs.Ready.{machines-ready}
 use Rattle.wire_gen.specs.Figures.{IsAmount}
-use Rattle.chart_runs.proofs.Content.{AllStand, Behind, Holds, Waits, Within, by_first, by_second, held}
+use Rattle.chart_runs.specs.Content.{AllStand, Behind, Holds, Waits, Within, by_first, by_second, held, sums_of}
 use Rattle.chart_runs.proofs.Facts.{CycleFacts, ShowsTotal}
-use Rattle.chart_runs.proofs.Feed.{CardGoes}
-use Rattle.chart_runs.proofs.Headings.{HeadsKeep}
-use Rattle.chart_runs.proofs.Runs.{IsDue, MachineGoes}
-use Rattle.chart_runs.proofs.Sums.{card_sums, group_end, level_sums, sums_of, unsigned_total}
+use Rattle.chart_runs.proofs.Sums.{card_sums, group_end, level_sums, unsigned_total}
+use Rattle.chart_runs.specs.Goes.{CardGoes, HeadsKeep, IsDue, MachineGoes}
 use Rattle.chart_runs.specs.Steps.{GoesOn, Heads, RunsCard, Totals}
 
 module _ (chart : Chart) (plan : Lists) (wiring : Wiring) (Stored : List ℕ → MachineState → Type 0)

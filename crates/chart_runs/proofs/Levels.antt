@@ -12,7 +12,7 @@ use Rattle.decks.specs.Breaks.{ended_behind, taking}
 use Rattle.decks.specs.Left.{bodies_of, left_behind}
 use Rattle.decks.specs.Stands.{Stand}
 use Rattle.hubs.specs.Wiring.{Wiring}
-use Rattle.machine.specs.Cycles.{CycleRun, line_of}
+use Rattle.machine.specs.Cycles.{line_of}
 use Rattle.machine.specs.Feeds.{due_in, has_more}
 use Rattle.machine.specs.Machine.{MachineState}
 use Rattle.net.specs.Cycles.{level_number}
@@ -37,25 +37,9 @@ use Rattle.report.specs.Outline.{OutlineLine, Total}
 use Rattle.report.specs.Places.{BodyText, Left, placed}
 use Rattle.report.specs.ChartForm.{prints_totals}
 use Rattle.chart_runs.proofs.Bodies.{BodyRan, bodies_for, printed_ran, silent_ran}
-use Rattle.chart_runs.proofs.Headings.{CanWait, HeadsKeep, readied}
+use Rattle.chart_runs.proofs.Headings.{CanWait, readied}
 use Rattle.chart_runs.proofs.Steps.{fed_with, GoesFrom, stepped, over}
-use Rattle.chart_runs.specs.Steps.{GoesOn, Totals}
-
--- What the program cycles of the levels do: between the cycles of a level, and behind so many levels, the machine holds what is told.
-pub record LevelsGo (chart : Chart) (wiring : Wiring) (stand : Stand) (card : List ℕ) (next : Option (List ℕ))
-    (Behind : ℕ → MachineState → Type 0) (Tested Turned : Level → MachineState → Type 0) : Type 0 where
-  pub first :
-      (k : ℕ) (level : Level) (old new : MachineState) → level_number level ≡ suc k → suc k ≤ ended_behind chart.lines card next
-      → Behind k old → CycleRun wiring (Prog level First) old new
-      → Tested level new × GoesOn (Prog level First) nothing_asked old new
-  pub second :
-      (level : Level) (old new : MachineState) → Tested level old → CycleRun wiring (Prog level Second) old new
-      → Turned level new × GoesOn (Prog level Second) nothing_asked old new
-  pub heads : (level : Level) → HeadsKeep chart wiring (Turned level)
-  pub third :
-      (k : ℕ) (level : Level) (old new : MachineState) → level_number level ≡ suc k → suc k ≤ ended_behind chart.lines card next
-      → Turned level old → CycleRun wiring (Prog level Third) old new
-      → Behind (suc k) new × Totals chart stand card level old new
+use Rattle.chart_runs.specs.Goes.{HeadsKeep, LevelsGo}
 
 -- the total lines of so many levels behind a number of levels
 abbrev pub totals_behind : (count k : ℕ) → (ℕ → List (List ℕ)) → List OutlineLine
@@ -86,11 +70,11 @@ third_waits level more = record {
 -- where the levels that run are as many as have run, none is left
 none_left : (program : ProgramState) (done : Option Level) (more : Bool) → levels_to (top_level program more) ≡ levels_to done
     → has_level_left program done more ≡ false
-none_left program done more same = grind (arith, nat_tests, same)
+none_left program level more same = grind (arith, nat_tests, same)
 
 some_left : (program : ProgramState) (done : Option Level) (more : Bool) (n : ℕ)
     → levels_to (top_level program more) ≡ levels_to done + suc n → has_level_left program done more ≡ true
-some_left program done more n same = grind (arith, nat_tests, same)
+some_left program level more n same = grind (arith, nat_tests, same)
 
 -- a cycle that doesn't print and asks for nothing leaves the carriage where it stands, and places no line
 pub record StaysQuiet (chart : Chart) (left : Left) (new : MachineState) : Type 0 where

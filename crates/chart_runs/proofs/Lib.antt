@@ -5,7 +5,8 @@ pub mod Levels
 pub mod Feed
 pub mod Runs
 pub mod Sums
-pub mod Content
+pub mod Asked
+pub mod Going
 pub mod Facts
 pub mod Instance
 pub mod Prints

@@ -10,7 +10,7 @@ use Rattle.machine.specs.Feeds.{MachineLines}
 use Rattle.machine.specs.Machine.{MachineState}
 use Rattle.report.specs.Report.{report_lines}
 use Rattle.report.specs.Totals.{Fits}
-use Rattle.chart_runs.proofs.Content.{Behind, Waits, Within, by_first, by_second}
+use Rattle.chart_runs.specs.Content.{Behind, Waits, Within, by_first, by_second}
 use Rattle.chart_runs.proofs.Facts.{CycleFacts}
 use Rattle.chart_runs.proofs.Instance.{machine_goes}
 use Rattle.chart_runs.proofs.Runs.{machine_prints}

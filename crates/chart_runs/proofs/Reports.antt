@@ -1,5 +1,4 @@
 -- The headline's floors put together: a machine wired for a chart places the lines of the chart's report.
-use Rattle.std.proofs.Common.{ℕ, List}
 use Rattle.allocate.specs.Plans.{Lists}
 use Rattle.chart_text.specs.Chart.{Chart, NumbersRise}
 use Rattle.hubs.specs.Wiring.{Wiring}
@@ -7,8 +6,6 @@ use Rattle.impulses.proofs.AmountsLawful.{amount_on_card, lawful_amount}
 use Rattle.impulses.proofs.IndicateLatches.{latches-start}
 use Rattle.impulses.proofs.JacksAndTape.{printing-is, tape-is}
 use Rattle.impulses.specs.Panel.{IsPanel}
-use Rattle.impulses.specs.Sensed.{UnitsHold}
-use Rattle.machine.specs.Machine.{MachineState}
 use Rattle.printed_lines.specs.Held.{HaveLiteralTexts}
 use Rattle.whole_cycles.proofs.Ready.{machines-ready}
 use Rattle.chart_runs.specs.Laws.{MachinesPrintReports}
@@ -20,10 +17,7 @@ use Rattle.chart_runs.proofs.FromHubs.{cycled, keeps_stored, kept, levels, picke
 use Rattle.chart_runs.proofs.FromLevels.{total_prints}
 use Rattle.chart_runs.proofs.FromWheels.{card_prints, heading_prints}
 use Rattle.chart_runs.proofs.Prints.{report_placed}
-
--- the storage units hold the texts of a card
-abbrev pub Stores : Chart → Lists → List ℕ → MachineState → Type 0
-Stores chart plan card machine = UnitsHold chart.lines plan card machine.storage
+use Rattle.chart_runs.specs.Content.{Stores}
 
 -- what the cycles of such a machine do
 pub cycle_facts : (chart : Chart) (plan : Lists) (wiring : Wiring) → IsPanel chart plan wiring → NumbersRise chart.lines chart.end

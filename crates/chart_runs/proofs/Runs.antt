@@ -5,10 +5,7 @@ use Rattle.carriage.specs.declared.placed_line.PlacedLine.{PlacedLine}
 use Rattle.chart_rules.specs.Rules.{IsLawful}
 use Rattle.chart_text.specs.Chart.{Chart}
 use Rattle.decks.proofs.Running.{runs_follow_decks}
-use Rattle.decks.specs.Alike.{AlikeWith}
-use Rattle.decks.specs.Breaks.{ended_behind, taking}
-use Rattle.decks.specs.CardMisfits.{GroupsFit}
-use Rattle.decks.specs.Runner.{Runner, GoesByCards, ReadsNext, FollowsNext, Runs}
+use Rattle.decks.specs.Runner.{Runner, GoesByCards, FollowsNext, Runs}
 use Rattle.decks.specs.Stands.{Stand, at_first, card_bodies, stand_behind}
 use Rattle.hubs.specs.Wiring.{Wiring}
 use Rattle.machine.specs.Cycles.{CycleRun}
@@ -25,39 +22,11 @@ use Rattle.program_unit.specs.Program.{ProgramState}
 use Rattle.report.specs.Places.{before_all, placed}
 use Rattle.report.specs.Report.{report_lines}
 use Rattle.report.specs.Totals.{Fits}
-use Rattle.chart_runs.proofs.Feed.{CardGoes, IsWaiting, card_fed}
-use Rattle.chart_runs.proofs.Levels.{LevelsGo, quietly}
+use Rattle.chart_runs.proofs.Feed.{IsWaiting, card_fed}
+use Rattle.chart_runs.proofs.Levels.{quietly}
 use Rattle.chart_runs.proofs.Steps.{fed_with, GoesFrom, stepped, over}
+use Rattle.chart_runs.specs.Goes.{IsDue, MachineGoes}
 use Rattle.chart_runs.specs.Steps.{GoesOn}
-
--- What is given of a card and its groups when it runs.
-pub record IsDue (chart : Chart) (Reads : List ℕ → Type 0) (stand : Stand) (card : List ℕ) (next : Option (List ℕ)) : Type 0 where
-  pub reads : Reads card
-  pub reads_next : ReadsNext Reads next
-  pub alike : AlikeWith chart.lines stand.so_far card
-  pub fit : GroupsFit chart.lines (ended_behind chart.lines card next) (taking card stand.so_far)
-
--- The cycles of a machine wired for a chart, told by what the machine holds between them.
-pub record MachineGoes (chart : Chart) (wiring : Wiring) (Reads : List ℕ → Type 0)
-    (Waits : Stand → List ℕ → MachineState → Type 0)
-    (Behind : Stand → List ℕ → Option (List ℕ) → ℕ → MachineState → Type 0)
-    (Tested Turned : Stand → List ℕ → Option (List ℕ) → Level → MachineState → Type 0) : Type 0 where
-  pub printing : printing_of wiring ≡ printing_of_chart chart.lines
-  pub form : IsFormOf chart.lines wiring.tape
-  pub starts :
-      (card : List ℕ) (new : MachineState) → Reads card
-      → CycleRun wiring RunIn (moved_on (Some card) (machine_at_start wiring)) new
-      → Waits at_first card new × GoesOn RunIn nothing_asked (moved_on (Some card) (machine_at_start wiring)) new
-  pub cards :
-      (stand : Stand) (card : List ℕ) (next : Option (List ℕ)) → IsDue chart Reads stand card next
-      → CardGoes chart wiring stand card next (Waits stand card) (Behind stand card next)
-  pub levels :
-      (stand : Stand) (card : List ℕ) (next : Option (List ℕ)) → IsDue chart Reads stand card next
-      → LevelsGo chart wiring stand card next (Behind stand card next) (Tested stand card next) (Turned stand card next)
-  pub arrives :
-      (stand : Stand) (card next : List ℕ) (machine : MachineState) → IsDue chart Reads stand card (Some next)
-      → Behind stand card (Some next) (ended_behind chart.lines card (Some next)) machine
-      → Waits (stand_behind chart.lines stand card (Some next)) next machine
 
 -- the machine as one that is fed cards
 abbrev pub runner : Chart → Wiring → (List ℕ → Type 0) → (Stand → List ℕ → MachineState → Type 0) → Runner MachineState

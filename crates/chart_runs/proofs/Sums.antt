@@ -18,10 +18,7 @@ use Rattle.totals.specs.Amounts.Kind.{Entry, Prog}
 use Rattle.totals.specs.Laws.{IsGroupEnd, ready}
 use Rattle.totals.specs.Standing.{StandsAll}
 use Rattle.totals.specs.Sums as sums
-
--- the sums of an amount over groups by their levels
-abbrev pub sums_of : Field → (ℕ → List (List ℕ)) → ℕ → ℤ
-sums_of field groups level = total_of field (groups level)
+use Rattle.chart_runs.specs.Content.{sums_of}
 
 -- the total of cards and one more
 total-more : (field : Field) (cards : List (List ℕ)) (card : List ℕ)

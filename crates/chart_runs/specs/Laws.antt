@@ -11,8 +11,9 @@ use Rattle.printed_lines.specs.Held.{HaveLiteralTexts}
 use Rattle.report.specs.Report.{report_lines}
 use Rattle.report.specs.Totals.{Fits}
 
--- For every chart that breaks no rule, every setup that is wired for it by a plan of it, and every deck of at most 999,999 valid cards whose
--- totals fit, the lines that the machine places are those of the chart's report of the deck.
+-- For every chart that breaks no rule, whose line numbers rise and whose literals can be printed, as in every chart that is read, every
+-- setup that is wired for it by a plan of it, and every deck of at most 999,999 valid cards whose totals fit, the lines that the machine
+-- places are those of the chart's report of the deck.
 abbrev pub MachinesPrintReports : Type 0
 MachinesPrintReports =
     (chart : Chart) (plan : Lists) (wiring : Wiring) (cards : List (List ℕ)) (lines : List PlacedLine)

@@ -11,7 +11,9 @@ use Rattle.chart_text.specs.Chart.{Chart}
 use Rattle.chart_text.specs.declared.fault.TextFault.TheVariants as text
 use Rattle.chart_text.proofs.ChartGrammar.{one_chart, no_chart}
 use Rattle.chart_rules.specs.Rules.{Broken, IsKept, IsLawful}
-use Rattle.chart_rules.specs.ValidCard.{IsValidCard}
+use Rattle.chart_rules.specs.Fields.{fields_of}
+use Rattle.chart_rules.specs.ValidCard.{IsValidCard, IsFirstInvalid}
+use Rattle.chart_rules.specs.declared.card.CardFault.{CardFault}
 use Rattle.report.specs.Totals.{first_of}
 use Rattle.compile407.specs.declared.fault.ChartFault.TheVariants as chart
 use Rattle.compile407.specs.declared.fault.RunFault.{RunFault}
@@ -41,14 +43,19 @@ compiled_texts_have_no_fault bytes compiled (chart.Capacity fault) reads is has 
     (fitting_charts_have_no_fault (wanted_of compiled.chart.lines) standard fault is.fits exceeds)
 compiled_texts_have_no_fault bytes compiled chart.Memory reads is has = has
 
--- a deck of valid cards has no invalid one
-none_invalid : (of_cards : Chart) (cards : List (List ℕ)) (fault : RunFault) → All (IsValidCard of_cards) cards →
-    IsInvalidDeck of_cards cards fault → ⊥
+-- nothing is told of a valid card
+pub none_told : (of_cards : Chart) (card : List ℕ) (told : CardFault) → IsValidCard of_cards card →
+    IsFirstInvalid (fields_of of_cards.lines) card told → ⊥
 unfolding IsValidCard
+none_told of_cards card told valid first =
+    first.invalid (valid first.place (slice_get_within _ first.place first.field first.is_there) first.field first.is_there)
+
+-- a deck of valid cards has no invalid one
+pub none_invalid : (of_cards : Chart) (cards : List (List ℕ)) (fault : RunFault) → All (IsValidCard of_cards) cards →
+    IsInvalidDeck of_cards cards fault → ⊥
 none_invalid of_cards cards fault valid invalid =
-    let first = invalid.first in
-    let on = at_place (IsValidCard of_cards) cards invalid.place invalid.card invalid.is_there valid in
-    first.invalid (on first.place (slice_get_within _ first.place first.field first.is_there) first.field first.is_there)
+    none_told of_cards invalid.card invalid.told
+    (at_place (IsValidCard of_cards) cards invalid.place invalid.card invalid.is_there valid) invalid.first
 
 pub runnable_decks_have_no_fault : RunnableDecksHaveNoFault
 runnable_decks_have_no_fault of_cards cards deck.TooManyCards is has = (omega (arith, is.deck.long, has))

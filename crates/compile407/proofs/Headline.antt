@@ -5,11 +5,13 @@ use Rattle.allocate.specs.Plans.{Lists, IsFor}
 use Rattle.carriage.specs.declared.placed_line.PlacedLine.{PlacedLine}
 use Rattle.chart_rules.specs.Rules.{IsLawful}
 use Rattle.chart_rules.specs.ValidCard.{IsValidCard}
+use Rattle.chart_runs.proofs.Begun.{machines_begin_reports}
 use Rattle.chart_runs.proofs.Reports.{machine_prints_reports}
 use Rattle.chart_text.specs.Chart.{Chart, NumbersRise}
 use Rattle.chart_text.specs.ChartText.{Reads}
 use Rattle.chart_text.specs.declared.chart.Line.{Line}
 use Rattle.hubs.specs.Wiring.{Wiring}
+use Rattle.machine.proofs.SomeOutcome.{MachineLines-some}
 use Rattle.machine.specs.Feeds.{MachineLines}
 use Rattle.page_text.specs.Pages.{Pages}
 use Rattle.printed_lines.proofs.Premises.{read_literals}
@@ -20,7 +22,7 @@ use Rattle.wire_chart.proofs.Answered.{one_setup}
 use Rattle.wire_chart.specs.Laws.{IsSameSetup}
 use Rattle.wire_gen.specs.WiredFor.{WiredFor}
 use Rattle.compile407.specs.Compilation.{Compilation, IsCompiled}
-use Rattle.compile407.specs.Headline.{IsDeck, IsSound, WiredSetupsPrintReports, WrittenSetupsPrintReports}
+use Rattle.compile407.specs.Headline.{IsDeck, IsSound, WiredSetupsBeginReports, WiredSetupsPrintReports, WrittenSetupsPrintReports}
 
 -- a chart that was read and breaks no rule is sound
 pub sound_read : (bytes : List ℕ) (raw chart : Chart) → Reads bytes raw → chart ≡ raw → IsLawful chart →
@@ -38,9 +40,17 @@ placed_lines chart plan wiring cards lines sound serves wired deck fits run =
 
 -- the headline
 pub wired_setups_print_reports : WiredSetupsPrintReports
-wired_setups_print_reports chart plan wiring sound serves wired cards lines deck fits run =
-    ap (λ placed. Pages placed (form_of chart.lines).lines)
-    (placed_lines chart plan wiring cards lines sound serves wired deck fits run)
+wired_setups_print_reports chart plan wiring sound serves wired cards deck fits = (
+  MachineLines-some wiring cards,
+  λ lines run. ap (λ placed. Pages placed (form_of chart.lines).lines)
+      (placed_lines chart plan wiring cards lines sound serves wired deck fits run),
+)
+
+-- the lines before those of a card that no misfit stands before
+pub wired_setups_begin_reports : WiredSetupsBeginReports
+wired_setups_begin_reports chart plan wiring sound serves wired card cards behind left lines deck fit fed =
+    machines_begin_reports chart plan wiring card cards behind left lines
+    (record { lawful = sound.lawful; planned = serves; wired = wired }) sound.rising sound.literals deck.valid deck.long fit fed
 
 -- a deck can be run by the chart of a compilation
 pub compiled_deck : (compiled : Compilation) (chart : Chart) (cards : List (List ℕ)) → chart ≡ compiled.chart →

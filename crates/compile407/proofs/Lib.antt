@@ -1,3 +1,4 @@
 pub mod CapacityTold
 pub mod Exclusions
 pub mod Headline
+pub mod OneFault

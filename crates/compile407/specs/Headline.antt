@@ -1,12 +1,15 @@
 -- The headline: the pages that the machine prints, wired for a chart, are the chart's report of the deck.
-use Rattle.std.specs.Prelude.{◌≡◌, ℕ, ◌≤◌, List, length, All}
+use Rattle.std.specs.Prelude.{◌≡◌, ℕ, ◌≤◌, List, ◌∷◌, ◌++◌, length, All}
 use Rattle.allocate.specs.Plans.{Lists, IsFor}
 use Rattle.carriage.specs.declared.placed_line.PlacedLine.{PlacedLine}
 use Rattle.chart_rules.specs.Rules.{IsLawful}
 use Rattle.chart_rules.specs.ValidCard.{IsValidCard}
+use Rattle.chart_runs.specs.Begun.{FitBefore}
 use Rattle.chart_text.specs.Chart.{Chart, NumbersRise}
+use Rattle.decks.specs.Stands.{report_before}
 use Rattle.hubs.specs.Wiring.{Wiring}
-use Rattle.machine.specs.Feeds.{MachineLines}
+use Rattle.machine.specs.Feeds.{FedLines, MachineLines}
+use Rattle.machine.specs.Machine.{MachineState, machine_at_start}
 use Rattle.page_text.specs.Pages.{Pages}
 use Rattle.printed_lines.specs.Held.{HaveLiteralTexts}
 use Rattle.report.specs.ChartForm.{form_of}
@@ -26,17 +29,33 @@ pub record IsDeck (chart : Chart) (cards : List (List ℕ)) : Type 0 where
   pub valid : All (IsValidCard chart) cards
   pub long : length cards ≤ 999999
 
--- for every such deck whose totals fit, the pages of the lines that the machine places are the report, byte by byte
+-- For every such deck whose totals fit the machine has a run, and the pages of the lines that it places are the report, byte by byte.
 abbrev pub PrintsReport : Chart → Wiring → Type 0
 PrintsReport chart wiring =
-    (cards : List (List ℕ)) (lines : List PlacedLine) → IsDeck chart cards → Fits chart.lines cards →
-    MachineLines wiring cards lines → Pages lines (form_of chart.lines).lines ≡ Report chart cards
+    (cards : List (List ℕ)) → IsDeck chart cards → Fits chart.lines cards →
+    ((lines : List PlacedLine) × MachineLines wiring cards lines)
+    × ((lines : List PlacedLine) → MachineLines wiring cards lines → Pages lines (form_of chart.lines).lines ≡ Report chart cards)
+
+-- For every such deck, whatever its totals and whatever cards lie behind it, where no total goes past its digits before the last card of
+-- the deck is read: the lines that the machine places before those of this card are those of the report.
+abbrev pub BeginsReport : Chart → Wiring → Type 0
+BeginsReport chart wiring =
+    (card : List ℕ) (cards behind : List (List ℕ)) (left : MachineState) (lines : List PlacedLine) → IsDeck chart (card ∷ cards) →
+    FitBefore chart (card ∷ (cards ++ behind)) (length cards) →
+    FedLines wiring (machine_at_start wiring) (card ∷ cards) left lines →
+    lines ≡ report_before chart (card ∷ (cards ++ behind)) (length cards)
 
 -- every setup that is wired for a sound chart by a plan of it prints the chart's reports
 abbrev pub WiredSetupsPrintReports : Type 0
 WiredSetupsPrintReports =
     (chart : Chart) (plan : Lists) (wiring : Wiring) → IsSound chart → IsFor chart.lines plan →
     WiredFor chart.lines plan wiring → PrintsReport chart wiring
+
+-- and begins them where not all totals fit
+abbrev pub WiredSetupsBeginReports : Type 0
+WiredSetupsBeginReports =
+    (chart : Chart) (plan : Lists) (wiring : Wiring) → IsSound chart → IsFor chart.lines plan →
+    WiredFor chart.lines plan wiring → BeginsReport chart wiring
 
 -- Wired as a wiring chart of such a setup says, the machine prints the chart's reports too: every setup that the text reads as does.
 abbrev pub WrittenSetupsPrintReports : Type 0

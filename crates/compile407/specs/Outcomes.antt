@@ -1,5 +1,5 @@
--- What can be answered excludes what else can be told.
-use Rattle.std.specs.Prelude.{ℕ, List}
+-- What can be answered excludes what else can be told, and one thing at most is told.
+use Rattle.std.specs.Prelude.{◌≡◌, ℕ, List}
 use Rattle.chart_text.specs.Chart.{Chart}
 use Rattle.chart_text.specs.ChartText.{Reads}
 use Rattle.compile407.specs.declared.fault.ChartFault.{ChartFault}
@@ -20,3 +20,14 @@ abbrev pub RunnableDecksHaveNoFault : Type 0
 RunnableDecksHaveNoFault =
     (of_cards : Chart) (cards : List (List ℕ)) (fault : RunFault) → IsRunnable of_cards cards →
     ¬ HasRunFault of_cards cards fault
+
+-- a text has at most one fault of a chart
+abbrev pub ChartsHaveOneFault : Type 0
+ChartsHaveOneFault =
+    (bytes : List ℕ) (one other : ChartFault) → HasChartFault bytes one → HasChartFault bytes other → one ≡ other
+
+-- a deck has at most one fault
+abbrev pub DecksHaveOneFault : Type 0
+DecksHaveOneFault =
+    (of_cards : Chart) (cards : List (List ℕ)) (one other : RunFault) → HasRunFault of_cards cards one →
+    HasRunFault of_cards cards other → one ≡ other

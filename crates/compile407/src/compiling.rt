@@ -5,7 +5,7 @@ ghost use Rattle.chart_text.specs.ChartText.{Reads};
 ghost use Rattle.compile407.specs.Compilation.{IsCompiled};
 ghost use Rattle.compile407.specs.ChartFaults.{HasChartFault};
 ghost use Rattle.compile407.specs.declared.fault.ChartFault.TheVariants as chart;
-ghost use Rattle.compile407.specs.Headline.{PrintsReport};
+ghost use Rattle.compile407.specs.Headline.{BeginsReport, PrintsReport};
 
 use crate::compiled::Compiled;
 use crate::fault::ChartFault;
@@ -19,7 +19,8 @@ use wire_gen::wire;
 /// The chart of a text with its plan on the standard machine and the setup that is wired for it.
 ///
 /// For every deck of at most 999,999 valid cards whose totals fit, the pages that the machine prints in that setup are byte by byte the
-/// chart's report.
+/// chart's report. For every deck of at most 999,999 valid cards, what it prints before the first card at which a total doesn't fit is the
+/// report up to there.
 ///
 /// # Errors
 ///
@@ -29,6 +30,7 @@ pub fn compile(alloc: Global, bytes: &[u8]) -> Result<Compiled, ChartFault>
     ensures read { IfOk result (λ compiled. Reads bytes.now compiled.chart) }
     ensures compiled { IfOk result IsCompiled }
     ensures prints { IfOk result (λ compiled. PrintsReport compiled.chart compiled.setup) }
+    ensures begins { IfOk result (λ compiled. BeginsReport compiled.chart compiled.setup) }
     ensures refused { IfErr result (λ fault. fault ≢ chart.Memory → HasChartFault bytes.now fault) }
 {
     let raw = read_chart(alloc, bytes)?;

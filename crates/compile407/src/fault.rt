@@ -19,10 +19,10 @@ pub enum ChartFault {
     /// The first line is not `CHART407 1`.
     #[error("the chart does not begin with CHART407 1")]
     NoFirstLine,
-    /// No form of the chart language derives the line with this number, from 1: the first such line.
+    /// A line is no form of a chart, or stands behind END. It is the lowest such line.
     #[error("line {line} is no line of a chart")]
     NotALine {
-        /// The number of the line.
+        /// Its number, from 2.
         line: u16,
     },
     /// There is no line END.

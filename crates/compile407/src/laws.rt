@@ -1,15 +1,22 @@
 //! Laws over definitions alone.
 
-ghost use Rattle.compile407.specs.Headline.{WiredSetupsPrintReports, WrittenSetupsPrintReports};
-ghost use Rattle.compile407.specs.Outcomes.{CompiledTextsHaveNoFault, RunnableDecksHaveNoFault};
+ghost use Rattle.compile407.specs.Headline.{WiredSetupsBeginReports, WiredSetupsPrintReports, WrittenSetupsPrintReports};
+ghost use Rattle.compile407.specs.Outcomes.{ChartsHaveOneFault, CompiledTextsHaveNoFault, DecksHaveOneFault, RunnableDecksHaveNoFault};
 
-/// The headline: for every chart that breaks no rule, every setup that is wired for it by a plan of it, and every deck of at most
-/// 999,999 valid cards whose totals fit, the pages that the machine prints are byte by byte the chart's report of that deck.
+/// The headline: for every chart that breaks no rule, whose line numbers rise and whose literals can be printed, as in every chart that
+/// is read, every setup that is wired for it by a plan of it, and every deck of at most 999,999 valid cards whose totals fit, the pages
+/// that the machine prints are byte by byte the chart's report of that deck.
 pub fn wired_setups_print_reports()
     ensures { WiredSetupsPrintReports }
 {}
 
-/// The same of the machine wired as a wiring chart says: every setup that the text of a wired setup reads as prints the chart's reports.
+/// Where not all totals of a deck fit, the lines that the machine places before those of the card at which the first one doesn't are the
+/// lines of the report before that card's.
+pub fn wired_setups_begin_reports()
+    ensures { WiredSetupsBeginReports }
+{}
+
+/// The headline of the machine wired as a wiring chart says: every setup that the text of a wired setup reads as prints the chart's reports.
 /// `write_setup` of the crate `wire_chart` writes such a text.
 pub fn written_setups_print_reports()
     ensures { WrittenSetupsPrintReports }
@@ -23,4 +30,14 @@ pub fn compiled_texts_have_no_fault()
 /// A deck that can be run has none of the faults of a deck.
 pub fn runnable_decks_have_no_fault()
     ensures { RunnableDecksHaveNoFault }
+{}
+
+/// A text has at most one of the faults of a chart: what `compile` tells is one, but for want of memory.
+pub fn charts_have_one_fault()
+    ensures { ChartsHaveOneFault }
+{}
+
+/// A deck has at most one of the faults of a deck for any chart: what `run` tells is one, but for want of memory.
+pub fn decks_have_one_fault()
+    ensures { DecksHaveOneFault }
 {}

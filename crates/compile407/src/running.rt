@@ -46,8 +46,8 @@ fn check_cards(chart: &Chart, cards: &[Card]) -> Result<(), RunFault>
     Ok(())
 }
 
-/// The first total of a deck that has more digits than its total line has room for: by the last card of its group, then by its level, the
-/// lowest first, then by its line of the chart.
+/// The first total of a deck of at most 999,999 cards that has more digits than its total line has room for: by the last card of its
+/// group, then by its level, the lowest first, then by its line of the chart. None where all totals fit.
 pub fn first_misfit(compiled: &Compiled, cards: &[Card]) -> Option<Misfit>
     requires { length cards.now ≤ 999999 }
     ensures { option_map told result ≡ first_of (misfits compiled.now.chart.lines cards.now) }

@@ -54,3 +54,4 @@ pub mod CounterBehind
 pub mod WheelRowsLaws
 pub mod WheelRowsTotal
 pub mod WheelRowsTotalLine
+mod PanelLaws

@@ -6,3 +6,4 @@ pub mod Sensed
 pub mod Speakers
 pub mod Spoken
 pub mod WheelLaws
+pub mod PanelLaws

@@ -10,9 +10,9 @@ use Rattle.compile407.specs.ChartFaults.{HasChartFault}
 use Rattle.compile407.specs.Compilation.{Compilation}
 use Rattle.compile407.specs.declared.fault.ChartFault.{ChartFault}
 use Rattle.compile407.specs.declared.fault.ChartFault.TheVariants as chart
-use Rattle.compile407.specs.Headline.{PrintsReport}
+use Rattle.compile407.specs.Headline.{BeginsReport, PrintsReport}
 use Rattle.compile407.proofs.CapacityTold.{capacity_told}
-use Rattle.compile407.proofs.Headline.{sound_read, wired_setups_print_reports}
+use Rattle.compile407.proofs.Headline.{sound_read, wired_setups_begin_reports, wired_setups_print_reports}
 use Rattle.compile407.proofs.compiling.compile.Goals as goal
 
 pub of-requires : goal.of-requires
@@ -34,6 +34,15 @@ returns-clause-prints c =
     c.lines-lines.ensures.lawful c.lines-lines.ensures.rising in
     subst P (sym c.of.ensures)
     (wired_setups_print_reports c.in_ok-chart.chart c.in_ok-plan.plan c.in_ok-setup.setup sound c.in_ok-plan.ensures.serves
+    c.in_ok-setup.ensures)
+
+pub returns-clause-begins : goal.returns-clause-begins
+returns-clause-begins c =
+    let B : Compilation → Type 0 = λ compiled. BeginsReport compiled.chart compiled.setup in
+    let sound = sound_read c.args.bytes.now c.in_ok-raw.raw c.in_ok-chart.chart c.in_ok-raw.ensures.read c.in_ok-chart.ensures.same
+    c.lines-lines.ensures.lawful c.lines-lines.ensures.rising in
+    subst B (sym c.of.ensures)
+    (wired_setups_begin_reports c.in_ok-chart.chart c.in_ok-plan.plan c.in_ok-setup.setup sound c.in_ok-plan.ensures.serves
     c.in_ok-setup.ensures)
 
 pub returns-in_err-plan-clause-refused : goal.returns-in_err-plan-clause-refused

@@ -1,0 +1,47 @@
+-- The laws of the other units, from what reaches them: an impulse passes one contact at most, and units emit at exits of theirs alone.
+use Rattle.std.proofs.Common.{◌≡◌, ◌≢◌, refl, false}
+use Rattle.net.specs.declared.cycle.Cycle.{Cycle}
+use Rattle.net.specs.declared.cycle.Cycle.TheVariants.{RunIn, Card, Prog, Head}
+use Rattle.whole_cycles.proofs.Contacts.{contacts-one_deep}
+use Rattle.whole_cycles.proofs.Sources.{emit_at_sources}
+use Rattle.impulses.proofs.BehindCycles.{carriage-behind, carriage-behind-other, pilots-behind, pilots-behind-other, program-behind, units-behind, units-behind-other}
+use Rattle.impulses.proofs.Contacts.{is_card_cycle}
+use Rattle.impulses.proofs.CounterAsks.{asks}
+use Rattle.impulses.specs.PanelLaws.{BreaksCallLevels, CarriageDoesWhatIsAsked, GroupsAreAskedForTotals, PilotsTellTheNextCard, UnitsHoldTheCard}
+use Rattle.impulses.specs.Sensed.{AreOrderly}
+
+orderly : AreOrderly
+orderly = record { deep = contacts-one_deep; sources = emit_at_sources }
+
+-- a cycle other than a card cycle
+no_card : (cycle : Cycle) → cycle ≢ Card → is_card_cycle cycle ≡ false
+no_card RunIn other = refl
+no_card Card other = absurd (other refl)
+no_card (Prog level ordinal) other = refl
+no_card (Head heading) other = refl
+
+pub groups-asked : GroupsAreAskedForTotals
+groups-asked chart plan wiring old pictures name level group cycle kind at own is small =
+    asks chart plan wiring old pictures name level group own cycle kind at is small
+
+pub pilots-told : PilotsTellTheNextCard
+pilots-told chart plan wiring cycle old new panel between whole = (
+  pilots-behind chart plan wiring cycle old new orderly panel between whole,
+  pilots-behind-other chart plan wiring cycle old new orderly panel between whole,
+)
+
+pub units-told : UnitsHoldTheCard
+units-told chart plan wiring cycle old new card panel rising between whole = (
+  units-behind chart plan wiring cycle old new orderly panel between whole card rising,
+  λ other. units-behind-other chart plan wiring cycle old new orderly panel between whole card (no_card cycle other),
+)
+
+pub carriage-told : CarriageDoesWhatIsAsked
+carriage-told chart plan wiring cycle old new panel between whole = (
+  carriage-behind chart plan wiring cycle old new orderly panel between whole,
+  carriage-behind-other chart plan wiring cycle old new orderly panel between whole,
+)
+
+pub levels-called : BreaksCallLevels
+levels-called chart plan wiring old new card next panel between whole stands waits valid valid' =
+    program-behind chart plan wiring old new card next orderly panel between whole stands waits valid valid'
