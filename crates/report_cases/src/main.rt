@@ -2,8 +2,9 @@
 //!
 //! The file `index` names the charts whose wiring is known, one a line, and `pages_index` those of which the pages alone are. Where
 //! a deck is refused, the line of its fault stands in place of its pages. What this program must print was made outside of this
-//! repository. The machine wired as the written wiring chart says must print the same pages; where it doesn't, the program ends with a
-//! fault.
+//! repository, but for the last eight charts of `pages_index`: those are the examples of `docs/GALLERY.md`, where their pages and faults are
+//! worked out by hand. The machine wired as the written wiring chart says must print the same pages; where it doesn't, the program ends
+//! with a fault.
 #![tactic(auto)]
 
 ghost use Rattle.std.specs.Prelude.{◌≤◌, length};

@@ -63,10 +63,9 @@ impl Fault<'_> {
 
 impl From<ChartFault> for Fault<'_> {
     ghost use Rattle.std.specs.Prelude.{◌≡◌};
-    ghost use Rattle.compile407.specs.FaultNumbers.{chart_fault_number};
-    ghost use Rattle.run407.specs.Told.{told_number};
+    ghost use Rattle.run407.specs.Told.{chart_told};
 
-    ghost from_gives = { λ fault told. told_number told ≡ chart_fault_number fault };
+    ghost from_gives = { λ fault told. told ≡ chart_told fault };
 
     fn from(fault: ChartFault) -> Self {
         let Some(number) = fault.number() else {
@@ -87,10 +86,9 @@ impl From<ChartFault> for Fault<'_> {
 
 impl From<WiringFault> for Fault<'_> {
     ghost use Rattle.std.specs.Prelude.{◌≡◌};
-    ghost use Rattle.wire_chart.specs.WiringFaultNumbers.{wiring_fault_number};
-    ghost use Rattle.run407.specs.Told.{told_number};
+    ghost use Rattle.run407.specs.Told.{wiring_told};
 
-    ghost from_gives = { λ fault told. told_number told ≡ wiring_fault_number fault };
+    ghost from_gives = { λ fault told. told ≡ wiring_told fault };
 
     fn from(fault: WiringFault) -> Self {
         let Some(number) = fault.number() else {
@@ -117,10 +115,9 @@ impl From<AllocError> for Fault<'_> {
 
 impl From<DeckFault> for Fault<'_> {
     ghost use Rattle.std.specs.Prelude.{◌≡◌};
-    ghost use Rattle.card_code.specs.Deck.{fault_number};
-    ghost use Rattle.run407.specs.Told.{told_number};
+    ghost use Rattle.run407.specs.Told.{deck_told};
 
-    ghost from_gives = { λ fault told. told_number told ≡ fault_number fault };
+    ghost from_gives = { λ fault told. told ≡ deck_told fault };
 
     fn from(fault: DeckFault) -> Self {
         let Some(number) = fault.number() else {
@@ -136,10 +133,9 @@ impl From<DeckFault> for Fault<'_> {
 
 impl From<RunFault> for Fault<'_> {
     ghost use Rattle.std.specs.Prelude.{◌≡◌};
-    ghost use Rattle.compile407.specs.FaultNumbers.{run_fault_number};
-    ghost use Rattle.run407.specs.Told.{told_number};
+    ghost use Rattle.run407.specs.Told.{run_told};
 
-    ghost from_gives = { λ fault told. told_number told ≡ run_fault_number fault };
+    ghost from_gives = { λ fault told. told ≡ run_told fault };
 
     fn from(fault: RunFault) -> Self {
         let Some(number) = fault.number() else {
@@ -159,10 +155,9 @@ impl From<RunFault> for Fault<'_> {
 
 impl From<CapacityFault> for Fault<'_> {
     ghost use Rattle.std.specs.Prelude.{◌≡◌};
-    ghost use Rattle.allocate.specs.Exceeded.{fault_number};
-    ghost use Rattle.run407.specs.Told.{told_number};
+    ghost use Rattle.run407.specs.Told.{capacity_told};
 
-    ghost from_gives = { λ fault told. told_number told ≡ fault_number fault };
+    ghost from_gives = { λ fault told. told ≡ capacity_told fault };
 
     fn from(fault: CapacityFault) -> Self {
         let Some(number) = fault.number() else {

@@ -2,14 +2,14 @@
 
 mod cases;
 mod charts;
+mod refused_decks;
 mod replay;
 
 use crate::fault::Fault;
 use crate::input::chart_and_deck;
 use crate::serve::{serve, tell};
 use allocate::CapacityFault;
-use cases::{BOLTS, BOLTS_DECK, Served, chart_of, serve_texts, text_of};
-use chart_text::ControlLevel;
+use cases::{BOLTS, BOLTS_DECK, Served, chart_of, deck_of, serve_texts, text_of};
 use std::alloc::{AllocError, Global};
 use std::io;
 use std::io::{ErrorKind, Read, Write};
@@ -121,73 +121,22 @@ fn reads_the_wiring_chart_in_any_order(rt: HostRuntime) -> Result<(), Fail> {
     Ok(())
 }
 
+// Two lines that no text brings: a chart that wants too many splits wants too many pilots, which are asked first, and memory suffices here.
 #[test]
-fn tells_of_capacities(rt: HostRuntime) -> Result<(), Fail> {
-    let faults = [
-        (
-            CapacityFault::Counters {
-                width: 8,
-                wanted: 9,
-                there: 8,
-            },
-            "fault 61 width 8 wanted 9 there 8\n",
-        ),
-        (
-            CapacityFault::Pilots {
-                wanted: 17,
-                there: 16,
-            },
-            "fault 62 wanted 17 there 16\n",
-        ),
-        (
-            CapacityFault::Comparing {
-                wanted: 31,
-                there: 30,
-            },
-            "fault 63 wanted 31 there 30\n",
-        ),
-        (CapacityFault::StorageWidth { line: 6 }, "fault 64 line 6\n"),
-        (
-            CapacityFault::StorageUnits {
-                wanted: 5,
-                there: 4,
-            },
-            "fault 65 wanted 5 there 4\n",
-        ),
-        (
-            CapacityFault::Splits {
-                wanted: 17,
-                there: 16,
-            },
-            "fault 66 wanted 17 there 16\n",
-        ),
-        (
-            CapacityFault::Indicate {
-                level: ControlLevel::Major,
-                wanted: 46,
-                there: 30,
-            },
-            "fault 67 level 3 wanted 46 there 30\n",
-        ),
+fn tells_of_splits_and_memory(rt: HostRuntime) -> Result<(), Fail> {
+    let splits = CapacityFault::Splits {
+        wanted: 17,
+        there: 16,
+    };
+    let rows = [
+        (Fault::from(splits), "fault 66 wanted 17 there 16\n", 3),
+        (Fault::Memory, "fault memory\n", 5),
     ];
-    for (fault, line) in faults {
+    for (fault, line, status) in rows {
         let mut told = Vec::new(rt.alloc());
-        let status = tell(&Fault::from(fault), &mut told);
+        assert_eq!(rt; tell(&fault, &mut told), status);
         assert_eq!(rt; told.as_slice(), line.as_bytes());
-        assert_eq!(rt; status, 3);
     }
-    Ok(())
-}
-
-#[test]
-fn tells_of_a_total_that_does_not_fit(rt: HostRuntime) -> Result<(), Fail> {
-    let mut told = Vec::new(rt.alloc());
-    let status = tell(&Fault::Total(43, 1, *b"AMT2    ", 4), &mut told);
-    assert_eq!(rt;
-        told.as_slice(),
-        b"fault 43 level 1 name AMT2 card 4\n".as_slice()
-    );
-    assert_eq!(rt; status, 3);
     Ok(())
 }
 
@@ -214,6 +163,65 @@ fn refuses_decks(rt: HostRuntime) -> Result<(), Fail> {
         assert_eq!(rt; served.status, 3);
         assert_eq!(rt; served.pages.len(), 0);
     }
+    Ok(())
+}
+
+// The first row of a table, from 0, of whose deck something else is told than the table says, or something is printed.
+fn first_wrong_deck(
+    alloc: Global,
+    rows: &[(&str, &str, &str)],
+) -> Result<Option<usize>, AllocError> {
+    for (place, (chart, deck, told)) in rows.iter().enumerate() {
+        let text = text_of(alloc, chart)?;
+        let cards = deck_of(alloc, deck)?;
+        let served = serve_texts(alloc, "run", text.as_str(), cards.as_str())?;
+        if served.told.as_slice() != told.as_bytes()
+            || served.status != 3
+            || !served.pages.is_empty()
+        {
+            return Ok(Some(place));
+        }
+    }
+    Ok(None)
+}
+
+#[test]
+fn tells_of_cards_that_are_not_valid(rt: HostRuntime) -> Result<(), Fail> {
+    assert_eq!(rt;
+        first_wrong_deck(rt.alloc(), &refused_decks::INVALID_CARDS)?,
+        None
+    );
+    Ok(())
+}
+
+#[test]
+fn tells_of_totals_that_do_not_fit(rt: HostRuntime) -> Result<(), Fail> {
+    assert_eq!(rt;
+        first_wrong_deck(rt.alloc(), &refused_decks::MISFITS)?,
+        None
+    );
+    Ok(())
+}
+
+#[test]
+fn tells_the_fault_that_is_asked_first(rt: HostRuntime) -> Result<(), Fail> {
+    assert_eq!(rt;
+        first_wrong_deck(rt.alloc(), &refused_decks::FAULTS_IN_ORDER)?,
+        None
+    );
+    Ok(())
+}
+
+#[test]
+fn tells_of_a_million_cards(rt: HostRuntime) -> Result<(), Fail> {
+    let mut deck = String::new(rt.alloc());
+    for _ in 0..1_000_000 {
+        deck.push('\n')?;
+    }
+    let served = serve_texts(rt.alloc(), "run", BOLTS, deck.as_str())?;
+    assert_eq!(rt; served.told.as_slice(), b"fault 3\n".as_slice());
+    assert_eq!(rt; served.status, 3);
+    assert_eq!(rt; served.pages.len(), 0);
     Ok(())
 }
 

@@ -48,13 +48,27 @@ pub fn serve_texts(
     Ok(served)
 }
 
+// Adds lines that are written in a row, divided by `;`.
+fn push_lines(text: &mut String, row: &str) -> Result<(), AllocError> {
+    for character in row.chars() {
+        text.push(if character == ';' { '\n' } else { character })?;
+    }
+    text.push('\n')?;
+    Ok(())
+}
+
 /// The text of a chart whose lines are written in a row, divided by `;`, without its first line and END.
 pub fn text_of(alloc: Global, lines: &str) -> Result<String, AllocError> {
     let mut text = String::from_str(alloc, "CHART407 1\n")?;
-    for character in lines.chars() {
-        text.push(if character == ';' { '\n' } else { character })?;
-    }
-    text.push_str("\nEND\n")?;
+    push_lines(&mut text, lines)?;
+    text.push_str("END\n")?;
+    Ok(text)
+}
+
+/// The text of a deck whose cards are written in a row, divided by `;`.
+pub fn deck_of(alloc: Global, cards: &str) -> Result<String, AllocError> {
+    let mut text = String::new(alloc);
+    push_lines(&mut text, cards)?;
     Ok(text)
 }
 

@@ -1,7 +1,8 @@
 //! Charts that are refused, and what is told of them, a few in a table so that each stays quick to prove.
 //!
 //! Charts stand with their lines in a row, without the first line and END. Each breaks the rule that is told and no earlier
-//! one; then come charts that break two neighbouring rules, in both orders, and one whose control text is too wide for a storage unit.
+//! one; then come charts that break two neighbouring rules, in both orders, and last charts that break no rule and ask for more than the
+//! machine has, for each capacity but the splits: a chart that wants too many of these wants too many pilots, which are asked first.
 
 #[rattlefmt::skip]
 pub const CHARTS_1: [(&str, &str); 9] = [
@@ -173,9 +174,15 @@ pub const CHARTS_13: [(&str, &str); 9] = [
 ];
 
 #[rattlefmt::skip]
-pub const CHARTS_14: [(&str, &str); 2] = [
-    ("FIELD CITY TEXT 1 17;FIELD A AMOUNT 20 22 0;CONTROL 1 CITY;PRINT GROUP;TOTAL 1 1 CITY;TOTAL 1 30 A 5;FORM 12 1 9", "fault 64 line 6\n"),
+pub const CHARTS_14: [(&str, &str); 8] = [
     ("AFTER DETAIL SKIP 3;PRINT DETAIL;FORM 12 1 11;FIELD N TEXT 1 1;DETAIL 1 N", "fault 36 line 4\n"),
+    ("FIELD K TEXT 1 1;FIELD A AMOUNT 2 4 0;FIELD B AMOUNT 5 7 0;FIELD C AMOUNT 8 10 0;CONTROL 1 K;CONTROL 2 K;CONTROL 3 K;PRINT GROUP;TOTAL 1 1 A 8;TOTAL 1 11 B 8;TOTAL 1 21 C 8;TOTAL 2 1 A 8;TOTAL 2 11 B 8;TOTAL 2 21 C 8;TOTAL 3 1 A 8;TOTAL 3 11 B 8;TOTAL 3 21 C 8;FORM 12 1 9", "fault 61 width 8 wanted 9 there 8\n"),
+    ("FIELD A AMOUNT 1 1 0 X 2;FIELD B AMOUNT 1 1 0 X 2;FIELD C AMOUNT 1 1 0 X 2;FIELD D AMOUNT 1 1 0 X 2;FIELD E AMOUNT 1 1 0 X 2;FIELD F AMOUNT 1 1 0 X 2;FIELD G AMOUNT 1 1 0 X 2;FIELD H AMOUNT 1 1 0 X 2;FIELD I AMOUNT 1 1 0 X 2;FIELD J AMOUNT 1 1 0 X 2;FIELD K AMOUNT 1 1 0 X 2;FIELD L AMOUNT 1 1 0 X 2;FIELD M AMOUNT 1 1 0 X 2;FIELD N AMOUNT 1 1 0 X 2;FIELD O AMOUNT 1 1 0 X 2;FIELD P AMOUNT 1 1 0 X 2;FIELD Q AMOUNT 1 1 0 X 2;PRINT DETAIL;DETAIL 1 A MARK -;DETAIL 3 B MARK -;DETAIL 5 C MARK -;DETAIL 7 D MARK -;DETAIL 9 E MARK -;DETAIL 11 F MARK -;DETAIL 13 G MARK -;DETAIL 15 H MARK -;DETAIL 17 I MARK -;DETAIL 19 J MARK -;DETAIL 21 K MARK -;DETAIL 23 L MARK -;DETAIL 25 M MARK -;DETAIL 27 N MARK -;DETAIL 29 O MARK -;DETAIL 31 P MARK -;DETAIL 33 Q MARK -;FORM 12 1 9", "fault 62 wanted 17 there 16\n"),
+    ("FIELD K TEXT 1 31;CONTROL 1 K;PRINT DETAIL;DETAIL 1 K;FORM 12 1 9", "fault 63 wanted 31 there 30\n"),
+    ("FIELD CITY TEXT 1 17;FIELD A AMOUNT 20 22 0;CONTROL 1 CITY;PRINT GROUP;TOTAL 1 1 CITY;TOTAL 1 30 A 5;FORM 12 1 9", "fault 64 line 6\n"),
+    ("FIELD K TEXT 1 1;FIELD L TEXT 2 3;CONTROL 3 K;CONTROL 3 L;CONTROL 2 K;CONTROL 1 K;PRINT GROUP;TOTAL 1 1 K;TOTAL 1 3 L;TOTAL 2 1 K;TOTAL 2 3 L;TOTAL 3 1 K;FORM 12 1 9", "fault 65 wanted 5 there 4\n"),
+    ("FIELD K TEXT 1 1;FIELD N TEXT 2 32;CONTROL 2 K;PRINT DETAIL;DETAIL 1 N INDICATE 2;FORM 12 1 9", "fault 67 level 2 wanted 31 there 30\n"),
+    ("FIELD K TEXT 1 1;FIELD N TEXT 2 32;FIELD M TEXT 33 48;FIELD O TEXT 49 64;CONTROL 1 K;CONTROL 3 K;PRINT DETAIL;DETAIL 1 N INDICATE 3;DETAIL 41 M INDICATE 1;DETAIL 61 O INDICATE 1;FORM 12 1 9", "fault 67 level 1 wanted 32 there 30\n"),
 ];
 
 /// Whole texts, and the line that is told.

@@ -47,7 +47,12 @@ fn replays_decks(rt: HostRuntime) -> Result<(), Fail> {
 }
 
 // Other lines at a number, and what is told.
-const REFUSED: [(usize, &str, &str); 9] = [
+const REFUSED: [(usize, &str, &str); 10] = [
+    (
+        17,
+        "WIRE CC                                                PL.4.1\n",
+        "fault 71\n",
+    ),
     (1, "WIRING407 2\n", "fault 72\n"),
     (2, "FORM 2 1 1\n", "fault 75 line 2 cause 54\n"),
     (3, "STOP 3 13\n", "fault 75 line 3 cause 54\n"),
