@@ -2,8 +2,8 @@
 
 ghost use Rattle.acts.specs.Laws.{DigitsAndNumbers, EverythingCanBeAsked, GroupsBeginEmpty, GroupsDoWhatIsAsked, GroupsShowTheirDigits, TopWheelsAtNine};
 
-/// Whatever is asked of a group in a cycle, it then holds the number and the balance latch that this leaves, and is ready
-/// for the next cycle. What comes at its entries without plus and minus doesn't matter.
+/// Whatever is asked of a group in a cycle, to add or subtract only a number that has room in it, it then holds the number and
+/// the balance latch that this leaves, and is ready for the next cycle. What comes at its entries without plus and minus doesn't matter.
 pub fn groups_do_what_is_asked()
     ensures { GroupsDoWhatIsAsked }
 {}

@@ -45,7 +45,7 @@ impl Name {
         self.characters
     }
 
-    /// Whether it is another name.
+    /// Whether the two names are the same.
     pub fn is(self, other: Name) -> bool
         ensures { result ≡ is_same_name self other }
     {

@@ -30,7 +30,7 @@ impl Literal {
     ghost use Rattle.std.specs.Prelude.{◌≡◌, ◌≤◌, length};
     ghost use Rattle.chart_text.specs.Literal.{IsLiteralText};
 
-    /// The literal of these characters.
+    /// The literal of these 1 to 120 characters, each a print character or a blank.
     pub fn from_vec(characters: Vec<u8>) -> Literal
         requires { IsLiteralText characters.items }
         ensures { result ≡ characters.items }
@@ -77,7 +77,7 @@ impl Model for Stops {
 impl Stops {
     ghost use Rattle.std.specs.Prelude.{◌≡◌, ◌≤◌, length};
 
-    /// The stops at these lines.
+    /// The stops at these 1 to 10 lines.
     pub fn from_vec(lines: Vec<u16>) -> Stops
         requires some { 1 ≤ length lines.items }
         requires few { length lines.items ≤ 10 }

@@ -32,7 +32,7 @@ pub fn pages_are_few()
     ensures { PagesAreFew }
 {}
 
-/// No page number reaches 2 to the 32nd.
+/// In the report of at most 999,999 cards no page number reaches 2 to the 32nd.
 pub fn pages_have_numbers()
     ensures { PagesHaveNumbers }
 {}

@@ -66,7 +66,8 @@ fn misfit_of(chart: &Chart, line: &Line, cards: &[Card]) -> Option<Misfit>
     }
 }
 
-/// The first misfit of a deck: by the last card of its group, then by its level, the lowest first, then by the line of the chart.
+/// The first misfit of a deck of at most 999,999 cards: by the last card of its group, then by its level, the lowest first, then by the
+/// line of the chart. None where all totals fit.
 ///
 /// One pass over the deck for each total of the chart. No memory is taken.
 pub fn first_misfit(chart: &Chart, cards: &[Card]) -> Option<Misfit>

@@ -14,7 +14,8 @@ const LINE_FEED: u8 = 10;
 
 const FORM_FEED: u8 = 12;
 
-/// The bytes of the pages of lines in order, on forms of `form_lines` lines: pages 1 to the last that has a line.
+/// The bytes of the pages of lines in order, on forms of `form_lines` lines, at most 144: pages 1 to the last that has a line. In order
+/// are lines whose places rise, on pages 1 to 2^32 and lines 1 to `form_lines`.
 ///
 /// Each page has `form_lines` lines and a form feed, each line its text without the blanks at its end and LF. No lines
 /// give no bytes. One pass over the lines and the places of the pages. Fails only where no memory is left.

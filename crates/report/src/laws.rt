@@ -26,8 +26,8 @@ pub fn edits_read_back()
     ensures { EditsReadBack }
 {}
 
-/// Values by the rule X are below 0 where the sign column has row 11, values by the rule NX where it has none, and the size of each
-/// is the number of its digits.
+/// Values by the rule X are below 0 where the sign column has row 11 and the digits are not all zeros, values by the rule NX where it
+/// has none and they are not, and the size of each is the number of its digits.
 pub fn values_have_their_signs()
     ensures punch { SignByPunch }
     ensures absence { SignByAbsence }
@@ -44,7 +44,7 @@ pub fn no_cards_give_no_bytes()
     ensures { NoCardsNoBytes }
 {}
 
-/// A page has as many line feeds as lines, and one form feed.
+/// A page has as many line feeds as lines, and one form feed, where no line has one of them in its text.
 pub fn pages_have_their_lines()
     ensures { PagesHaveTheirLines }
 {}
@@ -70,7 +70,7 @@ pub fn lines_stand_by_the_line_before()
     ensures { LinesStandByTheLineBefore }
 {}
 
-/// Places rise, and stand on the form.
+/// In the report of a lawful chart, of at most 999,999 cards, places rise, and stand on the form.
 pub fn places_rise()
     ensures { PlacesRise }
 {}

@@ -1,4 +1,6 @@
--- The machine between cycles: nothing that a cycle gathers is left over from the cycle before, and what the setup fixes stands.
+-- The machine between cycles: comparing, the counter groups and the wheels have nothing left of what they gathered in the cycle before, and
+-- what the setup fixes stands. The pickups of the pilots, the rows that storage units received and the level called stay until a cycle
+-- replaces them.
 use Rattle.std.specs.Prelude.{◌≡◌, false, All, length, replicate, map}
 use Rattle.std.specs.List.{range_with_len}
 use Rattle.counters.specs.Counters.{Counter, no_controls}
