@@ -12,7 +12,7 @@ use Rattle.machine.specs.Machine.{MachineState, machine_at_start}
 use Rattle.printed_lines.specs.Held.{HaveLiteralTexts}
 use Rattle.report.specs.Totals.{Misfit, misfits, first_of}
 
--- No total of a deck goes past its digits before so many cards of it, and one more, were read.
+-- The totals that end with the first so many cards of a deck fit.
 abbrev pub FitBefore : Chart → (deck : List (List ℕ)) → (before : ℕ) → Type 0
 FitBefore chart deck before = (misfit : Misfit) → first_of (misfits chart.lines deck) ≡ Some misfit → before < misfit.card
 

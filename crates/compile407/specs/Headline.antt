@@ -36,8 +36,8 @@ PrintsReport chart wiring =
     ((lines : List PlacedLine) × MachineLines wiring cards lines)
     × ((lines : List PlacedLine) → MachineLines wiring cards lines → Pages lines (form_of chart.lines).lines ≡ Report chart cards)
 
--- For every such deck, whatever its totals and whatever cards lie behind it, where no total goes past its digits before the last card of
--- the deck is read: the lines that the machine places before those of this card are those of the report.
+-- For every such deck, whatever cards lie behind it, where the totals that end before its last card fit: the lines that the machine places
+-- before those of this card are those of the report.
 abbrev pub BeginsReport : Chart → Wiring → Type 0
 BeginsReport chart wiring =
     (card : List ℕ) (cards behind : List (List ℕ)) (left : MachineState) (lines : List PlacedLine) → IsDeck chart (card ∷ cards) →
