@@ -62,6 +62,7 @@ fn command<'a>(alloc: Global) -> Result<Command<'a>, Error> {
         .about(
             "Compiles planning charts and runs decks on a simulated IBM 407. Without a command it reads a chart and then its deck from standard input, and prints the pages.",
         )
+        .bin_name("run407")?
         .subcommand(run)?
         .subcommand(check)?
         .subcommand(wire)?
