@@ -6,7 +6,6 @@ use Rattle.chart_rules.specs.ValidCard.{IsValidCard}
 use Rattle.chart_text.specs.Chart.{Chart}
 use Rattle.chart_text.specs.declared.statement.Field.{Field}
 use Rattle.decks.specs.Alike.{AlikeWith}
-use Rattle.decks.specs.Breaks.{ended_behind, taking}
 use Rattle.decks.specs.CardMisfits.{GroupFits}
 use Rattle.hubs.specs.Wiring.{Wiring}
 use Rattle.impulses.specs.ChartAmounts.{amount_of}
@@ -28,6 +27,7 @@ use Rattle.program_unit.specs.Program.{program_ended}
 use Rattle.program_unit.specs.declared.stage.Stage.TheVariants.{RanCard}
 use Rattle.report.specs.Amounts.{digits_on, is_negated, number_in}
 use Rattle.report.specs.BodyLines.{card_line, heading_line, total_line}
+use Rattle.report.specs.Breaks.{ended_behind, taking}
 use Rattle.report.specs.Edits.{size, is_below_zero}
 use Rattle.report.specs.Totals.{total_of}
 use Rattle.selectors.specs.Indicate.{indicate_ended}

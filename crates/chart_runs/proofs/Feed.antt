@@ -3,9 +3,8 @@ use Rattle.std.proofs.Common.{◌≡◌, ◌∙◌, refl, sym, ap, subst, ℕ, z
 use Rattle.carriage.specs.declared.placed_line.PlacedLine.{PlacedLine}
 use Rattle.chart_rules.specs.Rules.{IsLawful}
 use Rattle.chart_text.specs.Chart.{Chart}
-use Rattle.decks.proofs.Pages.{behind-most, ended-few}
+use Rattle.decks.proofs.Pages.{behind-most}
 use Rattle.decks.proofs.Places.{places_split}
-use Rattle.decks.specs.Breaks.{ended_behind, taking, totals_to}
 use Rattle.decks.specs.Left.{bodies_of, left_behind}
 use Rattle.decks.specs.Stands.{Stand, card_bodies}
 use Rattle.hubs.specs.Wiring.{Wiring}
@@ -25,7 +24,9 @@ use Rattle.program_unit.specs.CycleOrder.{card_over, is_fresh, levels_to, top_le
 use Rattle.program_unit.specs.Program.{stage_ended}
 use Rattle.program_unit.specs.declared.stage.Stage.{Stage}
 use Rattle.program_unit.specs.declared.stage.Stage.TheVariants.{Fresh, RanIn, RanCard, RanProg, BeforeCard, BeforeTotal}
+use Rattle.report.proofs.FewLines.{ended-few}
 use Rattle.report.specs.BodyLines.{card_line}
+use Rattle.report.specs.Breaks.{ended_behind, taking, totals_to}
 use Rattle.report.specs.Outline.{OutlineLine, Total}
 use Rattle.report.specs.Places.{BodyText, Left, placed}
 use Rattle.chart_runs.proofs.Bodies.{BodyRan, bodies_for, printed_ran, silent_ran}

@@ -3,7 +3,6 @@ use Rattle.std.proofs.Common.{◌≡◌, ◌≢◌, ◌⊎◌, inl, inr, refl, a
 use Rattle.allocate.specs.Plans.{Lists}
 use Rattle.chart_rules.specs.ValidCard.{IsValidCard}
 use Rattle.chart_text.specs.Chart.{Chart, NumbersRise}
-use Rattle.decks.specs.Breaks.{ended_behind}
 use Rattle.hubs.specs.Wiring.{Wiring}
 use Rattle.impulses.proofs.BehindCycles.{carriage-behind, carriage-behind-other, pilots-behind, pilots-behind-other, program-behind, units-behind, units-behind-other}
 use Rattle.impulses.proofs.Contacts.{is_card_cycle}
@@ -17,6 +16,7 @@ use Rattle.net.specs.declared.cycle.Cycle.TheVariants.{RunIn, Card, Prog, Head}
 use Rattle.net.specs.declared.cycle.Ordinal.TheVariants.{First, Second, Third}
 use Rattle.placing.specs.CarriageCycles.{carriage_behind}
 use Rattle.program_unit.specs.CycleOrder.{levels_to, top_level}
+use Rattle.report.specs.Breaks.{ended_behind}
 use Rattle.selectors.specs.Pilots.{moves_pilots}
 use Rattle.whole_cycles.proofs.Contacts.{contacts-one_deep}
 use Rattle.whole_cycles.proofs.Ready.{machines-ready}

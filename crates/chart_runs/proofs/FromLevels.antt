@@ -23,7 +23,6 @@ use Rattle.chart_text.specs.declared.statement.FieldKind.TheVariants as holds
 use Rattle.chart_text.specs.declared.statement.Mark.{Mark}
 use Rattle.chart_text.specs.declared.statement.Statement.TheVariants as says
 use Rattle.decks.specs.Alike.{AlikeWith}
-use Rattle.decks.specs.Breaks.{taking}
 use Rattle.hubs.specs.Wiring.{Wiring}
 use Rattle.hubs.specs.declared.hub.Group.{Group}
 use Rattle.hubs.specs.declared.hub.Hub.TheVariants.{RO, SO}
@@ -58,6 +57,7 @@ use Rattle.printed_lines.specs.Held as printed
 use Rattle.printed_lines.specs.Held.{HaveLiteralTexts, HoldsLine, HoldsText}
 use Rattle.printed_lines.specs.Shown.{Printed, sent_to_total, set_on}
 use Rattle.report.specs.BodyLines.{total_line}
+use Rattle.report.specs.Breaks.{taking}
 use Rattle.report.specs.Edits as edit
 use Rattle.report.specs.Totals.{total_of}
 use Rattle.whole_cycles.proofs.Units.{units-by_name}

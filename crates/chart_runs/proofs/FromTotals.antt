@@ -22,11 +22,11 @@ use Rattle.chart_text.specs.declared.statement.Field.{Field}
 use Rattle.chart_text.specs.declared.statement.Statement.{Statement}
 use Rattle.chart_text.specs.declared.statement.Statement.TheVariants as says
 use Rattle.decks.specs.Alike.{AlikeWith}
-use Rattle.decks.specs.Breaks.{taking}
 use Rattle.impulses.proofs.AmountFacts.{kept}
 use Rattle.impulses.proofs.PlanLists.{filter_map-contains}
 use Rattle.impulses.proofs.Sources.{found}
 use Rattle.report.specs.BodyLines.{a_card_of}
+use Rattle.report.specs.Breaks.{taking}
 use Rattle.report.specs.Groups.{control_fields, control_field, is_same_at, is_same_on}
 
 -- cards that are the same on a field have the same columns in it

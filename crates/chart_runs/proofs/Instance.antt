@@ -8,7 +8,6 @@ use Rattle.carriage.specs.Asked.{nothing_asked}
 use Rattle.chart_rules.specs.ValidCard.{IsValidCard}
 use Rattle.chart_text.specs.Chart.{Chart}
 use Rattle.chart_text.specs.declared.statement.Field.{Field}
-use Rattle.decks.specs.Breaks.{cleared, ended_behind, taking}
 use Rattle.decks.specs.Runner.{ReadsNext}
 use Rattle.decks.specs.Stands.{Stand, at_first}
 use Rattle.hubs.specs.Wiring.{Wiring}
@@ -24,6 +23,7 @@ use Rattle.net.specs.declared.cycle.Cycle.TheVariants.{RunIn, Card, Prog, Head}
 use Rattle.net.specs.declared.cycle.Level.{Level}
 use Rattle.net.specs.declared.cycle.Ordinal.{Ordinal}
 use Rattle.net.specs.declared.cycle.Ordinal.TheVariants.{First, Second, Third}
+use Rattle.report.specs.Breaks.{cleared, ended_behind, taking}
 use Rattle.report.specs.Edits as edit
 use Rattle.report.specs.Totals.{total_of}
 use Rattle.selectors.specs.Indicate.{Latches, indicate_ended}

@@ -8,7 +8,6 @@ use Rattle.chart_rules.specs.Rules.{IsLawful}
 use Rattle.chart_text.specs.Chart.{Chart}
 use Rattle.decks.proofs.Pages.{behind-most}
 use Rattle.decks.proofs.Places.{places_split}
-use Rattle.decks.specs.Breaks.{ended_behind, taking}
 use Rattle.decks.specs.Left.{bodies_of, left_behind}
 use Rattle.decks.specs.Stands.{Stand}
 use Rattle.hubs.specs.Wiring.{Wiring}
@@ -33,6 +32,7 @@ use Rattle.program_unit.specs.CycleOrder.{card_over, has_level_left, level_above
 use Rattle.program_unit.specs.Program.{ProgramState, stage_ended}
 use Rattle.program_unit.specs.declared.stage.Stage.TheVariants.{RanProg, BeforeTotal}
 use Rattle.report.specs.BodyLines.{total_line}
+use Rattle.report.specs.Breaks.{ended_behind, taking}
 use Rattle.report.specs.Outline.{OutlineLine, Total}
 use Rattle.report.specs.Places.{BodyText, Left, placed}
 use Rattle.report.specs.ChartForm.{prints_totals}

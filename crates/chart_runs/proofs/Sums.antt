@@ -5,9 +5,9 @@ use Rattle.std.proofs.lemmas.Bool.Decides.{nat_tests}
 use Rattle.std.proofs.lemmas.Int.{ints}
 use Rattle.acts.specs.Acts.{Held}
 use Rattle.chart_text.specs.declared.statement.Field.{Field}
-use Rattle.decks.specs.Breaks.{cleared, taking}
 use Rattle.net.specs.declared.cycle.Ordinal.TheVariants.{First, Second, Third}
 use Rattle.report.specs.Amounts.{digits_on, is_negated, number_in, value_of}
+use Rattle.report.specs.Breaks.{cleared, taking}
 use Rattle.report.specs.Edits as edit
 use Rattle.report.specs.Totals.{total_of}
 use Rattle.totals.proofs.Cards.{equal_sums, card_goes}

@@ -5,7 +5,6 @@ use Rattle.acts.specs.Acts.{Held}
 use Rattle.allocate.specs.Plans.{Lists}
 use Rattle.chart_text.specs.Chart.{Chart}
 use Rattle.chart_text.specs.declared.statement.Field.{Field}
-use Rattle.decks.specs.Breaks.{cleared, ended_behind, taking}
 use Rattle.decks.specs.Stands.{Stand}
 use Rattle.hubs.specs.Wiring.{Wiring}
 use Rattle.impulses.specs.ChartAmounts.{amount_of}
@@ -24,6 +23,7 @@ use Rattle.totals.specs.Laws.{ready}
 use Rattle.totals.specs.Standing.{StandsAll}
 use Rattle.whole_cycles.specs.Between.{IsReady}
 use Rattle.wire_gen.specs.Figures.{IsAmount}
+use Rattle.report.specs.Breaks.{cleared, ended_behind, taking}
 use Rattle.report.specs.Totals.{total_of}
 
 -- the latches, the pilots and the units of a machine between cycles

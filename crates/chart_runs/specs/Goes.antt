@@ -3,7 +3,6 @@ use Rattle.std.specs.Prelude.{◌≡◌, ℕ, suc, ◌≤◌, List, Option, Some
 use Rattle.carriage.specs.Asked.{nothing_asked}
 use Rattle.chart_text.specs.Chart.{Chart}
 use Rattle.decks.specs.Alike.{AlikeWith}
-use Rattle.decks.specs.Breaks.{ended_behind, taking}
 use Rattle.decks.specs.CardMisfits.{GroupsFit}
 use Rattle.decks.specs.Runner.{ReadsNext}
 use Rattle.decks.specs.Stands.{Stand, at_first, stand_behind}
@@ -18,6 +17,7 @@ use Rattle.net.specs.declared.cycle.Level.{Level}
 use Rattle.net.specs.declared.cycle.Ordinal.{Ordinal}
 use Rattle.net.specs.declared.cycle.Ordinal.TheVariants.{First, Second, Third}
 use Rattle.placing.specs.Placing.{IsFormOf, printing_of_chart}
+use Rattle.report.specs.Breaks.{ended_behind, taking}
 use Rattle.chart_runs.specs.Steps.{GoesOn, Heads, RunsCard, Totals}
 
 -- what heading cycles keep and print

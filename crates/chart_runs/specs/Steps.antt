@@ -3,7 +3,6 @@
 use Rattle.std.specs.Prelude.{◌≡◌, ℕ, ◌≤◌, true, List, Option, is_some}
 use Rattle.carriage.specs.Asked.{nothing_asked}
 use Rattle.chart_text.specs.Chart.{Chart}
-use Rattle.decks.specs.Breaks.{ended_behind, taking}
 use Rattle.decks.specs.Stands.{Stand}
 use Rattle.machine.specs.Machine.{MachineState}
 use Rattle.net.specs.Cycles.{level_number, ordinal_number}
@@ -18,6 +17,7 @@ use Rattle.program_unit.specs.CycleOrder.{levels_to, top_level}
 use Rattle.program_unit.specs.Program.{program_ended}
 use Rattle.program_unit.specs.declared.stage.Stage.TheVariants.{RanCard}
 use Rattle.report.specs.BodyLines.{card_line, heading_line, total_line}
+use Rattle.report.specs.Breaks.{ended_behind, taking}
 use Rattle.report.specs.ChartForm.{headings, prints_details, prints_totals}
 
 -- A cycle other than a card cycle leaves the cards and goes on; the carriage was asked for the given.

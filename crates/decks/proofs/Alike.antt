@@ -10,9 +10,9 @@ use Rattle.chart_text.specs.declared.statement.Field.{Field}
 use Rattle.chart_rules.specs.ValidCard.{column_of}
 use Rattle.report.specs.Amounts.{columns_in}
 use Rattle.report.specs.BodyLines.{text_on, a_card_of}
+use Rattle.report.specs.Breaks.{break_up_to, highest, taking, cleared}
 use Rattle.report.specs.Groups.{control_fields, is_same_on, is_same_at}
 use Rattle.decks.specs.Alike.{AlikeWith}
-use Rattle.decks.specs.Breaks.{break_up_to, highest, taking, cleared}
 use Rattle.decks.specs.Laws.{GroupsAreAlike, TotalTextsAreTheLastCards}
 use Rattle.decks.specs.Stands.{Stand, at_first, stand_behind, stand_before, last_of}
 

@@ -5,14 +5,14 @@ use Rattle.std.proofs.lemmas.List.{append_assoc}
 use Rattle.carriage.specs.declared.placed_line.PlacedLine.{PlacedLine}
 use Rattle.chart_text.specs.Chart.{Chart}
 use Rattle.chart_text.specs.declared.chart.Line.{Line}
+use Rattle.report.specs.Breaks.{ended_behind, taking, cleared, totals_to, chunk_of, flat}
 use Rattle.report.specs.Outline.{OutlineLine, Detail, Total, outline_of}
 use Rattle.report.specs.Places.{before_all, placed}
 use Rattle.report.specs.Report.{body_of, report_lines}
-use Rattle.decks.specs.Breaks.{ended_behind, taking, cleared, totals_to, chunk_of, flat}
+use Rattle.report.proofs.OutlineByCards.{deck_by_cards}
 use Rattle.decks.specs.Left.{bodies_of, left_behind}
 use Rattle.decks.specs.Laws.{ReportsBeginByCards}
 use Rattle.decks.specs.Stands.{Stand, at_first, card_bodies, stand_behind, bodies_before, before_card, report_before}
-use Rattle.decks.proofs.Order.{outlines_by_breaks}
 use Rattle.decks.proofs.Places.{placed-append}
 
 -- total lines belong to the card before them
@@ -80,7 +80,7 @@ pub reports_begin : ReportsBeginByCards
 reports_begin chart card cards behind = (
   ap (placed chart.lines before_all)
       (ap (λ outline. bodies_of chart.lines (before_card (length cards) outline))
-      (outlines_by_breaks chart.lines (card ∷ (cards ++ behind)))
+      (deck_by_cards chart.lines (card ∷ (cards ++ behind)))
       ∙ before-flat chart.lines at_first card cards behind),
   report_begins chart (card ∷ (cards ++ behind)) (length cards),
 )

@@ -2,8 +2,8 @@
 use Rattle.std.proofs.Common.{◌≡◌, ◌∙◌, refl, sym, ap, subst, ℕ, zero, suc, ◌+◌, ◌≤◌, nat_le, Bool, true, false, ◌⊎◌, inl, inr, List, [], ◌∷◌, ◌++◌, Some, arith}
 use Rattle.std.proofs.lemmas.Bool.Decides.{nat_tests}
 use Rattle.chart_text.specs.declared.chart.Line.{Line}
+use Rattle.report.specs.Breaks.{ended_behind, no_cards, taking, cleared}
 use Rattle.report.specs.Totals.{Misfit, misfits_in, first_of}
-use Rattle.decks.specs.Breaks.{ended_behind, no_cards, taking, cleared}
 use Rattle.decks.specs.CardMisfits.{misfits_to, misfits_from, GroupFits, GroupsFit, FitFrom}
 use Rattle.decks.specs.Laws.{GroupsFitBeforeTheFirstMisfit}
 use Rattle.decks.proofs.Numbered.{first-card, none-elsewhere}

@@ -1,4 +1,3 @@
-pub mod Order
 pub mod Numbered
 pub mod Misfits
 pub mod FirstMisfits

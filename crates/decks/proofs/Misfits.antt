@@ -2,12 +2,12 @@
 use Rattle.std.proofs.Common.{◌≡◌, ◌∙◌, refl, sym, ap, ℕ, zero, suc, ◌+◌, List, [], ◌∷◌, ◌++◌, Some}
 use Rattle.std.proofs.lemmas.List.{append_assoc, append-nil}
 use Rattle.chart_text.specs.declared.chart.Line.{Line}
+use Rattle.report.specs.Breaks.{ended_behind, no_cards, taking, cleared, totals_to, flat}
 use Rattle.report.specs.Outline.{OutlineLine, Total}
 use Rattle.report.specs.Totals.{misfits_in, misfits_behind}
-use Rattle.decks.specs.Breaks.{ended_behind, no_cards, taking, cleared, totals_to, flat}
+use Rattle.report.proofs.OutlineByCards.{deck_by_cards}
 use Rattle.decks.specs.CardMisfits.{misfits_to, misfits_from}
 use Rattle.decks.specs.Laws.{MisfitsGoByCards}
-use Rattle.decks.proofs.Order.{outlines_by_breaks}
 
 -- the misfits of total lines, and of what comes behind them
 totals-misfits : (lines : List Line) (cards level : ℕ) (groups : ℕ → List (List ℕ)) (others : List OutlineLine)
@@ -38,4 +38,4 @@ flat-misfits lines number so_far opens card (next ∷ cards) =
 pub misfits_of_cards : MisfitsGoByCards
 misfits_of_cards lines [] = refl
 misfits_of_cards lines (card ∷ cards) =
-    ap (misfits_behind lines 0) (outlines_by_breaks lines (card ∷ cards)) ∙ flat-misfits lines 0 no_cards 4 card cards
+    ap (misfits_behind lines 0) (deck_by_cards lines (card ∷ cards)) ∙ flat-misfits lines 0 no_cards 4 card cards

@@ -5,11 +5,12 @@ use Rattle.std.proofs.lemmas.Grind.{flat_map-append}
 use Rattle.std.proofs.lemmas.List.Elements.{All-head, All-tail}
 use Rattle.carriage.specs.declared.placed_line.PlacedLine.{PlacedLine}
 use Rattle.chart_text.specs.declared.chart.Line.{Line}
+use Rattle.report.specs.Breaks.{ended_behind, no_cards, taking, cleared, chunk_of, flat}
 use Rattle.report.specs.Places.{before_all, placed}
 use Rattle.report.specs.Report.{body_of, report_lines}
 use Rattle.report.specs.Totals.{Fits, Misfit, misfits, first_of}
+use Rattle.report.proofs.OutlineByCards.{deck_by_cards}
 use Rattle.decks.specs.Alike.{AlikeWith}
-use Rattle.decks.specs.Breaks.{ended_behind, no_cards, taking, cleared, chunk_of, flat}
 use Rattle.decks.specs.CardMisfits.{FitFrom, FirstFit}
 use Rattle.decks.specs.Left.{bodies_of}
 use Rattle.decks.specs.Runner.{Runner, GoesByCards, Runs, Fed}
@@ -17,7 +18,6 @@ use Rattle.decks.specs.Stands.{Stand, at_first, card_bodies, stand_behind, bodie
 use Rattle.decks.proofs.Alike.{alike-behind, alike-first}
 use Rattle.decks.proofs.Begins.{reports_begin}
 use Rattle.decks.proofs.FirstMisfits.{fit_before_first}
-use Rattle.decks.proofs.Order.{outlines_by_breaks}
 use Rattle.decks.proofs.Pages.{behind-most, card_bodies-few}
 use Rattle.decks.proofs.Places.{placed-append}
 
@@ -94,7 +94,7 @@ runs_follow_decks runner goes (card ∷ cards) placed_lines reads long fits (new
     is
     ∙ ap (λ l. l ++ others) begun.0
     ∙ runs_from runner goes at_first card cards new others reads (omega (arith, long)) (alike-first runner.chart.lines card) fit begun.1 run
-    ∙ sym (ap (λ outline. placed lines before_all (bodies_of lines outline)) (outlines_by_breaks lines (card ∷ cards)))
+    ∙ sym (ap (λ outline. placed lines before_all (bodies_of lines outline)) (deck_by_cards lines (card ∷ cards)))
   where
     no_misfit : (all : List Misfit) (misfit : Misfit) → all ≡ [] → first_of all ≡ Some misfit → ⊥
     no_misfit [] misfit none some = cc

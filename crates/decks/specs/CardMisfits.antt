@@ -1,8 +1,8 @@
 -- Misfits card by card: those of a card are the misfits of the groups that end behind it.
 use Rattle.std.specs.Prelude.{◌≡◌, ℕ, zero, suc, ◌+◌, ◌≤◌, List, [], ◌∷◌, ◌++◌, Some, None}
 use Rattle.chart_text.specs.declared.chart.Line.{Line}
+use Rattle.report.specs.Breaks.{ended_behind, no_cards, taking, cleared}
 use Rattle.report.specs.Totals.{Misfit, misfits_in}
-use Rattle.decks.specs.Breaks.{ended_behind, no_cards, taking, cleared}
 
 -- the misfits of the groups of the levels 1 to a given one, behind so many cards
 abbrev pub misfits_to : List Line → (cards level : ℕ) → (ℕ → List (List ℕ)) → List Misfit

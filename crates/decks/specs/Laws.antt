@@ -11,20 +11,15 @@ use Rattle.chart_text.specs.declared.level.Level.{Level}
 use Rattle.chart_text.specs.Levels.{level_number}
 use Rattle.chart_rules.specs.Fields.{field_named}
 use Rattle.report.specs.BodyLines.{text_on, a_card_of}
+use Rattle.report.specs.Breaks.{taking}
 use Rattle.report.specs.Groups.{control_fields}
-use Rattle.report.specs.Outline.{outline_of}
 use Rattle.report.specs.Places.{BodyText, Left, before_all, placed}
 use Rattle.report.specs.Report.{body_lines, report_lines}
 use Rattle.report.specs.Totals.{Misfit, misfits, first_of, fits_in, total_of}
 use Rattle.decks.specs.Alike.{AlikeWith}
-use Rattle.decks.specs.Breaks.{flat_outline, taking}
 use Rattle.decks.specs.CardMisfits.{misfits_by_cards, GroupFits, FirstFit}
 use Rattle.decks.specs.Left.{left_behind}
 use Rattle.decks.specs.Stands.{at_first, bodies_before, stand_before, last_of, report_before}
-
--- The lines of a deck, told by groups within groups, are those of its cards, told by the breaks between them.
-abbrev pub OutlinesGoByBreaks : Type 0
-OutlinesGoByBreaks = (lines : List Line) (cards : List (List ℕ)) → outline_of lines cards ≡ flat_outline lines cards
 
 -- The misfits of a deck are those of its cards.
 abbrev pub MisfitsGoByCards : Type 0

@@ -1,4 +1,3 @@
-pub mod Breaks
 pub mod CardMisfits
 pub mod Alike
 pub mod Left

@@ -3,9 +3,9 @@
 use Rattle.std.specs.Prelude.{◌≡◌, ℕ, ◌+◌, ◌^◌, ◌<◌, List, [], ◌∷◌, ◌++◌, Option, Some, None}
 use Rattle.carriage.specs.declared.placed_line.PlacedLine.{PlacedLine}
 use Rattle.chart_text.specs.Chart.{Chart}
+use Rattle.report.specs.Breaks.{ended_behind, taking}
 use Rattle.report.specs.Places.{placed}
 use Rattle.decks.specs.Alike.{AlikeWith}
-use Rattle.decks.specs.Breaks.{ended_behind, taking}
 use Rattle.decks.specs.CardMisfits.{GroupsFit}
 use Rattle.decks.specs.Stands.{Stand, at_first, card_bodies, stand_behind}
 

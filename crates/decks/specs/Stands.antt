@@ -3,9 +3,9 @@ use Rattle.std.specs.Prelude.{ℕ, zero, suc, List, [], ◌∷◌, ◌++◌, Opt
 use Rattle.carriage.specs.declared.placed_line.PlacedLine.{PlacedLine}
 use Rattle.chart_text.specs.Chart.{Chart}
 use Rattle.chart_text.specs.declared.chart.Line.{Line}
+use Rattle.report.specs.Breaks.{ended_behind, no_cards, taking, cleared, chunk_of}
 use Rattle.report.specs.Outline.{OutlineLine, Detail, Total, outline_of}
 use Rattle.report.specs.Places.{BodyText, Left, before_all, placed}
-use Rattle.decks.specs.Breaks.{ended_behind, no_cards, taking, cleared, chunk_of}
 use Rattle.decks.specs.Left.{bodies_of, left_behind}
 
 -- Where a report stands before a card: the cards of the unfinished group of each level, the highest level whose groups the card

@@ -1,11 +1,6 @@
 //! Laws of decks. The functions do nothing: the contract of each is the law.
 
-ghost use Rattle.decks.specs.Laws.{OutlinesGoByBreaks, MisfitsGoByCards, GroupsFitBeforeTheFirstMisfit, PlacesSplit, ReportsBeginByCards, PagesAreFew, PagesHaveNumbers, GroupsAreAlike, TotalTextsAreTheLastCards, FittingTotalsHaveRoom};
-
-/// Groups within groups give the lines of the cards by their breaks.
-pub fn outlines_go_by_breaks()
-    ensures { OutlinesGoByBreaks }
-{}
+ghost use Rattle.decks.specs.Laws.{MisfitsGoByCards, GroupsFitBeforeTheFirstMisfit, PlacesSplit, ReportsBeginByCards, PagesAreFew, PagesHaveNumbers, GroupsAreAlike, TotalTextsAreTheLastCards, FittingTotalsHaveRoom};
 
 /// The misfits of a deck are those of its cards.
 pub fn misfits_go_by_cards()

@@ -7,7 +7,6 @@ use Rattle.carriage.specs.Carriage.{carriage_at_start}
 use Rattle.carriage.specs.declared.asked.Asked.{Asked}
 use Rattle.chart_rules.specs.ValidCard.{IsValidCard}
 use Rattle.chart_text.specs.Chart.{Chart, NumbersRise}
-use Rattle.decks.specs.Breaks.{highest}
 use Rattle.hubs.specs.Wiring.{Wiring}
 use Rattle.machine.specs.Machine.{MachineState}
 use Rattle.net.specs.Cycles.{level_number}
@@ -20,6 +19,7 @@ use Rattle.placing.specs.CarriageCycles.{carriage_behind}
 use Rattle.placing.specs.Placing.{IsCarriageOf, asked_of, kind_of}
 use Rattle.program_unit.specs.CycleOrder.{levels_to}
 use Rattle.program_unit.specs.Program.{ProgramState}
+use Rattle.report.specs.Breaks.{highest}
 use Rattle.selectors.specs.Indicate.{Latches}
 use Rattle.selectors.specs.Pilots.{PilotStates, moves_pilots}
 use Rattle.storage_units.specs.Storage.{StorageState}

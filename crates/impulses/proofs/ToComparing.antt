@@ -16,7 +16,6 @@ use Rattle.chart_text.specs.declared.level.ControlLevel.{ControlLevel}
 use Rattle.chart_text.specs.declared.statement.Field.{Field}
 use Rattle.chart_text.specs.declared.statement.Statement.{Statement}
 use Rattle.chart_text.specs.declared.statement.Statement.TheVariants as says
-use Rattle.decks.specs.Breaks.{highest}
 use Rattle.hubs.specs.Ranges.{is_within}
 use Rattle.hubs.specs.Wiring.{Wiring}
 use Rattle.hubs.specs.declared.hub.Hub.{Hub}
@@ -29,6 +28,7 @@ use Rattle.net.specs.declared.cycle.Point.{Point}
 use Rattle.net.specs.declared.cycle.Point.TheVariants.{Row, K}
 use Rattle.program_unit.specs.CycleOrder.{levels_to}
 use Rattle.program_unit.specs.Program.{called_for}
+use Rattle.report.specs.Breaks.{highest}
 use Rattle.report.specs.Groups.{is_same_at}
 use Rattle.stations.specs.Comparing.{are_unlike}
 use Rattle.whole_cycles.specs.WholeCycles.{closing_emits, compares_unlike}

@@ -6,7 +6,6 @@ use Rattle.allocate.specs.Plans.{Lists}
 use Rattle.carriage.specs.Asked.{nothing_asked}
 use Rattle.chart_rules.specs.ValidCard.{IsValidCard}
 use Rattle.chart_text.specs.Chart.{Chart, NumbersRise}
-use Rattle.decks.specs.Breaks.{highest}
 use Rattle.hubs.specs.Wiring.{Wiring}
 use Rattle.hubs.specs.declared.hub.Group.{Group}
 use Rattle.hubs.specs.declared.hub.Hub.{Hub}
@@ -17,6 +16,7 @@ use Rattle.net.specs.declared.cycle.Point.{Point}
 use Rattle.placing.specs.CarriageCycles.{carriage_behind}
 use Rattle.placing.specs.Placing.{asked_of, kind_of}
 use Rattle.program_unit.specs.CycleOrder.{levels_to}
+use Rattle.report.specs.Breaks.{highest}
 use Rattle.selectors.specs.Pilots.{moves_pilots}
 use Rattle.totals.specs.Amounts.{IsSmall, Kind, act_of}
 use Rattle.whole_cycles.specs.Between.{IsBetween}

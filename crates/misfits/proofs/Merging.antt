@@ -9,8 +9,8 @@ use Rattle.chart_text.specs.declared.statement.Field.{Field}
 use Rattle.chart_text.specs.declared.statement.Statement.{Statement}
 use Rattle.chart_text.specs.declared.statement.Statement.TheVariants as says
 use Rattle.chart_rules.specs.Fields.{field_named}
+use Rattle.report.specs.Breaks.{ended_behind, no_cards, taking, cleared, totals_to, flat}
 use Rattle.report.specs.Outline.{OutlineLine, Detail, Total, outline_of}
-use Rattle.report.specs.OutlineLaws.{break_level, totals_up_to, with_card, without_ended, by_cards}
 use Rattle.report.specs.Totals.{fits_in, total_of, Misfit, misfit_of, misfit_on, misfits_behind, first_of}
 use Rattle.report.proofs.OutlineByCards.{deck_by_cards}
 use Rattle.misfits.specs.HelperTotals.{is_before, earlier, misfits_of}
@@ -21,25 +21,24 @@ Rise low [] = Unit {0}
 Rise low (Detail opens card ∷ others) = Rise 0 others
 Rise low (Total level group ∷ others) = (low < level) × Rise level others
 
-totals_rise : (level : ℕ) (groups : ℕ → List (List ℕ)) (others : List OutlineLine) → Rise level others → Rise 0 (totals_up_to level groups ++ others)
+totals_rise : (level : ℕ) (groups : ℕ → List (List ℕ)) (others : List OutlineLine) → Rise level others → Rise 0 (totals_to level groups ++ others)
 totals_rise zero groups others rise = rise
 totals_rise (suc level) groups others rise =
-    subst (Rise 0) (sym (append_assoc (totals_up_to level groups) (Total (suc level) (groups (suc level)) ∷ []) others))
+    subst (Rise 0) (sym (append_assoc (totals_to level groups) (Total (suc level) (groups (suc level)) ∷ []) others))
     (totals_rise level groups (Total (suc level) (groups (suc level)) ∷ others) (omega arith, rise))
 
-cards_rise : (lines : List Line) (unfinished : ℕ → List (List ℕ)) (opens : ℕ) (card : List ℕ) (cards : List (List ℕ)) (low : ℕ)
-    → Rise low (by_cards lines 3 4 unfinished opens card cards)
-cards_rise lines unfinished opens card [] low =
-    subst (Rise 0) (append-nil (totals_up_to 4 (with_card card unfinished))) (totals_rise 4 (with_card card unfinished) [] tt)
-cards_rise lines unfinished opens card (next ∷ cards) low =
-    totals_rise (break_level lines 3 card next) (with_card card unfinished) _
-    (cards_rise lines (without_ended (break_level lines 3 card next) (with_card card unfinished)) (break_level lines 3 card next) next cards
-    (break_level lines 3 card next))
+cards_rise : (lines : List Line) (so_far : ℕ → List (List ℕ)) (opens : ℕ) (card : List ℕ) (cards : List (List ℕ)) (low : ℕ)
+    → Rise low (flat lines so_far opens card cards)
+cards_rise lines so_far opens card [] low =
+    subst (Rise 0) (append-nil (totals_to 4 (taking card so_far))) (totals_rise 4 (taking card so_far) [] tt)
+cards_rise lines so_far opens card (next ∷ cards) low =
+    let ended = ended_behind lines card (Some next) in
+    totals_rise ended (taking card so_far) _ (cards_rise lines (cleared ended (taking card so_far)) ended next cards ended)
 
 pub outline_rises : (lines : List Line) (cards : List (List ℕ)) → Rise 0 (outline_of lines cards)
 outline_rises lines [] = tt
 outline_rises lines (card ∷ cards) =
-    subst (Rise 0) (sym (deck_by_cards lines card cards)) (cards_rise lines (λ level. []) 4 card cards 0)
+    subst (Rise 0) (sym (deck_by_cards lines (card ∷ cards))) (cards_rise lines no_cards 4 card cards 0)
 
 -- a misfit of a group is of its level and its last card
 record IsAt (level card : ℕ) (misfit : Misfit) : Type 0 where

@@ -13,8 +13,8 @@ use Rattle.chart_text.specs.declared.statement.Statement.{Statement}
 use Rattle.chart_text.specs.declared.statement.Statement.TheVariants as says
 use Rattle.chart_rules.specs.Fields.{field_named}
 use Rattle.report.specs.Amounts.{value_of}
+use Rattle.report.specs.Breaks.{ended_behind, no_cards, taking, cleared, totals_to, flat}
 use Rattle.report.specs.Outline.{OutlineLine, Detail, Total, outline_of}
-use Rattle.report.specs.OutlineLaws.{break_level, totals_up_to, with_card, without_ended, by_cards}
 use Rattle.report.specs.Totals.{fits_in, total_of, Misfit, misfit_of, misfit_on, first_of}
 use Rattle.report.proofs.GroupLaws.{total-append}
 use Rattle.report.proofs.OutlineByCards.{deck_by_cards}
@@ -51,7 +51,7 @@ module _ (lines : List Line) (line : Line) (its_level : Level) (name : List ℕ)
 
   -- what a list of total lines gives
   totals : (level : ℕ) (groups : ℕ → List (List ℕ)) (cards : ℕ) (others : List OutlineLine)
-      → misfits_of lines found cards (totals_up_to level groups ++ others)
+      → misfits_of lines found cards (totals_to level groups ++ others)
       ≡ (if nat_le own level then cons_option (misfit_of its_level name digits cards (groups own) field) [] else [])
       ++ misfits_of lines found cards others
   totals zero groups cards others =
@@ -63,7 +63,7 @@ module _ (lines : List Line) (line : Line) (its_level : Level) (name : List ℕ)
       (sym test)
   totals (suc level) groups cards others =
       ap (misfits_of lines found cards)
-      (append_assoc (totals_up_to level groups) (Total (suc level) (groups (suc level)) ∷ []) others)
+      (append_assoc (totals_to level groups) (Total (suc level) (groups (suc level)) ∷ []) others)
       ∙ totals level groups cards (Total (suc level) (groups (suc level)) ∷ others)
       ∙ ap (λ o. (if nat_le own level then one own else []) ++ (cons_option o [] ++ rest)) (on (suc level) cards (groups (suc level)))
       ∙ by (own == suc level) refl
@@ -112,26 +112,26 @@ module _ (lines : List Line) (line : Line) (its_level : Level) (name : List ℕ)
       by false = refl
 
   -- the first misfit of the outline card by card
-  over : (unfinished : ℕ → List (List ℕ)) (opens : ℕ) (card : List ℕ) (cards : List (List ℕ)) (before : ℕ)
-      → first_of (misfits_of lines found before (by_cards lines 3 4 unfinished opens card cards))
-      ≡ option_map at_card (first_over lines own field digits (total_of field (unfinished own)) before (card ∷ cards))
-  over unfinished opens card [] before =
-      ap (λ l. first_of (misfits_of lines found (before + 1) l)) (sym (append-nil (totals_up_to 4 (with_card card unfinished))))
-      ∙ ap first_of (totals 4 (with_card card unfinished) (before + 1) [])
+  over : (so_far : ℕ → List (List ℕ)) (opens : ℕ) (card : List ℕ) (cards : List (List ℕ)) (before : ℕ)
+      → first_of (misfits_of lines found before (flat lines so_far opens card cards))
+      ≡ option_map at_card (first_over lines own field digits (total_of field (so_far own)) before (card ∷ cards))
+  over so_far opens card [] before =
+      ap (λ l. first_of (misfits_of lines found (before + 1) l)) (sym (append-nil (totals_to 4 (taking card so_far))))
+      ∙ ap first_of (totals 4 (taking card so_far) (before + 1) [])
       ∙ ap
-      (λ b. first_of ((if b then cons_option (misfit_of its_level name digits (before + 1) (unfinished own ++ card ∷ []) field) [] else []) ++ []))
+      (λ b. first_of ((if b then cons_option (misfit_of its_level name digits (before + 1) (so_far own ++ card ∷ []) field) [] else []) ++ []))
       last
-      ∙ behind before (unfinished own) card [] (λ sum. None) true refl
+      ∙ behind before (so_far own) card [] (λ sum. None) true refl
     where
       last : nat_le own 4 ≡ true
       last = let range = level-range its_level in let high = range.1 in grind (arith, nat_tests, high)
-  over unfinished opens card (next ∷ cards) before =
-      ap first_of (totals ended (with_card card unfinished) (before + 1) _)
-      ∙ behind before (unfinished own) card _ (λ sum. first_over lines own field digits sum (before + 1) (next ∷ cards)) (nat_le own ended)
-      (over (without_ended ended (with_card card unfinished)) ended next cards (before + 1))
+  over so_far opens card (next ∷ cards) before =
+      ap first_of (totals ended (taking card so_far) (before + 1) _)
+      ∙ behind before (so_far own) card _ (λ sum. first_over lines own field digits sum (before + 1) (next ∷ cards)) (nat_le own ended)
+      (over (cleared ended (taking card so_far)) ended next cards (before + 1))
     where
       ended : ℕ
-      ended = break_level lines 3 card next
+      ended = ended_behind lines card (Some next)
 
 -- the first misfit of a total line
 pub of_total : (lines : List Line) (line : Line) (its_level : Level) (wheel : ℕ) (name : List ℕ) (digits : ℕ) (mark : Option Mark) (field : Field)
@@ -141,8 +141,8 @@ pub of_total : (lines : List Line) (line : Line) (its_level : Level) (wheel : �
     (first_over lines (level_number its_level) field digits (pos 0) 0 cards)
 of_total lines line its_level wheel name digits mark field is named [] = refl
 of_total lines line its_level wheel name digits mark field is named (card ∷ cards) =
-    ap (λ o. first_of (misfits_of lines (line ∷ []) 0 o)) (deck_by_cards lines card cards)
-    ∙ over lines line its_level name digits field on (λ level. []) 4 card cards 0
+    ap (λ o. first_of (misfits_of lines (line ∷ []) 0 o)) (deck_by_cards lines (card ∷ cards))
+    ∙ over lines line its_level name digits field on no_cards 4 card cards 0
   where
     on : (level card : ℕ) (group : List (List ℕ)) → misfit_on lines level card group line.statement
         ≡ (if level_number its_level == level then misfit_of its_level name digits card group field else None)

@@ -4,8 +4,8 @@ use Rattle.std.specs.List.{list_all}
 use Rattle.chart_text.specs.declared.chart.Line.{Line}
 use Rattle.chart_text.specs.declared.statement.Field.{Field}
 use Rattle.chart_text.specs.declared.statement.Statement.{Statement}
+use Rattle.report.specs.Breaks.{highest}
 use Rattle.report.specs.Groups.{control_field, is_same_on}
-use Rattle.report.specs.OutlineLaws.{break_level}
 
 -- whether two cards are equal on a field, if there is one
 abbrev pub is_same_where : List ℕ → List ℕ → Option Field → Bool
@@ -22,5 +22,5 @@ all_stay_same lines level one other some = list_all (λ line. stays_same lines l
 
 -- whether a group of a level ends with the first of some cards: there is no other, or the next one differs at the level or a higher one
 abbrev pub ends_group : List Line → ℕ → List (List ℕ) → Bool
-ends_group lines level (card ∷ next ∷ cards) = nat_le level (break_level lines 3 card next)
+ends_group lines level (card ∷ next ∷ cards) = nat_le level (highest lines card next)
 ends_group lines level other = true

@@ -4,8 +4,8 @@ ghost use Rattle.std.specs.Prelude.{◌≡◌, ◌≤◌, ◌<◌, length, nat_e
 ghost use Rattle.chart_rules.specs.HelperOnCard.{IsOnCard};
 ghost use Rattle.chart_rules.specs.Rules.{IsLawful};
 ghost use Rattle.chart_rules.specs.ValidCard.{column_of};
+ghost use Rattle.report.specs.Breaks.{highest};
 ghost use Rattle.report.specs.Groups.{is_same_at, is_same_on};
-ghost use Rattle.report.specs.OutlineLaws.{break_level};
 ghost use Rattle.misfits.specs.HelperGroups.{all_stay_same, ends_group, stays_same};
 
 use card_code::Card;
@@ -60,9 +60,9 @@ fn is_same_at(chart: &Chart, level: u8, one: &Card, other: &Card) -> bool
     all_stay_same(chart, level, chart.lines(), one, other)
 }
 
-/// The highest level at which two cards differ, 1 to 3, or 0.
-fn break_level(chart: &Chart, one: &Card, other: &Card) -> u8
-    ensures { result ≡ break_level chart.now.lines 3 one.now other.now }
+/// The highest of the levels 1 to 3 at which a break stands between two cards, or 0.
+fn highest_break(chart: &Chart, one: &Card, other: &Card) -> u8
+    ensures { result ≡ highest chart.now.lines one.now other.now }
 {
     if !is_same_at(chart, 3, one, other) {
         3
@@ -80,7 +80,7 @@ pub(crate) fn ends_group(chart: &Chart, level: u8, cards: &[Card]) -> bool
     ensures { result ≡ ends_group chart.now.lines level cards.now }
 {
     match cards {
-        [card, next, ..] => level <= break_level(chart, card, next),
+        [card, next, ..] => level <= highest_break(chart, card, next),
         _ => true,
     }
 }

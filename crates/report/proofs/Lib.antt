@@ -3,6 +3,7 @@ pub mod EditLaws
 pub mod ReadBack
 pub mod PageBytes
 pub mod OutlineByCards
+pub mod FewLines
 pub mod Runs
 pub mod LawfulForms
 pub mod NextStops

@@ -1,68 +1,16 @@
 -- Lines that stand by the line before them are in order.
-use Rattle.std.proofs.Common.{◌≡◌, refl, ap, ℕ, zero, suc, ◌+◌, ◌-◌, ◌*◌, ◌^◌, ◌<◌, ◌≤◌, inl, inr, ◌==◌, Bool, true, false, List, [], ◌∷◌, ◌++◌, length, map, if◌then◌else◌, length-append, arith}
-use Rattle.std.specs.List.{flat_map, range_with_len}
+use Rattle.std.proofs.Common.{◌≡◌, refl, ℕ, zero, suc, ◌+◌, ◌-◌, ◌^◌, ◌<◌, ◌≤◌, inl, inr, ◌==◌, Bool, true, false, List, ◌∷◌, ◌++◌, length, map, if◌then◌else◌, arith}
+use Rattle.std.specs.List.{range_with_len}
 use Rattle.std.proofs.lemmas.Bool.Decides.{nat_tests}
 use Rattle.carriage.specs.InOrder.{IsAfter, FollowInOrder, IsInOrder}
 use Rattle.carriage.specs.declared.placed_line.PlacedLine.{PlacedLine}
 use Rattle.chart_text.specs.declared.chart.Line.{Line}
-use Rattle.report.specs.ChartForm.{form_of, headings, spacing_of, prints_details, prints_totals}
-use Rattle.report.specs.Outline.{OutlineLine, Detail, Total, outline_of}
-use Rattle.report.specs.OutlineLaws.{break_level, totals_up_to, with_card, without_ended, by_cards}
+use Rattle.report.specs.ChartForm.{form_of, headings, spacing_of}
 use Rattle.report.specs.PlaceLaws.{ComesTo, stays, skips, standing, headings_on, first_body_line, Follow, no_more, on_its_page, on_the_next, Stand, nothing, from_page_1, PlacesRise}
 use Rattle.report.specs.Places.{BodyText, heading_on}
-use Rattle.report.specs.Report.{body_of, body_lines}
+use Rattle.report.proofs.FewLines.{body_lines-few}
 use Rattle.report.proofs.LawfulForms.{HasRoom, room_of, spacing-range}
 use Rattle.report.proofs.LinePlaces.{lines_stand}
-use Rattle.report.proofs.OutlineByCards.{break-within, deck_by_cards}
-
--- so many total lines
-totals-length : (level : ℕ) (groups : ℕ → List (List ℕ)) → length (totals_up_to level groups) ≡ level
-totals-length zero groups = refl
-totals-length (suc level) groups =
-    let more = totals-length level groups in
-    let both = length-append (totals_up_to level groups) (Total (suc level) (groups (suc level)) ∷ []) in omega (arith, more, both)
-
--- at most five lines of the outline for each card
-outline-length : (lines : List Line) (unfinished : ℕ → List (List ℕ)) (opens : ℕ) (card : List ℕ) (cards : List (List ℕ))
-    → length (by_cards lines 3 4 unfinished opens card cards) ≤ 5 * (1 + length cards)
-outline-length lines unfinished opens card [] = let last = totals-length 4 (with_card card unfinished) in omega (arith, last)
-outline-length lines unfinished opens card (next ∷ cards) =
-    by (break_level lines 3 card next) (break-within lines 3 card next)
-    (λ some opened. outline-length lines some opened next cards)
-  where
-    by : (ended : ℕ) → ended ≤ 3
-        → ((some : ℕ → List (List ℕ)) (opened : ℕ) → length (by_cards lines 3 4 some opened next cards) ≤ 5 * (1 + length cards))
-        → length (Detail opens card ∷ (totals_up_to ended (with_card card unfinished) ++ by_cards lines 3 4 (without_ended ended (with_card card unfinished)) ended next cards))
-        ≤ 5 * (1 + length (next ∷ cards))
-    by ended low more =
-        let later = more (without_ended ended (with_card card unfinished)) ended in
-        let here = totals-length ended (with_card card unfinished) in
-        let both = length-append (totals_up_to ended (with_card card unfinished))
-        (by_cards lines 3 4 (without_ended ended (with_card card unfinished)) ended next cards) in
-        omega (arith, low, later, here, both)
-
--- at most one body line for each line of the outline
-bodies-length : (lines : List Line) (outline : List OutlineLine) → length (flat_map (body_of lines) outline) ≤ length outline
-bodies-length lines [] = omega arith
-bodies-length lines (line ∷ outline) =
-    let here = one line in
-    let more = bodies-length lines outline in
-    let both = length-append (body_of lines line) (flat_map (body_of lines) outline) in omega (arith, here, more, both)
-  where
-    chosen : (b : Bool) (body : BodyText) → length (if b then body ∷ [] else []) ≤ 1
-    chosen true body = omega arith
-    chosen false body = omega arith
-
-    one : (line : OutlineLine) → length (body_of lines line) ≤ 1
-    one (Detail opens card) = chosen (prints_details lines) _
-    one (Total level group) = chosen (prints_totals lines level) _
-
-deck-length : (lines : List Line) (cards : List (List ℕ)) → length (body_lines lines cards) ≤ 5 * length cards
-deck-length lines [] = omega arith
-deck-length lines (card ∷ cards) =
-    let bodies = bodies-length lines (outline_of lines (card ∷ cards)) in
-    let same = ap length (deck_by_cards lines card cards) in
-    let most = outline-length lines (λ level. []) 4 card cards in omega (arith, bodies, same, most)
 
 module _ (lines : List Line) (room : HasRoom (headings lines) (form_of lines)) where
   abbrev long : ℕ
@@ -154,5 +102,5 @@ module _ (lines : List Line) (room : HasRoom (headings lines) (form_of lines)) w
 
 pub places_rise : PlacesRise
 places_rise chart cards lawful few =
-    let most = deck-length chart.lines cards in
+    let most = body_lines-few chart.lines cards in
     all_rise chart.lines (room_of chart lawful) (lines_stand chart cards lawful) (omega (arith, most, few))

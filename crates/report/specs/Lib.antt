@@ -2,6 +2,7 @@ pub mod Amounts
 pub mod Edits
 pub mod Groups
 pub mod Outline
+pub mod Breaks
 pub mod Totals
 pub mod BodyLines
 pub mod ChartForm

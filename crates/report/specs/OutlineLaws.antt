@@ -1,5 +1,5 @@
 -- Laws of groups and of the outline: where groups end, in which order their totals stand, and which cards show an indicated field.
-use Rattle.std.specs.Prelude.{◌≡◌, ℕ, zero, suc, ◌<◌, ◌≤◌, true, false, nat_le, List, [], ◌∷◌, ◌++◌, None, if◌then◌else◌}
+use Rattle.std.specs.Prelude.{◌≡◌, ℕ, ◌<◌, ◌≤◌, true, false, List, [], ◌∷◌, None}
 use Rattle.std.specs.List.{All}
 use Rattle.chart_text.specs.Levels.{control_number}
 use Rattle.chart_text.specs.declared.chart.Line.{Line}
@@ -7,8 +7,9 @@ use Rattle.chart_text.specs.declared.level.ControlLevel.{ControlLevel}
 use Rattle.chart_text.specs.declared.statement.DetailOption.TheVariants as shown
 use Rattle.chart_text.specs.declared.statement.Statement.TheVariants as says
 use Rattle.report.specs.BodyLines.{a_card_of, card_piece}
+use Rattle.report.specs.Breaks.{flat_outline}
 use Rattle.report.specs.Groups.{groups_within, is_same_at}
-use Rattle.report.specs.Outline.{OutlineLine, Detail, Total, outline_of}
+use Rattle.report.specs.Outline.{outline_of}
 
 -- each card is equal to the one before it on the control fields of a level
 abbrev pub AreAlike : List Line → ℕ → List (List ℕ) → Type 0
@@ -35,43 +36,11 @@ GroupsAreLongestRuns =
     (lines : List Line) (level : ℕ) (whole : List (List ℕ))
     → All (AreAlike lines level) (groups_within lines level whole) × AreCutAt lines level (groups_within lines level whole)
 
--- the highest level, of those up to a given one, at which two cards differ; 0 where they differ at none
-abbrev pub break_level : List Line → ℕ → List ℕ → List ℕ → ℕ
-break_level lines zero one other = 0
-break_level lines (suc level) one other =
-    if is_same_at lines (suc level) one other then break_level lines level one other else suc level
-
--- the total lines of the levels 1 to a given one, the lowest first
-abbrev pub totals_up_to : ℕ → (ℕ → List (List ℕ)) → List OutlineLine
-totals_up_to zero groups = []
-totals_up_to (suc level) groups = totals_up_to level groups ++ (Total (suc level) (groups (suc level)) ∷ [])
-
--- the unfinished groups with one card more
-abbrev pub with_card : List ℕ → (ℕ → List (List ℕ)) → ℕ → List (List ℕ)
-with_card card unfinished level = unfinished level ++ (card ∷ [])
-
--- the unfinished groups where those of the levels up to a given one have ended
-abbrev pub without_ended : ℕ → (ℕ → List (List ℕ)) → ℕ → List (List ℕ)
-without_ended ended unfinished level = if nat_le level ended then [] else unfinished level
-
--- The outline card by card, behind unfinished groups: behind each card the totals of level 1 to the highest at which the next card
--- differs, of the levels up to `cuts`; and behind the last card those of level 1 to `last`. A card opens groups of the levels that
--- ended before it.
-abbrev pub by_cards : List Line → (cuts last : ℕ) → (ℕ → List (List ℕ)) → (opens : ℕ) → List ℕ → List (List ℕ) → List OutlineLine
-by_cards lines cuts last unfinished opens card [] = Detail opens card ∷ totals_up_to last (with_card card unfinished)
-by_cards lines cuts last unfinished opens card (next ∷ cards) =
-    Detail opens card
-    ∷ (totals_up_to (break_level lines cuts card next) (with_card card unfinished)
-    ++ by_cards lines cuts last (without_ended (break_level lines cuts card next) (with_card card unfinished))
-    (break_level lines cuts card next) next cards)
-
--- The outline of a deck, card by card: a change of a level ends the groups of the lower ones, the totals behind a card stand from
--- the lowest to the highest level that ends there, and each total's group is all cards since the last total of its level or a
--- higher one.
+-- The outline of a deck, told by groups within groups, is the one told by the breaks between its cards: a change of a level ends the
+-- groups of the lower ones, the totals behind a card stand from the lowest to the highest level that ends there, and each total's group
+-- is all cards since the last total of its level or a higher one.
 abbrev pub OutlineIsByCards : Type 0
-OutlineIsByCards =
-    (lines : List Line) (card : List ℕ) (cards : List (List ℕ))
-    → outline_of lines (card ∷ cards) ≡ by_cards lines 3 4 (λ level. []) 4 card cards
+OutlineIsByCards = (lines : List Line) (cards : List (List ℕ)) → outline_of lines cards ≡ flat_outline lines cards
 
 -- An indicated field is not shown on a card that opens no group of its level, and is shown as any field on a card that does.
 abbrev pub IndicatedOnFirstCards : Type 0

@@ -1,11 +1,11 @@
 -- The report of a deck by a chart: under PRINT DETAIL a line for each card, and a total line for each group of a level that has items, at
 -- their places, as the bytes of pages.
-use Rattle.std.specs.Prelude.{ℕ, ◌-◌, List, [], ◌∷◌, ◌++◌, if◌then◌else◌}
-use Rattle.std.specs.List.{flat_map, range_with_len}
+use Rattle.std.specs.Prelude.{ℕ, List, [], ◌∷◌, if◌then◌else◌}
+use Rattle.std.specs.List.{flat_map}
 use Rattle.carriage.specs.declared.placed_line.PlacedLine.{PlacedLine}
 use Rattle.chart_text.specs.Chart.{Chart}
 use Rattle.chart_text.specs.declared.chart.Line.{Line}
-use Rattle.page_text.specs.Pages.{Pages, page_bytes, line_bytes, last_page}
+use Rattle.page_text.specs.Pages.{Pages}
 use Rattle.report.specs.BodyLines.{card_line, total_line}
 use Rattle.report.specs.ChartForm.{form_of, prints_details, prints_totals}
 use Rattle.report.specs.Outline.{OutlineLine, Detail, Total, outline_of}
@@ -29,15 +29,3 @@ report_lines chart cards = placed chart.lines before_all (body_lines chart.lines
 -- the bytes of a report
 abbrev pub Report : Chart → List (List ℕ) → List ℕ
 Report chart cards = Pages (report_lines chart cards) (form_of chart.lines).lines
-
--- the line of the last of some lines, and 0 without lines
-abbrev pub last_line : List PlacedLine → ℕ
-last_line [] = 0
-last_line (placed ∷ []) = placed.line
-last_line (placed ∷ next ∷ others) = last_line (next ∷ others)
-
--- What stands written of pages once their last line is: the pages before it whole, and its own page up to the end of that line.
-abbrev pub Open : List PlacedLine → (long : ℕ) → List ℕ
-Open lines long =
-    flat_map (page_bytes lines long) (range_with_len 1 (last_page lines - 1))
-    ++ flat_map (line_bytes lines (last_page lines)) (range_with_len 1 (last_line lines))
