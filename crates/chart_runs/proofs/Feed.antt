@@ -16,8 +16,8 @@ use Rattle.net.specs.declared.cycle.Level.{Level}
 use Rattle.net.specs.declared.cycle.Ordinal.TheVariants.{First}
 use Rattle.placing.proofs.BodyLines.{jacks-print}
 use Rattle.placing.proofs.CyclesDue.{cards-due, cards-wait, others-come}
+use Rattle.placing.proofs.DueCycles.{due, is_between, stage_behind}
 use Rattle.placing.proofs.LawfulTapes.{form-lawful}
-use Rattle.placing.specs.DueCycles.{due, is_between, stage_behind}
 use Rattle.placing.specs.FormFacts.{HasGoodForm}
 use Rattle.placing.specs.Placing.{IsCarriageOf, IsAt, prints_kind, printing_of_chart}
 use Rattle.program_unit.specs.CycleOrder.{card_over, is_fresh, levels_to, top_level, headed as headed_by}

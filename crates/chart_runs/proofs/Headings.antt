@@ -16,10 +16,10 @@ use Rattle.net.specs.declared.cycle.Cycle.TheVariants.{Head}
 use Rattle.net.specs.declared.cycle.Ordinal.{Ordinal}
 use Rattle.net.specs.declared.cycle.Ordinal.TheVariants.{First, Second, Third}
 use Rattle.placing.proofs.CyclesDue.{headings-come}
+use Rattle.placing.proofs.DueCycles.{due}
 use Rattle.placing.proofs.HeadingLines.{headings-placed}
 use Rattle.placing.proofs.Placements.{ready-within}
-use Rattle.placing.specs.CarriageCycles.{carriage_behind, line_at, heading_cycles, lines_placed}
-use Rattle.placing.specs.DueCycles.{due, begun_by}
+use Rattle.placing.specs.CarriageCycles.{begun_by, carriage_behind, line_at, heading_cycles, lines_placed}
 use Rattle.placing.specs.FormFacts.{HasGoodForm}
 use Rattle.placing.specs.Laws.{AreHeadingTexts}
 use Rattle.placing.specs.Placing.{IsCarriageOf, IsAt, IsReady}

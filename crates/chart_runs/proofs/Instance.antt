@@ -35,7 +35,7 @@ use Rattle.totals.specs.Amounts.Kind.{Prog as Ends}
 use Rattle.totals.specs.Laws.{IsGroupEnd, ready}
 use Rattle.totals.specs.Standing.{StandsAll}
 use Rattle.whole_cycles.specs.Between.{IsReady}
-use Rattle.whole_cycles.proofs.Ready.{machines-ready}
+use Rattle.whole_cycles.proofs.Ready.{ready-moved}
 use Rattle.wire_gen.specs.Figures.{IsAmount}
 use Rattle.chart_runs.specs.Content.{AllStand, Behind, Holds, Waits, Within, by_first, by_second, held, sums_of}
 use Rattle.chart_runs.proofs.Facts.{CycleFacts, ShowsTotal}
@@ -107,7 +107,7 @@ module _ (chart : Chart) (plan : Lists) (wiring : Wiring) (Stored : List ℕ →
       → Waits chart plan wiring at_first card new × GoesOn RunIn nothing_asked (moved_on (Some card) (machine_at_start wiring)) new
   starts card new valid run =
       let start : MachineState = moved_on (Some card) (machine_at_start wiring) in
-      let is = machines-ready.moved wiring (Some card) (machine_at_start wiring) facts.starts_ready in
+      let is = ready-moved wiring (Some card) (machine_at_start wiring) facts.starts_ready in
       let done = facts.cycled RunIn start new is run in
       let same : (name : List ℕ) (field : Field) → IsAmount chart.lines name field
       → held chart plan new name ≡ held chart plan (machine_at_start wiring) name
@@ -145,7 +145,7 @@ module _ (chart : Chart) (plan : Lists) (wiring : Wiring) (Stored : List ℕ →
       → Behind chart plan wiring (Stored card) stand card next 0 new × RunsCard chart stand card next (moved_on next old) new
   card_runs stand card next due old new waits first run =
       let start : MachineState = moved_on next old in
-      let is = machines-ready.moved wiring next old waits.holds.is_ready in
+      let is = ready-moved wiring next old waits.holds.is_ready in
       let done = facts.cycled Card start new is run in
       let read : IsCardRead chart plan start card
       = record { second = first; valid = due.reads; pilots = waits.holds.pilots } in (

@@ -23,9 +23,9 @@ use Rattle.net.specs.declared.cycle.Level.TheVariants.{Final}
 use Rattle.net.specs.declared.cycle.Ordinal.TheVariants.{First, Second, Third}
 use Rattle.placing.proofs.BodyLines.{jacks-print}
 use Rattle.placing.proofs.CyclesDue.{levels-due, levels-rise, seconds-due, thirds-due, totals-wait, others-come}
+use Rattle.placing.proofs.DueCycles.{due, stage_behind}
 use Rattle.placing.proofs.Placements.{quiet-stays}
 use Rattle.placing.specs.CarriageCycles.{begins_page, carriage_behind, line_at}
-use Rattle.placing.specs.DueCycles.{due, stage_behind}
 use Rattle.placing.specs.FormFacts.{HasGoodForm}
 use Rattle.placing.specs.Placing.{IsCarriageOf, IsAt, prints_kind, printing_of_chart}
 use Rattle.program_unit.specs.CycleOrder.{card_over, has_level_left, level_above, levels_to, top_level, headed as headed_by}

@@ -14,8 +14,8 @@ use Rattle.machine.specs.Machine.{MachineState, machine_at_start}
 use Rattle.net.specs.Printing.{printing_of}
 use Rattle.net.specs.declared.cycle.Cycle.TheVariants.{RunIn}
 use Rattle.net.specs.declared.cycle.Level.{Level}
+use Rattle.placing.proofs.DueCycles.{due, is_between}
 use Rattle.placing.proofs.Placements.{starts}
-use Rattle.placing.specs.DueCycles.{due, is_between}
 use Rattle.placing.specs.Placing.{IsCarriageOf, IsFormOf, printing_of_chart}
 use Rattle.program_unit.specs.CycleOrder.{card_over}
 use Rattle.program_unit.specs.Program.{ProgramState}

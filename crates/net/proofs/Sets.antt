@@ -122,3 +122,12 @@ row_read_at words seen n bits named given same is from read near =
           ap (λ b. b && is_bit bits (m - n)) e ∙ read (m - n)
           ∙ ap (λ b. b && has_place words (n - 1 + (m - n))) f ∙ ap (has_place words) g
       by None near = cc
+
+-- a row that was read has no bit behind that of the last hub
+pub row_cut_at :
+    (words : List ℕ) (n bits : ℕ) (named : Option ℕ) (number k : ℕ) → Some n ≡ named → named ≡ Some number → 1 ≤ n
+    → HoldsHubsAlone words → ((k : ℕ) → is_bit bits k ≡ (nat_lt k 128 && has_place words (n - 1 + k)))
+    → 1936 < number + k → is_bit bits k ≡ false
+row_cut_at words n bits named number k is and_is from alone read behind =
+    let same : n ≡ number = cc in
+    read k ∙ ap (λ b. nat_lt k 128 && b) (alone (n - 1 + k) (omega (arith, same, from, behind))) ∙ and-false _

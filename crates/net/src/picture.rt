@@ -32,9 +32,10 @@ impl Model for Picture {
 }
 
 impl Picture {
-    ghost use Rattle.std.specs.Prelude.{◌≡◌, ◌&&◌, true, false};
+    ghost use Rattle.std.specs.Prelude.{◌≡◌, ℕ, ◌+◌, ◌<◌, ◌&&◌, true, false, Some, None};
+    ghost use Rattle.hubs.specs.Hubs.{number_of};
     ghost use Rattle.hubs.specs.declared.hub.Hub.{Hub};
-    ghost use Rattle.net.specs.HubSets.{has_hub, is_hub, is_in_row, is_in_reach, GainsHubs, HoldsHubsAlone};
+    ghost use Rattle.net.specs.HubSets.{has_hub, is_bit, is_hub, is_in_row, is_in_reach, GainsHubs, HoldsHubsAlone};
 
     /// The empty set.
     pub fn new() -> Self
@@ -94,11 +95,13 @@ impl Picture {
     }
 
     /// Which of the 128 hubs that follow one another from the first one are in the set: bit k stands for the hub whose
-    /// number is the first one's and k. The bits behind the last hub are 0. No hubs follow a first hub out of range, and the
-    /// answer then says nothing.
+    /// number is the first one's and k. The bits behind the last hub are 0, and so are all bits where the first hub is out of
+    /// range.
     #[inline(always)]
     pub fn row(&self, first: Hub) -> u128
-        ensures { (hub : Hub) → is_in_reach first hub ≡ true → is_in_row first result hub ≡ has_hub self.now hub }
+        ensures hubs { (hub : Hub) → is_in_reach first hub ≡ true → is_in_row first result hub ≡ has_hub self.now hub }
+        ensures cut { (number k : ℕ) → number_of first ≡ Some number → HUBS < number + k → is_bit result k ≡ false }
+        ensures none { number_of first ≡ None → result ≡ 0 }
     {
         match first.number() {
             Some(number) => words::run(&self.words, number as usize - 1),

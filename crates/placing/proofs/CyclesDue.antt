@@ -18,7 +18,8 @@ use Rattle.program_unit.specs.declared.stage.Stage.TheVariants.{Fresh, RanIn, Ra
 use Rattle.chart_text.specs.declared.chart.Line.{Line}
 use Rattle.report.specs.Places.{Left}
 use Rattle.placing.specs.Placing.{IsOnLine, IsAt}
-use Rattle.placing.specs.DueCycles.{due, is_between, stage_behind, begun_by}
+use Rattle.placing.specs.CarriageCycles.{begun_by}
+use Rattle.placing.proofs.DueCycles.{due, is_between, stage_behind}
 
 -- the first heading cycle comes in the place of a printing cycle where its line starts a page
 pub headings-come : (lines : List Line) (left : Left) (spot : Spot) (printing : Printing) (cycle : Cycle) → IsAt lines left spot

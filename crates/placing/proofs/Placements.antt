@@ -1,5 +1,5 @@
 -- A body line with the heading lines before it, and cycles that place no line.
-use Rattle.std.proofs.Common.{◌≡◌, ℕ, ◌<◌, ◌≤◌, ◌+◌, ◌^◌, arith, Bool, true, false, List, [], ◌∷◌, ◌++◌, Option, Some, None, refl, sym, ap, ap₂, subst, ◌∙◌, append_assoc, length}
+use Rattle.std.proofs.Common.{◌≡◌, ℕ, ◌<◌, ◌^◌, Bool, true, false, List, [], ◌∷◌, ◌++◌, Option, Some, None, refl, sym, ap, ap₂, subst, ◌∙◌, append_assoc}
 use Rattle.hubs.specs.Wiring.{Wiring}
 use Rattle.net.specs.Printing.{prints}
 use Rattle.net.specs.declared.cycle.Cycle.{Cycle}
@@ -7,12 +7,11 @@ use Rattle.net.specs.declared.cycle.Cycle.TheVariants.{RunIn, Card, Prog, Head}
 use Rattle.net.specs.declared.cycle.Ordinal.TheVariants.{First, Second, Third}
 use Rattle.carriage.specs.Asked.{nothing_asked}
 use Rattle.carriage.specs.Carriage.{CarriageState, carriage_at_start, ended_at, spaced}
-use Rattle.carriage.specs.declared.placed_line.PlacedLine.{PlacedLine}
 use Rattle.carriage.specs.declared.spot.Spot.{Spot}
 use Rattle.chart_text.specs.declared.chart.Line.{Line}
 use Rattle.report.specs.ChartForm.{form_of}
-use Rattle.report.specs.Places.{BodyText, Left, before_all, page_of, line_below, left_by, headed, placed}
-use Rattle.placing.specs.Placing.{kind_of, prints_kind, asked_of, IsCarriageOf, IsAt, IsReady, left_by_all}
+use Rattle.report.specs.Places.{BodyText, Left, before_all, left_by, headed}
+use Rattle.placing.specs.Placing.{kind_of, prints_kind, asked_of, IsCarriageOf, IsAt, IsReady}
 use Rattle.placing.specs.CarriageCycles.{CarriageCycle, carriage_behind, carriage_behind_all, line_at, lines_placed, heading_cycles, cycles_for, begins_page}
 use Rattle.placing.specs.FormFacts.{HasGoodForm}
 use Rattle.placing.specs.Laws.{AreHeadingTexts, AreLinesPlaced}
@@ -111,39 +110,6 @@ lines-placed lines left carriage cycle body texts good is at is_kind printed bel
         let within = ready-within lines left carriage.spot line at stays in
         subst P (sym (within.0).latch)
         (line-behind lines left carriage cycle body [] good is_kind printed (sym (within.1)) (within.0) is)
-
--- the places of body lines, the first ones and the others
-pub places-follow : (lines : List Line) (left : Left) (first others : List BodyText)
-    → placed lines left (first ++ others) ≡ placed lines left first ++ placed lines (left_by_all lines left first) others
-places-follow lines left [] others = refl
-places-follow lines left (body ∷ first) others =
-    let here : PlacedLine = record { page = page_of left; line = line_below lines left.line body.kind; text = body.text } in
-    let next = left_by lines left body.kind in
-    ap (λ l. headed lines left ++ (here ∷ l)) (places-follow lines next first others)
-    ∙ sym (append_assoc (headed lines left) (here ∷ placed lines next first) (placed lines (left_by_all lines next first) others))
-
--- the next line's page is that of the line before it or the next
-page-next : (page : ℕ) (line : Option ℕ)
-    → (page ≤ (elim line [ None ↦ page + 1 | Some there ↦ page ])) × ((elim line [ None ↦ page + 1 | Some there ↦ page ]) ≤ page + 1)
-page-next page None = (omega arith, omega arith)
-page-next page (Some there) = (omega arith, omega arith)
-
--- pages turn one by one
-pub pages-turn : (lines : List Line) (left : Left) (bodies : List BodyText)
-    → (left.page ≤ (left_by_all lines left bodies).page) × ((left_by_all lines left bodies).page ≤ left.page + length bodies)
-pages-turn lines left [] = (omega arith, omega arith)
-pages-turn lines left (body ∷ others) =
-    by (left_by_all lines (left_by lines left body.kind) others).page (page_of left) (page-next left.page left.line)
-    (pages-turn lines (left_by lines left body.kind) others)
-  where
-    by : (last next : ℕ) → (left.page ≤ next) × (next ≤ left.page + 1) → (next ≤ last) × (last ≤ next + length others)
-        → (left.page ≤ last) × (last ≤ left.page + length (body ∷ others))
-    by last next one rest =
-        let low = one.0 in
-        let high = one.1 in
-        let more = rest.0 in
-        let most = rest.1 in
-        (omega (arith, low, more), omega (arith, high, most))
 
 -- a cycle that doesn't print leaves the carriage where it stands
 pub quiet-stays : (carriage : CarriageState) (cycle : Cycle) → prints carriage.printing cycle ≡ false → begins_page cycle ≡ false

@@ -59,3 +59,8 @@ begins_page (Prog level ordinal) = false
 begins_page (Head First) = true
 begins_page (Head Second) = false
 begins_page (Head Third) = false
+
+-- the cycle that comes where a printing cycle is due: the first heading cycle where its line starts a page
+abbrev pub begun_by : Option ℕ → Cycle → Cycle
+begun_by None cycle = Head First
+begun_by (Some line) cycle = cycle

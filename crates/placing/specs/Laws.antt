@@ -1,31 +1,23 @@
 -- Laws of places: where the carriage of a machine that is wired for a chart places its lines, and which cycles come before them.
-use Rattle.std.specs.Prelude.{◌≡◌, ℕ, ◌+◌, ◌<◌, ◌≤◌, ◌^◌, Bool, true, false, not, List, [], ◌∷◌, ◌++◌, Option, Some, None, length, if◌then◌else◌}
+use Rattle.std.specs.Prelude.{◌≡◌, ℕ, ◌<◌, ◌≤◌, ◌^◌, true, false, List, [], ◌∷◌, Some, None}
 use Rattle.hubs.specs.Wiring.{Wiring}
-use Rattle.net.specs.Cycles.{level_number}
 use Rattle.net.specs.Printing.{prints}
 use Rattle.net.specs.declared.cycle.Cycle.{Cycle}
-use Rattle.net.specs.declared.cycle.Cycle.TheVariants.{Card, Prog, Head}
-use Rattle.net.specs.declared.cycle.Level.{Level}
-use Rattle.net.specs.declared.cycle.Ordinal.{Ordinal}
-use Rattle.net.specs.declared.cycle.Ordinal.TheVariants.{First, Second, Third}
 use Rattle.net.specs.declared.printing.Printing.{Printing}
 use Rattle.carriage.specs.Asked.{nothing_asked}
 use Rattle.carriage.specs.Carriage.{CarriageState, carriage_at_start}
 use Rattle.carriage.specs.declared.placed_line.PlacedLine.{PlacedLine}
 use Rattle.carriage.specs.declared.spot.Spot.{Spot}
-use Rattle.program_unit.specs.CycleOrder.{levels_to, level_above, has_level_left, headed as headed_by, behind_heading, card_over}
-use Rattle.program_unit.specs.Program.{ProgramState, stage_ended}
-use Rattle.program_unit.specs.declared.stage.Stage.TheVariants.{RanProg, BeforeCard, BeforeTotal}
+use Rattle.program_unit.specs.CycleOrder.{headed as headed_by}
 use Rattle.chart_text.specs.Chart.{Chart}
 use Rattle.chart_text.specs.declared.chart.Line.{Line}
 use Rattle.chart_rules.specs.Rules.{IsLawful}
 use Rattle.report.specs.BodyLines.{heading_line}
 use Rattle.report.specs.ChartForm.{headings}
 use Rattle.report.specs.Places.{BodyText, Left, before_all, page_of, line_below, left_by, headed, placed}
-use Rattle.placing.specs.Placing.{printing_of_chart, kind_of, prints_kind, asked_of, IsCarriageOf, IsAt, IsReady, left_by_all}
-use Rattle.placing.specs.CarriageCycles.{carriage_behind, carriage_behind_all, lines_placed, heading_cycles, cycles_for, begins_page}
+use Rattle.placing.specs.Placing.{printing_of_chart, kind_of, prints_kind, asked_of, IsCarriageOf, IsAt, IsReady}
+use Rattle.placing.specs.CarriageCycles.{carriage_behind, carriage_behind_all, lines_placed, heading_cycles, cycles_for, begins_page, begun_by}
 use Rattle.placing.specs.FormFacts.{HasGoodForm}
-use Rattle.placing.specs.DueCycles.{due, is_between, stage_behind, begun_by}
 
 -- A lawful chart has a good form.
 abbrev pub LawfulChartsHaveGoodForms : Type 0
@@ -103,18 +95,6 @@ LinesArePlaced =
     (lines_placed carriage (cycles_for lines carriage.spot.latch texts cycle body.kind body.text))
     (carriage_behind_all carriage (cycles_for lines carriage.spot.latch texts cycle body.kind body.text))
 
--- The places of body lines are those of the first ones, and then those of the others from where the first ones left the form.
-abbrev pub PlacesFollowOneAnother : Type 0
-PlacesFollowOneAnother =
-    (lines : List Line) (left : Left) (first others : List BodyText)
-    → placed lines left (first ++ others) ≡ placed lines left first ++ placed lines (left_by_all lines left first) others
-
--- Each body line stands on the page of the line before it or on the next.
-abbrev pub PagesTurnOneByOne : Type 0
-PagesTurnOneByOne =
-    (lines : List Line) (left : Left) (bodies : List BodyText)
-    → (left.page ≤ (left_by_all lines left bodies).page) × ((left_by_all lines left bodies).page ≤ left.page + length bodies)
-
 -- A cycle that doesn't print and begins no page, and in which nothing is asked for, leaves the carriage where it stands.
 abbrev pub QuietCyclesStay : Type 0
 QuietCyclesStay =
@@ -133,56 +113,3 @@ abbrev pub HeadingsComeWithPages : Type 0
 HeadingsComeWithPages =
     (lines : List Line) (left : Left) (spot : Spot) (printing : Printing) (cycle : Cycle) → IsAt lines left spot
     → prints printing cycle ≡ true → headed_by printing spot.latch cycle ≡ begun_by left.line cycle
-
--- No heading cycle comes in the place of a cycle that doesn't print.
-abbrev pub OthersComeAtOnce : Type 0
-OthersComeAtOnce =
-    (printing : Printing) (restore : Bool) (cycle : Cycle) → prints printing cycle ≡ false
-    → headed_by printing restore cycle ≡ cycle
-
--- Between cards, the card cycle of a card that waits is due, or the first heading cycle in its place, behind which the card waits on.
-abbrev pub CardsAreDue : Type 0
-CardsAreDue =
-    (program : ProgramState) (restore : Bool) → is_between program.stage ≡ true → card_over program true ≡ true
-    → (due program true restore true ≡ Some (headed_by program.printing restore Card))
-    × (stage_ended program.stage (Head First) ≡ BeforeCard First)
-
--- Behind a heading cycle before a card cycle the next one is due, and behind the third the card cycle.
-abbrev pub CardsWaitForHeadings : Type 0
-CardsWaitForHeadings =
-    (program : ProgramState) (heading : Ordinal) (restore more : Bool) → program.stage ≡ BeforeCard heading
-    → due program true restore more ≡ Some (behind_heading heading Card)
-
--- Behind a card cycle, and behind the cycles of a level, the first cycle of the level above is due if that level runs with the card;
--- otherwise none is, and the cycles of the card are over.
-abbrev pub LevelsAreDue : Type 0
-LevelsAreDue =
-    (program : ProgramState) (done : Option Level) (restore more : Bool) → program.stage ≡ stage_behind done
-    → (due program false restore more ≡ (if has_level_left program done more then Some (Prog (level_above done) First) else None))
-    × (card_over program more ≡ not (has_level_left program done more))
-
--- A level that is left is the one above those that have run.
-abbrev pub LevelsRise : Type 0
-LevelsRise =
-    (program : ProgramState) (done : Option Level) (more : Bool) → has_level_left program done more ≡ true
-    → level_number (level_above done) ≡ levels_to done + 1
-
--- Behind the first cycle of a level the second is due.
-abbrev pub SecondCyclesAreDue : Type 0
-SecondCyclesAreDue =
-    (program : ProgramState) (level : Level) (waits restore more : Bool) → program.stage ≡ RanProg level First
-    → due program waits restore more ≡ Some (Prog level Second)
-
--- Behind the second the third is due, or the first heading cycle in its place, behind which the third waits.
-abbrev pub ThirdCyclesAreDue : Type 0
-ThirdCyclesAreDue =
-    (program : ProgramState) (level : Level) (waits restore more : Bool) → program.stage ≡ RanProg level Second
-    → (due program waits restore more ≡ Some (headed_by program.printing restore (Prog level Third)))
-    × (stage_ended program.stage (Head First) ≡ BeforeTotal level First)
-
--- Behind a heading cycle before a third cycle the next one is due, and behind the last the third cycle.
-abbrev pub TotalsWaitForHeadings : Type 0
-TotalsWaitForHeadings =
-    (program : ProgramState) (level : Level) (heading : Ordinal) (waits restore more : Bool)
-    → program.stage ≡ BeforeTotal level heading
-    → due program waits restore more ≡ Some (behind_heading heading (Prog level Third))

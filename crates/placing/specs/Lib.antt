@@ -1,5 +1,4 @@
 pub mod Placing
 pub mod CarriageCycles
-pub mod DueCycles
 pub mod FormFacts
 pub mod Laws

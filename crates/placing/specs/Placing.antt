@@ -1,6 +1,6 @@
 -- What a chart asks of the carriage: its tape, the cycles that print, and what each kind of body line asks for. And where the carriage
 -- stands as a report's lines leave the form.
-use Rattle.std.specs.Prelude.{◌≡◌, ◌↔◌, ℕ, zero, suc, ◌<◌, ◌≤◌, Bool, true, false, nat_le, List, [], ◌∷◌, Contains, Option, Some, None}
+use Rattle.std.specs.Prelude.{◌≡◌, ◌↔◌, ℕ, zero, suc, ◌<◌, ◌≤◌, Bool, true, false, nat_le, List, Contains, Option, Some, None}
 use Rattle.hubs.specs.Tapes as tapes
 use Rattle.hubs.specs.Tapes.{has_stop}
 use Rattle.net.specs.Cycles.{level_number}
@@ -15,7 +15,7 @@ use Rattle.chart_text.specs.declared.chart.Line.{Line}
 use Rattle.chart_text.specs.declared.statement.After.{After}
 use Rattle.chart_text.specs.declared.statement.After.TheVariants as action
 use Rattle.report.specs.ChartForm.{form_of, headings, prints_details, prints_totals, spacing_of, after_of, stops_of}
-use Rattle.report.specs.Places.{BodyText, Left, page_of, left_by, top_line}
+use Rattle.report.specs.Places.{Left, page_of, top_line}
 
 -- A carriage tape is that of a chart: its lines are those of the chart's form, and channels 2 to 11 have the chart's stops.
 pub record IsFormOf (lines : List Line) (form : tapes.Form) : Type 0 where
@@ -87,11 +87,6 @@ IsOnLine lines (Some line) spot = (spot.latch ≡ false) × (spot.line ≡ line)
 pub record IsAt (lines : List Line) (left : Left) (spot : Spot) : Type 0 where
   pub page : spot.page ≡ left.page
   pub line : IsOnLine lines left.line spot
-
--- where some body lines, one after another, leave the form
-abbrev pub left_by_all : List Line → Left → List BodyText → Left
-left_by_all lines left [] = left
-left_by_all lines left (body ∷ others) = left_by_all lines (left_by lines left body.kind) others
 
 -- the line from which the next body line is spaced: the line that was left, or the top line of a page
 abbrev pub line_above : List Line → Option ℕ → ℕ

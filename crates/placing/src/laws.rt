@@ -9,19 +9,9 @@ ghost use Rattle.placing.specs.Laws.{
   HeadingsArePlaced,
   NoHeadingsWithinAPage,
   LinesArePlaced,
-  PlacesFollowOneAnother,
-  PagesTurnOneByOne,
   QuietCyclesStay,
   UnprintedKindsStay,
   HeadingsComeWithPages,
-  OthersComeAtOnce,
-  CardsAreDue,
-  CardsWaitForHeadings,
-  LevelsAreDue,
-  LevelsRise,
-  SecondCyclesAreDue,
-  ThirdCyclesAreDue,
-  TotalsWaitForHeadings,
 };
 
 /// The form of a lawful chart has room for its heading lines and for any spacing, its stops rise on the form, and a skip goes to one of
@@ -61,12 +51,6 @@ pub fn lines_are_placed()
     ensures { LinesArePlaced }
 {}
 
-/// The places of body lines follow one another line by line, and page by page.
-pub fn places_follow_one_another()
-    ensures lines { PlacesFollowOneAnother }
-    ensures pages { PagesTurnOneByOne }
-{}
-
 /// A cycle that doesn't print, and in which nothing is asked for, leaves the carriage where it stands; a chart's unprinted lines do so.
 pub fn quiet_cycles_stay()
     ensures quiet { QuietCyclesStay }
@@ -75,25 +59,5 @@ pub fn quiet_cycles_stay()
 
 /// Heading cycles come before a printing cycle exactly where its line starts a page.
 pub fn headings_come_with_pages()
-    ensures printing { HeadingsComeWithPages }
-    ensures others { OthersComeAtOnce }
-{}
-
-/// Between cards the card cycle of the card that waits is due, behind its heading cycles.
-pub fn card_cycles_are_due()
-    ensures between { CardsAreDue }
-    ensures waiting { CardsWaitForHeadings }
-{}
-
-/// Behind the card cycle the levels that run with the card are due, from the lowest on.
-pub fn levels_are_due()
-    ensures next { LevelsAreDue }
-    ensures rising { LevelsRise }
-{}
-
-/// Within a level its three cycles are due in order, the third behind its heading cycles.
-pub fn program_cycles_are_due()
-    ensures second { SecondCyclesAreDue }
-    ensures third { ThirdCyclesAreDue }
-    ensures waiting { TotalsWaitForHeadings }
+    ensures { HeadingsComeWithPages }
 {}

@@ -5,7 +5,15 @@ use Rattle.run407.specs.declared.fault.Fault.TheVariants as fault
 
 -- the status of a fault
 abbrev pub status_of : Fault → ℕ
+status_of (fault.Whole number) = 3
+status_of (fault.Line number line) = 3
+status_of (fault.Cause number line cause) = 3
+status_of (fault.Card number card) = 3
+status_of (fault.Column number card column) = 3
+status_of (fault.Counters number width wanted there) = 3
+status_of (fault.Capacity number wanted there) = 3
+status_of (fault.Indicate number level wanted there) = 3
+status_of (fault.Total number level name card) = 3
 status_of (fault.File path) = 4
 status_of fault.Write = 4
 status_of fault.Memory = 5
-status_of other = 3

@@ -1,13 +1,13 @@
 -- A card goes into the lowest total of an amount; the others stand still.
-use Rattle.std.proofs.Common.{◌≡◌, ◌∙◌, refl, sym, ap, ℕ, zero, suc, ◌^◌, ◌<◌, ◌==◌, Bool, true, false, ◌&&◌, ℤ, ◌+ℤ◌, ◌-ℤ◌, pos, if◌then◌else◌, arith}
+use Rattle.std.proofs.Common.{◌≡◌, ◌∙◌, refl, sym, ap, ℕ, zero, suc, ◌^◌, ◌<◌, ◌≤◌, ◌==◌, Bool, true, false, ◌&&◌, ℤ, ◌+ℤ◌, ◌-ℤ◌, pos, if◌then◌else◌, arith}
 use Rattle.std.proofs.lemmas.Bool.Decides.{nat_tests}
 use Rattle.std.proofs.lemmas.Int.{ints}
-use Rattle.acts.specs.Acts.{number_after}
+use Rattle.acts.specs.Acts.{Held, number_after}
 use Rattle.acts.specs.Acts.Act.{Still}
-use Rattle.totals.specs.Amounts.{lower, posted, total_act}
+use Rattle.totals.specs.Amounts.{Amount, lower, posted, total_act}
 use Rattle.totals.specs.Amounts.Kind.{Entry}
-use Rattle.totals.specs.Laws.{CardGoesIn, ZerosStand, EqualSumsStand}
-use Rattle.totals.specs.Standing.{Stands}
+use Rattle.totals.specs.Laws.{CardGoesIn, ZerosStand}
+use Rattle.totals.specs.Standing.{Stands, StandsAll}
 use Rattle.totals.specs.Sums.{signed, sum_at, with_card}
 use Rattle.totals.proofs.Counting.{along, zero_stands}
 use Rattle.totals.proofs.Figures.{signed_ring, stands_posted}
@@ -63,7 +63,10 @@ zeros amount state none level some here =
     nothing zero = refl
     nothing (suc low) = refl
 
-pub equal_sums : EqualSumsStand
+-- totals that stand for sums stand for any sums that are the same at levels 1 and up
+pub equal_sums :
+    (amount : Amount) (one other : ℕ → ℤ) (state : ℕ → Held) → ((level : ℕ) → 1 ≤ level → one level ≡ other level)
+    → StandsAll amount one state → StandsAll amount other state
 equal_sums amount one other state same stands level some here =
     along amount.is_signed (10 ^ amount.width level) (equal (lower amount.has level)) refl (stands level some here)
   where

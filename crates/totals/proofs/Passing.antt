@@ -8,11 +8,12 @@ use Rattle.net.specs.declared.cycle.Ordinal.{Ordinal}
 use Rattle.net.specs.declared.cycle.Ordinal.TheVariants.{First, Second, Third}
 use Rattle.totals.specs.Amounts.{Amount, Kind, IsLawful, IsSmall, lower, posted, act_of, total_act, state_after}
 use Rattle.totals.specs.Amounts.Kind.{Entry, Prog, Other}
-use Rattle.totals.specs.Laws.{EmptyLevelPasses, OtherCyclesPass, GroupsHaveRoom}
+use Rattle.totals.specs.Laws.{EmptyLevelPasses, GroupsHaveRoom}
 use Rattle.totals.proofs.Levels.{lower_le}
 use Rattle.totals.proofs.Rooms.{digits_room, higher_room}
 
-pub other_passes : OtherCyclesPass
+-- a cycle that is neither a card's nor a program cycle leaves what the totals hold
+pub other_passes : (amount : Amount) (state : ℕ → Held) → state_after amount Other state ≡ state
 other_passes amount state = λ i level. kept level i
   where
     kept : (level : ℕ) → state_after amount Other state level ≡ state level

@@ -5,7 +5,7 @@ use Rattle.acts.specs.Acts.Act.{Show}
 use Rattle.net.specs.declared.cycle.Ordinal.{Ordinal}
 use Rattle.net.specs.declared.cycle.Ordinal.TheVariants.{First, Second, Third}
 use Rattle.totals.specs.Amounts.{Amount, Kind, IsLawful, IsOnCard, IsSmall, act_of, state_after}
-use Rattle.totals.specs.Amounts.Kind.{Entry, Prog, Other}
+use Rattle.totals.specs.Amounts.Kind.{Entry, Prog}
 use Rattle.totals.specs.Standing.{StandsAll}
 use Rattle.totals.specs.Sums.{size, is_below_zero, signed, with_card, cleared}
 
@@ -66,18 +66,8 @@ EmptyLevelEnds =
     → ((level : ℕ) → 1 ≤ level → level < ended → sum level ≡ pos 0)
     → StandsAll amount sum state → StandsAll amount (cleared ended sum) state
 
--- A cycle that is neither a card's nor a program cycle leaves what the totals hold.
-abbrev pub OtherCyclesPass : Type 0
-OtherCyclesPass = (amount : Amount) (state : ℕ → Held) → state_after amount Other state ≡ state
-
 -- What is asked of a counter group never has more digits than the group has positions.
 abbrev pub GroupsHaveRoom : Type 0
 GroupsHaveRoom =
     (amount : Amount) (kind : Kind) (state : ℕ → Held) → IsLawful amount → IsSmall amount kind state
     → (level : ℕ) → 1 ≤ level → IsWithinGroup (amount.width level) (act_of amount kind state level)
-
--- Totals that stand for sums stand for any sums that are the same at levels 1 and up.
-abbrev pub EqualSumsStand : Type 0
-EqualSumsStand =
-    (amount : Amount) (one other : ℕ → ℤ) (state : ℕ → Held) → ((level : ℕ) → 1 ≤ level → one level ≡ other level)
-    → StandsAll amount one state → StandsAll amount other state

@@ -1,7 +1,6 @@
 //! Laws of the totals of an amount. The functions do nothing: the contract of each is the law.
 
-ghost use Rattle.totals.specs.Laws.{ZerosStand, CardGoesIn, TotalIsShown, EmptyLevelPasses, EmptyLevelEnds};
-ghost use Rattle.totals.specs.Laws.{OtherCyclesPass, GroupsHaveRoom, EqualSumsStand};
+ghost use Rattle.totals.specs.Laws.{ZerosStand, CardGoesIn, TotalIsShown, EmptyLevelPasses, EmptyLevelEnds, GroupsHaveRoom};
 ghost use Rattle.totals.specs.Examples.{InThreeWheels};
 
 /// Before the first card each total stands for a sum of 0.
@@ -29,19 +28,9 @@ pub fn an_empty_level_ends()
     ensures { EmptyLevelEnds }
 {}
 
-/// Cycles that are neither a card's nor program cycles leave what the totals hold.
-pub fn other_cycles_pass()
-    ensures { OtherCyclesPass }
-{}
-
 /// A counter group has room for each number that is entered into it.
 pub fn groups_have_room()
     ensures { GroupsHaveRoom }
-{}
-
-/// Totals that stand for sums stand for equal ones.
-pub fn equal_sums_stand()
-    ensures { EqualSumsStand }
 {}
 
 /// 5, 5 below 0, and 0 as all nines, in three wheels.

@@ -69,7 +69,7 @@ ready-kept wiring cycle old new ready run =
     }
 
 -- nothing of this hangs on the cards
-ready-moved : (wiring : Wiring) (next : Option (List ℕ)) (machine : MachineState)
+pub ready-moved : (wiring : Wiring) (next : Option (List ℕ)) (machine : MachineState)
     → IsReady wiring machine → IsReady wiring (moved_on next machine)
 ready-moved wiring next machine ready = record {
   between = record {
@@ -127,10 +127,6 @@ pub machines-ready : MachinesStayReady
 machines-ready = record {
   start = ready-start;
   kept = ready-kept;
-  moved = ready-moved;
-  begun = ready-begun;
-  taken = ready-taken;
-  step = ready-step;
   feeds = λ wiring old next new lines ready feeds.
       ready-runs wiring feeds.cycles (begun old next) new lines (ready-begun wiring next old ready) feeds.runs;
 }

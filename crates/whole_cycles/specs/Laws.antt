@@ -10,7 +10,7 @@ use Rattle.net.specs.Impulsed.{IsImpulsed}
 use Rattle.net.specs.declared.cycle.Cycle.{Cycle}
 use Rattle.net.specs.declared.cycle.Point.{Point}
 use Rattle.machine.specs.Cycles.{CycleRun}
-use Rattle.machine.specs.Feeds.{Fed, FeedStep, Feeds, begun, moved_on, taken}
+use Rattle.machine.specs.Feeds.{Feeds}
 use Rattle.machine.specs.Machine.{MachineState, machine_at_start}
 use Rattle.whole_cycles.specs.Between.{IsBetween, IsReady, IsSetUp}
 use Rattle.whole_cycles.specs.OneContactDeep.{IsOneContactDeep, IsWithinOneContact, NoCommonEmits, SourcesAloneEmit}
@@ -30,24 +30,12 @@ pub record MachinesStayBetween : Type 0 where
       (wiring : Wiring) (cycle : Cycle) (old new : MachineState)
       → IsBetween old → CycleRun wiring cycle old new → IsBetween new
 
--- A machine starts ready, and is ready behind each of its cycles, where its cards have moved on, and so behind each step of a feed
--- and behind each feed.
+-- A machine starts ready, and is ready behind each of its cycles and behind each feed.
 pub record MachinesStayReady : Type 0 where
   pub start : (wiring : Wiring) → IsReady wiring (machine_at_start wiring)
   pub kept :
       (wiring : Wiring) (cycle : Cycle) (old new : MachineState)
       → IsReady wiring old → CycleRun wiring cycle old new → IsReady wiring new
-  pub moved :
-      (wiring : Wiring) (next : Option (List ℕ)) (machine : MachineState)
-      → IsReady wiring machine → IsReady wiring (moved_on next machine)
-  pub begun :
-      (wiring : Wiring) (next : Option (List ℕ)) (machine : MachineState)
-      → IsReady wiring machine → IsReady wiring (begun machine next).machine
-  pub taken :
-      (wiring : Wiring) (cycle : Cycle) (fed : Fed) → IsReady wiring fed.machine → IsReady wiring (taken cycle fed).machine
-  pub step :
-      (wiring : Wiring) (cycle : Cycle) (old new : Fed)
-      → IsReady wiring old.machine → FeedStep wiring cycle old new → IsReady wiring new.machine
   pub feeds :
       (wiring : Wiring) (old : MachineState) (next : Option (List ℕ)) (new : MachineState) (lines : List PlacedLine)
       → IsReady wiring old → Feeds wiring old next new lines → IsReady wiring new

@@ -14,7 +14,7 @@ loop-index-preserved c = record {
   so_far = λ k below. pickups-more c.loop-index.picked_up c.loop-index.index k c.has_bit.result
       (λ pilot. has_hub c.args.picture.now (PIX pilot)) c.loop-index.invariant.whole c.loop-index-test.true
       (c.has_bit.ensures
-      ∙ pickup_bit c.row-bits.result c.loop-index.index c.args.picture.now c.loop-index-test.true c.row-bits.ensures)
+      ∙ pickup_bit c.row-bits.result c.loop-index.index c.args.picture.now c.loop-index-test.true c.row-bits.ensures.hubs)
       c.loop-index.invariant.so_far below;
 }
 

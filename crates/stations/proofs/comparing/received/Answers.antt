@@ -8,9 +8,9 @@ use Rattle.stations.proofs.comparing.received.Goals as goal
 pub returns-clause-first : goal.returns-clause-first
 returns-clause-first c =
     positions_read c.row-row.result c.low_thirty.result (λ p. has_hub c.args.picture.now (CA p)) c.low_thirty.ensures
-    (first_entry c.row-row.result c.args.picture.now c.row-row.ensures)
+    (first_entry c.row-row.result c.args.picture.now c.row-row.ensures.hubs)
 
 pub returns-clause-second : goal.returns-clause-second
 returns-clause-second c =
     positions_read c.behind_thirty.result c.low_thirty-2.result (λ p. has_hub c.args.picture.now (CB p)) c.low_thirty-2.ensures
-    (λ k below. c.behind_thirty.ensures k ∙ second_entry c.row-row.result c.args.picture.now c.row-row.ensures k below)
+    (λ k below. c.behind_thirty.ensures k ∙ second_entry c.row-row.result c.args.picture.now c.row-row.ensures.hubs k below)

@@ -38,7 +38,7 @@ returns-then-takes c =
     (λ position from to.
     row_bit (λ n. GE counter.name n) (1100 + positions_before width + (counter.name.number - 1) * width) width
     (GE_numbered counter.name c.self.invariant.width c.self.invariant.named) bits position c.args.picture.now
-    (grind (arith, nat_tests, from, to)) (omega (arith, small)) c.row-impulsed.ensures)
+    (grind (arith, nat_tests, from, to)) (omega (arith, small)) c.row-impulsed.ensures.hubs)
     is in
     let made : List ℕ → Counter = λ entered. record counter { entered = entered } in
     ap made (take-first_part width new rest as_many ∙ after)

@@ -12,4 +12,4 @@ returns-in-Row c =
     let range = c.place.ensures.range in
     let long = c.self.told.0 in
     rw (c.in-Row.is, sym c.self.view_is, value)
-    (state-sensed words c.args._cycle c.in-Row.row (has_hub c.args.picture.now) word (rw (sym value, long) range) (λ k below. sym (c.row.ensures (W (k + 1)) (is_in_reach-W k below)) ∙ is_in_row-W word k below))
+    (state-sensed words c.args._cycle c.in-Row.row (has_hub c.args.picture.now) word (rw (sym value, long) range) (λ k below. sym (c.row.ensures.hubs (W (k + 1)) (is_in_reach-W k below)) ∙ is_in_row-W word k below))

@@ -1,7 +1,6 @@
 -- Which cycle is due, as the cards' cycles go on.
-use Rattle.std.specs.Prelude.{ℕ, Bool, true, false, not, ◌||◌, Option, Some, None, if◌then◌else◌}
+use Rattle.std.specs.Prelude.{Bool, true, false, not, ◌||◌, Option, Some, None, if◌then◌else◌}
 use Rattle.net.specs.declared.cycle.Cycle.{Cycle}
-use Rattle.net.specs.declared.cycle.Cycle.TheVariants.{Head}
 use Rattle.net.specs.declared.cycle.Level.{Level}
 use Rattle.net.specs.declared.cycle.Ordinal.TheVariants.{First, Second, Third}
 use Rattle.program_unit.specs.CycleOrder.{next_cycle, card_over}
@@ -29,8 +28,3 @@ is_between (BeforeTotal level heading) = false
 abbrev pub stage_behind : Option Level → Stage
 stage_behind None = RanCard
 stage_behind (Some level) = RanProg level Third
-
--- the cycle that comes where a printing cycle is due: the first heading cycle where its line starts a page
-abbrev pub begun_by : Option ℕ → Cycle → Cycle
-begun_by None cycle = Head First
-begun_by (Some line) cycle = cycle
