@@ -15,6 +15,7 @@ use Rattle.chart_rules.specs.declared.rule.Rule.TheVariants as rule
 use Rattle.chart_text.specs.Chart.{Chart, NumbersRise}
 use Rattle.chart_text.specs.Field.{columns_of, is_amount, sign_column}
 use Rattle.chart_text.specs.Levels as levels
+use Rattle.chart_text.specs.Literals.{HaveLiteralTexts}
 use Rattle.chart_text.specs.declared.chart.Line.{Line}
 use Rattle.chart_text.specs.declared.level.Level.{Level as ChartLevel}
 use Rattle.chart_text.specs.declared.statement.Field.{Field}
@@ -54,7 +55,7 @@ use Rattle.net.specs.declared.cycle.Point.TheVariants.{C}
 use Rattle.printed_lines.proofs.Premises.{total_texts}
 use Rattle.printed_lines.proofs.TotalLines.{total_lines}
 use Rattle.printed_lines.specs.Held as printed
-use Rattle.printed_lines.specs.Held.{HaveLiteralTexts, HoldsLine, HoldsText}
+use Rattle.printed_lines.specs.Held.{HoldsLine, HoldsText}
 use Rattle.printed_lines.specs.Shown.{Printed, sent_to_total, set_on}
 use Rattle.report.specs.BodyLines.{total_line}
 use Rattle.report.specs.Breaks.{taking}

@@ -4,6 +4,7 @@ use Rattle.allocate.specs.Plans.{Lists}
 use Rattle.card_code.specs.declared.row.Row.{Row as CardRow}
 use Rattle.chart_text.specs.Chart.{Chart, NumbersRise}
 use Rattle.chart_text.specs.Levels.{level_number}
+use Rattle.chart_text.specs.Literals.{HaveLiteralTexts}
 use Rattle.chart_text.specs.declared.level.Level.{Level as ChartLevel}
 use Rattle.hubs.specs.Wiring.{Wiring}
 use Rattle.hubs.specs.declared.hub.Group.{Group}
@@ -31,7 +32,6 @@ use Rattle.net.specs.declared.cycle.Point.TheVariants.{C}
 use Rattle.placing.specs.Placing.{kind_of}
 use Rattle.printed_lines.proofs.Cards.{card_lines}
 use Rattle.printed_lines.proofs.Headings.{heading_lines}
-use Rattle.printed_lines.specs.Held.{HaveLiteralTexts}
 use Rattle.printed_lines.specs.Shown.{sent_to_card, sent_to_heading, set_on}
 use Rattle.report.specs.BodyLines.{card_line, heading_line}
 use Rattle.whole_cycles.proofs.Contacts.{contacts-one_deep}

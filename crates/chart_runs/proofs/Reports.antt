@@ -1,12 +1,12 @@
 -- The headline's floors put together: a machine wired for a chart places the lines of the chart's report.
 use Rattle.allocate.specs.Plans.{Lists}
 use Rattle.chart_text.specs.Chart.{Chart, NumbersRise}
+use Rattle.chart_text.specs.Literals.{HaveLiteralTexts}
 use Rattle.hubs.specs.Wiring.{Wiring}
 use Rattle.impulses.proofs.AmountsLawful.{amount_on_card, lawful_amount}
 use Rattle.impulses.proofs.IndicateLatches.{latches-start}
 use Rattle.impulses.proofs.JacksAndTape.{printing-is, tape-is}
 use Rattle.impulses.specs.Panel.{IsPanel}
-use Rattle.printed_lines.specs.Held.{HaveLiteralTexts}
 use Rattle.whole_cycles.proofs.Ready.{machines-ready}
 use Rattle.chart_runs.specs.Laws.{MachinesPrintReports}
 use Rattle.chart_runs.proofs.Facts.{CycleFacts}

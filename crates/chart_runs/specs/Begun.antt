@@ -4,12 +4,12 @@ use Rattle.allocate.specs.Plans.{Lists}
 use Rattle.carriage.specs.declared.placed_line.PlacedLine.{PlacedLine}
 use Rattle.chart_rules.specs.ValidCard.{IsValidCard}
 use Rattle.chart_text.specs.Chart.{Chart, NumbersRise}
+use Rattle.chart_text.specs.Literals.{HaveLiteralTexts}
 use Rattle.decks.specs.Stands.{report_before}
 use Rattle.hubs.specs.Wiring.{Wiring}
 use Rattle.impulses.specs.Panel.{IsPanel}
 use Rattle.machine.specs.Feeds.{FedLines}
 use Rattle.machine.specs.Machine.{MachineState, machine_at_start}
-use Rattle.printed_lines.specs.Held.{HaveLiteralTexts}
 use Rattle.report.specs.Totals.{Misfit, misfits, first_of}
 
 -- The totals that end with the first so many cards of a deck fit.

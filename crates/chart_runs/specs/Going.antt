@@ -2,9 +2,9 @@
 use Rattle.allocate.specs.Plans.{Lists}
 use Rattle.chart_rules.specs.ValidCard.{IsValidCard}
 use Rattle.chart_text.specs.Chart.{Chart, NumbersRise}
+use Rattle.chart_text.specs.Literals.{HaveLiteralTexts}
 use Rattle.hubs.specs.Wiring.{Wiring}
 use Rattle.impulses.specs.Panel.{IsPanel}
-use Rattle.printed_lines.specs.Held.{HaveLiteralTexts}
 use Rattle.chart_runs.specs.Content.{Behind, Stores, Waits, Within, by_first, by_second}
 use Rattle.chart_runs.specs.Goes.{MachineGoes}
 

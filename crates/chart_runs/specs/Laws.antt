@@ -4,10 +4,10 @@ use Rattle.allocate.specs.Plans.{Lists}
 use Rattle.carriage.specs.declared.placed_line.PlacedLine.{PlacedLine}
 use Rattle.chart_rules.specs.ValidCard.{IsValidCard}
 use Rattle.chart_text.specs.Chart.{Chart, NumbersRise}
+use Rattle.chart_text.specs.Literals.{HaveLiteralTexts}
 use Rattle.hubs.specs.Wiring.{Wiring}
 use Rattle.impulses.specs.Panel.{IsPanel}
 use Rattle.machine.specs.Feeds.{MachineLines}
-use Rattle.printed_lines.specs.Held.{HaveLiteralTexts}
 use Rattle.report.specs.Report.{report_lines}
 use Rattle.report.specs.Totals.{Fits}
 

@@ -8,3 +8,4 @@ pub mod FormGrammar
 pub mod ChartGrammar
 pub mod Answered
 pub mod OneReading
+pub mod ReadLiterals

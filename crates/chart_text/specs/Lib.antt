@@ -8,6 +8,7 @@ pub mod HelperText
 pub mod HelperWords
 pub mod Levels
 pub mod Literal
+pub mod Literals
 pub mod Name
 pub mod Spacings
 pub mod TextFaults

@@ -4,6 +4,7 @@ ghost use Rattle.std.specs.Prelude.{◌≡◌, ℕ, List};
 ghost use Rattle.chart_text.specs.Chart.{Chart};
 ghost use Rattle.tokens.specs.Frame.{IsEmptyLine, IsEndLine};
 ghost use Rattle.chart_text.specs.ChartText.{IsFormLine, Reads};
+ghost use Rattle.chart_text.specs.Literals.{HaveLiteralTexts};
 ghost use Rattle.chart_text.specs.TextFaults.{HasFault};
 ghost use Rattle.chart_text.specs.declared.statement.Statement.{Statement};
 ghost use Rattle.chart_text.specs.declared.fault.TextFault.{TextFault};
@@ -21,4 +22,9 @@ pub fn chart_text_is_unambiguous()
     ensures one_chart { (text : List ℕ) (one other : Chart) → Reads text one → Reads text other → one ≡ other }
     ensures no_chart { (text : List ℕ) (chart : Chart) (fault : TextFault) → HasFault text fault → ¬ Reads text chart }
     ensures one_fault { (text : List ℕ) (one other : TextFault) → HasFault text one → HasFault text other → one ≡ other }
+{}
+
+/// The literals of a chart that is read from a text have print characters and blanks alone.
+pub fn read_literals_print()
+    ensures { (text : List ℕ) (chart : Chart) → Reads text chart → HaveLiteralTexts chart.lines }
 {}

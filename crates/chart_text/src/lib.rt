@@ -27,7 +27,7 @@ mod words;
 pub use chart::{Line, RawChart};
 pub use fault::TextFault;
 pub use heading::HeadingLine;
-pub use laws::{chart_text_is_unambiguous, line_is_unambiguous};
+pub use laws::{chart_text_is_unambiguous, line_is_unambiguous, read_literals_print};
 pub use level::{ControlLevel, Level};
 pub use name::Name;
 pub use read::read_chart;

@@ -10,11 +10,11 @@ use Rattle.chart_runs.proofs.Reports.{machine_prints_reports}
 use Rattle.chart_text.specs.Chart.{Chart, NumbersRise}
 use Rattle.chart_text.specs.ChartText.{Reads}
 use Rattle.chart_text.specs.declared.chart.Line.{Line}
+use Rattle.chart_text.proofs.ReadLiterals.{read_literals}
 use Rattle.hubs.specs.Wiring.{Wiring}
 use Rattle.machine.proofs.SomeOutcome.{MachineLines-some}
 use Rattle.machine.specs.Feeds.{MachineLines}
 use Rattle.page_text.specs.Pages.{Pages}
-use Rattle.printed_lines.proofs.Premises.{read_literals}
 use Rattle.report.specs.ChartForm.{form_of}
 use Rattle.report.specs.Report.{report_lines}
 use Rattle.report.specs.Totals.{Fits}

@@ -6,12 +6,12 @@ use Rattle.chart_rules.specs.Rules.{IsLawful}
 use Rattle.chart_rules.specs.ValidCard.{IsValidCard}
 use Rattle.chart_runs.specs.Begun.{FitBefore}
 use Rattle.chart_text.specs.Chart.{Chart, NumbersRise}
+use Rattle.chart_text.specs.Literals.{HaveLiteralTexts}
 use Rattle.decks.specs.Stands.{report_before}
 use Rattle.hubs.specs.Wiring.{Wiring}
 use Rattle.machine.specs.Feeds.{FedLines, MachineLines}
 use Rattle.machine.specs.Machine.{MachineState, machine_at_start}
 use Rattle.page_text.specs.Pages.{Pages}
-use Rattle.printed_lines.specs.Held.{HaveLiteralTexts}
 use Rattle.report.specs.ChartForm.{form_of}
 use Rattle.report.specs.Report.{Report}
 use Rattle.report.specs.Totals.{Fits}

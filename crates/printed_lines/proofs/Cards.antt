@@ -2,6 +2,7 @@
 use Rattle.std.proofs.Common.{◌≡◌, ◌∙◌, refl, ap, subst, ℕ, if◌then◌else◌, Bool, true, false, List, map, Contains, Option, Some, None, option_map, arith}
 use Rattle.chart_text.specs.Chart.{Chart}
 use Rattle.chart_text.specs.Field.{columns_of, decimals_of, is_amount}
+use Rattle.chart_text.specs.Literals.{HaveLiteralTexts, literal_in}
 use Rattle.chart_text.specs.declared.chart.Line.{Line}
 use Rattle.chart_text.specs.declared.statement.BodyLine.TheVariants as body
 use Rattle.chart_text.specs.declared.statement.DetailOption.{DetailOption}
@@ -21,7 +22,6 @@ use Rattle.chart_rules.specs.Wheels.{is_body}
 use Rattle.report.specs.Amounts.{digits_on, is_negated}
 use Rattle.report.specs.BodyLines.{piece_at, card_piece, field_on, amount_on, is_shown}
 use Rattle.wire_gen.specs.Figures.{IsFigure, on_detail, detail_emitter}
-use Rattle.printed_lines.specs.Held.{HaveLiteralTexts, literal_of}
 use Rattle.printed_lines.specs.Laws.{CardLinesPrint}
 use Rattle.printed_lines.specs.Shown.{Shown, Characters, Amount, card_sends, field_sends, set_of_character}
 use Rattle.printed_lines.proofs.AmountLines.{card-amount}
@@ -147,7 +147,7 @@ card-spells chart opens card lawful texts valid line there = by line.statement r
     by : (statement : Statement) → line.statement ≡ statement
         → SpellsPiece (card_sends chart.lines opens card statement) (card_piece chart.lines opens card statement)
     by (says.DetailLiteral wheel literal) is =
-        (refl, literal-spelled literal (texts line literal there (ap literal_of is)).printable)
+        (refl, literal-spelled literal (texts line literal there (ap literal_in is)).printable)
     by (says.DetailField wheel name how) is =
         shown_field wheel name how (is_shown how opens) (field_named chart.lines name) refl
     by other is = tt

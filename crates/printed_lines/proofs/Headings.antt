@@ -3,6 +3,7 @@ use Rattle.std.proofs.Common.{◌≡◌, refl, ap, subst, ℕ, ◌==◌, if◌th
 use Rattle.std.proofs.lemmas.Bool.Decides.{nat_tests}
 use Rattle.chart_text.specs.Chart.{Chart}
 use Rattle.chart_text.specs.Headings.{heading_number}
+use Rattle.chart_text.specs.Literals.{HaveLiteralTexts, literal_in}
 use Rattle.chart_text.specs.declared.chart.Line.{Line}
 use Rattle.chart_text.specs.declared.statement.Statement.{Statement}
 use Rattle.chart_text.specs.declared.statement.Statement.TheVariants as says
@@ -10,7 +11,6 @@ use Rattle.chart_rules.specs.declared.items.PrintedLine.{PrintedLine}
 use Rattle.chart_rules.specs.declared.items.PrintedLine.TheVariants.{Heading, Body}
 use Rattle.chart_rules.specs.Items.{is_same_line}
 use Rattle.report.specs.BodyLines.{piece_at, heading_piece}
-use Rattle.printed_lines.specs.Held.{HaveLiteralTexts, literal_of}
 use Rattle.printed_lines.specs.Laws.{HeadingLinesPrint}
 use Rattle.printed_lines.specs.Shown.{Shown, Characters, heading_sends, set_of_character}
 use Rattle.printed_lines.proofs.Lines.{SpellsText, text-line}
@@ -52,7 +52,7 @@ heading-spells : (chart : Chart) (number : ℕ) → HaveLiteralTexts chart.lines
     → SpellsText (heading_sends number line.statement) (heading_piece number line.statement)
 heading-spells chart number texts line there = by line.statement refl
   where
-    literal_on : (wheel : ℕ) (literal : List ℕ) → literal_of line.statement ≡ Some literal → (b : Bool)
+    literal_on : (wheel : ℕ) (literal : List ℕ) → literal_in line.statement ≡ Some literal → (b : Bool)
         → SpellsText (if b then Some (Characters wheel (map set_of_character literal)) else None)
         (if b then Some (piece_at wheel literal) else None)
     literal_on wheel literal is true = (refl, literal-spelled literal (texts line literal there is).printable)
@@ -60,7 +60,7 @@ heading-spells chart number texts line there = by line.statement refl
 
     by : (statement : Statement) → line.statement ≡ statement
         → SpellsText (heading_sends number statement) (heading_piece number statement)
-    by (says.Head heading wheel literal) is = literal_on wheel literal (ap literal_of is) (heading_number heading == number)
+    by (says.Head heading wheel literal) is = literal_on wheel literal (ap literal_in is) (heading_number heading == number)
     by other is = tt
 
 -- a heading line prints as the report has it

@@ -1,14 +1,9 @@
--- What the laws rest on, for those who use them: the literals of charts that are read, and the totals of unsigned amounts.
-use Rattle.std.proofs.Common.{◌≡◌, ◌∙◌, refl, sym, ap, ap₂, subst, ℕ, zero, suc, pos, ◌+ℤ◌, ◌+◌, false, List, [], ◌∷◌, Some, None, arith}
+-- What the laws rest on, for those who use them: the totals of unsigned amounts, and the texts on total lines.
+use Rattle.std.proofs.Common.{◌≡◌, ◌∙◌, refl, sym, ap, ap₂, subst, ℕ, pos, ◌+ℤ◌, ◌+◌, false, List, [], ◌∷◌, Some, None}
 use Rattle.std.proofs.Math.IntN.{pos-+ℤ-pos}
-use Rattle.chart_text.specs.ChartText.{ReadsFrom, empty_line, form_line, end_line}
-use Rattle.chart_text.specs.Forms.{Says, head, detail_literal, total_literal}
-use Rattle.chart_text.specs.Literal.{IsLiteralText}
-use Rattle.chart_text.specs.declared.chart.Line.{Line}
 use Rattle.chart_text.specs.declared.statement.Field.{Field}
 use Rattle.chart_text.specs.declared.statement.FieldKind.{FieldKind}
 use Rattle.chart_text.specs.declared.statement.FieldKind.TheVariants as holds
-use Rattle.chart_text.specs.declared.statement.Statement.{Statement}
 use Rattle.chart_text.specs.Field.{is_amount}
 use Rattle.chart_rules.specs.declared.rule.Rule.TheVariants as rule
 use Rattle.chart_rules.specs.Fields.{fields_of, field_named}
@@ -19,34 +14,9 @@ use Rattle.report.specs.Amounts.{is_negated, number_in, digits_on, signed}
 use Rattle.report.specs.Edits.{is_below_zero}
 use Rattle.report.specs.Totals.{total_of}
 use Rattle.wire_gen.specs.Figures.{rule_of}
-use Rattle.printed_lines.specs.Held.{HaveLiteralTexts, literal_of}
-use Rattle.printed_lines.specs.Laws.{ReadLiteralsPrint, UnsignedTotalsHaveNoSign, TotalTextsAreTexts}
+use Rattle.printed_lines.specs.Laws.{UnsignedTotalsHaveNoSign, TotalTextsAreTexts}
 use Rattle.printed_lines.proofs.LawfulItems.{named-valid}
 use Rattle.printed_lines.proofs.Meeting.{Place-line}
-
--- a literal text by another name
-same-text : (characters literal : List ℕ) → IsLiteralText characters → Some characters ≡ Some literal → IsLiteralText literal
-same-text characters literal text same = let is : characters ≡ literal = cc in subst IsLiteralText is text
-
--- the literal of a line that is a form has print characters and blanks alone
-form-literal : {tokens : List (List ℕ)} {statement : Statement} → Says tokens statement → (literal : List ℕ)
-    → literal_of statement ≡ Some literal → IsLiteralText literal
-form-literal (head line wheel is) literal same = same-text _ literal is.text same
-form-literal (detail_literal wheel is) literal same = same-text _ literal is.text same
-form-literal (total_literal level wheel is) literal same = same-text _ literal is.text same
-form-literal other literal same = cc
-
--- and so have those of the lines that are read
-read-literals : {number end : ℕ} {lines : List (List ℕ)} {said : List Line} → ReadsFrom number lines said end → HaveLiteralTexts said
-read-literals (empty_line empty rest) line literal there same = read-literals rest line literal there same
-read-literals (form_line form rest) line literal (zero, within, is) same =
-    form-literal form.said literal (ap (λ (l : Line). literal_of l.statement) is ∙ same)
-read-literals (form_line form rest) line literal (suc k, within, is) same =
-    read-literals rest line literal (k, omega (arith, within), is) same
-read-literals (end_line end empty) line literal (k, within, is) same = absurd (omega (arith, within))
-
-pub read_literals : ReadLiteralsPrint
-read_literals bytes chart reads = read-literals reads.said
 
 -- an amount without a sign rule is not negated
 not-negated : (kind : FieldKind) (card : List ℕ) → rule_of kind ≡ None → is_negated kind card ≡ false

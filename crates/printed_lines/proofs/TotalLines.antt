@@ -4,6 +4,7 @@ use Rattle.std.proofs.lemmas.Bool.Decides.{nat_tests}
 use Rattle.chart_text.specs.Chart.{Chart}
 use Rattle.chart_text.specs.Field.{columns_of, decimals_of, is_amount}
 use Rattle.chart_text.specs.Levels.{level_number}
+use Rattle.chart_text.specs.Literals.{HaveLiteralTexts, literal_in}
 use Rattle.chart_text.specs.declared.chart.Line.{Line}
 use Rattle.chart_text.specs.declared.level.Level.{Level}
 use Rattle.chart_text.specs.declared.statement.BodyLine.TheVariants as body
@@ -27,7 +28,7 @@ use Rattle.report.specs.BodyLines.{piece_at, total_piece, text_on, a_card_of}
 use Rattle.report.specs.Edits.{last_digits, edited}
 use Rattle.report.specs.Totals.{total_of}
 use Rattle.wire_gen.specs.Figures.{on_total, total_emitter}
-use Rattle.printed_lines.specs.Held.{HaveLiteralTexts, literal_of, HoldsLine}
+use Rattle.printed_lines.specs.Held.{HoldsLine}
 use Rattle.printed_lines.specs.Laws.{TotalLinesPrint}
 use Rattle.printed_lines.specs.Shown.{Shown, Characters, Amount, Printed, total_sends, set_of_character}
 use Rattle.printed_lines.proofs.AmountLines.{total-amount, last_digits-length}
@@ -149,7 +150,7 @@ total-spells : (chart : Chart) (level : ℕ) (group : List (List ℕ)) (held : L
     → SpellsPiece (total_sends chart.lines level held card line.statement) (total_piece chart.lines level group line.statement)
 total-spells chart level group held card lawful texts holds line there = by line.statement refl
   where
-    literal_on : (wheel : ℕ) (literal : List ℕ) → literal_of line.statement ≡ Some literal → (b : Bool)
+    literal_on : (wheel : ℕ) (literal : List ℕ) → literal_in line.statement ≡ Some literal → (b : Bool)
         → SpellsPiece (if b then Some (Characters wheel (map set_of_character literal)) else None)
         (if b then Some (piece_at wheel literal) else None)
     literal_on wheel literal is true = (refl, literal-spelled literal (texts line literal there is).printable)
@@ -189,7 +190,7 @@ total-spells chart level group held card lawful texts holds line there = by line
     by : (statement : Statement) → line.statement ≡ statement
         → SpellsPiece (total_sends chart.lines level held card statement) (total_piece chart.lines level group statement)
     by (says.TotalLiteral its_level wheel literal) is =
-        literal_on wheel literal (ap literal_of is) (level_number its_level == level)
+        literal_on wheel literal (ap literal_in is) (level_number its_level == level)
     by (says.TotalText its_level wheel name) is =
         text_held its_level wheel name is (level_number its_level == level) (field_named chart.lines name) refl refl
     by (says.TotalAmount its_level wheel name digits mark) is =

@@ -1,12 +1,10 @@
--- What a total line rests on: what the totals and the storage units hold when a group ends, and texts that can be printed.
-use Rattle.std.specs.Prelude.{◌≡◌, ℕ, ℤ, ◌<◌, ◌^◌, true, false, List, Contains, Option, Some, None, is_some}
+-- What a total line rests on: what the totals and the storage units hold when a group ends.
+use Rattle.std.specs.Prelude.{◌≡◌, ℕ, ℤ, ◌<◌, ◌^◌, true, false, List, Contains, Option, Some, is_some}
 use Rattle.chart_text.specs.Levels.{level_number}
-use Rattle.chart_text.specs.Literal.{IsLiteralText}
 use Rattle.chart_text.specs.declared.chart.Line.{Line}
 use Rattle.chart_text.specs.declared.level.Level.{Level}
 use Rattle.chart_text.specs.declared.statement.Field.{Field}
 use Rattle.chart_text.specs.declared.statement.Mark.{Mark}
-use Rattle.chart_text.specs.declared.statement.Statement.{Statement}
 use Rattle.chart_text.specs.declared.statement.Statement.TheVariants as says
 use Rattle.chart_rules.specs.Fields.{field_named}
 use Rattle.chart_rules.specs.ValidCard.{EachColumn, IsText, column_of}
@@ -14,18 +12,6 @@ use Rattle.report.specs.BodyLines.{a_card_of}
 use Rattle.report.specs.Edits.{size, is_below_zero}
 use Rattle.report.specs.Totals.{total_of}
 use Rattle.printed_lines.specs.Shown.{Printed}
-
--- the literal that a line of the chart puts on the report, if it does
-abbrev pub literal_of : Statement → Option (List ℕ)
-literal_of (says.Head line wheel literal) = Some literal
-literal_of (says.DetailLiteral wheel literal) = Some literal
-literal_of (says.TotalLiteral level wheel literal) = Some literal
-literal_of other = None
-
--- The literals of a chart have print characters and blanks alone.
-abbrev pub HaveLiteralTexts : List Line → Type 0
-HaveLiteralTexts lines =
-    (line : Line) (literal : List ℕ) → Contains lines line → literal_of line.statement ≡ Some literal → IsLiteralText literal
 
 -- What is held of a total prints it in so many digits: the total fits, the figure is its size, and where it has a mark the balance
 -- latch is set for a total below 0 and not set for one above 0.

@@ -1,7 +1,7 @@
 -- The laws of printed lines: what the items of a lawful chart send to their wheels prints as the lines of its reports.
 use Rattle.std.specs.Prelude.{◌≡◌, ℕ, ◌+◌, ◌-◌, ◌<◌, ◌≤◌, Bool, true, false, List, Contains, Option, Some, None, length, slice_index_or}
 use Rattle.chart_text.specs.Chart.{Chart}
-use Rattle.chart_text.specs.ChartText.{Reads}
+use Rattle.chart_text.specs.Literals.{HaveLiteralTexts}
 use Rattle.chart_text.specs.declared.chart.Line.{Line}
 use Rattle.chart_text.specs.declared.level.Level.{Level}
 use Rattle.chart_text.specs.declared.statement.Field.{Field}
@@ -15,7 +15,7 @@ use Rattle.report.specs.BodyLines.{card_line, total_line, heading_line}
 use Rattle.report.specs.Edits.{is_below_zero}
 use Rattle.report.specs.Totals.{total_of}
 use Rattle.wire_gen.specs.Figures.{rule_of}
-use Rattle.printed_lines.specs.Held.{HaveLiteralTexts, HoldsLine}
+use Rattle.printed_lines.specs.Held.{HoldsLine}
 use Rattle.printed_lines.specs.Shown.{Shown, Printed, HasJacksOf, wheel_of_shown, sets_of, set_on, sent_to_card, sent_to_total, sent_to_heading, card_sends, total_sends, heading_sends, wheels_with}
 
 -- a wheel is one of those that an item sends to
@@ -68,10 +68,6 @@ HeadingLinesPrint =
     (chart : Chart) (link suppress symbol : ℕ → Bool) (number : ℕ) → IsLawful chart → HaveLiteralTexts chart.lines
     → printed_line false (wheels_with link suppress symbol (set_on (sent_to_heading chart.lines number)))
     ≡ heading_line chart.lines number
-
--- A chart that is read from a text has literals of print characters and blanks.
-abbrev pub ReadLiteralsPrint : Type 0
-ReadLiteralsPrint = (bytes : List ℕ) (chart : Chart) → Reads bytes chart → HaveLiteralTexts chart.lines
 
 -- The total of an amount without a sign rule is never below 0.
 abbrev pub UnsignedTotalsHaveNoSign : Type 0

@@ -1,6 +1,6 @@
 //! The laws of printed lines. The functions do nothing: the contract of each is the law.
 
-ghost use Rattle.printed_lines.specs.Laws.{CardLinesPrint, TotalLinesPrint, HeadingLinesPrint, LawfulItemsKeepApart, ReadLiteralsPrint, UnsignedTotalsHaveNoSign, TotalTextsAreTexts};
+ghost use Rattle.printed_lines.specs.Laws.{CardLinesPrint, TotalLinesPrint, HeadingLinesPrint, LawfulItemsKeepApart, UnsignedTotalsHaveNoSign, TotalTextsAreTexts};
 
 /// The line of a valid card prints as the report has it.
 pub fn card_lines_print()
@@ -20,11 +20,6 @@ pub fn heading_lines_print()
 /// On each printed line of a lawful chart a wheel gets what one item sends, or nothing.
 pub fn items_keep_apart()
     ensures { LawfulItemsKeepApart }
-{}
-
-/// The literals of a chart that is read from a text can be printed.
-pub fn read_literals_print()
-    ensures { ReadLiteralsPrint }
 {}
 
 /// The total of an amount without a sign rule is never below 0.

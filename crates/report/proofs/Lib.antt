@@ -1,6 +1,7 @@
 pub mod GroupLaws
 pub mod EditLaws
 pub mod ReadBack
+pub mod PrintCharacters
 pub mod PageBytes
 pub mod OutlineByCards
 pub mod FewLines

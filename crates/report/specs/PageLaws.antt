@@ -1,8 +1,13 @@
--- Laws of pages: what a page's bytes are made of.
-use Rattle.std.specs.Prelude.{◌≡◌, ℕ, ◌+◌, ◌==◌, List, [], ◌∷◌, if◌then◌else◌}
-use Rattle.std.specs.List.{All}
+-- Laws of pages: what the lines of a report are made of, and what the bytes of pages are.
+use Rattle.std.specs.Prelude.{◌≡◌, ℕ, ◌+◌, ◌*◌, ◌==◌, List, [], ◌∷◌, if◌then◌else◌}
+use Rattle.std.specs.List.{All, AllPass}
 use Rattle.carriage.specs.declared.placed_line.PlacedLine.{PlacedLine}
-use Rattle.page_text.specs.Pages.{page_bytes}
+use Rattle.chart_text.specs.Chart.{Chart}
+use Rattle.chart_text.specs.Literal.{is_printable}
+use Rattle.chart_text.specs.Literals.{HaveLiteralTexts}
+use Rattle.page_text.specs.Pages.{page_bytes, last_page}
+use Rattle.report.specs.ChartForm.{form_of}
+use Rattle.report.specs.Report.{Report, report_lines}
 
 -- how often a byte stands among bytes
 abbrev pub count_of : ℕ → List ℕ → ℕ
@@ -19,3 +24,24 @@ abbrev pub PagesHaveTheirLines : Type 0
 PagesHaveTheirLines =
     (placed : List PlacedLine) (long page : ℕ) → All IsOneLine placed
     → (count_of 10 (page_bytes placed long page) ≡ long) × (count_of 12 (page_bytes placed long page) ≡ 1)
+
+-- the text of a line has print characters and blanks alone
+abbrev pub HasPrintCharacters : PlacedLine → Type 0
+HasPrintCharacters placed = AllPass is_printable placed.text
+
+-- The lines of a report have print characters and blanks alone, whatever is punched in its cards, where the literals of its chart have.
+abbrev pub ReportLinesPrint : Type 0
+ReportLinesPrint =
+    (chart : Chart) (cards : List (List ℕ)) → HaveLiteralTexts chart.lines → All HasPrintCharacters (report_lines chart cards)
+
+-- So no line of a report has a line feed or a form feed in its text.
+abbrev pub ReportLinesAreOneLine : Type 0
+ReportLinesAreOneLine =
+    (chart : Chart) (cards : List (List ℕ)) → HaveLiteralTexts chart.lines → All IsOneLine (report_lines chart cards)
+
+-- A report has as many form feeds as pages, and for each page as many line feeds as the form has lines.
+abbrev pub ReportPagesHaveTheirLines : Type 0
+ReportPagesHaveTheirLines =
+    (chart : Chart) (cards : List (List ℕ)) → HaveLiteralTexts chart.lines
+    → (count_of 10 (Report chart cards) ≡ last_page (report_lines chart cards) * (form_of chart.lines).lines)
+    × (count_of 12 (Report chart cards) ≡ last_page (report_lines chart cards))

@@ -2,7 +2,7 @@
 
 ghost use Rattle.report.specs.AmountLaws.{EditsReadBack, SignByPunch, SignByAbsence, SizesAreOfDigits};
 ghost use Rattle.report.specs.OutlineLaws.{GroupsAreLongestRuns, OutlineIsByCards, IndicatedOnFirstCards};
-ghost use Rattle.report.specs.PageLaws.{PagesHaveTheirLines};
+ghost use Rattle.report.specs.PageLaws.{PagesHaveTheirLines, ReportLinesPrint, ReportLinesAreOneLine, ReportPagesHaveTheirLines};
 ghost use Rattle.report.specs.PlaceLaws.{LinesStandByTheLineBefore, PlacesRise};
 ghost use Rattle.report.specs.Laws.{GroupsMakeTheWhole, TotalsAddUp, EditsFillTheirItems, LinesHave120Characters, NoCardsNoBytes};
 
@@ -47,6 +47,21 @@ pub fn no_cards_give_no_bytes()
 /// A page has as many line feeds as lines, and one form feed, where no line has one of them in its text.
 pub fn pages_have_their_lines()
     ensures { PagesHaveTheirLines }
+{}
+
+/// The lines of a report have print characters and blanks alone, where the literals of its chart have.
+pub fn report_lines_print()
+    ensures { ReportLinesPrint }
+{}
+
+/// No line of a report has a line feed or a form feed in its text.
+pub fn report_lines_are_one_line()
+    ensures { ReportLinesAreOneLine }
+{}
+
+/// A report has as many form feeds as pages, and for each page as many line feeds as the form has lines.
+pub fn report_pages_have_their_lines()
+    ensures { ReportPagesHaveTheirLines }
 {}
 
 /// The cards of a group are alike on its level's control fields, and neighbouring groups differ.

@@ -1,0 +1,33 @@
+-- The literals of charts that are read from a text.
+use Rattle.std.proofs.Common.{◌≡◌, ◌∙◌, ap, subst, ℕ, zero, suc, List, Some, arith}
+use Rattle.chart_text.specs.Chart.{Chart}
+use Rattle.chart_text.specs.ChartText.{Reads, ReadsFrom, empty_line, form_line, end_line}
+use Rattle.chart_text.specs.Forms.{Says, head, detail_literal, total_literal}
+use Rattle.chart_text.specs.Literal.{IsLiteralText}
+use Rattle.chart_text.specs.Literals.{HaveLiteralTexts, literal_in}
+use Rattle.chart_text.specs.declared.chart.Line.{Line}
+use Rattle.chart_text.specs.declared.statement.Statement.{Statement}
+
+-- a literal text by another name
+same-text : (characters literal : List ℕ) → IsLiteralText characters → Some characters ≡ Some literal → IsLiteralText literal
+same-text characters literal text same = let is : characters ≡ literal = cc in subst IsLiteralText is text
+
+-- the literal of a line that is a form has print characters and blanks alone
+form-literal : {tokens : List (List ℕ)} {statement : Statement} → Says tokens statement → (literal : List ℕ)
+    → literal_in statement ≡ Some literal → IsLiteralText literal
+form-literal (head line wheel is) literal same = same-text _ literal is.text same
+form-literal (detail_literal wheel is) literal same = same-text _ literal is.text same
+form-literal (total_literal level wheel is) literal same = same-text _ literal is.text same
+form-literal other literal same = cc
+
+-- and so have those of the lines that are read
+read-literals : {number end : ℕ} {lines : List (List ℕ)} {said : List Line} → ReadsFrom number lines said end → HaveLiteralTexts said
+read-literals (empty_line empty rest) line literal there same = read-literals rest line literal there same
+read-literals (form_line form rest) line literal (zero, within, is) same =
+    form-literal form.said literal (ap (λ (l : Line). literal_in l.statement) is ∙ same)
+read-literals (form_line form rest) line literal (suc k, within, is) same =
+    read-literals rest line literal (k, omega (arith, within), is) same
+read-literals (end_line end empty) line literal (k, within, is) same = absurd (omega (arith, within))
+
+pub read_literals : (text : List ℕ) (chart : Chart) → Reads text chart → HaveLiteralTexts chart.lines
+read_literals text chart reads = read-literals reads.said
