@@ -12,6 +12,7 @@ use Rattle.chart_text.specs.ChartText.{Reads}
 use Rattle.chart_text.specs.declared.chart.Line.{Line}
 use Rattle.chart_text.proofs.ReadLiterals.{read_literals}
 use Rattle.hubs.specs.Wiring.{Wiring}
+use Rattle.machine.proofs.SameSetups.{MachineLines-same}
 use Rattle.machine.proofs.SomeOutcome.{MachineLines-some}
 use Rattle.machine.specs.Feeds.{MachineLines}
 use Rattle.page_text.specs.Pages.{Pages}
@@ -22,7 +23,7 @@ use Rattle.wire_chart.proofs.Answered.{one_setup}
 use Rattle.wire_chart.specs.Laws.{IsSameSetup}
 use Rattle.wire_gen.specs.WiredFor.{WiredFor}
 use Rattle.compile407.specs.Compilation.{Compilation, IsCompiled}
-use Rattle.compile407.specs.Headline.{IsDeck, IsSound, WiredSetupsBeginReports, WiredSetupsPrintReports, WrittenSetupsPrintReports}
+use Rattle.compile407.specs.Headline.{IsDeck, IsSound, ReadSetupsPrintAlike, WiredSetupsBeginReports, WiredSetupsPrintReports, WrittenSetupsPrintReports}
 
 -- a chart that was read and breaks no rule is sound
 pub sound_read : (bytes : List ℕ) (raw chart : Chart) → Reads bytes raw → chart ≡ raw → IsLawful chart →
@@ -81,12 +82,12 @@ same_wired lines plan one other same wired = record {
     λ asked. same.jacks jack ∙ (wired.jacks jack).1 asked,
   );
   tape = record {
-    form_lines = same.lines ∙ wired.tape.form_lines;
-    first = same.first ∙ wired.tape.first;
-    overflow = same.overflow ∙ wired.tape.overflow;
+    form_lines = same.tape.lines ∙ wired.tape.form_lines;
+    first = same.tape.first ∙ wired.tape.first;
+    overflow = same.tape.overflow ∙ wired.tape.overflow;
     stops = λ channel line. (
-      λ has. (wired.tape.stops channel line).0 (sym (same.stops channel line) ∙ has),
-      λ listed. same.stops channel line ∙ (wired.tape.stops channel line).1 listed,
+      λ has. (wired.tape.stops channel line).0 (sym (same.tape.stops channel line) ∙ has),
+      λ listed. same.tape.stops channel line ∙ (wired.tape.stops channel line).1 listed,
     );
   };
 }
@@ -96,3 +97,9 @@ pub written_setups_print_reports : WrittenSetupsPrintReports
 written_setups_print_reports chart plan wiring text read sound serves wired written reads =
     wired_setups_print_reports chart plan read sound serves
     (same_wired chart.lines plan wiring read (one_setup text wiring read written reads) wired)
+
+-- setups that one wiring chart reads as
+pub read_setups_print_alike : ReadSetupsPrintAlike
+read_setups_print_alike text one other cards lines reads also form good run =
+    let same : IsSameSetup one other = one_setup text one other reads also in
+    MachineLines-same one other cards lines form good same.wires same.jacks same.tape run

@@ -8,6 +8,7 @@ use Rattle.chart_runs.specs.Begun.{FitBefore}
 use Rattle.chart_text.specs.Chart.{Chart, NumbersRise}
 use Rattle.chart_text.specs.Literals.{HaveLiteralTexts}
 use Rattle.decks.specs.Stands.{report_before}
+use Rattle.hubs.specs.Tapes.{IsForm}
 use Rattle.hubs.specs.Wiring.{Wiring}
 use Rattle.machine.specs.Feeds.{FedLines, MachineLines}
 use Rattle.machine.specs.Machine.{MachineState, machine_at_start}
@@ -62,3 +63,10 @@ abbrev pub WrittenSetupsPrintReports : Type 0
 WrittenSetupsPrintReports =
     (chart : Chart) (plan : Lists) (wiring : Wiring) (text : List ℕ) (read : Wiring) → IsSound chart → IsFor chart.lines plan →
     WiredFor chart.lines plan wiring → ReadsAs text wiring → ReadsAs text read → PrintsReport chart read
+
+-- Any two setups that one wiring chart reads as, wired by hand or for a chart, print the same lines for every deck.
+abbrev pub ReadSetupsPrintAlike : Type 0
+ReadSetupsPrintAlike =
+    (text : List ℕ) (one other : Wiring) (cards : List (List ℕ)) (lines : List PlacedLine) →
+    ReadsAs text one → ReadsAs text other → IsForm one.tape → IsForm other.tape →
+    MachineLines one cards lines → MachineLines other cards lines

@@ -1,5 +1,6 @@
 //! Laws over definitions alone.
 
+ghost use Rattle.compile407.specs.Headline.{ReadSetupsPrintAlike};
 ghost use Rattle.compile407.specs.Headline.{WiredSetupsBeginReports, WiredSetupsPrintReports, WrittenSetupsPrintReports};
 ghost use Rattle.compile407.specs.Outcomes.{ChartsHaveOneFault, CompiledTextsHaveNoFault, DecksHaveOneFault, RunnableDecksHaveNoFault};
 
@@ -20,6 +21,12 @@ pub fn wired_setups_begin_reports()
 /// `write_setup` of the crate `wire_chart` writes such a text.
 pub fn written_setups_print_reports()
     ensures { WrittenSetupsPrintReports }
+{}
+
+/// Any two setups that one wiring chart reads as print the same lines for every deck, wired by hand or for a chart. So a setup that is
+/// written by `write_setup` and read by `read_setup` prints what it printed before.
+pub fn read_setups_print_alike()
+    ensures { ReadSetupsPrintAlike }
 {}
 
 /// A text that compiles has none of the faults of a chart.

@@ -2,6 +2,7 @@ pub mod HubLemmas
 pub mod KindLemmas
 pub mod PlaceLemmas
 pub mod RowLemmas
+pub mod SameTapes
 pub mod StopLemmas
 pub mod WiredLemmas
 pub mod WiringLemmas

@@ -1,14 +1,14 @@
 -- A stop written into the rows of channels.
-use Rattle.std.proofs.Common.{◌≡◌, ◌≢◌, refl, sym, ap, ◌∙◌, ⊎_elim, ℕ, ◌<◌, zero, suc, eqb, arith, Contains}
+use Rattle.std.proofs.Common.{◌≡◌, ◌≢◌, refl, sym, subst, ap, ◌∙◌, ⊎_elim, ℕ, ◌<◌, zero, suc, eqb, arith, Contains}
 use Rattle.std.proofs.Common.{Bool, true, false, not, ◌||◌, ◌&&◌, List, [], ◌∷◌, ◌++◌, length, get_or, set, take}
-use Rattle.std.specs.List.{list_all}
+use Rattle.std.specs.List.{All, list_all}
 use Rattle.std.proofs.lemmas.Bool.{and_parts, and_from, or_cases, or_left, or_right, eqb-true, eq-eqb}
 use Rattle.std.proofs.lemmas.Bool.{both_ways, false_from_ne_true}
-use Rattle.std.proofs.lemmas.List.{get_or_default, get_or-take, length-take}
-use Rattle.std.proofs.lemmas.List.Elements.{All-push, Contains-get_or, Contains-append_left}
+use Rattle.std.proofs.lemmas.List.{get_or_default, get_or-take, length-set, length-take}
+use Rattle.std.proofs.lemmas.List.Elements.{All-from_get_or, All-get_or, All-push, Contains-get_or, Contains-append_left}
 use Rattle.std.proofs.lemmas.List.Elements.{Contains-push, Contains-push_cases}
 use Rattle.std.proofs.lemmas.List.Quantifiers.{all_pairs_push}
-use Rattle.hubs.specs.Tapes.{Form, has_stop, IsStop, IsTape, HasStops, AddsStop}
+use Rattle.hubs.specs.Tapes.{Form, has_stop, IsForm, IsStop, IsTape, HasStops, AddsStop}
 use Rattle.std.proofs.lemmas.Grind.{common_steps}
 use Rattle.std.proofs.lemmas.Bool.Decides.{nat_tests}
 
@@ -88,3 +88,37 @@ refused lines first overflow form stops i d within held unfit tape =
     let earlier : before.0 < i = omega (arith, before.1, length-take i stops) in
     tape.once before.0 i hole earlier within
     (sym (get_or-take i stops before.0 hole earlier) ∙ before.2 ∙ get_or_default stops i d hole within)))
+
+-- a row written in the place of another keeps the places
+lines-set : (stops : List (List Bool)) (row : List Bool) (channel : ℕ) → channel < length stops → length row ≡ 145
+    → All (λ (r : List Bool). length r ≡ 145) stops → All (λ (r : List Bool). length r ≡ 145) (set stops channel row)
+lines-set stops row channel within long all =
+    All-from_get_or (λ (r : List Bool). length r ≡ 145) (set stops channel row) [] at
+  where
+    at : (k : ℕ) → k < length (set stops channel row) → length (get_or (set stops channel row) k []) ≡ 145
+    at k in_set =
+        let in_stops : k < length stops = subst (λ (n : ℕ). k < n) (length-set stops channel row) in_set in
+        let kept : length (get_or stops k []) ≡ 145 = All-get_or (λ (r : List Bool). length r ≡ 145) stops k [] in_stops all in
+        grind (arith, nat_tests, common_steps)
+
+-- a stop punched into a tape leaves a tape
+pub IsForm-punched : (form : Form) (row : List Bool) (channel line : ℕ) → IsForm form → IsStop form.lines channel line
+    → length row ≡ 145 → ((l : ℕ) → get_or row l false ≡ (get_or (get_or form.stops channel []) l false || eqb l line))
+    → IsForm
+    (record { lines = form.lines; first = form.first; overflow = form.overflow; stops = set form.stops channel row })
+IsForm-punched form row channel line is stop long in_row = record {
+  formed = is.formed;
+  places = record {
+    channels = length-set form.stops channel row ∙ is.places.channels;
+    lines = lines-set form.stops row channel within long is.places.lines;
+  };
+  stops = λ c l there.
+      ⊎_elim
+      (is.stops c l)
+      (λ here.
+      let same = and_parts _ _ here in
+      rw (eqb-true c channel same.0, eqb-true l line same.1) stop)
+      (or_cases (has_stop form c l) _ (sym (stops_after form.stops row channel line c l within (in_row l)) ∙ there));
+} where
+  within : channel < length form.stops
+  within = omega (arith, stop.channel_to, is.places.channels)

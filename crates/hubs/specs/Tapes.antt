@@ -1,6 +1,6 @@
 -- Carriage tapes: the lines of a form and the stops of its channels.
 use Rattle.std.specs.Prelude.{◌≡◌, ◌≢◌, ◌↔◌, ℕ, ◌≤◌, nat_eq, Bool, true, false, ◌&&◌, ◌||◌}
-use Rattle.std.specs.Prelude.{List, [], All, AllPairs, Contains, slice_index_or}
+use Rattle.std.specs.Prelude.{List, [], All, AllPairs, Contains, length, slice_index_or}
 
 -- A carriage tape: the lines of a form, its first line (channel 1), its overflow line (channel 12), and the stops of
 -- channels 2 to 11. Read the stops through has_stop alone.
@@ -30,9 +30,15 @@ pub record IsFormed (lines first overflow : ℕ) : Type 0 where
   pub overflow_from : 1 ≤ overflow
   pub overflow_to : overflow ≤ lines
 
+-- Every tape keeps places for 12 channels, and in each for 145 lines, from 0 on: a channel and a line stand at their own numbers.
+pub record HasPlaces (form : Form) : Type 0 where
+  pub channels : length form.stops ≡ 12
+  pub lines : All (λ row. length row ≡ 145) form.stops
+
 -- a form that a tape can have
 pub record IsForm (form : Form) : Type 0 where
   pub formed : IsFormed form.lines form.first form.overflow
+  pub places : HasPlaces form
   pub stops : (channel line : ℕ) → has_stop form channel line ≡ true → IsStop form.lines channel line
 
 -- the numbers and the stops of a tape: each is in range, and no stop stands twice
@@ -51,3 +57,10 @@ pub record AddsStop (old new : Form) (channel line : ℕ) : Type 0 where
   pub first : new.first ≡ old.first
   pub overflow : new.overflow ≡ old.overflow
   pub stops : (c l : ℕ) → has_stop new c l ≡ (has_stop old c l || (nat_eq c channel && nat_eq l line))
+
+-- two tapes are the same: the same lines, first line and overflow line, and the same stops
+pub record SameTape (one other : Form) : Type 0 where
+  pub lines : other.lines ≡ one.lines
+  pub first : other.first ≡ one.first
+  pub overflow : other.overflow ≡ one.overflow
+  pub stops : (channel line : ℕ) → has_stop other channel line ≡ has_stop one channel line

@@ -1,6 +1,6 @@
 //! The carriage tape.
 
-ghost use Rattle.std.specs.Prelude.{◌≡◌, ℕ, ◌<◌, ◌↔◌, ◌||◌, [], false, IsTrue, nat_eq, slice_index_or};
+ghost use Rattle.std.specs.Prelude.{◌≡◌, ℕ, ◌<◌, ◌↔◌, ◌||◌, [], All, false, IsTrue, length, nat_eq, slice_index_or};
 ghost use Rattle.hubs.specs.Tapes.{IsFormed, IsStop};
 
 use crate::fault::SetupFault;
@@ -106,6 +106,7 @@ impl Tape {
             ↔ (IsStop self.old.lines channel line × (has_stop self.old channel line ≡ false)) }
         ensures added { OnTrue result (AddsStop self.old self.new channel line) }
         ensures refused { OnFalse result (self.new ≡ self.old) }
+        ensures form { IsForm self.new }
     {
         if !is_stop(self.lines, channel, line) || self.has_stop(channel, line) {
             return false;
@@ -164,14 +165,16 @@ fn is_stop(lines: u8, channel: u8, line: u8) -> bool
 // Punches a channel at a line.
 fn punch_row(row: &mut [bool; LINES], line: u8)
     requires { line < LINES }
-    ensures { (l : ℕ) → slice_index_or row.new l false ≡ (slice_index_or row.old l false || nat_eq l line) }
+    ensures punched { (l : ℕ) → slice_index_or row.new l false ≡ (slice_index_or row.old l false || nat_eq l line) }
+    ensures long { length row.new ≡ 145 }
 {
     row[line as usize] = true;
 }
 
 // A tape with no stop.
 fn no_stops() -> [[bool; LINES]; CHANNELS]
-    ensures { (c l : ℕ) → slice_index_or (slice_index_or result c []) l false ≡ false }
+    ensures blank { (c l : ℕ) → slice_index_or (slice_index_or result c []) l false ≡ false }
+    ensures long { All (λ row. length row ≡ 145) result }
 {
     let row = [false; LINES];
     [row; CHANNELS]

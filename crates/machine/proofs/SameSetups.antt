@@ -4,7 +4,9 @@ use Rattle.std.specs.List.{range_with_len}
 use Rattle.carriage.specs.Asked.{nothing_asked}
 use Rattle.carriage.specs.declared.placed_line.PlacedLine.{PlacedLine}
 use Rattle.counters.specs.Counters.{counter_of, group_of_unit}
+use Rattle.hubs.proofs.SameTapes.{SameTape-same}
 use Rattle.hubs.proofs.WiredLemmas.{HasWire-is_wired}
+use Rattle.hubs.specs.Tapes.{IsForm, SameTape}
 use Rattle.hubs.specs.Wiring.{Wiring, HasWire, SameWires, SameJacks, is_wired}
 use Rattle.hubs.specs.declared.hub.Hub.{Hub}
 use Rattle.hubs.specs.declared.hub.Hub.TheVariants.{CO, CI}
@@ -173,8 +175,10 @@ start-same one other wires jacks tape = λ i. record {
 
 -- setups with the same wires, jacks and tape have the same lines
 pub MachineLines-same : (one other : Wiring) (cards : List (List ℕ)) (lines : List PlacedLine)
-    → SameWires one other → SameJacks one other → one.tape ≡ other.tape
+    → IsForm one.tape → IsForm other.tape
+    → SameWires one other → SameJacks one other → SameTape one.tape other.tape
     → MachineLines one cards lines → MachineLines other cards lines
-MachineLines-same one other cards lines wires jacks tape run =
-    subst (λ (m : MachineState). LinesFrom other m cards lines) (start-same one other wires jacks tape)
+MachineLines-same one other cards lines form also wires jacks tape run =
+    let same : one.tape ≡ other.tape = SameTape-same one.tape other.tape form also tape in
+    subst (λ (m : MachineState). LinesFrom other m cards lines) (start-same one other wires jacks same)
     (LinesFrom-same one other wires (machine_at_start one) cards lines run)

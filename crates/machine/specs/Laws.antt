@@ -2,7 +2,7 @@
 use Rattle.std.specs.Prelude.{◌≡◌, ℕ, ◌+◌, ◌*◌, ◌≤◌, List, [], ◌∷◌, ◌++◌, length}
 use Rattle.carriage.specs.InOrder.{IsInOrder}
 use Rattle.carriage.specs.declared.placed_line.PlacedLine.{PlacedLine}
-use Rattle.hubs.specs.Tapes.{IsForm}
+use Rattle.hubs.specs.Tapes.{IsForm, SameTape}
 use Rattle.hubs.specs.Wiring.{Wiring, SameWires, SameJacks}
 use Rattle.net.specs.declared.cycle.Cycle.{Cycle}
 use Rattle.machine.specs.Feeds.{Fed, FedLines, FeedStep, LinesFrom, MachineLines}
@@ -69,5 +69,6 @@ RunsGoInParts =
 abbrev pub SameSetupsPrintAlike : Type 0
 SameSetupsPrintAlike =
     (one other : Wiring) (cards : List (List ℕ)) (lines : List PlacedLine)
-    → SameWires one other → SameJacks one other → one.tape ≡ other.tape
+    → IsForm one.tape → IsForm other.tape
+    → SameWires one other → SameJacks one other → SameTape one.tape other.tape
     → MachineLines one cards lines → MachineLines other cards lines

@@ -76,10 +76,12 @@ same_setup form statements one other is also = record {
   wires = λ exit entry.
       (λ h. (is.wires exit entry).1 ((also.wires exit entry).0 h), λ h. (also.wires exit entry).1 ((is.wires exit entry).0 h));
   jacks = λ j. same_bool (is_plugged one j) (is_plugged other j) _ (is.jacks j) (also.jacks j);
-  lines = also.lines ∙ sym is.lines;
-  first = also.first ∙ sym is.first;
-  overflow = also.overflow ∙ sym is.overflow;
-  stops = λ c l. same_bool (has_stop one.tape c l) (has_stop other.tape c l) _ (is.stops c l) (also.stops c l);
+  tape = record {
+    lines = also.lines ∙ sym is.lines;
+    first = also.first ∙ sym is.first;
+    overflow = also.overflow ∙ sym is.overflow;
+    stops = λ c l. same_bool (has_stop one.tape c l) (has_stop other.tape c l) _ (is.stops c l) (also.stops c l);
+  };
 }
 
 abbrev told : Told → Result Told WiringFault

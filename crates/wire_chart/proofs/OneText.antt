@@ -1,7 +1,7 @@
 -- A setup has one text.
 use Rattle.std.proofs.Common.{◌≡◌, inl, inr, ℕ, ◌<◌, List, refl, sym, ap, ◌∙◌, subst, arith}
 use Rattle.std.proofs.lemmas.Option.{same_Some}
-use Rattle.hubs.specs.Tapes.{Form}
+use Rattle.hubs.specs.Tapes.{Form, SameTape}
 use Rattle.hubs.specs.Wiring.{Wiring}
 use Rattle.hubs.specs.declared.hub.Hub.{Hub}
 use Rattle.hubs.specs.declared.jack.Jack.{Jack}
@@ -44,8 +44,8 @@ same_stops : (one other : Wiring) (text words : List ℕ) → IsSameSetup one ot
     → (second : IsWritten other words) → first.stops ≡ second.stops
 same_stops one other text words same first second =
     same_list IsStopBefore first.stops second.stops stops_one_way first.stops_in_order second.stops_in_order
-    (λ a has. (second.all_stops a.0 a.1).0 (same.stops a.0 a.1 ∙ (first.all_stops a.0 a.1).1 has))
-    (λ a has. (first.all_stops a.0 a.1).0 (sym (same.stops a.0 a.1) ∙ (second.all_stops a.0 a.1).1 has))
+    (λ a has. (second.all_stops a.0 a.1).0 (same.tape.stops a.0 a.1 ∙ (first.all_stops a.0 a.1).1 has))
+    (λ a has. (first.all_stops a.0 a.1).0 (sym (same.tape.stops a.0 a.1) ∙ (second.all_stops a.0 a.1).1 has))
 
 same_jacks : (one other : Wiring) (text words : List ℕ) → IsSameSetup one other → (first : IsWritten one text)
     → (second : IsWritten other words) → first.jacks ≡ second.jacks
@@ -63,9 +63,8 @@ same_wires one other text words same first second =
 
 -- a form is written by its numbers alone
 same_text : (one other : Form) (stops : List (ℕ × ℕ)) (jacks : List Jack) (wires : List (Hub × Hub))
-    → other.lines ≡ one.lines → other.first ≡ one.first → other.overflow ≡ one.overflow
-    → text_of one stops jacks wires ≡ text_of other stops jacks wires
-same_text one other stops jacks wires lines first overflow = rw (lines, first, overflow) refl
+    → SameTape one other → text_of one stops jacks wires ≡ text_of other stops jacks wires
+same_text one other stops jacks wires same = rw (same.lines, same.first, same.overflow) refl
 
 -- The same setups have one text.
 pub one_text : (one other : Wiring) (text words : List ℕ) → IsSameSetup one other → IsWritten one text → IsWritten other words
@@ -78,5 +77,5 @@ one_text one other text words same first second =
     (same_jacks one other text words same first second)
     ∙ ap (λ (wires : List (Hub × Hub)). text_of one.tape second.stops second.jacks wires)
     (same_wires one other text words same first second)
-    ∙ same_text one.tape other.tape second.stops second.jacks second.wires same.lines same.first same.overflow
+    ∙ same_text one.tape other.tape second.stops second.jacks second.wires same.tape
     ∙ sym second.spelled

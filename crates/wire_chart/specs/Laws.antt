@@ -1,6 +1,6 @@
 -- Laws of wiring charts: a setup has one text, that text reads as the setup, and a text reads as one setup at most.
 use Rattle.std.specs.Prelude.{◌≡◌, ℕ, List}
-use Rattle.hubs.specs.Tapes.{IsForm, has_stop}
+use Rattle.hubs.specs.Tapes.{IsForm, SameTape}
 use Rattle.hubs.specs.Wiring.{Wiring, IsLawfulWiring, SameWires, SameJacks}
 use Rattle.wire_chart.specs.WiringText.{ReadsAs}
 use Rattle.wire_chart.specs.WiringFaults.{HasFault}
@@ -12,14 +12,11 @@ pub record IsSetup (wiring : Wiring) : Type 0 where
   pub wires : IsLawfulWiring wiring
   pub form : IsForm wiring.tape
 
--- two setups are the same: the same wires, jacks, form and stops
+-- two setups are the same: the same wires, jacks and tape
 pub record IsSameSetup (one other : Wiring) : Type 0 where
   pub wires : SameWires one other
   pub jacks : SameJacks one other
-  pub lines : other.tape.lines ≡ one.tape.lines
-  pub first : other.tape.first ≡ one.tape.first
-  pub overflow : other.tape.overflow ≡ one.tape.overflow
-  pub stops : (channel line : ℕ) → has_stop other.tape channel line ≡ has_stop one.tape channel line
+  pub tape : SameTape one.tape other.tape
 
 -- What is written of a setup reads as that setup.
 abbrev pub WrittenTextsReadBack : Type 0

@@ -1,5 +1,6 @@
 use Rattle.std.proofs.Common.{refl, arith}
-use Rattle.hubs.proofs.StopLemmas.{stops_after}
+use Rattle.hubs.specs.Fields.{form_of}
+use Rattle.hubs.proofs.StopLemmas.{stops_after, IsForm-punched}
 use Rattle.hubs.proofs.tape.Tape.add_stop.Goals as goal
 
 pub returns-clause-added : goal.returns-clause-added
@@ -10,5 +11,13 @@ returns-clause-added c =
       overflow = refl;
       stops =
           λ other l.
-          stops_after _ _ _ _ other l (omega (arith, c.if-not-is_stop.ensures.0 refl)) (c.punch_row.ensures l);
+          stops_after _ _ _ _ other l (omega (arith, c.if-not-is_stop.ensures.0 refl)) (c.punch_row.ensures.punched l);
     })
+
+pub invariant_of-self : goal.invariant_of-self
+invariant_of-self c =
+    IsForm-punched (form_of c.self.inside) _ _ _ c.self.invariant (c.if-not-is_stop.ensures.0 refl) c.punch_row.ensures.long
+    c.punch_row.ensures.punched
+
+pub returns-clause-form : goal.returns-clause-form
+returns-clause-form c = invariant_of-self c

@@ -31,4 +31,5 @@ loop-channel-preserved c =
           IsTape-push _ _ _ c.loop-channel.tape _ hole.0 hole.1 old.has_stops old.is_tape (rw old.lines at could.0)
           could.1;
       has_stops = HasStops-push c.loop-channel.tape _ _ hole.0 hole.1 old.has_stops added;
+      is_form = c.if-not-add_stop.ensures.form;
     })
