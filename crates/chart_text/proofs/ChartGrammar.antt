@@ -1,134 +1,53 @@
 -- A text is a chart exactly where the reader answers it, and has exactly the fault that the reader answers.
-use Rattle.std.proofs.Common.{◌≡◌, ℕ, ◌+◌, ◌-◌, ◌<◌, ◌≤◌, Bool, true, false, cond, ltb, ◌||◌, List, [], ◌∷◌, length, get_or, Option, Some, None, Result, Ok, Err, suc, refl, ap, sym, ◌∙◌, subst, inl, inr, ◌⊎◌, arith, codes}
-use Rattle.std.proofs.lemmas.Bool.{ltb-true, lt-ltb, and_parts, or_cases, cases_order, both_ways}
-use Rattle.std.proofs.lemmas.Option.{same_Some}
-use Rattle.std.proofs.lemmas.List.Folds.{Any-from_list_any, list_any-from_Any}
-use Rattle.std.specs.List.{AllByRecursion, list_any}
-use Rattle.std.specs.Str.{bytes_eq}
+use Rattle.std.proofs.Common.{◌≡◌, ℕ, ◌+◌, ◌-◌, ◌<◌, ◌≤◌, Bool, true, false, cond, List, [], ◌∷◌, length, get_or, Option, Some, None, Result, Ok, Err, suc, refl, ap, sym, ◌∙◌, subst, inl, inr, ◌⊎◌, arith, codes}
+use Rattle.std.proofs.lemmas.Bool.{cases_order, both_ways}
+use Rattle.std.specs.Bool.{Decides}
+use Rattle.std.specs.List.{AllByRecursion}
 use Rattle.card_code.specs.Lines.{lines_of}
 use Rattle.chart_text.specs.Chart.{Chart}
-use Rattle.tokens.specs.Tokens.{HasTokens}
 use Rattle.tokens.specs.Frame.{IsEmptyLine, IsEndLine, line_at, IsLineFrom, IsBehindEnd, IsNoLine, LacksEnd}
 use Rattle.chart_text.specs.ChartText.{IsFirstLine, IsFormLine, IsTooLarge, ReadsFrom, empty_line, form_line, end_line, Reads}
 use Rattle.chart_text.specs.TextFaults.{HasFirstLine, IsMisplaced, IsLowestMisplaced, HasFault, HaveFault}
 use Rattle.tokens.specs.Dividing.{tokens_of}
+use Rattle.tokens.proofs.LineContent as lines
+use Rattle.tokens.proofs.TextFrame.{larger_by, title_by, told_false, refused_by}
 use Rattle.chart_text.specs.HelperForms.{statement_of}
-use Rattle.chart_text.specs.HelperText.{form_content, tokens_content, divided_content, content_of, is_first, is_long, is_large, with_lines, line_then, chart_from, chart_of_lines, chart_of}
+use Rattle.chart_text.specs.HelperText.{Content, content_of, is_first, is_large, with_lines, line_then, chart_from, chart_of_lines, chart_of}
 use Rattle.chart_text.specs.declared.chart.Line.{Line}
 use Rattle.chart_text.specs.declared.statement.Statement.{Statement}
-use Rattle.chart_text.specs.declared.read.Content.{Content}
-use Rattle.chart_text.specs.declared.read.Content.TheVariants.{Empty, End, Form, NoForm}
+use Rattle.tokens.specs.declared.frame.Content.TheVariants.{Empty, End, Says, NoLine}
 use Rattle.chart_text.specs.declared.fault.TextFault.{TextFault}
 use Rattle.chart_text.specs.declared.fault.TextFault.TheVariants.{TooLarge, NoFirstLine, NotALine, NoEnd, Memory}
-use Rattle.tokens.proofs.TokenGrammar.{has_what_is_read, read_what_it_has}
 use Rattle.chart_text.proofs.FormGrammar.{says_what_is_read, read_what_it_says}
-use Rattle.tokens.proofs.TokenWord.{is_word}
+
+-- a chart's lines, as those of a format
+format : lines.Format statement_of IsFormLine
+unfolding statement_of
+format = record {
+  is = λ line statement is.
+      record { tokens = is.tokens; divided = is.divided; said = says_what_is_read is.tokens statement is.read };
+  read = λ line statement is. record { tokens = is.tokens; divided = is.divided; read = read_what_it_says is.said };
+  nothing = refl;
+  end = refl;
+}
 
 -- what a line is
-abbrev IsContent : List ℕ → Content → Type 0
-IsContent line Empty = IsEmptyLine line
-IsContent line End = IsEndLine line
-IsContent line (Form statement) = IsFormLine line statement
-IsContent line NoForm = IsNoLine IsFormLine line
-
--- the tokens that a line has, against those that are read
-same_tokens : (line : List ℕ) (tokens others : List (List ℕ)) → HasTokens line others → tokens_of line ≡ Some tokens
-    → others ≡ tokens
-same_tokens line tokens others has read = same_Some others tokens (sym (read_what_it_has has) ∙ read)
-
-no_division : (line : List ℕ) (tokens : List (List ℕ)) → tokens_of line ≡ None → HasTokens line tokens → ⊥
-no_division line tokens read has =
-    let some = read_what_it_has has in
-    cc
-
--- tokens that are no form
-no_form_said : (line : List ℕ) (tokens : List (List ℕ)) (statement : Statement) → tokens_of line ≡ Some tokens
-    → statement_of tokens ≡ None → IsFormLine line statement → ⊥
-no_form_said line tokens statement read none is =
-    let said : statement_of tokens ≡ Some statement =
-    ap statement_of (sym (same_tokens line tokens is.tokens is.divided read)) ∙ read_what_it_says is.said in
-    cc
-
-form_is : (line : List ℕ) (tokens : List (List ℕ)) (content : Content) (said : Option Statement)
-    → tokens_of line ≡ Some tokens → statement_of tokens ≡ said
-    → (tokens ≡ [] → ⊥) → (tokens ≡ codes "END" ∷ [] → ⊥) → form_content said ≡ content → IsContent line content
-form_is line tokens content (Some statement) read says some no_end same =
-    subst (IsContent line) same
-    (record {
-      tokens = tokens;
-      divided = has_what_is_read line tokens read;
-      said = says_what_is_read tokens
-          statement says;
-    })
-form_is line tokens content None read says some no_end same =
-    subst (IsContent line) same
-    (record {
-      not_empty = λ has. some (sym (same_tokens line tokens [] has read));
-      not_end = λ has. no_end (sym (same_tokens line tokens (codes "END" ∷ []) has read));
-      not_said = λ statement is. no_form_said line tokens statement read says is;
-    })
-
-end_or_form : (line word : List ℕ) (content : Content) (test : Bool) → tokens_of line ≡ Some (word ∷ [])
-    → bytes_eq word (codes "END") ≡ test
-    → cond test End (form_content (statement_of (word ∷ []))) ≡ content → IsContent line content
-end_or_form line word content true read tests same =
-    subst (IsContent line) same
-    (has_what_is_read line (codes "END" ∷ []) (read ∙ ap (λ w. Some (w ∷ [])) (is_word word (codes "END") tests)))
-end_or_form line word content false read tests same =
-    form_is line (word ∷ []) content (statement_of (word ∷ [])) read refl (λ e. cc) (λ e. no_word e tests) same
-  where
-    no_word : {word : List ℕ} → word ∷ [] ≡ codes "END" ∷ [] → bytes_eq word (codes "END") ≡ false → ⊥
-    no_word {word} e f =
-        let is : word ≡ codes "END" = cc in
-        let yes : bytes_eq word (codes "END") ≡ true = ap (λ w. bytes_eq w (codes "END")) is in
-        cc
-
-content_is : (line : List ℕ) (content : Content) (tokens : Option (List (List ℕ))) → tokens_of line ≡ tokens
-    → divided_content tokens ≡ content → IsContent line content
-content_is line content None read same =
-    subst (IsContent line) same
-    (record {
-      not_empty = λ has. no_division line [] read has;
-      not_end = λ has. no_division line (codes "END" ∷ []) read has;
-      not_said = λ statement is. no_division line is.tokens read is.divided;
-    })
-content_is line content (Some []) read same = subst (IsContent line) same (has_what_is_read line [] read)
-content_is line content (Some (word ∷ [])) read same = end_or_form line word content
-    (bytes_eq word (codes "END")) read refl same
-content_is line content (Some (word ∷ next ∷ others)) read same =
-    form_is line (word ∷ next ∷ others) content (statement_of (word ∷ next ∷ others)) read refl (λ e. cc) (λ e. cc) same
-
-is_content : (line : List ℕ) (content : Content) → content_of line ≡ content → IsContent line content
+is_content : (line : List ℕ) (content : Content) → content_of line ≡ content → lines.IsContent IsFormLine line content
 unfolding content_of
-is_content line content read = content_is line content (tokens_of line) refl read
+is_content line content read = lines.content_is format line content (tokens_of line) refl read
 
 -- an empty line, END and a form are read as such
 pub empty_read : (line : List ℕ) → IsEmptyLine line → content_of line ≡ Empty
 unfolding content_of
-empty_read line has = ap divided_content (read_what_it_has has)
+empty_read line has = lines.empty_read statement_of line has
 
 pub end_read : (line : List ℕ) → IsEndLine line → content_of line ≡ End
 unfolding content_of
-end_read line has = ap divided_content (read_what_it_has has)
+end_read line has = lines.end_read statement_of line has
 
-form_of_tokens : (tokens : List (List ℕ)) (statement : Statement) → statement_of tokens ≡ Some statement
-    → tokens_content tokens ≡ Form statement
-unfolding statement_of
-form_of_tokens [] statement read = cc
-form_of_tokens (word ∷ []) statement read = by_test (bytes_eq word (codes "END")) refl
-  where
-    by_test : (b : Bool) → bytes_eq word (codes "END") ≡ b → cond b End (form_content (statement_of (word ∷ [])))
-        ≡ Form statement
-    by_test true e =
-        let none : statement_of (word ∷ []) ≡ None = ap (λ w. statement_of (w ∷ [])) (is_word word (codes "END") e) in
-        cc
-    by_test false e = ap form_content read
-form_of_tokens (word ∷ next ∷ others) statement read = ap form_content read
-
-pub form_read : (line : List ℕ) (statement : Statement) → IsFormLine line statement → content_of line ≡ Form statement
+pub form_read : (line : List ℕ) (statement : Statement) → IsFormLine line statement → content_of line ≡ Says statement
 unfolding content_of
-form_read line statement is = ap divided_content (read_what_it_has is.divided)
-    ∙ form_of_tokens is.tokens statement (read_what_it_says is.said)
+form_read line statement is = lines.said_read format line statement is
 
 -- the lines from a number on, by the first of them
 chart_from-cons : (e : Option ℕ) (number : ℕ) (line : List ℕ) (lines : List (List ℕ)) (content : Content)
@@ -155,7 +74,7 @@ chart_read : {number last : ℕ} {lines : List (List ℕ)} {said : List Line} �
 chart_read (empty_line {number} {end = last} {line} {lines} {said} is reads) =
     chart_from-cons None number line lines Empty (empty_read line is) ∙ chart_read reads
 chart_read (form_line {number} {end = last} {line} {lines} {said} {statement} is reads) =
-    chart_from-cons None number line lines (Form statement) (form_read line statement is)
+    chart_from-cons None number line lines (Says statement) (form_read line statement is)
     ∙ ap (with_lines (record { number = number; statement = statement } ∷ [])) (chart_read reads)
 chart_read (end_line {number} {line} {lines} is all) =
     chart_from-cons None number line lines End (end_read line is) ∙ empties_read lines (suc number) number all
@@ -175,8 +94,8 @@ by_content Empty line lines number last chart is rest read =
     let r = rest (suc number) read in
     record { all = (is_content line Empty is, r.all); nothing = r.nothing; at = r.at }
 by_content End line lines number last chart is rest read = cc
-by_content (Form statement) line lines number last chart is rest read = cc
-by_content NoForm line lines number last chart is rest read = cc
+by_content (Says statement) line lines number last chart is rest read = cc
+by_content NoLine line lines number last chart is rest read = cc
 
 abbrev answered : Chart → Result Chart TextFault
 answered chart = Ok chart
@@ -206,7 +125,7 @@ reads_by End line lines number chart is rest read =
     let r = ends_at lines (suc number) number chart read in
     subst (λ (said : List Line). ReadsFrom number (line ∷ lines) said chart.end) (sym r.nothing)
     (subst (λ (last : ℕ). ReadsFrom number (line ∷ lines) [] last) (sym r.at) (end_line (is_content line End is) r.all))
-reads_by (Form statement) line lines number chart is rest read = by_others
+reads_by (Says statement) line lines number chart is rest read = by_others
     (chart_from None (suc number) lines) refl read
   where
     by_others : (others : Result Chart TextFault) → chart_from None (suc number) lines ≡ others
@@ -214,9 +133,9 @@ reads_by (Form statement) line lines number chart is rest read = by_others
         → ReadsFrom number (line ∷ lines) chart.lines chart.end
     by_others (Ok c) found same =
         subst (λ (x : Chart). ReadsFrom number (line ∷ lines) x.lines x.end) (same_ok _ chart same)
-        (form_line (is_content line (Form statement) is) (rest (suc number) c found))
+        (form_line (is_content line (Says statement) is) (rest (suc number) c found))
     by_others (Err fault) found same = cc
-reads_by NoForm line lines number chart is rest read = cc
+reads_by NoLine line lines number chart is rest read = cc
 
 reads_what_is_read : (lines : List (List ℕ)) (number : ℕ) (chart : Chart) → chart_from None number lines ≡ Ok chart
     → ReadsFrom number lines chart.lines chart.end
@@ -363,15 +282,15 @@ ended_by all number last line rest End stands good behind here others = misplace
   where
     differ : {c : Content} → c ≡ Empty → c ≡ End → ⊥
     differ e f = cc
-ended_by all number last line rest (Form statement) stands good behind here others = misplaced_behind all number line
+ended_by all number last line rest (Says statement) stands good behind here others = misplaced_behind all number line
     rest stands good behind (λ e. differ e here)
   where
-    differ : {c : Content} {s : Statement} → c ≡ Empty → c ≡ Form s → ⊥
+    differ : {c : Content} {s : Statement} → c ≡ Empty → c ≡ Says s → ⊥
     differ e f = cc
-ended_by all number last line rest NoForm stands good behind here others = misplaced_behind all number line rest
+ended_by all number last line rest NoLine stands good behind here others = misplaced_behind all number line rest
     stands good behind (λ e. differ e here)
   where
-    differ : {c : Content} → c ≡ Empty → c ≡ NoForm → ⊥
+    differ : {c : Content} → c ≡ Empty → c ≡ NoLine → ⊥
     differ e f = cc
 
 -- the outcome behind END
@@ -388,9 +307,9 @@ ended_outcome all last (line ∷ rest) number stands good behind =
 no_end_here : (line : List ℕ) (content : Content) → content_of line ≡ content → (content ≡ End → ⊥) → IsEndLine line → ⊥
 no_end_here line content is other has = other (sym is ∙ end_read line has)
 
-not_end : (content : Content) → (content ≡ Empty) ⊎ ((s : Statement) × (content ≡ Form s)) → content ≡ End → ⊥
+not_end : (content : Content) → (content ≡ Empty) ⊎ ((s : Statement) × (content ≡ Says s)) → content ≡ End → ⊥
 not_end content (inl e) f = cc
-not_end content (inr p) f = let e : content ≡ Form p.0 = p.1 in cc
+not_end content (inr p) f = let e : content ≡ Says p.0 = p.1 in cc
 
 started_by : (all : List (List ℕ)) (number : ℕ) (line : List ℕ) (rest : List (List ℕ)) (content : Content)
     → Stands all number (line ∷ rest) → GoodBelow all number → NoEndBelow all number
@@ -407,18 +326,18 @@ started_by all number line rest End stands good no_end here others =
     record { end = number; there = there_at all number line rest stands; before = omega arith; is_end = is_end } in
     ended_outcome all number rest (suc number) (next_stands all number line rest stands)
     (good_more all number good (before_end_good all number no_end (λ no_form. no_form.not_end is_end))) behind
-started_by all number line rest (Form statement) stands good no_end here others =
-    let is_form = is_content (line_at all number) (Form statement) here in
+started_by all number line rest (Says statement) stands good no_end here others =
+    let is_form = is_content (line_at all number) (Says statement) here in
     with_lines_outcome all (record { number = number; statement = statement } ∷ []) (chart_from None (suc number) rest)
     (others (suc number) (next_stands all number line rest stands)
     (good_more all number good (before_end_good all number no_end (λ no_form. no_form.not_said statement is_form)))
     (no_end_more all number no_end
-    (no_end_here (line_at all number) (Form statement) here (not_end (Form statement) (inr (statement, refl))))))
-started_by all number line rest NoForm stands good no_end here others = record {
+    (no_end_here (line_at all number) (Says statement) here (not_end (Says statement) (inr (statement, refl))))))
+started_by all number line rest NoLine stands good no_end here others = record {
   misplaced = record {
     there = there_at all number line rest stands;
     cause = inl
-        (is_content (line_at all number) NoForm here);
+        (is_content (line_at all number) NoLine here);
   };
   lowest = good;
 }
@@ -449,57 +368,18 @@ outcome first others =
     second : (k : ℕ) → suc k ≡ 2 + k - 1
     second k = omega arith
 
--- the first line
-first_is : (tokens : Option (List (List ℕ))) → is_first tokens ≡ true
-    → tokens ≡ Some (codes "CHART407" ∷ codes "1" ∷ [])
-first_is None test = cc
-first_is (Some []) test = cc
-first_is (Some (a ∷ [])) test = cc
-first_is (Some (a ∷ b ∷ [])) test =
-    let p = and_parts (bytes_eq a (codes "CHART407")) (bytes_eq b (codes "1")) test in
-    ap (λ w. Some (w ∷ b ∷ [])) (is_word a (codes "CHART407") p.0)
-    ∙ ap (λ w. Some (codes "CHART407" ∷ w ∷ [])) (is_word b (codes "1") p.1)
-first_is (Some (a ∷ b ∷ c ∷ ds)) test = cc
-
-begun_is : (line : List ℕ) → is_first (tokens_of line) ≡ true → IsFirstLine line
-begun_is line test = has_what_is_read line (codes "CHART407" ∷ codes "1" ∷ []) (first_is (tokens_of line) test)
-
-begun_read : (line : List ℕ) → IsFirstLine line → is_first (tokens_of line) ≡ true
-begun_read line has = ap is_first (read_what_it_has has)
-
--- the size
-or_true : (b c : Bool) → c ≡ true → (b || c) ≡ true
-or_true true c e = refl
-or_true false c e = e
-
-or_first : (b c : Bool) → b ≡ true → (b || c) ≡ true
-or_first b c e = rw e refl
-
-large_is : (lines : List (List ℕ)) → is_large lines ≡ true → IsTooLarge lines
-large_is lines test = by_cause (or_cases (ltb 500 (length lines)) (list_any is_long lines) test)
-  where
-    by_cause : (ltb 500 (length lines) ≡ true) ⊎ (list_any is_long lines ≡ true) → IsTooLarge lines
-    by_cause (inl e) = inl (ltb-true 500 (length lines) e)
-    by_cause (inr e) =
-        let long = Any-from_list_any is_long lines e in
-        inr (long.0, long.1, long.2, long.3, ltb-true 200 (length long.1) long.4)
-
-large_read : (lines : List (List ℕ)) → IsTooLarge lines → is_large lines ≡ true
-large_read lines (inl many) = or_first (ltb 500 (length lines)) (list_any is_long lines)
-    (lt-ltb 500 (length lines) many)
-large_read lines (inr long) =
-    or_true (ltb 500 (length lines)) (list_any is_long lines)
-    (list_any-from_Any is_long lines (long.0, long.1, long.2, long.3, lt-ltb 200 (length long.1) long.4))
+-- the size and the first line are told
+large_told : (lines : List (List ℕ)) → Decides (is_large lines) (IsTooLarge lines)
+large_told lines = larger_by 500 200 lines
 
 not_large : (lines : List (List ℕ)) → is_large lines ≡ false → IsTooLarge lines → ⊥
-not_large lines test large = both_ways (is_large lines) test (large_read lines large)
+not_large lines test = refused_by (is_large lines) (large_told lines) test
 
 small : (lines : List (List ℕ)) → (IsTooLarge lines → ⊥) → is_large lines ≡ false
-small lines is = by_test (is_large lines) refl
-  where
-    by_test : (b : Bool) → is_large lines ≡ b → is_large lines ≡ false
-    by_test true e = absurd (is (large_is lines e))
-    by_test false e = e
+small lines is = told_false (is_large lines) (large_told lines) is
+
+begun_told : (line : List ℕ) → Decides (is_first line) (IsFirstLine line)
+begun_told line = title_by (codes "CHART407") (codes "1") line
 
 -- lines of a text, by their size and their first line
 abbrev read_all : List (List ℕ) → Result Chart TextFault
@@ -524,23 +404,23 @@ same_fault : (a b : TextFault) → failed a ≡ failed b → a ≡ b
 same_fault a b e = cc
 
 begun_fault : (first : List ℕ) (others : List (List ℕ)) (fault : TextFault) (test : Bool)
-    → is_large (first ∷ others) ≡ false → is_first (tokens_of first) ≡ test
+    → is_large (first ∷ others) ≡ false → is_first first ≡ test
     → cond test (chart_from None 2 others) (Err NoFirstLine) ≡ Err fault → HaveFault (first ∷ others) fault
 begun_fault first others fault true size begun read =
-    later_fault (first ∷ others) fault (not_large (first ∷ others) size) (has_first first others (begun_is first begun))
+    later_fault (first ∷ others) fault (not_large (first ∷ others) size) (has_first first others ((begun_told first).0 begun))
     (subst (Outcome (first ∷ others)) read (outcome first others))
 begun_fault first others fault false size begun read =
     subst (HaveFault (first ∷ others)) (same_fault NoFirstLine fault read)
-    (not_large (first ∷ others) size, λ has. both_ways (is_first (tokens_of first)) begun (begun_read first has.begun))
+    (not_large (first ∷ others) size, λ has. both_ways (is_first first) begun ((begun_told first).1 has.begun))
 
 sized_fault : (lines : List (List ℕ)) (fault : TextFault) (test : Bool) → is_large lines ≡ test
     → cond test (Err TooLarge) (chart_of_lines lines) ≡ Err fault → HaveFault lines fault
-sized_fault lines fault true size read = subst (HaveFault lines) (same_fault TooLarge fault read) (large_is lines size)
+sized_fault lines fault true size read = subst (HaveFault lines) (same_fault TooLarge fault read) ((large_told lines).0 size)
 sized_fault [] fault false size read =
     subst (HaveFault []) (same_fault NoFirstLine fault read)
     (not_large [] size, λ has. absurd (omega (arith, has.there)))
 sized_fault (first ∷ others) fault false size read = begun_fault first others fault
-    (is_first (tokens_of first)) size refl read
+    (is_first first) size refl read
 
 -- the fault that is read is the one of the text
 pub fault_is : (bytes : List ℕ) (fault : TextFault) → chart_of bytes ≡ Err fault → HasFault bytes fault
@@ -577,17 +457,17 @@ no_end_read lines (Err Memory) good lacks says = absurd says
 -- what is read behind a good first line
 past_first : (first : List ℕ) (others : List (List ℕ)) → (IsTooLarge (first ∷ others) → ⊥)
     → HasFirstLine (first ∷ others) → read_all (first ∷ others) ≡ chart_from None 2 others
-past_first first others size has = rw (small (first ∷ others) size, begun_read first has.begun) refl
+past_first first others size has = rw (small (first ∷ others) size, (begun_told first).1 has.begun) refl
 
 fault_read_all : (lines : List (List ℕ)) (fault : TextFault) → HaveFault lines fault → read_all lines ≡ Err fault
-fault_read_all lines TooLarge has = rw (large_read lines has) refl
+fault_read_all lines TooLarge has = rw ((large_told lines).1 has) refl
 fault_read_all [] NoFirstLine has = refl
 fault_read_all (first ∷ others) NoFirstLine has = rw (small (first ∷ others) has.0)
-    (by_test (is_first (tokens_of first)) refl)
+    (by_test (is_first first) refl)
   where
-    by_test : (b : Bool) → is_first (tokens_of first) ≡ b → cond b (chart_from None 2 others) (Err NoFirstLine)
+    by_test : (b : Bool) → is_first first ≡ b → cond b (chart_from None 2 others) (Err NoFirstLine)
         ≡ Err NoFirstLine
-    by_test true e = absurd (has.1 (has_first first others (begun_is first e)))
+    by_test true e = absurd (has.1 (has_first first others ((begun_told first).0 e)))
     by_test false e = refl
 fault_read_all [] (NotALine n) has = absurd (omega (arith, has.1.there))
 fault_read_all (first ∷ others) (NotALine n) has =
@@ -606,7 +486,7 @@ fault_read bytes fault has = fault_read_all (lines_of bytes) fault has
 -- what is read as a chart is one
 begun_chart : (bytes first : List ℕ) (others : List (List ℕ)) (chart : Chart) (test : Bool)
     → lines_of bytes ≡ first ∷ others → (IsTooLarge (lines_of bytes) → ⊥)
-    → is_first (tokens_of first) ≡ test → cond test (chart_from None 2 others) (Err NoFirstLine) ≡ Ok chart
+    → is_first first ≡ test → cond test (chart_from None 2 others) (Err NoFirstLine) ≡ Ok chart
     → Reads bytes chart
 begun_chart bytes first others chart true lines size begun read =
     record {
@@ -614,7 +494,7 @@ begun_chart bytes first others chart true lines size begun read =
       first = first;
       others = others;
       lines = lines;
-      begun = begun_is first begun;
+      begun = (begun_told first).0 begun;
       said =
           reads_what_is_read others 2 chart read;
     }
@@ -624,7 +504,7 @@ lines_chart : (bytes : List ℕ) (lines : List (List ℕ)) (chart : Chart) → l
     → (IsTooLarge (lines_of bytes) → ⊥) → chart_of_lines lines ≡ Ok chart → Reads bytes chart
 lines_chart bytes [] chart same size read = cc
 lines_chart bytes (first ∷ others) chart same size read = begun_chart bytes first others chart
-    (is_first (tokens_of first)) same size refl read
+    (is_first first) same size refl read
 
 sized_chart : (bytes : List ℕ) (chart : Chart) (test : Bool) → is_large (lines_of bytes) ≡ test
     → cond test (Err TooLarge) (chart_of_lines (lines_of bytes)) ≡ Ok chart → Reads bytes chart
@@ -641,7 +521,7 @@ pub reads_read : (bytes : List ℕ) (chart : Chart) → Reads bytes chart → ch
 unfolding chart_of
 reads_read bytes chart is =
     rw (small (lines_of bytes) is.size)
-    (ap chart_of_lines is.lines ∙ (rw (begun_read is.first is.begun) (chart_read is.said)))
+    (ap chart_of_lines is.lines ∙ (rw ((begun_told is.first).1 is.begun) (chart_read is.said)))
 
 -- one chart at most fits a text, no chart fits a text with a fault, and a text has one fault at most
 pub one_chart : (bytes : List ℕ) (a b : Chart) → Reads bytes a → Reads bytes b → a ≡ b

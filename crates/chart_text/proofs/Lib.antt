@@ -1,7 +1,6 @@
 pub mod Fronts
 pub mod Numbers
 mod NumberedWords
-pub mod Size
 pub mod LineSteps
 pub mod WordGrammar
 pub mod FormGrammar

@@ -3,8 +3,7 @@ use Rattle.std.proofs.Common.{◌≡◌, ℕ, ◌+◌, ◌<◌, ◌≤◌, List,
 use Rattle.card_code.specs.Lines.{lines_of}
 use Rattle.chart_text.specs.Chart.{Chart, NumbersRise}
 use Rattle.std.proofs.Math.Numerals.{add-one}
-use Rattle.chart_text.specs.HelperText.{with_lines, line_then, chart_from, content_of, Faults, TakesLine, RefusesLine}
-use Rattle.chart_text.specs.declared.read.Content.{Content}
+use Rattle.chart_text.specs.HelperText.{Content, with_lines, line_then, chart_from, content_of, Faults, TakesLine, RefusesLine}
 use Rattle.chart_text.specs.declared.chart.Line.{Line}
 use Rattle.chart_text.specs.declared.fault.TextFault.{TextFault}
 use Rattle.chart_text.specs.declared.fault.TextFault.TheVariants.{TooLarge, NoFirstLine, NotALine, NoEnd, Memory}

@@ -1,49 +1,33 @@
 -- A helper of the code: what the reader of a whole text answers, as a function of its lines.
 -- This is a step between the code and the grammar: no public clause speaks of it.
-use Rattle.std.specs.Prelude.{◌≡◌, ℕ, ◌&&◌, ◌||◌, Bool, false, List, [], ◌∷◌, ◌++◌, length, Option, Some, None, Result, Ok, Err, suc, nat_lt, if◌then◌else◌, codes}
-use Rattle.std.specs.List.{list_any}
-use Rattle.std.specs.Str.{bytes_eq}
+use Rattle.std.specs.Prelude.{◌≡◌, ℕ, Bool, List, [], ◌∷◌, ◌++◌, Option, Some, None, Result, Ok, Err, suc, if◌then◌else◌, codes}
 use Rattle.card_code.specs.Lines.{lines_of}
 use Rattle.chart_text.specs.Chart.{Chart}
 use Rattle.tokens.specs.Dividing.{tokens_of}
+use Rattle.tokens.specs.FrameReading.{is_larger, is_title_line}
+use Rattle.tokens.specs.HelperLines.{divided_content}
+use Rattle.tokens.specs.declared.frame.Content as frame
+use Rattle.tokens.specs.declared.frame.Content.TheVariants.{Empty, End, Says, NoLine}
 use Rattle.chart_text.specs.HelperForms.{statement_of}
 use Rattle.chart_text.specs.declared.chart.Line.{Line}
 use Rattle.chart_text.specs.declared.statement.Statement.{Statement}
-use Rattle.chart_text.specs.declared.read.Content.{Content}
-use Rattle.chart_text.specs.declared.read.Content.TheVariants.{Empty, End, Form, NoForm}
 use Rattle.chart_text.specs.declared.fault.TextFault.{TextFault}
 use Rattle.chart_text.specs.declared.fault.TextFault.TheVariants.{TooLarge, NoFirstLine, NotALine, NoEnd, Memory}
 
--- a form, or none
-abbrev pub form_content : Option Statement → Content
-form_content (Some statement) = Form statement
-form_content None = NoForm
-
--- what the tokens of a line are
-abbrev pub tokens_content : List (List ℕ) → Content
-tokens_content [] = Empty
-tokens_content (word ∷ []) = if bytes_eq word (codes "END") then End else form_content (statement_of (word ∷ []))
-tokens_content (word ∷ next ∷ others) = form_content (statement_of (word ∷ next ∷ others))
-
--- what a line is
-abbrev pub divided_content : Option (List (List ℕ)) → Content
-divided_content None = NoForm
-divided_content (Some tokens) = tokens_content tokens
+-- what a line of a chart is
+abbrev pub Content : Type 0
+Content = frame.Content Statement
 
 unfoldable pub content_of : List ℕ → Content
-content_of line = divided_content (tokens_of line)
+content_of line = divided_content statement_of (tokens_of line)
 
--- whether tokens are those of the first line
-abbrev pub is_first : Option (List (List ℕ)) → Bool
-is_first (Some (name ∷ version ∷ [])) = bytes_eq name (codes "CHART407") && bytes_eq version (codes "1")
-is_first _ = false
+-- whether a line is the first line
+abbrev pub is_first : List ℕ → Bool
+is_first line = is_title_line (codes "CHART407") (codes "1") line
 
 -- whether a text is too large
-abbrev pub is_long : List ℕ → Bool
-is_long line = nat_lt 200 (length line)
-
 abbrev pub is_large : List (List ℕ) → Bool
-is_large lines = nat_lt 500 (length lines) || list_any is_long lines
+is_large lines = is_larger 500 200 lines
 
 -- lines that are read already, before the others
 abbrev pub with_lines : List Line → Result Chart TextFault → Result Chart TextFault
@@ -54,11 +38,11 @@ with_lines front (Err fault) = Err fault
 abbrev pub line_then : Option ℕ → ℕ → Content → (Option ℕ → Result Chart TextFault) → Result Chart TextFault
 line_then end number Empty others = others end
 line_then None number End others = others (Some number)
-line_then None number (Form statement) others = with_lines (record { number = number; statement = statement } ∷ [])
+line_then None number (Says statement) others = with_lines (record { number = number; statement = statement } ∷ [])
     (others None)
 line_then (Some end) number End others = Err (NotALine number)
-line_then (Some end) number (Form statement) others = Err (NotALine number)
-line_then end number NoForm others = Err (NotALine number)
+line_then (Some end) number (Says statement) others = Err (NotALine number)
+line_then end number NoLine others = Err (NotALine number)
 
 -- the lines from a number on
 unfoldable pub chart_from : Option ℕ → ℕ → List (List ℕ) → Result Chart TextFault
@@ -69,7 +53,7 @@ chart_from end number (line ∷ lines) = line_then end number (content_of line) 
 -- all lines of a text that is not too large
 abbrev pub chart_of_lines : List (List ℕ) → Result Chart TextFault
 chart_of_lines [] = Err NoFirstLine
-chart_of_lines (first ∷ others) = if is_first (tokens_of first) then chart_from None 2 others else Err NoFirstLine
+chart_of_lines (first ∷ others) = if is_first first then chart_from None 2 others else Err NoFirstLine
 
 -- a text
 unfoldable pub chart_of : List ℕ → Result Chart TextFault

@@ -2,11 +2,13 @@
 
 ghost use Rattle.std.specs.Prelude.{◌≡◌, ◌≢◌, ◌+◌, ◌<◌, ◌≤◌, ℕ, length, IfOk, IfErr, IfSome, OnOk, None, unwrap_or, ◌⊎◌};
 ghost use Rattle.card_code.specs.Lines.{lines_of};
-ghost use Rattle.tokens.specs.Dividing.{texts, tokens_of};
+ghost use Rattle.tokens.specs.Dividing.{texts};
+ghost use Rattle.tokens.specs.HelperLines.{tokens_content};
+ghost use Rattle.chart_text.specs.HelperForms.{statement_of};
 ghost use Rattle.chart_text.specs.Chart.{Chart, NumbersRise};
 ghost use Rattle.chart_text.specs.ChartText.{Reads};
 ghost use Rattle.chart_text.specs.TextFaults.{HasFault};
-ghost use Rattle.chart_text.specs.HelperText.{content_of, tokens_content, is_first, is_large, is_long, chart_from, chart_of, chart_of_lines, Answers, TakesLine, RefusesLine};
+ghost use Rattle.chart_text.specs.HelperText.{content_of, chart_from, chart_of, chart_of_lines, Answers, TakesLine, RefusesLine};
 
 use crate::chart::{Line, RawChart};
 use crate::fault::TextFault;
@@ -14,26 +16,13 @@ use crate::forms::read_statement;
 use crate::statement::Statement;
 use card_code::next_line;
 use std::alloc::{AllocError, Global};
-use tokens::{is, split_line};
+use tokens::{Content, is, is_larger, is_title_line, split_line};
 
 /// How many lines a chart has at most.
-const MAX_LINES: u16 = 500;
+const MAX_LINES: usize = 500;
 
 /// How many bytes a line of a chart has at most.
 const MAX_LINE_BYTES: usize = 200;
-
-/// What one line is.
-#[derive(Debug, Drop)]
-pub(crate) enum Content {
-    /// A line without a token.
-    Empty,
-    /// END alone.
-    End,
-    /// A form, and what it says.
-    Form(Statement),
-    /// Nothing that a chart has.
-    NoForm,
-}
 
 /// Reads a chart: the raw chart of its text, as the grammar of charts has it.
 ///
@@ -62,61 +51,32 @@ pub fn read_chart(alloc: Global, text: &[u8]) -> Result<RawChart, TextFault>
 fn read_text(alloc: Global, text: &[u8]) -> Result<RawChart, TextFault>
     ensures { Answers result (chart_of text.now) }
 {
-    if is_too_large(text) {
+    if is_larger(text, MAX_LINES, MAX_LINE_BYTES) {
         return Err(TextFault::TooLarge);
     }
     let Some((first, others)) = next_line(text) else {
         return Err(TextFault::NoFirstLine);
     };
-    if !is_first_line(alloc, first)? {
+    if !is_title_line(first, b"CHART407", b"1") {
         return Err(TextFault::NoFirstLine);
     }
     read_lines(alloc, others)
 }
 
-/// Whether a text has too many lines, or a line of too many bytes.
-fn is_too_large(text: &[u8]) -> bool
-    ensures { result ≡ is_large (lines_of text.now) }
-{
-    let mut lines = 0;
-    let mut rest = text;
-    while let Some((line, behind)) = next_line(rest) {
-        if lines == MAX_LINES || line.len() > MAX_LINE_BYTES {
-            return true;
-        }
-        lines += 1;
-        rest = behind;
-    }
-    false
-}
-
-/// Whether a line is `CHART407 1`.
-fn is_first_line(alloc: Global, line: &[u8]) -> Result<bool, AllocError>
-    ensures { IfOk result (λ is. is ≡ is_first (tokens_of line.now)) }
-{
-    let Some(tokens) = split_line(alloc, line)? else {
-        return Ok(false);
-    };
-    match tokens.as_slice() {
-        [name, version] => Ok(is(name, b"CHART407") && is(version, b"1")),
-        _ => Ok(false),
-    }
-}
-
 /// What a line is.
 #[tactic(auto, unfolding(crate::specs::HelperText::content_of))]
-fn read_line(alloc: Global, line: &[u8]) -> Result<Content, AllocError>
+fn read_line(alloc: Global, line: &[u8]) -> Result<Content<Statement>, AllocError>
     ensures { IfOk result (λ content. content ≡ content_of line.now) }
 {
     match split_line(alloc, line)? {
         Some(tokens) => read_tokens(alloc, tokens.as_slice()),
-        None => Ok(Content::NoForm),
+        None => Ok(Content::NoLine),
     }
 }
 
 /// What a line of these tokens is.
-fn read_tokens(alloc: Global, tokens: &[&[u8]]) -> Result<Content, AllocError>
-    ensures { IfOk result (λ content. content ≡ tokens_content (texts tokens.now)) }
+fn read_tokens(alloc: Global, tokens: &[&[u8]]) -> Result<Content<Statement>, AllocError>
+    ensures { IfOk result (λ content. content ≡ tokens_content statement_of (texts tokens.now)) }
 {
     match tokens {
         [] => return Ok(Content::Empty),
@@ -124,8 +84,8 @@ fn read_tokens(alloc: Global, tokens: &[&[u8]]) -> Result<Content, AllocError>
         _ => {}
     }
     match read_statement(alloc, tokens)? {
-        Some(statement) => Ok(Content::Form(statement)),
-        None => Ok(Content::NoForm),
+        Some(statement) => Ok(Content::Says(statement)),
+        None => Ok(Content::NoLine),
     }
 }
 
@@ -152,7 +112,7 @@ fn read_lines(alloc: Global, text: &[u8]) -> Result<RawChart, TextFault>
 
 /// Takes the line of a number: behind the lines so far, or as END where there was none.
 fn take_line(
-    content: Content,
+    content: Content<Statement>,
     number: u16,
     lines: &mut Vec<Line>,
     end: &mut Option<u16>,
@@ -166,7 +126,7 @@ fn take_line(
     match (content, *end) {
         (Content::Empty, _) => {}
         (Content::End, None) => *end = Some(number),
-        (Content::Form(statement), None) => lines.push(Line { number, statement })?,
+        (Content::Says(statement), None) => lines.push(Line { number, statement })?,
         _ => return Err(TextFault::NotALine { line: number }),
     }
     Ok(())

@@ -1,7 +1,10 @@
 pub mod Answered
 pub mod Dividing
-pub mod EndLine
+pub mod FirstWord
+pub mod LineContent
 pub mod NumberGrammar
 pub mod Steps
+pub mod TextFrame
+pub mod TextSize
 pub mod TokenGrammar
 pub mod TokenWord

@@ -1,5 +1,7 @@
 pub mod Dividing
 pub mod Frame
+pub mod FrameReading
+pub mod HelperLines
 pub mod Number
 pub mod NumberReading
 pub mod Steps

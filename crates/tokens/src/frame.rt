@@ -1,21 +1,92 @@
 //! The frame that text formats share.
 
-ghost use Rattle.std.specs.Prelude.{◌↔◌, IsTrue};
-ghost use Rattle.tokens.specs.Frame.{IsEndLine};
+ghost use Rattle.std.specs.Prelude.{◌≡◌, ◌↔◌, ℕ, List, [], ◌∷◌, IsTrue, IfSome, IfNone};
+ghost use Rattle.card_code.specs.Lines.{lines_of};
+ghost use Rattle.tokens.specs.Frame.{IsLarger, IsEmptyLine, IsEndLine, IsTitleLine};
+ghost use Rattle.tokens.specs.FrameReading.{is_larger, is_title_line};
+ghost use Rattle.tokens.specs.Tokens.{HasTokens};
 
 use crate::line::{first_token, without_spaces};
 use crate::word::is;
+use card_code::next_line;
+
+/// What a line behind the first ones is, in a format whose lines say `S`.
+#[derive(Debug, Drop)]
+pub enum Content<S> {
+    /// A line without a token.
+    Empty,
+    /// END alone.
+    End,
+    /// A line of the format, and what it says.
+    Says(S),
+    /// Nothing that the format has.
+    NoLine,
+}
+
+/// Whether a text has more lines than a format has at most, or a line of more bytes than there are at most in one.
+pub fn is_larger(text: &[u8], most_lines: usize, most_bytes: usize) -> bool
+    ensures larger { IsTrue result ↔ IsLarger most_lines most_bytes (lines_of text.now) }
+    ensures value { result ≡ is_larger most_lines most_bytes (lines_of text.now) }
+{
+    let mut lines = 0;
+    let mut rest = text;
+    while let Some((line, behind)) = next_line(rest) {
+        if lines == most_lines || line.len() > most_bytes {
+            return true;
+        }
+        lines += 1;
+        rest = behind;
+    }
+    false
+}
+
+/// Whether a line is a format's name and its version alone. Spaces may stand before, between and behind them.
+pub fn is_title_line(line: &[u8], name: &[u8], version: &[u8]) -> bool
+    ensures title { IsTrue result ↔ IsTitleLine name.now version.now line.now }
+    ensures value { result ≡ is_title_line name.now version.now line.now }
+{
+    match behind_word(line, name) {
+        Some(behind) => is_lone_word(behind, version),
+        None => false,
+    }
+}
 
 /// Whether a line is END: whether END is its only token. Spaces may stand before and behind it, and nothing else may.
 pub fn is_end_line(line: &[u8]) -> bool
     ensures { IsTrue result ↔ IsEndLine line.now }
 {
-    let rest = without_spaces(line);
-    if rest.is_empty() {
-        return false;
-    }
-    match first_token(rest) {
-        Some((token, behind)) => is(token, b"END") && without_spaces(behind).is_empty(),
+    is_lone_word(line, b"END")
+}
+
+/// Whether a word is the only token of a line.
+fn is_lone_word(line: &[u8], word: &[u8]) -> bool
+    ensures { IsTrue result ↔ HasTokens line.now (word.now ∷ []) }
+{
+    match behind_word(line, word) {
+        Some(behind) => is_empty_line(behind),
         None => false,
     }
+}
+
+/// Whether a line has no token.
+fn is_empty_line(line: &[u8]) -> bool
+    ensures { IsTrue result ↔ IsEmptyLine line.now }
+{
+    without_spaces(line).is_empty()
+}
+
+/// What stands behind a word, or `None` where the word isn't the first token of the line.
+fn behind_word<'a>(line: &'a [u8], word: &[u8]) -> Option<&'a [u8]>
+    ensures first { IfSome result (λ behind. (tokens : List (List ℕ))
+        → HasTokens line.now (word.now ∷ tokens) ↔ HasTokens behind.now tokens) }
+    ensures other { IfNone result ((tokens : List (List ℕ)) → ¬ HasTokens line.now (word.now ∷ tokens)) }
+{
+    let rest = without_spaces(line);
+    if rest.is_empty() {
+        return None;
+    }
+    let Some((token, behind)) = first_token(rest) else {
+        return None;
+    };
+    if is(token, word) { Some(behind) } else { None }
 }

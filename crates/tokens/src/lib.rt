@@ -2,11 +2,16 @@
 //!
 //! [`split_line`] divides a line into its tokens: only a space divides, and a token may stand between
 //! apostrophes, spaces and all. [`read_number`] and [`read_number_to`] answer the number that a token
-//! is, and [`is`] whether it is a given word. [`is_end_line`] tells the line that ends a text. It stands on nothing but std.
+//! is, and [`is`] whether it is a given word.
+//!
+//! The text formats share a frame: [`is_larger`] tells a text that is too large for its format, [`is_title_line`] the line
+//! that names a format and its version, and [`is_end_line`] the line that ends a text. [`Content`] is what a line behind the
+//! first ones is.
+//! Lines are those of `card_code`; the crate stands on no other of this repository.
 //!
 //! `specs/` has the grammar apart from any scanner: `HasTokens`, `IsNumber` and `IsNumberTo` are relations,
-//! and what a reader answers is exactly what is related. `Frame` has what the text formats share: the size of a text, its empty
-//! lines, its END, the line at a number, and what stands behind END. That a line has one list of tokens at most, and
+//! and what a reader answers is exactly what is related. `Frame` has what the text formats share: the size of a text, its first
+//! line, its empty lines, its END, the line at a number, and what stands behind END. That a line has one list of tokens at most, and
 //! a token is one number at most, is a law of them.
 #![tactic(auto)]
 
@@ -18,7 +23,7 @@ mod number;
 mod tests;
 mod word;
 
-pub use frame::is_end_line;
+pub use frame::{Content, is_end_line, is_larger, is_title_line};
 pub use laws::tokens_are_unambiguous;
 pub use line::split_line;
 pub use number::{read_number, read_number_to};

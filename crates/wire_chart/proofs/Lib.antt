@@ -5,7 +5,6 @@ pub mod StatementGrammar
 pub mod LineGrammar
 pub mod SameStatement
 pub mod SetupSteps
-pub mod Size
 pub mod LineSteps
 pub mod Takings
 pub mod NewSetup

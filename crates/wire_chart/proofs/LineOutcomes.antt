@@ -4,14 +4,13 @@ use Rattle.hubs.specs.Tapes.{IsFormed}
 use Rattle.hubs.specs.declared.fault.SetupFault.{SetupFault}
 use Rattle.wire_chart.specs.Reading.{is_said}
 use Rattle.wire_chart.specs.Statements.{statement_fault}
-use Rattle.wire_chart.specs.TextReading.{content_of, go_on, lines_from, new_said, step, start}
+use Rattle.wire_chart.specs.TextReading.{Content, content_of, go_on, lines_from, new_said, step, start}
 use Rattle.tokens.specs.Frame.{line_at, IsBehindEnd, LacksEnd}
 use Rattle.wire_chart.specs.WiringFaults.{IsMisplaced, SaysAt, IsRepeated, IsUnfit, IsAtFault, misplaced, repeated, unfit, AreGoodBefore}
 use Rattle.wire_chart.specs.WiringText.{FormNumbers, IsEndLine}
 use Rattle.wire_chart.specs.declared.fault.WiringFault.{WiringFault}
 use Rattle.wire_chart.specs.declared.fault.WiringFault.TheVariants.{TooLarge, NoFirstLine, NotALine, LineTwice, Unfit, NoEnd, Memory}
-use Rattle.wire_chart.specs.declared.line.Content.{Content}
-use Rattle.wire_chart.specs.declared.line.Content.TheVariants.{Empty, End, Says, NoLine}
+use Rattle.tokens.specs.declared.frame.Content.TheVariants.{Empty, End, Says, NoLine}
 use Rattle.wire_chart.specs.declared.statement.Statement.{Statement}
 use Rattle.wire_chart.proofs.LineGrammar.{is_content, empty_read, end_read}
 use Rattle.wire_chart.proofs.LinesGrammar.{before_end, behind_end}

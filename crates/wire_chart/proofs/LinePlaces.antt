@@ -2,12 +2,11 @@
 use Rattle.std.proofs.Common.{◌≡◌, ◌⊎◌, ℕ, ◌+◌, ◌<◌, ◌≤◌, List, [], ◌∷◌, ◌++◌, length, get_or, Contains, ap, sym, ◌∙◌, subst, suc, inl, inr, arith}
 use Rattle.std.proofs.lemmas.Bool.{cases_order}
 use Rattle.hubs.specs.declared.fault.SetupFault.{SetupFault}
-use Rattle.wire_chart.specs.TextReading.{content_of}
+use Rattle.wire_chart.specs.TextReading.{Content, content_of}
 use Rattle.tokens.specs.Frame.{line_at, IsBehindEnd, IsNoLine}
 use Rattle.wire_chart.specs.WiringFaults.{IsBehindForm, IsMisplaced, SaysAt, IsRepeated, IsUnfitLine, IsAtFault, misplaced, repeated, unfit, AreGoodBefore}
 use Rattle.wire_chart.specs.WiringText.{FormNumbers, IsEmptyLine, IsEndLine, SaysLine}
-use Rattle.wire_chart.specs.declared.line.Content.{Content}
-use Rattle.wire_chart.specs.declared.line.Content.TheVariants.{Empty, Says}
+use Rattle.tokens.specs.declared.frame.Content.TheVariants.{Empty, Says}
 use Rattle.wire_chart.specs.declared.statement.Statement.{Statement}
 use Rattle.wire_chart.proofs.LineGrammar.{is_content, said_read}
 use Rattle.wire_chart.proofs.SameStatement.{pushed_cases, pushed_said}

@@ -3,11 +3,10 @@ use Rattle.std.proofs.Common.{◌≡◌, ◌⊎◌, ℕ, ◌+◌, Bool, true, fa
 use Rattle.std.proofs.Math.Numerals.{add-one}
 use Rattle.card_code.specs.Lines.{lines_of}
 use Rattle.hubs.specs.Wiring.{Wiring}
-use Rattle.wire_chart.specs.TextReading.{Answers, Holds, Refuses, SoFar, Takes, Told, content_of, go_on, lines_from, start, step, with_form}
+use Rattle.wire_chart.specs.TextReading.{Content, Answers, Holds, Refuses, SoFar, Takes, Told, content_of, go_on, lines_from, start, step, with_form}
 use Rattle.wire_chart.specs.WiringText.{FormNumbers}
 use Rattle.wire_chart.specs.declared.fault.WiringFault.{WiringFault}
 use Rattle.wire_chart.specs.declared.fault.WiringFault.TheVariants.{NoEnd, Memory}
-use Rattle.wire_chart.specs.declared.line.Content.{Content}
 use Rattle.wire_chart.specs.declared.statement.Statement.{Statement}
 
 -- what the lines so far say, which the setup has, before what the rest says, is what the text says

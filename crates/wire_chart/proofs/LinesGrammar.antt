@@ -9,12 +9,11 @@ use Rattle.std.specs.List.{AllByRecursion}
 use Rattle.hubs.specs.declared.fault.SetupFault.{SetupFault}
 use Rattle.wire_chart.specs.Reading.{is_said}
 use Rattle.wire_chart.specs.Statements.{statement_fault}
-use Rattle.wire_chart.specs.TextReading.{SoFar, content_of, go_on, lines_from, new_said, say, step}
+use Rattle.wire_chart.specs.TextReading.{Content, SoFar, content_of, go_on, lines_from, new_said, say, step}
 use Rattle.wire_chart.specs.WiringText.{IsEmptyLine, SaysLines, empty_line, said_line, end_line}
 use Rattle.wire_chart.specs.declared.fault.WiringFault.{WiringFault}
 use Rattle.wire_chart.specs.declared.fault.WiringFault.TheVariants.{LineTwice}
-use Rattle.wire_chart.specs.declared.line.Content.{Content}
-use Rattle.wire_chart.specs.declared.line.Content.TheVariants.{Empty, End, Says, NoLine}
+use Rattle.tokens.specs.declared.frame.Content.TheVariants.{Empty, End, Says, NoLine}
 use Rattle.wire_chart.specs.declared.statement.Statement.{Statement}
 use Rattle.wire_chart.proofs.LineGrammar.{is_content, empty_read, end_read, said_read}
 use Rattle.wire_chart.proofs.SameStatement.{not_said, none_contained}

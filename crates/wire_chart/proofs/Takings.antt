@@ -2,10 +2,9 @@
 use Rattle.std.proofs.Common.{◌≡◌, ℕ, Bool, true, false, [], ◌∷◌, ◌++◌, Result, Ok, refl, ap, sym, inr, subst}
 use Rattle.hubs.specs.Wiring.{Wiring}
 use Rattle.hubs.specs.declared.fault.SetupFault.{SetupFault}
-use Rattle.wire_chart.specs.TextReading.{IsPut, Puts, Refuses, SoFar, Takes, step}
+use Rattle.wire_chart.specs.TextReading.{Content, IsPut, Puts, Refuses, SoFar, Takes, step}
 use Rattle.wire_chart.specs.declared.fault.WiringFault.TheVariants.{LineTwice}
-use Rattle.wire_chart.specs.declared.line.Content.{Content}
-use Rattle.wire_chart.specs.declared.line.Content.TheVariants.{Empty, End, Says}
+use Rattle.tokens.specs.declared.frame.Content.TheVariants.{Empty, End, Says}
 use Rattle.wire_chart.specs.declared.statement.Statement.{Statement}
 
 -- an empty line

@@ -1,59 +1,37 @@
 -- A text is a wiring chart exactly where it is read as one, and has exactly the fault that is read.
-use Rattle.std.proofs.Common.{◌≡◌, ◌⊎◌, ℕ, ◌≤◌, Bool, true, false, cond, ltb, ◌||◌, List, [], ◌∷◌, length, Option, Some, None, Result, Ok, Err, refl, ap, sym, ◌∙◌, subst, inl, inr, arith}
-use Rattle.std.proofs.lemmas.Bool.{ltb-true, lt-ltb, or_cases, both_ways}
-use Rattle.std.proofs.lemmas.List.Folds.{Any-from_list_any, list_any-from_Any}
-use Rattle.std.specs.List.{list_any}
+use Rattle.std.proofs.Common.{◌≡◌, ℕ, ◌≤◌, Bool, true, false, cond, List, [], ◌∷◌, Option, Some, None, Result, Ok, Err, refl, ap, sym, ◌∙◌, subst, inl, inr, arith, codes}
+use Rattle.std.proofs.lemmas.Bool.{both_ways}
+use Rattle.std.specs.Bool.{Decides}
 use Rattle.card_code.specs.Lines.{lines_of}
 use Rattle.hubs.specs.Tapes.{IsFormed}
 use Rattle.hubs.specs.declared.fault.SetupFault.{SetupFault}
 use Rattle.hubs.specs.declared.fault.SetupFault.TheVariants.{TapeFault}
 use Rattle.tokens.specs.Dividing.{tokens_of}
-use Rattle.wire_chart.specs.TextReading.{Told, divided_form, formed_lines, headed_lines, is_first, is_formed, is_large, is_long, lines_from, lines_told, start, text_told, with_form}
+use Rattle.tokens.proofs.TextFrame.{larger_by, title_by, told_false, refused_by}
+use Rattle.wire_chart.specs.TextReading.{Told, divided_form, formed_lines, headed_lines, is_first, is_formed, is_large, lines_from, lines_told, start, text_told, with_form}
 use Rattle.wire_chart.specs.WiringFaults.{HasHead, IsUnfitForm, IsUnfit, IsAtFault, misplaced, repeated, unfit, AreGoodBefore, IsBegun, HaveFault, HasFault}
-use Rattle.wire_chart.specs.WiringText.{FormNumbers, IsTooLarge, IsWiringChart, SaysLines}
+use Rattle.wire_chart.specs.WiringText.{FormNumbers, IsFirstLine, IsTooLarge, IsWiringChart, SaysLines}
 use Rattle.wire_chart.specs.declared.fault.WiringFault.{WiringFault}
 use Rattle.wire_chart.specs.declared.fault.WiringFault.TheVariants.{TooLarge, NoFirstLine, NotALine, LineTwice, Unfit, NoEnd, Memory}
 use Rattle.wire_chart.specs.declared.statement.Statement.{Statement}
-use Rattle.wire_chart.proofs.LineGrammar.{begun_is, begun_read}
 use Rattle.wire_chart.proofs.LinesGrammar.{lines_read, reads_what_is_read}
 use Rattle.wire_chart.proofs.LineOutcomes.{Outcome, outcome}
 use Rattle.wire_chart.proofs.LowestFaults.{misplaced_read, repeated_read, unfit_read, no_end_read}
 use Rattle.wire_chart.proofs.NewSetup.{formed_is, formed_read}
 use Rattle.wire_chart.proofs.StatementGrammar.{form_is, form_read}
 
--- the size
-or_true : (b c : Bool) → c ≡ true → (b || c) ≡ true
-or_true true c e = refl
-or_true false c e = e
-
-or_first : (b c : Bool) → b ≡ true → (b || c) ≡ true
-or_first b c e = rw e refl
-
-large_is : (lines : List (List ℕ)) → is_large lines ≡ true → IsTooLarge lines
-large_is lines test = by_cause (or_cases (ltb 1000000 (length lines)) (list_any is_long lines) test)
-  where
-    by_cause : (ltb 1000000 (length lines) ≡ true) ⊎ (list_any is_long lines ≡ true) → IsTooLarge lines
-    by_cause (inl e) = inl (ltb-true 1000000 (length lines) e)
-    by_cause (inr e) =
-        let long = Any-from_list_any is_long lines e in
-        inr (long.0, long.1, long.2, long.3, ltb-true 60 (length long.1) long.4)
-
-large_read : (lines : List (List ℕ)) → IsTooLarge lines → is_large lines ≡ true
-large_read lines (inl many) = or_first (ltb 1000000 (length lines)) (list_any is_long lines)
-    (lt-ltb 1000000 (length lines) many)
-large_read lines (inr long) =
-    or_true (ltb 1000000 (length lines)) (list_any is_long lines)
-    (list_any-from_Any is_long lines (long.0, long.1, long.2, long.3, lt-ltb 60 (length long.1) long.4))
+-- the size and the first line are told
+large_told : (lines : List (List ℕ)) → Decides (is_large lines) (IsTooLarge lines)
+large_told lines = larger_by 1000000 60 lines
 
 not_large : (lines : List (List ℕ)) → is_large lines ≡ false → IsTooLarge lines → ⊥
-not_large lines test large = both_ways (is_large lines) test (large_read lines large)
+not_large lines test = refused_by (is_large lines) (large_told lines) test
 
 small : (lines : List (List ℕ)) → (IsTooLarge lines → ⊥) → is_large lines ≡ false
-small lines is = by_test (is_large lines) refl
-  where
-    by_test : (b : Bool) → is_large lines ≡ b → is_large lines ≡ false
-    by_test true e = absurd (is (large_is lines e))
-    by_test false e = e
+small lines is = told_false (is_large lines) (large_told lines) is
+
+begun_told : (line : List ℕ) → Decides (is_first line) (IsFirstLine line)
+begun_told line = title_by (codes "WIRING407") (codes "1") line
 
 -- answers
 abbrev failed : WiringFault → Result Told WiringFault
@@ -100,14 +78,14 @@ begun_fault lines form NoEnd size head is = (record { size = size; form = form; 
 begun_fault lines form Memory size head is = absurd is
 
 -- the first two lines
-has_head : (first second : List ℕ) (others : List (List ℕ)) (form : FormNumbers) → is_first (tokens_of first) ≡ true
+has_head : (first second : List ℕ) (others : List (List ℕ)) (form : FormNumbers) → is_first first ≡ true
     → divided_form (tokens_of second) ≡ Some form → HasHead (first ∷ second ∷ others) form
 has_head first second others form begun formed =
-    record { there = omega arith; begun = begun_is first begun; formed = form_is second form formed }
+    record { there = omega arith; begun = (begun_told first).0 begun; formed = form_is second form formed }
 
 head_read : (first second : List ℕ) (others : List (List ℕ)) (form : FormNumbers) → HasHead (first ∷ second ∷ others) form
-    → (is_first (tokens_of first) ≡ true) × (divided_form (tokens_of second) ≡ Some form)
-head_read first second others form has = (begun_read first has.begun, form_read second form has.formed)
+    → (is_first first ≡ true) × (divided_form (tokens_of second) ≡ Some form)
+head_read first second others form has = ((begun_told first).1 has.begun, form_read second form has.formed)
 
 -- a form that no tape can have
 unformed : (form : FormNumbers) → is_formed form ≡ false → IsFormed form.lines form.first form.overflow → ⊥
@@ -136,7 +114,7 @@ formed_fault first second others form fault false size head formed read =
     )
 
 headed_fault : (first second : List ℕ) (others : List (List ℕ)) (fault : WiringFault) (test : Bool) (form : Option FormNumbers)
-    → (IsTooLarge (first ∷ second ∷ others) → ⊥) → is_first (tokens_of first) ≡ test → divided_form (tokens_of second) ≡ form
+    → (IsTooLarge (first ∷ second ∷ others) → ⊥) → is_first first ≡ test → divided_form (tokens_of second) ≡ form
     → headed_lines test form others ≡ Err fault → HaveFault (first ∷ second ∷ others) fault
 headed_fault first second others fault true (Some form) size begun formed read =
     formed_fault first second others form fault (is_formed form) size (has_head first second others form begun formed) refl read
@@ -148,11 +126,11 @@ headed_fault first second others fault true None size begun formed read =
     clash form e = cc
 headed_fault first second others fault false form size begun formed read =
     subst (HaveFault (first ∷ second ∷ others)) (same_fault NoFirstLine fault read)
-    (size, λ form has. both_ways (is_first (tokens_of first)) begun (head_read first second others form has).0)
+    (size, λ form has. both_ways (is_first first) begun (head_read first second others form has).0)
 
 sized_fault : (lines : List (List ℕ)) (fault : WiringFault) (test : Bool) → is_large lines ≡ test
     → cond test (Err TooLarge) (lines_told lines) ≡ Err fault → HaveFault lines fault
-sized_fault lines fault true size read = subst (HaveFault lines) (same_fault TooLarge fault read) (large_is lines size)
+sized_fault lines fault true size read = subst (HaveFault lines) (same_fault TooLarge fault read) ((large_told lines).0 size)
 sized_fault [] fault false size read =
     subst (HaveFault []) (same_fault NoFirstLine fault read)
     (not_large [] size, λ form has. absurd (omega (arith, has.there)))
@@ -160,7 +138,7 @@ sized_fault (first ∷ []) fault false size read =
     subst (HaveFault (first ∷ [])) (same_fault NoFirstLine fault read)
     (not_large (first ∷ []) size, λ form has. absurd (omega (arith, has.there)))
 sized_fault (first ∷ second ∷ others) fault false size read =
-    headed_fault first second others fault (is_first (tokens_of first)) (divided_form (tokens_of second))
+    headed_fault first second others fault (is_first first) (divided_form (tokens_of second))
     (not_large (first ∷ second ∷ others) size) refl refl read
 
 -- the fault that is read is the one of the text
@@ -236,7 +214,7 @@ past_both first second others begun =
     past_size (first ∷ second ∷ others) begun.size ∙ past_head first second others begun.form begun.head
 
 no_head_read : (first second : List ℕ) (others : List (List ℕ)) (test : Bool) (form : Option FormNumbers)
-    → is_first (tokens_of first) ≡ test → divided_form (tokens_of second) ≡ form
+    → is_first first ≡ test → divided_form (tokens_of second) ≡ form
     → ((f : FormNumbers) → HasHead (first ∷ second ∷ others) f → ⊥) → headed_lines test form others ≡ Err NoFirstLine
 no_head_read first second others true (Some form) begun formed none =
     absurd (none form (has_head first second others form begun formed))
@@ -244,12 +222,12 @@ no_head_read first second others true None begun formed none = refl
 no_head_read first second others false form begun formed none = refl
 
 fault_read_all : (lines : List (List ℕ)) (fault : WiringFault) → HaveFault lines fault → sized lines ≡ Err fault
-fault_read_all lines TooLarge has = ap (λ b. cond b (failed TooLarge) (lines_told lines)) (large_read lines has)
+fault_read_all lines TooLarge has = ap (λ b. cond b (failed TooLarge) (lines_told lines)) ((large_told lines).1 has)
 fault_read_all [] NoFirstLine has = past_size [] has.0
 fault_read_all (first ∷ []) NoFirstLine has = past_size (first ∷ []) has.0
 fault_read_all (first ∷ second ∷ others) NoFirstLine has =
     past_size (first ∷ second ∷ others) has.0
-    ∙ no_head_read first second others (is_first (tokens_of first)) (divided_form (tokens_of second)) refl refl has.1
+    ∙ no_head_read first second others (is_first first) (divided_form (tokens_of second)) refl refl has.1
 fault_read_all [] (NotALine n) has = absurd (omega (arith, has.0.head.there))
 fault_read_all (first ∷ []) (NotALine n) has = absurd (omega (arith, has.0.head.there))
 fault_read_all (first ∷ second ∷ others) (NotALine n) has =
@@ -291,7 +269,7 @@ fault_read bytes fault has = fault_read_all (lines_of bytes) fault has
 -- what is told of a text is a wiring chart
 formed_chart : (bytes first second : List ℕ) (others : List (List ℕ)) (form : FormNumbers) (what : Told) (test : Bool)
     → lines_of bytes ≡ first ∷ second ∷ others → (IsTooLarge (lines_of bytes) → ⊥)
-    → is_first (tokens_of first) ≡ true → divided_form (tokens_of second) ≡ Some form → is_formed form ≡ test
+    → is_first first ≡ true → divided_form (tokens_of second) ≡ Some form → is_formed form ≡ test
     → cond test (with_form form (lines_from form.lines 3 start others)) (Err (Unfit 2 TapeFault)) ≡ Ok what
     → IsWiringChart bytes what.form what.statements
 formed_chart bytes first second others form what true lines size begun formed test read =
@@ -305,7 +283,7 @@ formed_chart bytes first second others form what true lines size begun formed te
         second = second;
         others = others;
         lines = lines;
-        begun = begun_is first begun;
+        begun = (begun_told first).0 begun;
         formed = form_is second form formed;
         said = subst (λ (s : List Statement). SaysLines others s) (sym said.is) said.says;
       };
@@ -316,7 +294,7 @@ formed_chart bytes first second others form what true lines size begun formed te
 formed_chart bytes first second others form what false lines size begun formed test read = cc
 
 headed_chart : (bytes first second : List ℕ) (others : List (List ℕ)) (what : Told) (test : Bool) (form : Option FormNumbers)
-    → lines_of bytes ≡ first ∷ second ∷ others → (IsTooLarge (lines_of bytes) → ⊥) → is_first (tokens_of first) ≡ test
+    → lines_of bytes ≡ first ∷ second ∷ others → (IsTooLarge (lines_of bytes) → ⊥) → is_first first ≡ test
     → divided_form (tokens_of second) ≡ form → headed_lines test form others ≡ Ok what
     → IsWiringChart bytes what.form what.statements
 headed_chart bytes first second others what true (Some form) lines size begun formed read =
@@ -329,7 +307,7 @@ lines_chart : (bytes : List ℕ) (lines : List (List ℕ)) (what : Told) → lin
 lines_chart bytes [] what same size read = cc
 lines_chart bytes (first ∷ []) what same size read = cc
 lines_chart bytes (first ∷ second ∷ others) what same size read =
-    headed_chart bytes first second others what (is_first (tokens_of first)) (divided_form (tokens_of second)) same size refl refl
+    headed_chart bytes first second others what (is_first first) (divided_form (tokens_of second)) same size refl refl
     read
 
 sized_chart : (bytes : List ℕ) (what : Told) (test : Bool) → is_large (lines_of bytes) ≡ test
@@ -349,7 +327,7 @@ chart_read bytes form statements is =
     let r = is.reads in
     ap (λ b. cond b (failed TooLarge) (lines_told (lines_of bytes))) (small (lines_of bytes) r.size)
     ∙ ap lines_told r.lines
-    ∙ ap (λ b. headed_lines b (divided_form (tokens_of r.second)) r.others) (begun_read r.first r.begun)
+    ∙ ap (λ b. headed_lines b (divided_form (tokens_of r.second)) r.others) ((begun_told r.first).1 r.begun)
     ∙ ap (λ f. headed_lines true f r.others) (form_read r.second form r.formed)
     ∙ ap (λ t. cond t (with_form form (lines_from form.lines 3 start r.others)) (Err (Unfit 2 TapeFault)))
     (formed_read form is.formed)

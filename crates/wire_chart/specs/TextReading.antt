@@ -1,8 +1,6 @@
 -- What the reader of a whole text answers, as a function of its lines.
 -- This is a step between the code and the grammar: read_setup promises the relations of WiringText and WiringFaults.
-use Rattle.std.specs.Prelude.{◌≡◌, ◌⊎◌, ℕ, ◌≤◌, ◌&&◌, ◌||◌, Bool, true, false, List, [], ◌∷◌, ◌++◌, length, All, Option, Some, None, Result, Ok, Err, suc, nat_le, nat_lt, if◌then◌else◌, codes}
-use Rattle.std.specs.List.{list_any}
-use Rattle.std.specs.Str.{bytes_eq}
+use Rattle.std.specs.Prelude.{◌≡◌, ◌⊎◌, ℕ, ◌≤◌, ◌&&◌, Bool, true, false, List, [], ◌∷◌, ◌++◌, All, Option, Some, None, Result, Ok, Err, suc, nat_le, if◌then◌else◌, codes}
 use Rattle.card_code.specs.Lines.{lines_of}
 use Rattle.hubs.specs.Jacks.{is_jack_in_range}
 use Rattle.hubs.specs.Ranges.{is_within}
@@ -11,39 +9,28 @@ use Rattle.hubs.specs.Wiring.{Wiring}
 use Rattle.hubs.specs.declared.fault.SetupFault.{SetupFault}
 use Rattle.hubs.specs.declared.fault.SetupFault.TheVariants as panel
 use Rattle.tokens.specs.Dividing.{tokens_of}
+use Rattle.tokens.specs.FrameReading.{is_larger, is_title_line}
+use Rattle.tokens.specs.HelperLines.{divided_content}
+use Rattle.tokens.specs.declared.frame.Content as frame
+use Rattle.tokens.specs.declared.frame.Content.TheVariants.{Empty, End, Says, NoLine}
 use Rattle.wire_chart.specs.Reading.{statement_of, form_of, is_said}
 use Rattle.wire_chart.specs.Statements.{statement_fault}
 use Rattle.wire_chart.specs.WiringText.{FormNumbers, IsSetupOf}
 use Rattle.wire_chart.specs.declared.fault.WiringFault.{WiringFault}
 use Rattle.wire_chart.specs.declared.fault.WiringFault.TheVariants.{TooLarge, NoFirstLine, NotALine, LineTwice, Unfit, NoEnd, Memory}
-use Rattle.wire_chart.specs.declared.line.Content.{Content}
-use Rattle.wire_chart.specs.declared.line.Content.TheVariants.{Empty, End, Says, NoLine}
 use Rattle.wire_chart.specs.declared.statement.Statement.{Statement}
 use Rattle.wire_chart.specs.declared.statement.Statement.TheVariants.{Stop, Plug, Wire}
 
--- a statement, or none
-abbrev pub said_content : Option Statement → Content
-said_content (Some statement) = Says statement
-said_content None = NoLine
-
--- what the tokens of a line are
-abbrev pub tokens_content : List (List ℕ) → Content
-tokens_content [] = Empty
-tokens_content (word ∷ []) = if bytes_eq word (codes "END") then End else said_content (statement_of (word ∷ []))
-tokens_content (word ∷ next ∷ others) = said_content (statement_of (word ∷ next ∷ others))
-
--- what a line is
-abbrev pub divided_content : Option (List (List ℕ)) → Content
-divided_content None = NoLine
-divided_content (Some tokens) = tokens_content tokens
+-- what a line of a wiring chart is
+abbrev pub Content : Type 0
+Content = frame.Content Statement
 
 unfoldable pub content_of : List ℕ → Content
-content_of line = divided_content (tokens_of line)
+content_of line = divided_content statement_of (tokens_of line)
 
--- whether tokens are those of the first line
-abbrev pub is_first : Option (List (List ℕ)) → Bool
-is_first (Some (name ∷ version ∷ [])) = bytes_eq name (codes "WIRING407") && bytes_eq version (codes "1")
-is_first _ = false
+-- whether a line is the first line
+abbrev pub is_first : List ℕ → Bool
+is_first line = is_title_line (codes "WIRING407") (codes "1") line
 
 -- the form that the tokens of the second line are
 abbrev pub divided_form : Option (List (List ℕ)) → Option FormNumbers
@@ -51,11 +38,8 @@ divided_form None = None
 divided_form (Some tokens) = form_of tokens
 
 -- whether a text is too large
-abbrev pub is_long : List ℕ → Bool
-is_long line = nat_lt 60 (length line)
-
 abbrev pub is_large : List (List ℕ) → Bool
-is_large lines = nat_lt 1000000 (length lines) || list_any is_long lines
+is_large lines = is_larger 1000000 60 lines
 
 -- whether a tape can have these numbers
 abbrev pub is_formed : FormNumbers → Bool
@@ -130,7 +114,7 @@ headed_lines false form others = Err NoFirstLine
 abbrev pub lines_told : List (List ℕ) → Result Told WiringFault
 lines_told [] = Err NoFirstLine
 lines_told (first ∷ []) = Err NoFirstLine
-lines_told (first ∷ second ∷ others) = headed_lines (is_first (tokens_of first)) (divided_form (tokens_of second)) others
+lines_told (first ∷ second ∷ others) = headed_lines (is_first first) (divided_form (tokens_of second)) others
 
 -- a text
 unfoldable pub text_told : List ℕ → Result Told WiringFault

@@ -2,40 +2,15 @@
 
 ghost use Rattle.std.specs.Prelude.{◌≡◌, IfOk};
 ghost use Rattle.tokens.specs.Dividing.{texts, tokens_of};
+ghost use Rattle.tokens.specs.HelperLines.{tokens_content};
 ghost use Rattle.wire_chart.specs.Reading.{form_of, jack_of, numbered_jack, statement_of, stop_of, wire_of};
-ghost use Rattle.wire_chart.specs.TextReading.{content_of, divided_form, is_first, tokens_content};
+ghost use Rattle.wire_chart.specs.TextReading.{content_of, divided_form};
 
 use crate::name::read_hub_name;
 use crate::statement::{FormNumbers, Statement};
 use hubs::Jack;
 use std::alloc::{AllocError, Global};
-use tokens::{is, read_number, read_number_to, split_line};
-
-/// What a line behind the form is.
-#[derive(Clone, Copy, Debug)]
-pub(crate) enum Content {
-    /// A line without a token.
-    Empty,
-    /// END alone.
-    End,
-    /// A stop, a jack or a wire.
-    Says(Statement),
-    /// Nothing that a wiring chart has.
-    NoLine,
-}
-
-/// Whether a line is `WIRING407 1`.
-pub(crate) fn is_first_line(alloc: Global, line: &[u8]) -> Result<bool, AllocError>
-    ensures { IfOk result (λ is. is ≡ is_first (tokens_of line.now)) }
-{
-    let Some(tokens) = split_line(alloc, line)? else {
-        return Ok(false);
-    };
-    match tokens.as_slice() {
-        [name, version] => Ok(is(name, b"WIRING407") && is(version, b"1")),
-        _ => Ok(false),
-    }
-}
+use tokens::{Content, is, read_number, read_number_to, split_line};
 
 /// The numbers of a line `FORM` with three numbers, or `None` for any other line.
 pub(crate) fn read_form(alloc: Global, line: &[u8]) -> Result<Option<FormNumbers>, AllocError>
@@ -64,7 +39,7 @@ fn read_form_tokens(tokens: &[&[u8]]) -> Option<FormNumbers>
 
 /// What a line behind the form is.
 #[tactic(auto, unfolding(crate::specs::TextReading::content_of))]
-pub(crate) fn read_line(alloc: Global, line: &[u8]) -> Result<Content, AllocError>
+pub(crate) fn read_line(alloc: Global, line: &[u8]) -> Result<Content<Statement>, AllocError>
     ensures { IfOk result (λ content. content ≡ content_of line.now) }
 {
     match split_line(alloc, line)? {
@@ -74,8 +49,8 @@ pub(crate) fn read_line(alloc: Global, line: &[u8]) -> Result<Content, AllocErro
 }
 
 /// What a line of these tokens is.
-fn read_tokens(tokens: &[&[u8]]) -> Content
-    ensures { result ≡ tokens_content (texts tokens.now) }
+fn read_tokens(tokens: &[&[u8]]) -> Content<Statement>
+    ensures { result ≡ tokens_content statement_of (texts tokens.now) }
 {
     match tokens {
         [] => return Content::Empty,

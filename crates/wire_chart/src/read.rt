@@ -4,20 +4,21 @@ ghost use Rattle.std.specs.Prelude.{◌≡◌, ◌≢◌, ◌≤◌, ◌⊎◌, 
 ghost use Rattle.card_code.specs.Lines.{lines_of};
 ghost use Rattle.hubs.specs.Tapes.{has_stop};
 ghost use Rattle.hubs.specs.Wiring.{Wiring};
-ghost use Rattle.wire_chart.specs.TextReading.{Answers, HasSayable, Holds, Refuses, Takes, is_formed, is_large, lines_from, numbers_of_tape, start, text_told, with_form};
+ghost use Rattle.wire_chart.specs.TextReading.{Answers, HasSayable, Holds, Refuses, Takes, is_formed, lines_from, numbers_of_tape, start, text_told, with_form};
 ghost use Rattle.wire_chart.specs.WiringText.{ReadsAs};
 ghost use Rattle.wire_chart.specs.WiringFaults.{HasFault};
 
 use crate::fault::WiringFault;
-use crate::line::{Content, is_first_line, read_form, read_line};
+use crate::line::{read_form, read_line};
 use crate::panel::put;
-use crate::statement::FormNumbers;
+use crate::statement::{FormNumbers, Statement};
 use card_code::next_line;
 use hubs::{Setup, SetupFault, Tape};
 use std::alloc::Global;
+use tokens::{Content, is_larger, is_title_line};
 
 /// How many lines a wiring chart has at most.
-const MAX_LINES: u32 = 1_000_000;
+const MAX_LINES: usize = 1_000_000;
 
 /// How many bytes a line of a wiring chart has at most.
 const MAX_LINE_BYTES: usize = 60;
@@ -48,7 +49,7 @@ pub fn read_setup(alloc: Global, text: &[u8]) -> Result<Setup, WiringFault>
 fn read_text(alloc: Global, text: &[u8]) -> Result<Setup, WiringFault>
     ensures { Answers result (text_told text.now) }
 {
-    if is_too_large(text) {
+    if is_larger(text, MAX_LINES, MAX_LINE_BYTES) {
         return Err(WiringFault::TooLarge);
     }
     let Some((first, behind)) = next_line(text) else {
@@ -57,7 +58,7 @@ fn read_text(alloc: Global, text: &[u8]) -> Result<Setup, WiringFault>
     let Some((second, others)) = next_line(behind) else {
         return Err(WiringFault::NoFirstLine);
     };
-    if !is_first_line(alloc, first)? {
+    if !is_title_line(first, b"WIRING407", b"1") {
         return Err(WiringFault::NoFirstLine);
     }
     let Some(form) = read_form(alloc, second)? else {
@@ -70,22 +71,6 @@ fn read_text(alloc: Global, text: &[u8]) -> Result<Setup, WiringFault>
         });
     };
     read_lines(alloc, Setup::new(alloc, tape), others)
-}
-
-/// Whether a text has too many lines, or a line of too many bytes.
-fn is_too_large(text: &[u8]) -> bool
-    ensures { result ≡ is_large (lines_of text.now) }
-{
-    let mut lines = 0;
-    let mut rest = text;
-    while let Some((line, behind)) = next_line(rest) {
-        if lines == MAX_LINES || line.len() > MAX_LINE_BYTES {
-            return true;
-        }
-        lines += 1;
-        rest = behind;
-    }
-    false
 }
 
 /// The tape of a form, without a stop, where a tape can have its numbers.
@@ -128,7 +113,7 @@ fn read_lines(alloc: Global, setup: Setup, text: &[u8]) -> Result<Setup, WiringF
 
 /// Takes the line of a number: puts what it says to the setup, or tells what is wrong with it.
 fn take_line(
-    content: Content,
+    content: Content<Statement>,
     number: u32,
     setup: &mut Setup,
     ended: &mut bool,
