@@ -33,9 +33,7 @@ use Rattle.net.specs.declared.cycle.Cycle.{Cycle}
 use Rattle.net.specs.declared.cycle.Cycle.TheVariants.{RunIn, Card, Prog, Head}
 use Rattle.totals.proofs.Passing.{have_room}
 use Rattle.totals.specs.Amounts.{IsSmall, act_of, state_after, total_act}
-use Rattle.whole_cycles.proofs.Contacts.{contacts-one_deep}
 use Rattle.whole_cycles.proofs.Ready.{machines-ready}
-use Rattle.whole_cycles.proofs.Sources.{emit_at_sources}
 use Rattle.whole_cycles.specs.Between.{IsBetween, IsIdle, IsReady}
 use Rattle.whole_cycles.specs.WholeCycles.{WholeCycle}
 use Rattle.wire_gen.specs.Figures.{IsAmount}
@@ -106,8 +104,6 @@ module _ (chart : Chart) (plan : Lists) (wiring : Wiring) (panel : IsPanel chart
       between = is.between;
       control = all.control;
       rows = all.rows;
-      one_deep = contacts-one_deep;
-      at_sources = emit_at_sources;
     }
 
     -- what is asked of the group of a total

@@ -6,8 +6,9 @@ use Rattle.chart_text.specs.Chart.{Chart, NumbersRise}
 use Rattle.hubs.specs.Wiring.{Wiring}
 use Rattle.impulses.proofs.BehindCycles.{carriage-behind, carriage-behind-other, pilots-behind, pilots-behind-other, program-behind, units-behind, units-behind-other}
 use Rattle.impulses.proofs.Contacts.{is_card_cycle}
+use Rattle.impulses.proofs.Straight.{orderly}
 use Rattle.impulses.specs.Panel.{IsPanel}
-use Rattle.impulses.specs.Sensed.{AreOrderly, PilotsTellSigns, UnitsHold}
+use Rattle.impulses.specs.Sensed.{PilotsTellSigns, UnitsHold}
 use Rattle.machine.specs.Cycles.{CycleRun}
 use Rattle.machine.specs.Machine.{MachineState}
 use Rattle.net.specs.Cycles.{level_number}
@@ -18,17 +19,11 @@ use Rattle.placing.specs.CarriageCycles.{carriage_behind}
 use Rattle.program_unit.specs.CycleOrder.{levels_to, top_level}
 use Rattle.report.specs.Breaks.{ended_behind}
 use Rattle.selectors.specs.Pilots.{moves_pilots}
-use Rattle.whole_cycles.proofs.Contacts.{contacts-one_deep}
 use Rattle.whole_cycles.proofs.Ready.{machines-ready}
-use Rattle.whole_cycles.proofs.Sources.{emit_at_sources}
 use Rattle.whole_cycles.specs.Between.{IsReady}
 use Rattle.chart_runs.proofs.Asked.{asked_in}
 use Rattle.chart_runs.proofs.Facts.{Cycled}
 use Rattle.chart_runs.proofs.FromCycles.{whole, printing_stays}
-
--- impulses pass one contact at most, and units emit at exits of theirs alone
-pub orderly : AreOrderly
-orderly = record { deep = contacts-one_deep; sources = emit_at_sources }
 
 module _ (chart : Chart) (plan : Lists) (wiring : Wiring) (panel : IsPanel chart plan wiring) where
   -- the carriage behind any cycle

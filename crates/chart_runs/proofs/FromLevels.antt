@@ -1,5 +1,5 @@
--- The third program cycle of a level, put together: which groups and units read out, what they hold, and the line that they print.
-use Rattle.std.proofs.Common.{◌≡◌, ◌∙◌, refl, sym, ap, subst, ℕ, ◌+◌, ◌≤◌, ◌<◌, ◌^◌, ◌==◌, nat_lt, Bool, true, false, List, Contains, Option, Some, None, length, is_some, ◌↔◌, arith}
+-- The third program cycle of a level, put together: what the groups and units hold, and the line that they print.
+use Rattle.std.proofs.Common.{◌≡◌, ◌∙◌, refl, sym, ap, subst, ℕ, ◌+◌, ◌≤◌, ◌<◌, ◌^◌, ◌==◌, nat_lt, Bool, true, false, List, Contains, Option, Some, None, length, is_some, arith}
 use Rattle.std.proofs.lemmas.Bool.Decides.{nat_tests}
 use Rattle.allocate.specs.ChartTotals.{names_signed}
 use Rattle.allocate.specs.Plans.{Lists}
@@ -26,32 +26,25 @@ use Rattle.chart_text.specs.declared.statement.Statement.TheVariants as says
 use Rattle.decks.specs.Alike.{AlikeWith}
 use Rattle.hubs.specs.Wiring.{Wiring}
 use Rattle.hubs.specs.declared.hub.Group.{Group}
-use Rattle.hubs.specs.declared.hub.Hub.TheVariants.{RO, SO}
 use Rattle.impulses.proofs.AmountFacts.{digits_are, group_is, has_it, kept, total_field}
-use Rattle.impulses.proofs.BehindCycles.{cycle-of}
-use Rattle.impulses.proofs.CounterOthers.{reading}
 use Rattle.impulses.proofs.JacksAndTape.{wheel_jacks-are}
 use Rattle.impulses.proofs.SpeakersServed.{number-range}
 use Rattle.impulses.proofs.PlanOwners.{own_name}
 use Rattle.impulses.proofs.ToCounters.{IsLine, with_group}
-use Rattle.impulses.proofs.ToStorage.{unit-reads_out}
 use Rattle.impulses.proofs.WheelRowsLaws.{wheels-totals}
 use Rattle.impulses.proofs.WheelRowsUnits.{group-listed, group-named, unit-listed, unit-place}
 use Rattle.impulses.specs.ChartAmounts.{IsGroupOf, amount_of}
-use Rattle.impulses.specs.CounterStates.{Reading, held_in}
-use Rattle.impulses.specs.CounterStates.Reading.{third as reads_third, second as reads_second}
+use Rattle.impulses.specs.CounterStates.{held_in}
 use Rattle.impulses.specs.Panel.{IsPanel}
 use Rattle.impulses.specs.Sensed.{UnitsHold}
 use Rattle.impulses.specs.Spoken as spoken
-use Rattle.impulses.specs.Spoken.{IsTotalRow, IsUnitOf}
+use Rattle.impulses.specs.Spoken.{IsTotalRow}
 use Rattle.machine.specs.Cycles.{CycleRun}
 use Rattle.machine.specs.Machine.{MachineState}
 use Rattle.net.specs.Cycles.{level_number}
-use Rattle.net.specs.declared.cycle.Cycle.{Cycle}
 use Rattle.net.specs.declared.cycle.Cycle.TheVariants.{Prog}
 use Rattle.net.specs.declared.cycle.Level.{Level}
 use Rattle.net.specs.declared.cycle.Ordinal.TheVariants.{Third}
-use Rattle.net.specs.declared.cycle.Point.TheVariants.{C}
 use Rattle.printed_lines.proofs.Premises.{total_texts}
 use Rattle.printed_lines.proofs.TotalLines.{total_lines}
 use Rattle.printed_lines.specs.Held as printed
@@ -69,9 +62,8 @@ use Rattle.wire_gen.specs.Figures.{IsAmount, IsText}
 use Rattle.wire_gen.specs.Parts.{HasTotal, group_for, unit_for}
 use Rattle.chart_runs.specs.Content.{held}
 use Rattle.chart_runs.proofs.Facts.{ShowsTotal}
-use Rattle.chart_runs.proofs.FromCounters.{held_there, panel_cycle}
+use Rattle.chart_runs.proofs.FromCounters.{held_there}
 use Rattle.chart_runs.proofs.FromCycles.{whole}
-use Rattle.chart_runs.proofs.FromHubs.{orderly}
 use Rattle.chart_runs.proofs.FromTotals.{controlled, first_same}
 use Rattle.chart_runs.proofs.FromWheels.{is_moment, row_of}
 use Rattle.chart_runs.proofs.Lines.{has_link, has_suppress, has_symbol, line_of_cycle}
@@ -109,73 +101,6 @@ module _ (chart : Chart) (plan : Lists) (wiring : Wiring) (panel : IsPanel chart
 
   module _ (old new : MachineState) (level : Level) (card : List ℕ) (so_far : ℕ → List (List ℕ)) (is : IsReady wiring old)
       (all : WholeCycle wiring (Prog level Third) old new) (row : CardRow) where
-    -- the groups that read out
-    reads_so : {cycle : Cycle} {group : Group} → Reading chart plan old group cycle → cycle ≡ Prog level Third
-        → spoken.IsGroupOf (row_of chart plan wiring panel rise literals (Prog level Third) old new all row) (level_number level) group
-    reads_so (reads_third l name own) same =
-        let levels : level_number l ≡ level_number level = ap level_of same in
-        record {
-          line = own.total.line;
-          listed = own.total.listed;
-          served = ap (group_for chart.lines plan) own.total.is_number ∙ own.served;
-          its_level = own.total.its_level;
-          wheel = own.total.wheel;
-          name = own.total.its_name;
-          digits = own.total.digits;
-          mark = own.total.mark;
-          says_total = own.total.says_total;
-          same_level = own.total.same_level ∙ levels;
-        }
-      where
-        level_of : Cycle → ℕ
-        level_of (Prog its ordinal) = level_number its
-        level_of other = 0
-    reads_so (reads_second l name rule own signed on) same = cc
-
-    -- exactly the groups of the level's totals read out
-    groups_read : (group : Group) → (all.pictures C (RO group) ≡ true)
-        ↔ spoken.IsGroupOf (row_of chart plan wiring panel rise literals (Prog level Third) old new all row) (level_number level) group
-    groups_read group =
-        let its = reading chart plan wiring old all.pictures group (Prog level Third)
-        (panel_cycle chart plan wiring panel rise (Prog level Third) old new is all) in (
-          λ on. reads_so (its.0 on) refl,
-          λ own. its.1 (reads_third level own.name
-              (own_group own.line own.its_level own.wheel own.name own.digits own.mark group (level_number level) own.listed own.says_total
-              own.same_level own.served)),
-        )
-
-    -- exactly the units of the level's texts read out
-    units_read : (unit : ℕ) → (all.pictures C (SO unit) ≡ true)
-        ↔ IsUnitOf (row_of chart plan wiring panel rise literals (Prog level Third) old new all row) (level_number level) unit
-    units_read unit =
-        let its = unit-reads_out chart plan wiring (Prog level Third) old all.pictures orderly
-        (cycle-of chart plan wiring (Prog level Third) old new panel is.between all) unit in (
-          λ on. let text = its.0 on in
-              record {
-                line = text.line;
-                listed = text.listed;
-                served = text.served;
-                its_level = text.level;
-                wheel = text.wheel;
-                name = text.name;
-                says_text = text.is_text;
-                same_level = number_of text.printed;
-              },
-          λ own. its.1 (record {
-            line = own.line;
-            listed = own.listed;
-            level = own.its_level;
-            wheel = own.wheel;
-            name = own.name;
-            is_text = own.says_text;
-            served = own.served;
-            printed = ap Some (sym own.same_level);
-          }),
-        )
-      where
-        number_of : {a b : ℕ} → Some a ≡ Some b → b ≡ a
-        number_of same = cc
-
     -- what the groups hold
     groups_hold :
         (line : Line) (its : ChartLevel) (wheel : ℕ) (name : List ℕ) (digits : ℕ) (mark : Option Mark) (group : Group)
@@ -237,8 +162,6 @@ module _ (chart : Chart) (plan : Lists) (wiring : Wiring) (panel : IsPanel chart
     total_row stored = record {
       moment = is_moment chart plan wiring panel rise literals (Prog level Third) old new is all row;
       cycle = refl;
-      groups = groups_read;
-      units = units_read;
       totals = groups_hold;
       texts = units_hold stored;
     }

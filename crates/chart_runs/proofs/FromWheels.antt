@@ -1,35 +1,24 @@
 -- What the cycles of a panel wired for a chart print.
-use Rattle.std.proofs.Common.{◌≡◌, ◌∙◌, refl, ℕ, Bool, true, false, List, Some}
+use Rattle.std.proofs.Common.{◌≡◌, ◌∙◌, refl, ℕ, List}
 use Rattle.allocate.specs.Plans.{Lists}
 use Rattle.card_code.specs.declared.row.Row.{Row as CardRow}
 use Rattle.chart_text.specs.Chart.{Chart, NumbersRise}
-use Rattle.chart_text.specs.Levels.{level_number}
 use Rattle.chart_text.specs.Literals.{HaveLiteralTexts}
-use Rattle.chart_text.specs.declared.level.Level.{Level as ChartLevel}
 use Rattle.hubs.specs.Wiring.{Wiring}
-use Rattle.hubs.specs.declared.hub.Group.{Group}
-use Rattle.hubs.specs.declared.hub.Hub.TheVariants.{RO}
-use Rattle.impulses.proofs.BehindCycles.{cycle-of}
-use Rattle.impulses.proofs.CounterOthers.{reading}
-use Rattle.impulses.specs.CounterStates.{Reading}
-use Rattle.impulses.specs.CounterStates.Reading.{third as reads_third, second as reads_second}
 use Rattle.impulses.proofs.JacksAndTape.{wheel_jacks-are}
-use Rattle.impulses.proofs.ToStorage.{card-no_total, no-unit-reads_out, other-no_total}
 use Rattle.impulses.proofs.WheelRowsCardLine.{card-rows}
 use Rattle.impulses.proofs.WheelRowsHeading.{heading-rows}
 use Rattle.impulses.specs.CounterStates.{IsCardRead}
 use Rattle.impulses.specs.Panel.{IsPanel}
 use Rattle.impulses.specs.Sensed.{AreSetTo}
 use Rattle.impulses.specs.Speakers.{Moment}
-use Rattle.impulses.specs.Spoken.{IsMoment, NothingReadsOut}
+use Rattle.impulses.specs.Spoken.{IsMoment}
 use Rattle.machine.specs.Cycles.{CycleRun}
 use Rattle.machine.specs.Machine.{MachineState}
 use Rattle.net.specs.Cycles.{ordinal_number}
 use Rattle.net.specs.declared.cycle.Cycle.{Cycle}
-use Rattle.net.specs.declared.cycle.Cycle.TheVariants.{RunIn, Card, Prog, Head}
+use Rattle.net.specs.declared.cycle.Cycle.TheVariants.{Card, Head}
 use Rattle.net.specs.declared.cycle.Ordinal.{Ordinal}
-use Rattle.net.specs.declared.cycle.Point.TheVariants.{C}
-use Rattle.placing.specs.Placing.{kind_of}
 use Rattle.printed_lines.proofs.Cards.{card_lines}
 use Rattle.printed_lines.proofs.Headings.{heading_lines}
 use Rattle.printed_lines.specs.Shown.{sent_to_card, sent_to_heading, set_on}
@@ -37,22 +26,8 @@ use Rattle.report.specs.BodyLines.{card_line, heading_line}
 use Rattle.whole_cycles.proofs.Contacts.{contacts-one_deep}
 use Rattle.whole_cycles.specs.Between.{IsReady}
 use Rattle.whole_cycles.specs.WholeCycles.{WholeCycle}
-use Rattle.chart_runs.proofs.FromCounters.{panel_cycle}
 use Rattle.chart_runs.proofs.FromCycles.{whole}
-use Rattle.chart_runs.proofs.FromHubs.{orderly}
 use Rattle.chart_runs.proofs.Lines.{has_link, has_suppress, has_symbol, line_of_cycle}
-
--- whether a cycle is a program cycle
-abbrev is_prog : Cycle → Bool
-is_prog RunIn = false
-is_prog Card = false
-is_prog (Prog level ordinal) = true
-is_prog (Head heading) = false
-
--- a test that is never on is off
-never : (b : Bool) → (b ≡ true → ⊥) → b ≡ false
-never true none = absurd (none refl)
-never false none = refl
 
 module _ (chart : Chart) (plan : Lists) (wiring : Wiring) (panel : IsPanel chart plan wiring) (rise : NumbersRise chart.lines chart.end)
     (literals : HaveLiteralTexts chart.lines) where
@@ -63,26 +38,13 @@ module _ (chart : Chart) (plan : Lists) (wiring : Wiring) (panel : IsPanel chart
 
   pub is_moment : (cycle : Cycle) (old new : MachineState) → IsReady wiring old → (all : WholeCycle wiring cycle old new) (row : CardRow)
       → IsMoment wiring (row_of cycle old new all row)
-  is_moment cycle old new is all row = record { panel = panel; rises = rise; between = is.between; rows = all.rows row }
-
-  -- in cycles of no level nothing reads out
-  silent : (cycle : Cycle) (old new : MachineState) → IsReady wiring old → (all : WholeCycle wiring cycle old new) (row : CardRow)
-      → ((group : Group) → Reading chart plan old group cycle → ⊥) → ((level : ChartLevel) → ¬ (kind_of cycle ≡ Some (level_number level)))
-      → NothingReadsOut (row_of cycle old new all row)
-  silent cycle old new is all row no_group no_level = record {
-    groups = λ group. never (all.pictures C (RO group))
-        (λ on. no_group group ((reading chart plan wiring old all.pictures group cycle (panel_cycle chart plan wiring panel rise cycle old new is all)).0 on));
-    units = λ unit. no-unit-reads_out chart plan wiring cycle old all.pictures orderly
-        (cycle-of chart plan wiring cycle old new panel is.between all) unit no_level;
+  is_moment cycle old new is all row = record {
+    panel = panel;
+    rises = rise;
+    between = is.between;
+    control = all.control;
+    rows = all.rows row;
   }
-
-  -- groups read out in program cycles alone
-  in_prog : {old : MachineState} {group : Group} {cycle : Cycle} → Reading chart plan old group cycle → is_prog cycle ≡ true
-  in_prog (reads_third level name own) = refl
-  in_prog (reads_second level name rule own signed on) = refl
-
-  no_card_reading : (old : MachineState) (group : Group) → Reading chart plan old group Card → ⊥
-  no_card_reading old group reads = let on = in_prog reads in cc
 
   pub card_prints :
       (old new : MachineState) (card : List ℕ) (opens : ℕ) → IsReady wiring old → CycleRun wiring Card old new
@@ -99,13 +61,9 @@ module _ (chart : Chart) (plan : Lists) (wiring : Wiring) (panel : IsPanel chart
         valid = read.valid;
         latches = set;
         pilots = λ name rule pilot signed served. read.pilots name signed.field rule pilot signed.named signed.ruled served;
-        silent = silent Card old new is all row (no_card_reading old) card-no_total;
       }))
       ∙ card_lines chart (has_link wiring) (has_suppress wiring) (has_symbol wiring) opens card panel.lawful literals
       (wheel_jacks-are chart plan wiring panel) read.valid
-
-  no_heading_reading : (old : MachineState) (group : Group) (heading : Ordinal) → Reading chart plan old group (Head heading) → ⊥
-  no_heading_reading old group heading reads = let on = in_prog reads in cc
 
   pub heading_prints :
       (old new : MachineState) (heading : Ordinal) → IsReady wiring old → CycleRun wiring (Head heading) old new
@@ -118,7 +76,5 @@ module _ (chart : Chart) (plan : Lists) (wiring : Wiring) (panel : IsPanel chart
       (record {
         moment = is_moment (Head heading) old new is all row;
         cycle = refl;
-        silent = silent (Head heading) old new is all row (λ group. no_heading_reading old group heading)
-            (other-no_total (Head heading) refl);
       }))
-      ∙ heading_lines chart (has_link wiring) (has_suppress wiring) (has_symbol wiring) (ordinal_number heading) panel.lawful literals
+      ∙ heading_lines chart (has_link wiring) (has_suppress wiring) (has_symbol wiring) (ordinal_number heading) literals

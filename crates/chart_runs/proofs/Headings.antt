@@ -29,8 +29,9 @@ use Rattle.program_unit.specs.declared.stage.Stage.{Stage}
 use Rattle.report.specs.BodyLines.{heading_line}
 use Rattle.report.specs.ChartForm.{headings}
 use Rattle.report.specs.Places.{Left, headed}
-use Rattle.chart_runs.proofs.Steps.{fed_with, GoesFrom, stepped}
+use Rattle.chart_runs.proofs.Steps.{fed_with, GoesFrom, Stepped, stepped}
 use Rattle.chart_runs.specs.Goes.{HeadsKeep}
+use Rattle.chart_runs.specs.Steps.{Heads}
 
 -- A printing cycle can wait behind heading cycles: the stages in which it waits.
 pub record CanWait (cycle : Cycle) (waits more : Bool) (before : Ordinal → Stage) : Type 0 where
@@ -60,97 +61,144 @@ texts_of one two three (suc zero) = one
 texts_of one two three (suc (suc zero)) = two
 texts_of one two three (suc (suc (suc more))) = three
 
+-- A machine behind a heading cycle: it holds the cards of the one before all headings, and is in the stage in which the cycle waits.
+record StandsBehind (old : MachineState) (before : Ordinal → Stage) (heading : Ordinal) (machine : MachineState) : Type 0 where
+  stations : machine.stations ≡ old.stations
+  printing : machine.program.printing ≡ old.program.printing
+  highest : machine.program.highest ≡ old.program.highest
+  stage : machine.program.stage ≡ before heading
+
 -- the next line starts a page: the heading cycles run
-pub with_headings :
-    (chart : Chart) (wiring : Wiring) (Content : MachineState → Type 0) (cycle : Cycle) (left : Left) (waits : Bool)
+module _ (chart : Chart) (wiring : Wiring) (Content : MachineState → Type 0) (cycle : Cycle) (left : Left) (waits : Bool)
     (next : Option (List ℕ)) (before : Ordinal → Stage) (old new : MachineState) (lines : List PlacedLine)
-    → HasGoodForm chart.lines → HeadsKeep chart wiring Content → CanWait cycle waits (has_more old) before
-    → Content old → IsCarriageOf chart.lines old.carriage → IsAt chart.lines left old.carriage.spot → left.page < 2 ^ 32
-    → left.line ≡ None → due_in (fed_with old waits next) ≡ Some (Head First)
-    → stage_ended old.program.stage (Head First) ≡ before First
-    → GoesFrom wiring (fed_with old waits next) new lines
-    → IsReadyFor chart wiring Content cycle left waits next old new lines
-with_headings chart wiring Content cycle left waits next before old new lines good keeps wait content is at page none is_due stage goes =
-    let one = stepped wiring (Head First) (fed_with old waits next) new lines is_due goes in
-    let first = keeps First old one.mid content one.ran in
-    let more_first : has_more one.mid ≡ has_more old = ap (λ s. has_more (record old { stations = s })) first.1.goes.stations in
-    let stage_first : one.mid.program.stage ≡ before First = ap (λ p. p.stage) first.1.goes.program ∙ stage in
-    let due_second : due_in (fed_with one.mid waits next) ≡ Some (Head Second)
-    = ap (λ b. due one.mid.program waits one.mid.carriage.spot.latch b) more_first
-    ∙ wait.follows one.mid.program First one.mid.carriage.spot.latch stage_first in
-    let two = stepped wiring (Head Second) (fed_with one.mid waits next) new one.others due_second one.goes in
-    let second = keeps Second one.mid two.mid first.0 two.ran in
-    let more_second : has_more two.mid ≡ has_more old
-    = ap (λ s. has_more (record old { stations = s })) (second.1.goes.stations ∙ first.1.goes.stations) in
-    let stage_second : two.mid.program.stage ≡ before Second
-    = ap (λ p. p.stage) second.1.goes.program ∙ ap (λ s. stage_ended s (Head Second)) stage_first ∙ wait.stays First Second in
-    let due_third : due_in (fed_with two.mid waits next) ≡ Some (Head Third)
-    = ap (λ b. due two.mid.program waits two.mid.carriage.spot.latch b) more_second
-    ∙ wait.follows two.mid.program Second two.mid.carriage.spot.latch stage_second in
-    let three = stepped wiring (Head Third) (fed_with two.mid waits next) new two.others due_third two.goes in
-    let third = keeps Third two.mid three.mid second.0 three.ran in
-    let more_third : has_more three.mid ≡ has_more old
-    = ap (λ s. has_more (record old { stations = s })) (third.1.goes.stations ∙ second.1.goes.stations ∙ first.1.goes.stations) in
-    let stage_third : three.mid.program.stage ≡ before Third
-    = ap (λ p. p.stage) third.1.goes.program ∙ ap (λ s. stage_ended s (Head Third)) stage_second ∙ wait.stays Second Third in
-    let due_cycle : due_in (fed_with three.mid waits next) ≡ Some cycle
-    = ap (λ b. due three.mid.program waits three.mid.carriage.spot.latch b) more_third
-    ∙ wait.follows three.mid.program Third three.mid.carriage.spot.latch stage_third in
-    let behind_first : CarriageState → CarriageState = λ c. carriage_behind c nothing_asked (Head First) in
-    let behind_second : CarriageState → CarriageState = λ c. carriage_behind c nothing_asked (Head Second) in
-    let behind_third : CarriageState → CarriageState = λ c. carriage_behind c nothing_asked (Head Third) in
-    let carriage_two : two.mid.carriage ≡ behind_second (behind_first old.carriage)
-    = second.1.goes.carriage ∙ ap behind_second first.1.goes.carriage in
-    let carriage_three : three.mid.carriage ≡ behind_third (behind_second (behind_first old.carriage))
-    = third.1.goes.carriage ∙ ap behind_third carriage_two in
-    let texts = texts_of one.mid.wheels.line two.mid.wheels.line three.mid.wheels.line in
-    let are_texts : AreHeadingTexts chart.lines texts = λ number from to. text number from to first.1.line second.1.line third.1.line in
-    let heads = headings-placed chart.lines left old.carriage texts good is at none page are_texts in
-    record {
-      machine = three.mid;
-      others = three.others;
-      goes = three.goes;
-      is_due = due_cycle;
-      content = third.0;
-      ready = subst (λ c. IsReady chart.lines left c.spot) (sym carriage_three) heads.ready;
-      carriage = subst (λ c. IsCarriageOf chart.lines c) (sym carriage_three) heads.keeps;
-      stations = third.1.goes.stations ∙ second.1.goes.stations ∙ first.1.goes.stations;
-      printing = ap (λ p. p.printing) third.1.goes.program ∙ ap (λ p. p.printing) second.1.goes.program
-          ∙ ap (λ p. p.printing) first.1.goes.program;
-      highest = ap (λ p. p.highest) third.1.goes.program ∙ ap (λ p. p.highest) second.1.goes.program
-          ∙ ap (λ p. p.highest) first.1.goes.program;
-      is_lines = one.is_lines ∙ ap (λ l. line_of one.mid ++ l) (two.is_lines ∙ ap (λ l. line_of two.mid ++ l) three.is_lines)
-          ∙ joined (line_of one.mid) (line_of two.mid) (line_of three.mid) three.others
-          ∙ ap (λ l. l ++ three.others) (same one.mid two.mid three.mid first.1.goes.carriage carriage_two carriage_three ∙ heads.heads);
-    }
-  where
-    text : (number : ℕ) → 1 ≤ number → number ≤ headings chart.lines
-        → {one two three : List ℕ}
-        → (1 ≤ headings chart.lines → one ≡ heading_line chart.lines 1)
-        → (2 ≤ headings chart.lines → two ≡ heading_line chart.lines 2)
-        → (3 ≤ headings chart.lines → three ≡ heading_line chart.lines 3)
-        → texts_of one two three number ≡ heading_line chart.lines number
-    text zero from to one two three = absurd (omega (arith, from))
-    text (suc zero) from to one two three = one to
-    text (suc (suc zero)) from to one two three = two to
-    text (suc (suc (suc zero))) from to one two three = three to
-    text (suc (suc (suc (suc more)))) from to one two three = absurd (omega (arith, to, good.room.few_headings))
+    (good : HasGoodForm chart.lines) (keeps : HeadsKeep chart wiring Content) (wait : CanWait cycle waits (has_more old) before)
+    (content : Content old) (is : IsCarriageOf chart.lines old.carriage) (at : IsAt chart.lines left old.carriage.spot)
+    (page : left.page < 2 ^ 32) (none : left.line ≡ None) where
+  abbrev ItsReady : Type 0
+  ItsReady = IsReadyFor chart wiring Content cycle left waits next old new lines
 
-    joined : (a b c rest : List PlacedLine) → a ++ (b ++ (c ++ rest)) ≡ (a ++ (b ++ (c ++ []))) ++ rest
-    joined a b c rest = simp (append_assoc)
+  -- what is due behind a heading cycle
+  next_due : (heading : Ordinal) (machine : MachineState) → StandsBehind old before heading machine
+      → due_in (fed_with machine waits next) ≡ Some (behind_heading heading cycle)
+  next_due heading machine stands =
+      ap (λ s. due machine.program waits machine.carriage.spot.latch (has_more (record old { stations = s }))) stands.stations
+      ∙ wait.follows machine.program heading machine.carriage.spot.latch stands.stage
 
-    same : (one two three : MachineState)
-        → one.carriage ≡ carriage_behind old.carriage nothing_asked (Head First)
-        → two.carriage ≡ carriage_behind (carriage_behind old.carriage nothing_asked (Head First)) nothing_asked (Head Second)
-        → three.carriage
-        ≡ carriage_behind
-        (carriage_behind (carriage_behind old.carriage nothing_asked (Head First)) nothing_asked (Head Second))
-        nothing_asked (Head Third)
-        → line_of one ++ (line_of two ++ (line_of three ++ []))
-        ≡ lines_placed old.carriage (heading_cycles (texts_of one.wheels.line two.wheels.line three.wheels.line))
-    same one two three a b c =
-        λ i. line_at ((a i).printed) one.wheels.line
-        ++ (line_at ((b i).printed) two.wheels.line ++ (line_at ((c i).printed) three.wheels.line ++ []))
+  -- how the machine stands behind the next one
+  behind_next : (heading other : Ordinal) (one two : MachineState) → StandsBehind old before heading one → Heads chart other one two
+      → StandsBehind old before other two
+  behind_next heading other one two stands ran = record {
+    stations = ran.goes.stations ∙ stands.stations;
+    printing = ap (λ p. p.printing) ran.goes.program ∙ stands.printing;
+    highest = ap (λ p. p.highest) ran.goes.program ∙ stands.highest;
+    stage = ap (λ p. p.stage) ran.goes.program ∙ ap (λ s. stage_ended s (Head other)) stands.stage ∙ wait.stays heading other;
+  }
+
+  -- the texts of the heading lines
+  text : (number : ℕ) → 1 ≤ number → number ≤ headings chart.lines
+      → {one two three : List ℕ}
+      → (1 ≤ headings chart.lines → one ≡ heading_line chart.lines 1)
+      → (2 ≤ headings chart.lines → two ≡ heading_line chart.lines 2)
+      → (3 ≤ headings chart.lines → three ≡ heading_line chart.lines 3)
+      → texts_of one two three number ≡ heading_line chart.lines number
+  text zero from to one two three = absurd (omega (arith, from))
+  text (suc zero) from to one two three = one to
+  text (suc (suc zero)) from to one two three = two to
+  text (suc (suc (suc zero))) from to one two three = three to
+  text (suc (suc (suc (suc more)))) from to one two three = absurd (omega (arith, to, good.room.few_headings))
+
+  joined : (a b c rest : List PlacedLine) → a ++ (b ++ (c ++ rest)) ≡ (a ++ (b ++ (c ++ []))) ++ rest
+  joined a b c rest = simp (append_assoc)
+
+  same : (one two three : MachineState)
+      → one.carriage ≡ carriage_behind old.carriage nothing_asked (Head First)
+      → two.carriage ≡ carriage_behind (carriage_behind old.carriage nothing_asked (Head First)) nothing_asked (Head Second)
+      → three.carriage
+      ≡ carriage_behind
+      (carriage_behind (carriage_behind old.carriage nothing_asked (Head First)) nothing_asked (Head Second))
+      nothing_asked (Head Third)
+      → line_of one ++ (line_of two ++ (line_of three ++ []))
+      ≡ lines_placed old.carriage (heading_cycles (texts_of one.wheels.line two.wheels.line three.wheels.line))
+  same one two three a b c =
+      λ i. line_at ((a i).printed) one.wheels.line
+      ++ (line_at ((b i).printed) two.wheels.line ++ (line_at ((c i).printed) three.wheels.line ++ []))
+
+  -- all three ran
+  all_ran : (one : Stepped wiring (Head First) (fed_with old waits next) new lines) → Heads chart First old one.mid
+      → (two : Stepped wiring (Head Second) (fed_with one.mid waits next) new one.others) → Heads chart Second one.mid two.mid
+      → (three : Stepped wiring (Head Third) (fed_with two.mid waits next) new two.others) → Heads chart Third two.mid three.mid
+      → Content three.mid → StandsBehind old before Third three.mid → ItsReady
+  all_ran one first two second three third held stands =
+      let behind_second : CarriageState → CarriageState = λ c. carriage_behind c nothing_asked (Head Second) in
+      let behind_third : CarriageState → CarriageState = λ c. carriage_behind c nothing_asked (Head Third) in
+      let carriage_two = second.goes.carriage ∙ ap behind_second first.goes.carriage in
+      let carriage_three = third.goes.carriage ∙ ap behind_third carriage_two in
+      let are_texts : AreHeadingTexts chart.lines (texts_of one.mid.wheels.line two.mid.wheels.line three.mid.wheels.line)
+      = λ number from to. text number from to first.line second.line third.line in
+      let heads = headings-placed chart.lines left old.carriage
+      (texts_of one.mid.wheels.line two.mid.wheels.line three.mid.wheels.line) good is at none page are_texts in
+      record {
+        machine = three.mid;
+        others = three.others;
+        goes = three.goes;
+        is_due = next_due Third three.mid stands;
+        content = held;
+        ready = subst (λ c. IsReady chart.lines left c.spot) (sym carriage_three) heads.ready;
+        carriage = subst (λ c. IsCarriageOf chart.lines c) (sym carriage_three) heads.keeps;
+        stations = stands.stations;
+        printing = stands.printing;
+        highest = stands.highest;
+        is_lines = one.is_lines ∙ ap (λ l. line_of one.mid ++ l) (two.is_lines ∙ ap (λ l. line_of two.mid ++ l) three.is_lines)
+            ∙ joined (line_of one.mid) (line_of two.mid) (line_of three.mid) three.others
+            ∙ ap (λ l. l ++ three.others) (same one.mid two.mid three.mid first.goes.carriage carriage_two carriage_three ∙ heads.heads);
+      }
+
+  -- two of them ran
+  two_ran : (one : Stepped wiring (Head First) (fed_with old waits next) new lines) → Heads chart First old one.mid
+      → (two : Stepped wiring (Head Second) (fed_with one.mid waits next) new one.others) → Heads chart Second one.mid two.mid
+      → Content two.mid → StandsBehind old before Second two.mid → ItsReady
+  two_ran one first two second held stands =
+      step (stepped wiring (Head Third) (fed_with two.mid waits next) new two.others (next_due Second two.mid stands) two.goes)
+    where
+      kept : (three : Stepped wiring (Head Third) (fed_with two.mid waits next) new two.others)
+          → Content three.mid × Heads chart Third two.mid three.mid → ItsReady
+      kept three (content_three, third) =
+          all_ran one first two second three third content_three (behind_next Second Third two.mid three.mid stands third)
+
+      step : Stepped wiring (Head Third) (fed_with two.mid waits next) new two.others → ItsReady
+      step three = kept three (keeps Third two.mid three.mid held three.ran)
+
+  -- the first ran
+  one_ran : (one : Stepped wiring (Head First) (fed_with old waits next) new lines) → Heads chart First old one.mid
+      → Content one.mid → StandsBehind old before First one.mid → ItsReady
+  one_ran one first held stands =
+      step (stepped wiring (Head Second) (fed_with one.mid waits next) new one.others (next_due First one.mid stands) one.goes)
+    where
+      kept : (two : Stepped wiring (Head Second) (fed_with one.mid waits next) new one.others)
+          → Content two.mid × Heads chart Second one.mid two.mid → ItsReady
+      kept two (content_two, second) =
+          two_ran one first two second content_two (behind_next First Second one.mid two.mid stands second)
+
+      step : Stepped wiring (Head Second) (fed_with one.mid waits next) new one.others → ItsReady
+      step two = kept two (keeps Second one.mid two.mid held two.ran)
+
+  pub with_headings :
+      due_in (fed_with old waits next) ≡ Some (Head First) → stage_ended old.program.stage (Head First) ≡ before First
+      → GoesFrom wiring (fed_with old waits next) new lines → ItsReady
+  with_headings is_due stage goes =
+      step (stepped wiring (Head First) (fed_with old waits next) new lines is_due goes)
+    where
+      kept : (one : Stepped wiring (Head First) (fed_with old waits next) new lines) → Content one.mid × Heads chart First old one.mid → ItsReady
+      kept one (content_one, first) =
+          one_ran one first content_one (record {
+            stations = first.goes.stations;
+            printing = ap (λ p. p.printing) first.goes.program;
+            highest = ap (λ p. p.highest) first.goes.program;
+            stage = ap (λ p. p.stage) first.goes.program ∙ stage;
+          })
+
+      step : Stepped wiring (Head First) (fed_with old waits next) new lines → ItsReady
+      step one = kept one (keeps First old one.mid content one.ran)
 
 -- A printing cycle is due: the machine comes to stand ready for its line.
 pub readied :

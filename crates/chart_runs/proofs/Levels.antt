@@ -38,8 +38,9 @@ use Rattle.report.specs.Places.{BodyText, Left, placed}
 use Rattle.report.specs.ChartForm.{prints_totals}
 use Rattle.chart_runs.proofs.Bodies.{BodyRan, bodies_for, printed_ran, silent_ran}
 use Rattle.chart_runs.proofs.Headings.{CanWait, readied}
-use Rattle.chart_runs.proofs.Steps.{fed_with, GoesFrom, stepped, over}
+use Rattle.chart_runs.proofs.Steps.{fed_with, GoesFrom, Stepped, stepped, over}
 use Rattle.chart_runs.specs.Goes.{HeadsKeep, LevelsGo}
+use Rattle.chart_runs.specs.Steps.{GoesOn, Totals}
 
 -- the total lines of so many levels behind a number of levels
 abbrev pub totals_behind : (count k : ℕ) → (ℕ → List (List ℕ)) → List OutlineLine
@@ -124,6 +125,121 @@ third_ran chart wiring Turned level left next old new lines lawful good keeps co
         silent_ran chart wiring Turned (Prog level Third) (level_number level) left false next old new lines lawful refl silent content is at
         (is_due ∙ ap Some (others-come old.program.printing old.carriage.spot.latch (Prog level Third) (kinds ∙ silent))) goes
 
+-- One level ran: what its three program cycles leave and place, with the heading cycles before its total line.
+record LevelRan (chart : Chart) (wiring : Wiring) (Behind : ℕ → MachineState → Type 0) (k : ℕ) (level : Level) (left : Left)
+    (bodies : List BodyText) (next : Option (List ℕ)) (old new : MachineState) (lines : List PlacedLine) : Type 0 where
+  mid : MachineState
+  others : List PlacedLine
+  goes : GoesFrom wiring (fed_with mid false next) new others
+  content : Behind (suc k) mid
+  stage : mid.program.stage ≡ stage_behind (Some level)
+  printing : mid.program.printing ≡ old.program.printing
+  highest : mid.program.highest ≡ old.program.highest
+  stations : mid.stations ≡ old.stations
+  carriage : IsCarriageOf chart.lines mid.carriage
+  at : IsAt chart.lines (left_behind chart.lines left bodies) mid.carriage.spot
+  is_lines : lines ≡ placed chart.lines left bodies ++ others
+
+-- the bodies of the total line of a level
+abbrev total_bodies : Chart → Stand → List ℕ → ℕ → List BodyText
+total_bodies chart stand card level = bodies_for chart level (total_line chart.lines level (taking card stand.so_far level))
+
+-- a level runs
+module _ (chart : Chart) (wiring : Wiring) (stand : Stand) (card : List ℕ) (next : Option (List ℕ))
+    (Behind : ℕ → MachineState → Type 0) (Tested Turned : Level → MachineState → Type 0) (k : ℕ) (level : Level) (left : Left)
+    (old new : MachineState) (lines : List PlacedLine) (lawful : IsLawful chart) (good : HasGoodForm chart.lines)
+    (go : LevelsGo chart wiring stand card next Behind Tested Turned) (number : level_number level ≡ suc k)
+    (within : suc k ≤ ended_behind chart.lines card next) (printing : old.program.printing ≡ printing_of_chart chart.lines)
+    (is : IsCarriageOf chart.lines old.carriage) (at : IsAt chart.lines left old.carriage.spot) (page : left.page < 2 ^ 32) where
+  abbrev ItsRun : Type 0
+  ItsRun = LevelRan chart wiring Behind k level left (total_bodies chart stand card (level_number level)) next old new lines
+
+  kind_printed : (n m : ℕ) → n ≡ suc m → prints_kind chart.lines n ≡ true → prints_totals chart.lines n ≡ true
+  kind_printed zero m is printed = absurd (omega (arith, is))
+  kind_printed (suc n) m is printed = printed
+
+  -- the third cycle ran
+  third_over :
+      (one : Stepped wiring (Prog level First) (fed_with old false next) new lines)
+      → GoesOn (Prog level First) nothing_asked old one.mid → StaysQuiet chart left one.mid
+      → (two : Stepped wiring (Prog level Second) (fed_with one.mid false next) new one.others)
+      → GoesOn (Prog level Second) nothing_asked one.mid two.mid → StaysQuiet chart left two.mid
+      → (ran : BodyRan chart wiring (Turned level) (Prog level Third) (level_number level) left false next two.mid new two.others)
+      → Behind (suc k) ran.mid × Totals chart stand card level ran.machine ran.mid → ItsRun
+  third_over one first quiet_one two second quiet_two ran (behind, third) =
+      let text = total_line chart.lines (level_number level) (taking card stand.so_far (level_number level)) in
+      let places = ran.placed_so text third.goes.carriage (λ printed. third.line (kind_printed (level_number level) k number printed)) in
+      record {
+        mid = ran.mid;
+        others = ran.others;
+        goes = ran.goes;
+        content = behind;
+        stage = ap (λ p. p.stage) third.goes.program;
+        printing = ap (λ p. p.printing) third.goes.program ∙ ran.printing ∙ ap (λ p. p.printing) second.program
+            ∙ ap (λ p. p.printing) first.program;
+        highest = ap (λ p. p.highest) third.goes.program ∙ ran.highest ∙ ap (λ p. p.highest) second.program
+            ∙ ap (λ p. p.highest) first.program;
+        stations = third.goes.stations ∙ ran.stations ∙ second.stations ∙ first.stations;
+        carriage = places.2;
+        at = places.1;
+        is_lines = one.is_lines ∙ ap (λ l. l ++ one.others) quiet_one.no_line
+            ∙ two.is_lines ∙ ap (λ l. l ++ two.others) quiet_two.no_line ∙ places.0;
+      }
+
+  -- the second cycle ran
+  second_over :
+      (one : Stepped wiring (Prog level First) (fed_with old false next) new lines)
+      → GoesOn (Prog level First) nothing_asked old one.mid → StaysQuiet chart left one.mid
+      → (two : Stepped wiring (Prog level Second) (fed_with one.mid false next) new one.others)
+      → Turned level two.mid × GoesOn (Prog level Second) nothing_asked one.mid two.mid → ItsRun
+  second_over one first quiet_one two (turned, second) =
+      third (third_ran chart wiring (Turned level) level left next two.mid new two.others lawful good (go.heads level) turned
+      (ap (λ p. p.printing) second.program ∙ ap (λ p. p.printing) first.program ∙ printing) (ap (λ p. p.stage) second.program)
+      quiet_two.carriage quiet_two.at page two.goes)
+    where
+      quiet_two : StaysQuiet chart left two.mid
+      quiet_two = quietly chart left (Prog level Second) one.mid two.mid refl refl quiet_one.carriage quiet_one.at second.carriage
+
+      third : BodyRan chart wiring (Turned level) (Prog level Third) (level_number level) left false next two.mid new two.others → ItsRun
+      third ran =
+          third_over one first quiet_one two second quiet_two ran (go.third k level ran.machine ran.mid number within ran.content ran.ran)
+
+  -- the first cycle ran
+  first_over : (one : Stepped wiring (Prog level First) (fed_with old false next) new lines)
+      → Tested level one.mid × GoesOn (Prog level First) nothing_asked old one.mid → ItsRun
+  first_over one (tested, first) =
+      second (stepped wiring (Prog level Second) (fed_with one.mid false next) new one.others
+      (seconds-due one.mid.program level false one.mid.carriage.spot.latch (has_more one.mid) (ap (λ p. p.stage) first.program)) one.goes)
+    where
+      second : Stepped wiring (Prog level Second) (fed_with one.mid false next) new one.others → ItsRun
+      second two =
+          second_over one first (quietly chart left (Prog level First) old one.mid refl refl is at first.carriage) two
+          (go.second level one.mid two.mid tested two.ran)
+
+  level_ran :
+      due_in (fed_with old false next) ≡ Some (Prog level First) → Behind k old → GoesFrom wiring (fed_with old false next) new lines → ItsRun
+  level_ran is_due content goes =
+      first (stepped wiring (Prog level First) (fed_with old false next) new lines is_due goes)
+    where
+      first : Stepped wiring (Prog level First) (fed_with old false next) new lines → ItsRun
+      first one = first_over one (go.first k level old one.mid number within content one.ran)
+
+-- a level turns one page at most
+module _ (chart : Chart) where
+  by_test : (b : Bool) (body : BodyText) → length (if b then (body ∷ []) else []) ≤ 1
+  by_test true body = omega arith
+  by_test false body = omega arith
+
+  one_body : (kind : ℕ) (text : List ℕ) → length (bodies_for chart kind text) ≤ 1
+  one_body kind text = by_test (prints_kind chart.lines kind) (record { kind = kind; text = text })
+
+  turned_pages : (kind : ℕ) (text : List ℕ) (from : Left)
+      → (left_behind chart.lines from (bodies_for chart kind text)).page ≤ from.page + 1
+  turned_pages kind text from =
+      let most = behind-most chart.lines from (bodies_for chart kind text) in
+      let one = one_body kind text in
+      omega (arith, most, one)
+
 -- the levels that are left run, one after another
 pub levels_ran :
     (chart : Chart) (wiring : Wiring) (stand : Stand) (card : List ℕ) (next : Option (List ℕ))
@@ -161,68 +277,17 @@ levels_ran chart wiring stand card next Behind Tested Turned zero k done left ol
 levels_ran chart wiring stand card next Behind Tested Turned (suc count) k done left old new lines lawful good go is_k all content stage printing top is at page goes =
     let left_over : levels_to (top_level old.program (has_more old)) ≡ levels_to done + suc count = omega (arith, top, all, is_k) in
     let some = some_left old.program done (has_more old) count left_over in
-    let level = level_above done in
-    let number : level_number level ≡ suc k
+    let number : level_number (level_above done) ≡ suc k
     = levels-rise old.program done (has_more old) some ∙ ap (λ n. n + 1) is_k ∙ plus_one k in
     let within : suc k ≤ ended_behind chart.lines card next = omega (arith, all) in
     let due_now = levels-due old.program done old.carriage.spot.latch (has_more old) stage in
-    let due_first : due_in (fed_with old false next) ≡ Some (Prog level First)
+    let due_first : due_in (fed_with old false next) ≡ Some (Prog (level_above done) First)
     = due_now.0 ∙ ap (λ (b : Bool). if b then Some (Prog (level_above done) First) else None) some in
-    let one = stepped wiring (Prog level First) (fed_with old false next) new lines due_first goes in
-    let tested = go.first k level old one.mid number within content one.ran in
-    let quiet_one = quietly chart left (Prog level First) old one.mid refl refl is at tested.1.carriage in
-    let stage_one : one.mid.program.stage ≡ RanProg level First = ap (λ p. p.stage) tested.1.program in
-    let due_second : due_in (fed_with one.mid false next) ≡ Some (Prog level Second)
-    = seconds-due one.mid.program level false one.mid.carriage.spot.latch (has_more one.mid) stage_one in
-    let two = stepped wiring (Prog level Second) (fed_with one.mid false next) new one.others due_second one.goes in
-    let turned = go.second level one.mid two.mid tested.0 two.ran in
-    let quiet_two = quietly chart left (Prog level Second) one.mid two.mid refl refl quiet_one.carriage quiet_one.at turned.1.carriage in
-    let stage_two : two.mid.program.stage ≡ RanProg level Second = ap (λ p. p.stage) turned.1.program in
-    let printing_two : two.mid.program.printing ≡ old.program.printing
-    = ap (λ p. p.printing) turned.1.program ∙ ap (λ p. p.printing) tested.1.program in
-    let page_now : left.page < 2 ^ 32 = omega (arith, page) in
-    let ran = third_ran chart wiring (Turned level) level left next two.mid new two.others lawful good (go.heads level) turned.0
-    (printing_two ∙ printing) stage_two quiet_two.carriage quiet_two.at page_now two.goes in
-    let shown = go.third k level ran.machine ran.mid number within ran.content ran.ran in
-    let groups = taking card stand.so_far in
-    let text = total_line chart.lines (level_number level) (groups (level_number level)) in
-    let placed_here = ran.placed_so text shown.1.goes.carriage (λ printed. shown.1.line (kind_printed (level_number level) k number printed)) in
-    let bodies = bodies_for chart (level_number level) text in
-    let left_here = left_behind chart.lines left bodies in
-    let few : left_here.page ≤ left.page + 1 = turned_pages (level_number level) text left in
-    let stations_three : ran.mid.stations ≡ old.stations
-    = shown.1.goes.stations ∙ ran.stations ∙ turned.1.stations ∙ tested.1.stations in
-    let more : has_more ran.mid ≡ has_more old = ap (λ s. has_more (record old { stations = s })) stations_three in
-    let highest : ran.mid.program.highest ≡ old.program.highest
-    = ap (λ p. p.highest) shown.1.goes.program ∙ ran.highest ∙ ap (λ p. p.highest) turned.1.program
-    ∙ ap (λ p. p.highest) tested.1.program in
-    let printing_three : ran.mid.program.printing ≡ old.program.printing
-    = ap (λ p. p.printing) shown.1.goes.program ∙ ran.printing ∙ printing_two in
-    let top_three : levels_to (top_level ran.mid.program (has_more ran.mid)) ≡ ended_behind chart.lines card next
-    = same_top ran.mid.program old.program (has_more ran.mid) (has_more old) highest more ∙ top in
-    let rest = levels_ran chart wiring stand card next Behind Tested Turned count (suc k) (Some level) left_here ran.mid new ran.others
-    lawful good go number (all ∙ shifted k count) shown.0 (ap (λ p. p.stage) shown.1.goes.program)
-    (printing_three ∙ printing) top_three placed_here.2 placed_here.1 (omega (arith, page, few)) ran.goes in
-    let split = places_split chart.lines left bodies (bodies_of chart.lines (totals_behind count (suc k) groups)) in
-    let all_bodies : bodies ++ bodies_of chart.lines (totals_behind count (suc k) groups)
-    ≡ bodies_of chart.lines (totals_behind (suc count) k groups)
-    = ap (λ n. bodies_for chart n (total_line chart.lines n (groups n)) ++ bodies_of chart.lines (totals_behind count (suc k) groups)) number in
-    record {
-      content = rest.content;
-      done = rest.done;
-      all_done = rest.all_done;
-      stage = rest.stage;
-      printing = rest.printing ∙ printing_three;
-      is_over = rest.is_over;
-      stations = rest.stations ∙ stations_three;
-      carriage = rest.carriage;
-      at = subst (λ l. IsAt chart.lines l new.carriage.spot)
-          (sym split.1 ∙ ap (λ b. left_behind chart.lines left b) all_bodies) rest.at;
-      is_lines = one.is_lines ∙ ap (λ l. l ++ one.others) quiet_one.no_line
-          ∙ two.is_lines ∙ ap (λ l. l ++ two.others) quiet_two.no_line
-          ∙ placed_here.0 ∙ ap (λ l. placed chart.lines left bodies ++ l) rest.is_lines
-          ∙ sym split.0 ∙ ap (λ b. placed chart.lines left b) all_bodies;
-    }
+    with_level (level_above done) number
+    (level_ran chart wiring stand card next Behind Tested Turned k (level_above done) left old new lines lawful good go number within printing
+    is at (omega (arith, page)) due_first content goes)
+    (λ from mid others. levels_ran chart wiring stand card next Behind Tested Turned count (suc k) (Some (level_above done)) from mid new others
+    lawful good go)
   where
     plus_one : (n : ℕ) → n + 1 ≡ suc n
     plus_one n = omega arith
@@ -230,24 +295,64 @@ levels_ran chart wiring stand card next Behind Tested Turned (suc count) k done 
     shifted : (n m : ℕ) → n + suc m ≡ suc n + m
     shifted n m = omega arith
 
-    kind_printed : (n m : ℕ) → n ≡ suc m → prints_kind chart.lines n ≡ true → prints_totals chart.lines n ≡ true
-    kind_printed zero m is printed = absurd (omega (arith, is))
-    kind_printed (suc n) m is printed = printed
-
-    by_test : (b : Bool) (body : BodyText) → length (if b then (body ∷ []) else []) ≤ 1
-    by_test true body = omega arith
-    by_test false body = omega arith
-
-    one_body : (kind : ℕ) (text : List ℕ) → length (bodies_for chart kind text) ≤ 1
-    one_body kind text = by_test (prints_kind chart.lines kind) (record { kind = kind; text = text })
-
-    turned_pages : (kind : ℕ) (text : List ℕ) (from : Left)
-        → (left_behind chart.lines from (bodies_for chart kind text)).page ≤ from.page + 1
-    turned_pages kind text from =
-        let most = behind-most chart.lines from (bodies_for chart kind text) in
-        let one = one_body kind text in
-        omega (arith, most, one)
-
     same_top : (one other : ProgramState) (a b : Bool) → one.highest ≡ other.highest → a ≡ b
         → levels_to (top_level one a) ≡ levels_to (top_level other b)
     same_top one other a b high same = λ i. levels_to (if same i then high i else Some Final)
+
+    Ran : Level → Type 0
+    Ran level = LevelRan chart wiring Behind k level left (total_bodies chart stand card (level_number level)) next old new lines
+
+    Rest : (level : Level) → Ran level → Type 0
+    Rest level ran =
+        LevelsRan chart Behind (ended_behind chart.lines card next)
+        (left_behind chart.lines left (total_bodies chart stand card (level_number level)))
+        (bodies_of chart.lines (totals_behind count (suc k) (taking card stand.so_far))) ran.mid new ran.others
+
+    together : (level : Level) → level_number level ≡ suc k → (ran : Ran level) → Rest level ran
+        → LevelsRan chart Behind (ended_behind chart.lines card next) left
+        (bodies_of chart.lines (totals_behind (suc count) k (taking card stand.so_far))) old new lines
+    together level number ran rest =
+        let bodies = total_bodies chart stand card (level_number level) in
+        let others = bodies_of chart.lines (totals_behind count (suc k) (taking card stand.so_far)) in
+        let split = places_split chart.lines left bodies others in
+        let all_bodies : bodies ++ others ≡ bodies_of chart.lines (totals_behind (suc count) k (taking card stand.so_far))
+        = ap (λ n. total_bodies chart stand card n ++ others) number in
+        record {
+          content = rest.content;
+          done = rest.done;
+          all_done = rest.all_done;
+          stage = rest.stage;
+          printing = rest.printing ∙ ran.printing;
+          is_over = rest.is_over;
+          stations = rest.stations ∙ ran.stations;
+          carriage = rest.carriage;
+          at = subst (λ l. IsAt chart.lines l new.carriage.spot)
+              (sym split.1 ∙ ap (λ b. left_behind chart.lines left b) all_bodies) rest.at;
+          is_lines = ran.is_lines ∙ ap (λ l. placed chart.lines left bodies ++ l) rest.is_lines
+              ∙ sym split.0 ∙ ap (λ b. placed chart.lines left b) all_bodies;
+        }
+
+    -- the levels above, behind any machine
+    Above : Level → Type 0
+    Above level =
+        (from : Left) (mid : MachineState) (others : List PlacedLine) → level_number level ≡ suc k
+        → ended_behind chart.lines card next ≡ suc k + count → Behind (suc k) mid → mid.program.stage ≡ stage_behind (Some level)
+        → mid.program.printing ≡ printing_of_chart chart.lines
+        → levels_to (top_level mid.program (has_more mid)) ≡ ended_behind chart.lines card next
+        → IsCarriageOf chart.lines mid.carriage → IsAt chart.lines from mid.carriage.spot → from.page + count < 2 ^ 32
+        → GoesFrom wiring (fed_with mid false next) new others
+        → LevelsRan chart Behind (ended_behind chart.lines card next) from
+        (bodies_of chart.lines (totals_behind count (suc k) (taking card stand.so_far))) mid new others
+
+    with_level : (level : Level) → level_number level ≡ suc k → Ran level → Above level
+        → LevelsRan chart Behind (ended_behind chart.lines card next) left
+        (bodies_of chart.lines (totals_behind (suc count) k (taking card stand.so_far))) old new lines
+    with_level level number ran above =
+        let few = turned_pages chart (level_number level)
+        (total_line chart.lines (level_number level) (taking card stand.so_far (level_number level))) left in
+        let more : has_more ran.mid ≡ has_more old = ap (λ s. has_more (record old { stations = s })) ran.stations in
+        together level number ran
+        (above (left_behind chart.lines left (total_bodies chart stand card (level_number level))) ran.mid ran.others number
+        (all ∙ shifted k count) ran.content ran.stage (ran.printing ∙ printing)
+        (same_top ran.mid.program old.program (has_more ran.mid) (has_more old) ran.highest more ∙ top) ran.carriage ran.at
+        (omega (arith, page, few)) ran.goes)

@@ -1,7 +1,7 @@
 -- What impulses the control hubs of the counter group of a total.
 use Rattle.std.proofs.Common.{◌≡◌, ◌∙◌, refl, sym, subst, ℕ, Bool, true, false, List, Some, None, ◌↔◌, ◌⊎◌, inl, inr, arith}
 use Rattle.allocate.specs.Plans.{Lists}
-use Rattle.chart_text.specs.Chart.{Chart}
+use Rattle.chart_text.specs.Chart.{Chart, NumbersRise}
 use Rattle.chart_text.specs.declared.chart.Line.{Line}
 use Rattle.chart_text.specs.declared.statement.SignRule.{SignRule}
 use Rattle.chart_text.specs.declared.statement.SignRule.TheVariants as sign
@@ -10,10 +10,14 @@ use Rattle.hubs.specs.declared.hub.Group.{Group}
 use Rattle.hubs.specs.declared.hub.Hub.{Hub}
 use Rattle.hubs.specs.declared.hub.Hub.TheVariants.{BAN, BAT, PL, MI, RO, BT, BAC, PIC}
 use Rattle.machine.specs.Machine.{MachineState, closes}
+use Rattle.net.specs.Impulsed.{IsPicture}
 use Rattle.net.specs.Panel.{contact_of}
 use Rattle.net.specs.declared.cycle.Cycle.{Cycle}
 use Rattle.net.specs.declared.cycle.Point.{Point}
 use Rattle.net.specs.declared.cycle.Point.TheVariants.{C}
+use Rattle.whole_cycles.proofs.Contacts.{contacts-one_deep}
+use Rattle.whole_cycles.proofs.Sources.{emit_at_sources}
+use Rattle.whole_cycles.specs.Between.{IsBetween}
 use Rattle.whole_cycles.specs.OneContactDeep.{is_source}
 use Rattle.whole_cycles.specs.WholeCycles.{control_emits}
 use Rattle.wire_gen.specs.Figures.{IsSigned, IsUnsigned}
@@ -32,7 +36,7 @@ use Rattle.impulses.proofs.ToCounters.ToPilot.{signs as pilots_signs, marks as p
 use Rattle.impulses.proofs.Ways.{comes}
 use Rattle.impulses.specs.ChartAmounts.{IsGroupOf}
 use Rattle.impulses.specs.CounterStates.{IsPanelCycle}
-use Rattle.impulses.specs.Panel.{Comes}
+use Rattle.impulses.specs.Panel.{Comes, IsPanel}
 use Rattle.impulses.specs.Panel.Comes.{straight, through}
 use Rattle.impulses.specs.Sources.{Tells}
 
@@ -74,8 +78,22 @@ pub data ReadsOut (lines : List Line) (closed : Hub → Bool) (cycle : Cycle) (n
 pub data Tests (lines : List Line) (cycle : Cycle) (name : List ℕ) (level : ℕ) : Type 0 where
   tests_it : (rule : SignRule) → IsStep cycle level 1 → IsSigned lines name rule → Tests lines cycle name level
 
+-- The control point of a cycle of a panel that is wired for a chart: its picture is that of the exits that emit there.
+pub record IsControlPoint (chart : Chart) (plan : Lists) (wiring : Wiring) (old : MachineState) (cycle : Cycle)
+    (pictures : Point → Hub → Bool) : Type 0 where
+  pub panel : IsPanel chart plan wiring
+  pub rise : NumbersRise chart.lines chart.end
+  pub between : IsBetween old
+  pub control : IsPicture wiring (control_emits cycle) (closes old cycle C) (pictures C)
+
+-- the control point of a cycle
+pub control_point :
+    {chart : Chart} {plan : Lists} {wiring : Wiring} {old : MachineState} {cycle : Cycle} {pictures : Point → Hub → Bool}
+    → IsPanelCycle chart plan wiring old cycle pictures → IsControlPoint chart plan wiring old cycle pictures
+control_point at = record { panel = at.panel; rise = at.rise; between = at.between; control = at.control }
+
 module _ (chart : Chart) (plan : Lists) (wiring : Wiring) (old : MachineState) (cycle : Cycle) (pictures : Point → Hub → Bool)
-    (at : IsPanelCycle chart plan wiring old cycle pictures) where
+    (at : IsControlPoint chart plan wiring old cycle pictures) where
   -- a wire's numbers
   pub numbered : (exit entry : Hub) → ChartWire chart.lines plan exit entry → HasWire wiring exit entry
   numbered exit entry given = (at.panel.wired.wires exit entry).1 given
@@ -84,12 +102,12 @@ module _ (chart : Chart) (plan : Lists) (wiring : Wiring) (old : MachineState) (
   pub at_control : (entry : Hub) → contact_of entry ≡ None → control_emits cycle entry ≡ false
       → (pictures C entry ≡ true) ↔ Comes chart.lines plan (control_emits cycle) (shut old cycle) entry
   at_control entry no_contact silent =
-      comes chart plan wiring (control_emits cycle) (shut old cycle) (pictures C) entry at.one_deep at.panel
-      (at.at_sources.no_common (control_emits cycle) (at.at_sources.control cycle)) at.control no_contact silent
+      comes chart plan wiring (control_emits cycle) (shut old cycle) (pictures C) entry contacts-one_deep at.panel
+      (emit_at_sources.no_common (control_emits cycle) (emit_at_sources.control cycle)) at.control no_contact silent
 
   -- no entry emits at the control point
   pub silent : (entry : Hub) → is_source entry ≡ false → control_emits cycle entry ≡ false
-  silent entry none = at.at_sources.control cycle entry none
+  silent entry none = emit_at_sources.control cycle entry none
 
   -- the positions of a balance, where they are not the mark's
   in_balance :

@@ -41,7 +41,7 @@ use Rattle.whole_cycles.specs.Between.{IsIdle}
 use Rattle.wire_gen.specs.Figures.{IsAmount, IsSigned}
 use Rattle.wire_gen.specs.Parts.{IsLowest, group_for}
 use Rattle.impulses.proofs.CounterAsksCards.{number_small, position_digit, column_row, few_digits}
-use Rattle.impulses.proofs.CounterAsksControls.{shut, ReadsOut, read_is}
+use Rattle.impulses.proofs.CounterAsksControls.{control_point, shut, ReadsOut, read_is}
 use Rattle.impulses.proofs.CounterAsksControls.ReadsOut.{shows_it, turns_it}
 use Rattle.impulses.proofs.CounterAsksGiven.{gives_read}
 use Rattle.impulses.proofs.CounterAsksRows.{ReadsDigit, Enters, enters_is, gives_entry}
@@ -131,7 +131,7 @@ module _ (chart : Chart) (plan : Lists) (wiring : Wiring) (old : MachineState) (
     (name : List ℕ) (level : ℕ) (group : Group) (own : IsGroupOf chart.lines plan name level group) where
   -- no total reads out in a card cycle
   pub card_silent : IsPanelCycle chart plan wiring old Card pictures → pictures C (RO group) ≡ true → ⊥
-  card_silent at on = by (read_is chart plan wiring old Card pictures at name level group own on)
+  card_silent at on = by (read_is chart plan wiring old Card pictures (control_point at) name level group own on)
     where
       by : ReadsOut chart.lines (shut old Card) Card name level group → ⊥
       by (shows_it is) = is
@@ -140,7 +140,7 @@ module _ (chart : Chart) (plan : Lists) (wiring : Wiring) (old : MachineState) (
   -- in the second and third program cycles of a level no total of another level reads out
   pub second_reads : (l : Level) → IsPanelCycle chart plan wiring old (Prog l Second) pictures → pictures C (RO group) ≡ true
       → level_number l ≡ level
-  second_reads l at on = by (read_is chart plan wiring old (Prog l Second) pictures at name level group own on)
+  second_reads l at on = by (read_is chart plan wiring old (Prog l Second) pictures (control_point at) name level group own on)
     where
       by : ReadsOut chart.lines (shut old (Prog l Second)) (Prog l Second) name level group → level_number l ≡ level
       by (shows_it is) = is.0
@@ -148,7 +148,7 @@ module _ (chart : Chart) (plan : Lists) (wiring : Wiring) (old : MachineState) (
 
   pub third_reads : (l : Level) → IsPanelCycle chart plan wiring old (Prog l Third) pictures → pictures C (RO group) ≡ true
       → level_number l ≡ level
-  third_reads l at on = by (read_is chart plan wiring old (Prog l Third) pictures at name level group own on)
+  third_reads l at on = by (read_is chart plan wiring old (Prog l Third) pictures (control_point at) name level group own on)
     where
       by : ReadsOut chart.lines (shut old (Prog l Third)) (Prog l Third) name level group → level_number l ≡ level
       by (shows_it is) = is.0
@@ -273,7 +273,7 @@ module _ (chart : Chart) (plan : Lists) (wiring : Wiring) (old : MachineState) (
           is = grind (arith, nat_tests, same)
 
           reads_out : pictures C (RO lower) ≡ true
-          reads_out = gives_read chart plan wiring old (Prog l Third) pictures at name (level_number l) lower lower_own (shows_it (refl, refl))
+          reads_out = gives_read chart plan wiring old (Prog l Third) pictures (control_point at) name (level_number l) lower lower_own (shows_it (refl, refl))
 
           by : (b : Bool) → nat_le position under.total.digits ≡ b
               → Enters chart.lines plan old pictures (Prog l Third) row name level group position

@@ -20,19 +20,18 @@ use Rattle.wire_gen.specs.Figures.{IsSigned}
 use Rattle.wire_gen.specs.Parts.{HasTotal, IsLowest, IsNextHigher, pilot_for, negative_side, positive_side}
 use Rattle.wire_gen.specs.Wires.{LineWire, ChartWire}
 use Rattle.wire_gen.specs.Wires.LineWire.{entry_adds, entry_sign, entry_plus, entry_minus, read_out, balance_test, conversion, conversion_read_out, conversion_minus, transfer_adds, transfer_sign, transfer_plus, transfer_minus}
-use Rattle.impulses.proofs.CounterAsksControls.{shut, Pluses, Minuses, ReadsOut, Tests, numbered, at_control, silent, positive_common, negative_common}
+use Rattle.impulses.proofs.CounterAsksControls.{IsControlPoint, shut, Pluses, Minuses, ReadsOut, Tests, numbered, at_control, silent, positive_common, negative_common}
 use Rattle.impulses.proofs.CounterAsksControls.Pluses.{card, by_sign, up, by_latch}
 use Rattle.impulses.proofs.CounterAsksControls.Minuses.{less_by_sign, less_turned, less_by_latch}
 use Rattle.impulses.proofs.CounterAsksControls.ReadsOut.{shows_it, turns_it}
 use Rattle.impulses.proofs.CounterAsksControls.Tests.{tests_it}
 use Rattle.impulses.proofs.CounterAsksTold.{IsStep, card_emits, step_emits, IsUnder, next_higher, wire_of}
 use Rattle.impulses.specs.ChartAmounts.{IsGroupOf}
-use Rattle.impulses.specs.CounterStates.{IsPanelCycle}
 use Rattle.impulses.specs.Panel.{Comes}
 use Rattle.impulses.specs.Panel.Comes.{straight, through}
 
 module _ (chart : Chart) (plan : Lists) (wiring : Wiring) (old : MachineState) (cycle : Cycle) (pictures : Point → Hub → Bool)
-    (at : IsPanelCycle chart plan wiring old cycle pictures) where
+    (at : IsControlPoint chart plan wiring old cycle pictures) where
   -- a program cycle that is wired tells of itself
   telling_step : (level step : ℕ) (entry : Hub) → IsStep cycle level step → ChartWire chart.lines plan (PX level step) entry
       → control_emits cycle (PX level step) ≡ true

@@ -24,7 +24,7 @@ use Rattle.wire_gen.specs.Figures.{IsAmount, IsSigned, rule_of}
 use Rattle.wire_gen.specs.Parts.{IsLowest, pilot_for}
 use Rattle.impulses.proofs.AmountFacts.{total_level, lowest_is, lowest_from, signed_is, unsigned_is, signed_from, unsigned_from}
 use Rattle.impulses.proofs.CounterAsksContacts.{pilot_within, negative_closed, positive_closed, negated_is}
-use Rattle.impulses.proofs.CounterAsksControls.{shut, Pluses, Minuses, ReadsOut, Tests, numbered, plus_is, minus_is, read_is, test_is}
+use Rattle.impulses.proofs.CounterAsksControls.{control_point, shut, Pluses, Minuses, ReadsOut, Tests, numbered, plus_is, minus_is, read_is, test_is}
 use Rattle.impulses.proofs.CounterAsksControls.Pluses.{card as adds_card, by_sign, up, by_latch}
 use Rattle.impulses.proofs.CounterAsksControls.Minuses.{less_by_sign, less_turned, less_by_latch}
 use Rattle.impulses.proofs.CounterAsksControls.ReadsOut.{shows_it, turns_it}
@@ -96,8 +96,8 @@ module _ (chart : Chart) (plan : Lists) (wiring : Wiring) (old : MachineState) (
     within_panel : (rule : SignRule) (pilot : ℕ) → IsLowest chart.lines name level → IsSigned chart.lines name rule
         → pilot_for plan name ≡ Some pilot → is_within pilot 16 ≡ true
     within_panel rule pilot low is served =
-        let wire = numbered chart plan wiring old Card pictures at CC (PIC pilot 1)
-        (to_sign chart plan wiring old Card pictures at name level group own rule pilot low is served) in
+        let wire = numbered chart plan wiring old Card pictures (control_point at) CC (PIC pilot 1)
+        (to_sign chart plan wiring old Card pictures (control_point at) name level group own rule pilot low is served) in
         pilot_within pilot wire.to wire.entry_numbered
 
     -- the rule of the amount is its field's
@@ -116,16 +116,16 @@ module _ (chart : Chart) (plan : Lists) (wiring : Wiring) (old : MachineState) (
     }
       where
         adds : pictures C (PL group) ≡ true → Pluses chart.lines plan (shut old Card) Card name level
-        adds on = plus_is chart plan wiring old Card pictures at name level group own on
+        adds on = plus_is chart plan wiring old Card pictures (control_point at) name level group own on
 
         subtracts : pictures C (MI group) ≡ true → Minuses chart.lines plan (shut old Card) Card name level group
-        subtracts on = minus_is chart plan wiring old Card pictures at name level group own on
+        subtracts on = minus_is chart plan wiring old Card pictures (control_point at) name level group own on
 
         reads : pictures C (RO group) ≡ true → ReadsOut chart.lines (shut old Card) Card name level group
-        reads on = read_is chart plan wiring old Card pictures at name level group own on
+        reads on = read_is chart plan wiring old Card pictures (control_point at) name level group own on
 
         tests : pictures C (BT group) ≡ true → Tests chart.lines Card name level
-        tests on = test_is chart plan wiring old Card pictures at name level group own on
+        tests on = test_is chart plan wiring old Card pictures (control_point at) name level group own on
 
         low_is : IsLowest chart.lines name level → (below == 0) ≡ true
         low_is low = let none = lowest_is chart.lines plan name level some low in grind (arith, nat_tests, none)
@@ -171,7 +171,7 @@ module _ (chart : Chart) (plan : Lists) (wiring : Wiring) (old : MachineState) (
         no_test (tests_it rule is its_sign) = is
 
         plus_given : (below == 0) ≡ true → negative ≡ false → pictures C (PL group) ≡ true
-        plus_given low none = gives_plus chart plan wiring old Card pictures at name level group own (by signed refl none)
+        plus_given low none = gives_plus chart plan wiring old Card pictures (control_point at) name level group own (by signed refl none)
           where
             by : (b : Bool) → signed ≡ b → (b && is_negated field.kind card) ≡ false
                 → Pluses chart.lines plan (shut old Card) Card name level
@@ -184,7 +184,7 @@ module _ (chart : Chart) (plan : Lists) (wiring : Wiring) (old : MachineState) (
                 by_sign rule pilot tt (is_low low) its_sign served (sides ∙ ap not (sym (rule_is rule its_sign) ∙ none))
 
         minus_given : (below == 0) ≡ true → negative ≡ true → pictures C (MI group) ≡ true
-        minus_given low is_so = gives_minus chart plan wiring old Card pictures at name level group own (by signed refl is_so)
+        minus_given low is_so = gives_minus chart plan wiring old Card pictures (control_point at) name level group own (by signed refl is_so)
           where
             by : (b : Bool) → signed ≡ b → (b && is_negated field.kind card) ≡ true
                 → Minuses chart.lines plan (shut old Card) Card name level group

@@ -20,12 +20,14 @@ use Rattle.net.specs.declared.cycle.Cycle.TheVariants.{Card}
 use Rattle.net.specs.declared.cycle.Point.{Point}
 use Rattle.net.specs.declared.cycle.Point.TheVariants.{C, Row}
 use Rattle.stations.specs.Punches.{is_punched_at}
+use Rattle.whole_cycles.proofs.Contacts.{contacts-one_deep}
+use Rattle.whole_cycles.proofs.Sources.{emit_at_sources}
 use Rattle.whole_cycles.specs.WholeCycles.{row_emits}
 use Rattle.wire_gen.specs.Figures.{IsAmount, IsSigned}
 use Rattle.wire_gen.specs.Parts.{IsLowest, IsNextHigher, group_for}
 use Rattle.wire_gen.specs.Wires.{ChartWire}
 use Rattle.wire_gen.specs.Wires.LineWire.{entry, feedback, transfer}
-use Rattle.impulses.proofs.CounterAsksControls.{numbered}
+use Rattle.impulses.proofs.CounterAsksControls.{control_point, numbered}
 use Rattle.impulses.proofs.CounterAsksTold.{moved, IsUnder, goes_under, next_higher, wire_of}
 use Rattle.impulses.proofs.PlanOwners.{one_owner, one_total}
 use Rattle.impulses.proofs.Sending.{sending}
@@ -102,8 +104,8 @@ module _ (chart : Chart) (plan : Lists) (wiring : Wiring) (old : MachineState) (
       ↔ Comes chart.lines plan (row_emits old pictures cycle row) (closes old cycle (Row row)) (GE group position)
   at_row =
       comes chart plan wiring (row_emits old pictures cycle row) (closes old cycle (Row row)) (pictures (Row row)) (GE group position)
-      at.one_deep at.panel (at.at_sources.no_common (row_emits old pictures cycle row) (at.at_sources.rows old pictures cycle row))
-      (at.rows row) refl (at.at_sources.rows old pictures cycle row (GE group position) refl)
+      contacts-one_deep at.panel (emit_at_sources.no_common (row_emits old pictures cycle row) (emit_at_sources.rows old pictures cycle row))
+      (at.rows row) refl (emit_at_sources.rows old pictures cycle row (GE group position) refl)
 
   -- straight to the entry
   entered : {exit : Hub} → ToEntry chart.lines plan group position exit → Sends old pictures cycle row exit
@@ -145,7 +147,7 @@ module _ (chart : Chart) (plan : Lists) (wiring : Wiring) (old : MachineState) (
   along : (from : Group) → ReadsDigit old pictures row from position → ChartWire chart.lines plan (GX from position) (GE group position)
       → Comes chart.lines plan (row_emits old pictures cycle row) (closes old cycle (Row row)) (GE group position)
   along from reads given =
-      let wire = numbered chart plan wiring old cycle pictures at (GX from position) (GE group position) given in
+      let wire = numbered chart plan wiring old cycle pictures (control_point at) (GX from position) (GE group position) given in
       let out : pictures C (RO reads.counter.name) ≡ true = ap (λ g. pictures C (RO g)) reads.named ∙ reads.reads in
       let sends : Sends old pictures cycle row (GX from position) =
       subst (λ g. Sends old pictures cycle row (GX g position)) reads.named
@@ -163,7 +165,7 @@ module _ (chart : Chart) (plan : Lists) (wiring : Wiring) (old : MachineState) (
           (λ its wheel mark same.
           entry its wheel name own.total.digits mark field group position
           (subst (λ l. IsLowest chart.lines name l) (sym same) low) own.served amount from to) in
-          let wire = numbered chart plan wiring old cycle pictures at (SR (field.last + 1 - position)) (GE group position) given in
+          let wire = numbered chart plan wiring old cycle pictures (control_point at) (SR (field.last + 1 - position)) (GE group position) given in
           straight (SR (field.last + 1 - position)) (GE group position)
           (sending old pictures cycle row wire.number (second (field.last + 1 - position) is punched) wire.numbered) given
       by (own_digit rule signed from to reads) =

@@ -26,7 +26,7 @@ use Rattle.wire_gen.specs.Figures.{IsAmount, IsSigned}
 use Rattle.impulses.proofs.AmountFacts.{has_it, total_level, group_is, under_is, under_from, signed_is, unsigned_is, signed_from, unsigned_from}
 use Rattle.impulses.proofs.Contacts.{is_set}
 use Rattle.impulses.proofs.CounterAsksContacts.{transferred_is, normal_balance}
-use Rattle.impulses.proofs.CounterAsksControls.{shut, Pluses, Minuses, ReadsOut, Tests, plus_is, minus_is, read_is, test_is}
+use Rattle.impulses.proofs.CounterAsksControls.{control_point, shut, Pluses, Minuses, ReadsOut, Tests, plus_is, minus_is, read_is, test_is}
 use Rattle.impulses.proofs.CounterAsksControls.Pluses.{card as adds_card, by_sign, up, by_latch}
 use Rattle.impulses.proofs.CounterAsksControls.Minuses.{less_by_sign, less_turned, less_by_latch}
 use Rattle.impulses.proofs.CounterAsksControls.ReadsOut.{shows_it, turns_it}
@@ -127,10 +127,10 @@ module _ (chart : Chart) (plan : Lists) (wiring : Wiring) (old : MachineState) (
   pub other_controls : (cycle : Cycle) → IsPanelCycle chart plan wiring old cycle pictures → ((step : ℕ) (low : ℕ) → IsStep cycle low step → ⊥)
       → (IsCardCycle cycle → ⊥) → IsControlled group (act_controls Still) pictures
   other_controls cycle at no_step no_card = record {
-    plus = not_true _ (λ on. no_plus (plus_is chart plan wiring old cycle pictures at name level group own on));
-    minus = not_true _ (λ on. no_minus (minus_is chart plan wiring old cycle pictures at name level group own on));
-    read_out = not_true _ (λ on. no_read (read_is chart plan wiring old cycle pictures at name level group own on));
-    test = not_true _ (λ on. no_test (test_is chart plan wiring old cycle pictures at name level group own on));
+    plus = not_true _ (λ on. no_plus (plus_is chart plan wiring old cycle pictures (control_point at) name level group own on));
+    minus = not_true _ (λ on. no_minus (minus_is chart plan wiring old cycle pictures (control_point at) name level group own on));
+    read_out = not_true _ (λ on. no_read (read_is chart plan wiring old cycle pictures (control_point at) name level group own on));
+    test = not_true _ (λ on. no_test (test_is chart plan wiring old cycle pictures (control_point at) name level group own on));
   }
     where
       no_plus : Pluses chart.lines plan (shut old cycle) cycle name level → ⊥
@@ -155,11 +155,11 @@ module _ (chart : Chart) (plan : Lists) (wiring : Wiring) (old : MachineState) (
     pub first_controls : IsPanelCycle chart plan wiring old (Prog l First) pictures
         → IsControlled group (act_controls (test_act (signed && (level_number l == level)))) pictures
     first_controls at = record {
-      plus = not_true _ (λ on. no_plus (plus_is chart plan wiring old (Prog l First) pictures at name level group own on)) ∙ sym told.0;
-      minus = not_true _ (λ on. no_minus (minus_is chart plan wiring old (Prog l First) pictures at name level group own on)) ∙ sym told.1;
-      read_out = not_true _ (λ on. no_read (read_is chart plan wiring old (Prog l First) pictures at name level group own on)) ∙ sym told.2;
+      plus = not_true _ (λ on. no_plus (plus_is chart plan wiring old (Prog l First) pictures (control_point at) name level group own on)) ∙ sym told.0;
+      minus = not_true _ (λ on. no_minus (minus_is chart plan wiring old (Prog l First) pictures (control_point at) name level group own on)) ∙ sym told.1;
+      read_out = not_true _ (λ on. no_read (read_is chart plan wiring old (Prog l First) pictures (control_point at) name level group own on)) ∙ sym told.2;
       test =
-          agrees _ _ (λ on. is_tested (test_is chart plan wiring old (Prog l First) pictures at name level group own on)) gives
+          agrees _ _ (λ on. is_tested (test_is chart plan wiring old (Prog l First) pictures (control_point at) name level group own on)) gives
           ∙ sym told.3;
     }
       where
@@ -188,20 +188,20 @@ module _ (chart : Chart) (plan : Lists) (wiring : Wiring) (old : MachineState) (
         gives : (signed && (level_number l == level)) ≡ true → pictures C (BT group) ≡ true
         gives on =
             let (rule, its_sign) = ruled field is_amount (first signed (level_number l == level) on) in
-            gives_test chart plan wiring old (Prog l First) pictures at name level group own
+            gives_test chart plan wiring old (Prog l First) pictures (control_point at) name level group own
             (tests_it rule (is_number (level_number l) level (second signed (level_number l == level) on), refl) its_sign)
 
     pub second_controls : IsPanelCycle chart plan wiring old (Prog l Second) pictures
         → IsControlled group (act_controls (turn_act (signed && ((level_number l == level) && is_set old group)))) pictures
     second_controls at = record {
-      plus = not_true _ (λ on. no_plus (plus_is chart plan wiring old (Prog l Second) pictures at name level group own on)) ∙ sym told.0;
+      plus = not_true _ (λ on. no_plus (plus_is chart plan wiring old (Prog l Second) pictures (control_point at) name level group own on)) ∙ sym told.0;
       minus =
-          agrees _ _ (λ on. minus_turned (minus_is chart plan wiring old (Prog l Second) pictures at name level group own on)) gives_it
+          agrees _ _ (λ on. minus_turned (minus_is chart plan wiring old (Prog l Second) pictures (control_point at) name level group own on)) gives_it
           ∙ sym told.1;
       read_out =
-          agrees _ _ (λ on. read_turned (read_is chart plan wiring old (Prog l Second) pictures at name level group own on)) gives_out
+          agrees _ _ (λ on. read_turned (read_is chart plan wiring old (Prog l Second) pictures (control_point at) name level group own on)) gives_out
           ∙ sym told.2;
-      test = not_true _ (λ on. no_test (test_is chart plan wiring old (Prog l Second) pictures at name level group own on)) ∙ sym told.3;
+      test = not_true _ (λ on. no_test (test_is chart plan wiring old (Prog l Second) pictures (control_point at) name level group own on)) ∙ sym told.3;
     }
       where
         told : AreControls (turn_act (signed && ((level_number l == level) && is_set old group))) false (signed && ((level_number l == level) && is_set old group)) (signed && ((level_number l == level) && is_set old group)) false
@@ -250,12 +250,12 @@ module _ (chart : Chart) (plan : Lists) (wiring : Wiring) (old : MachineState) (
         gives_it : (signed && ((level_number l == level) && is_set old group)) ≡ true → pictures C (MI group) ≡ true
         gives_it on =
             let (rule, its_sign, is, closed) = parts on in
-            gives_minus chart plan wiring old (Prog l Second) pictures at name level group own (less_turned rule (is, refl) its_sign closed)
+            gives_minus chart plan wiring old (Prog l Second) pictures (control_point at) name level group own (less_turned rule (is, refl) its_sign closed)
 
         gives_out : (signed && ((level_number l == level) && is_set old group)) ≡ true → pictures C (RO group) ≡ true
         gives_out on =
             let (rule, its_sign, is, closed) = parts on in
-            gives_read chart plan wiring old (Prog l Second) pictures at name level group own (turns_it rule (is, refl) its_sign closed)
+            gives_read chart plan wiring old (Prog l Second) pictures (control_point at) name level group own (turns_it rule (is, refl) its_sign closed)
 
     -- whether the total of the level goes up to this one, and whether by minus
     abbrev goes_up : Bool
@@ -284,15 +284,15 @@ module _ (chart : Chart) (plan : Lists) (wiring : Wiring) (old : MachineState) (
         → IsControlled group (act_controls (show_act (level_number l == level) goes_up by_minus number)) pictures
     third_controls at number = record {
       plus =
-          agrees _ _ (λ on. plus_told (plus_is chart plan wiring old (Prog l Third) pictures at name level group own on)) plus_given
+          agrees _ _ (λ on. plus_told (plus_is chart plan wiring old (Prog l Third) pictures (control_point at) name level group own on)) plus_given
           ∙ sym told.0;
       minus =
-          agrees _ _ (λ on. minus_told (minus_is chart plan wiring old (Prog l Third) pictures at name level group own on)) minus_given
+          agrees _ _ (λ on. minus_told (minus_is chart plan wiring old (Prog l Third) pictures (control_point at) name level group own on)) minus_given
           ∙ sym told.1;
       read_out =
-          agrees _ _ (λ on. read_told (read_is chart plan wiring old (Prog l Third) pictures at name level group own on)) read_given
+          agrees _ _ (λ on. read_told (read_is chart plan wiring old (Prog l Third) pictures (control_point at) name level group own on)) read_given
           ∙ sym told.2;
-      test = not_true _ (λ on. no_test (test_is chart plan wiring old (Prog l Third) pictures at name level group own on)) ∙ sym told.3;
+      test = not_true _ (λ on. no_test (test_is chart plan wiring old (Prog l Third) pictures (control_point at) name level group own on)) ∙ sym told.3;
     }
       where
         told : AreControls (show_act (level_number l == level) goes_up by_minus number)
@@ -339,7 +339,7 @@ module _ (chart : Chart) (plan : Lists) (wiring : Wiring) (old : MachineState) (
         no_test (tests_it rule is its_sign) = omega (arith, is.1)
 
         read_given : (level_number l == level) ≡ true → pictures C (RO group) ≡ true
-        read_given on = gives_read chart plan wiring old (Prog l Third) pictures at name level group own
+        read_given on = gives_read chart plan wiring old (Prog l Third) pictures (control_point at) name level group own
             (shows_it (is_number (level_number l) level on, refl))
 
         under_of : goes_up ≡ true → IsUnder chart.lines name (level_number l) level
@@ -359,7 +359,7 @@ module _ (chart : Chart) (plan : Lists) (wiring : Wiring) (old : MachineState) (
             let rest = second (not (level_number l == level)) (goes_up && not by_minus) on in
             let under = under_of (first goes_up (not by_minus) rest) in
             let none = not_is by_minus (second goes_up (not by_minus) rest) in
-            gives_plus chart plan wiring old (Prog l Third) pictures at name level group own (by under signed refl none)
+            gives_plus chart plan wiring old (Prog l Third) pictures (control_point at) name level group own (by under signed refl none)
           where
             by : IsUnder chart.lines name (level_number l) level → (b : Bool) → signed ≡ b → (b && (state (level_number l)).latch) ≡ false
                 → Pluses chart.lines plan (shut old (Prog l Third)) (Prog l Third) name level
@@ -380,7 +380,7 @@ module _ (chart : Chart) (plan : Lists) (wiring : Wiring) (old : MachineState) (
             let (rule, its_sign) = ruled field is_amount (first signed (state (level_number l)).latch is) in
             let (lower_group, given) = lower_of under in
             let there = planned_unit chart.lines plan given.number lower_group at.panel.planned given.served in
-            gives_minus chart plan wiring old (Prog l Third) pictures at name level group own
+            gives_minus chart plan wiring old (Prog l Third) pictures (control_point at) name level group own
             (less_by_latch (level_number l) rule lower_group (refl, refl) under its_sign given
             (transferred_is old (Prog l Third) lower_group 2 at.between.ordered there refl
             ∙ sym (latch_is (level_number l) lower_group at refl given) ∙ second signed (state (level_number l)).latch is))

@@ -29,7 +29,7 @@ use Rattle.wire_gen.specs.Wires.LineWire.{ring}
 use Rattle.impulses.proofs.AmountFacts.{group_is, signed_from, signed_is, total_field}
 use Rattle.impulses.proofs.Contacts.{is_set}
 use Rattle.impulses.proofs.CounterAsksContacts.{transferred_is}
-use Rattle.impulses.proofs.CounterAsksControls.{ReadsOut, at_control, read_is, shut, silent}
+use Rattle.impulses.proofs.CounterAsksControls.{IsControlPoint, ReadsOut, at_control, read_is, shut, silent}
 use Rattle.impulses.proofs.CounterAsksControls.ReadsOut.{shows_it, turns_it}
 use Rattle.impulses.proofs.CounterAsksGiven.{gives_read}
 use Rattle.impulses.proofs.CounterAsksKinds.{not_true}
@@ -42,7 +42,7 @@ use Rattle.impulses.proofs.ToCounters.ToPlus.{by_sign as plus_by_sign, from_card
 use Rattle.impulses.proofs.ToCounters.ToReadOut.{shown as read_shown, turned as read_turned}
 use Rattle.impulses.proofs.ToCounters.ToTest.{tested}
 use Rattle.impulses.specs.ChartAmounts.{IsGroupOf, IsServing}
-use Rattle.impulses.specs.CounterStates.{IsPanelCycle, Reading, held_in, state_of}
+use Rattle.impulses.specs.CounterStates.{Reading, held_in, state_of}
 use Rattle.impulses.specs.CounterStates.Reading.{second, third}
 use Rattle.impulses.specs.Panel.{Comes, IsPanel}
 use Rattle.impulses.specs.Panel.Comes.{straight, through}
@@ -81,7 +81,7 @@ module _ (chart : Chart) (plan : Lists) where
   last_wire (through exit common contact entry on given leads shut_it last) = (contact, last)
 
 module _ (chart : Chart) (plan : Lists) (wiring : Wiring) (old : MachineState) (cycle : Cycle) (pictures : Point → Hub → Bool)
-    (at : IsPanelCycle chart plan wiring old cycle pictures) where
+    (at : IsControlPoint chart plan wiring old cycle pictures) where
   -- a control hub that is impulsed is one of a total's group
   pub plus_serves : (group : Group) → pictures C (PL group) ≡ true → IsServing chart.lines plan group
   plus_serves group on =
@@ -128,17 +128,17 @@ module _ (chart : Chart) (plan : Lists) (wiring : Wiring) (old : MachineState) (
 
 -- the groups that read out in a cycle
 module _ (chart : Chart) (plan : Lists) (wiring : Wiring) (old : MachineState) (pictures : Point → Hub → Bool) (group : Group) where
-  pub reading : (cycle : Cycle) → IsPanelCycle chart plan wiring old cycle pictures
+  pub reading : (cycle : Cycle) → IsControlPoint chart plan wiring old cycle pictures
       → (pictures C (RO group) ≡ true) ↔ Reading chart plan old group cycle
   reading cycle at = (λ on. told cycle at on, given cycle at)
     where
-      latch : (cycle : Cycle) (name : List ℕ) (level : ℕ) → IsPanelCycle chart plan wiring old cycle pictures
+      latch : (cycle : Cycle) (name : List ℕ) (level : ℕ) → IsControlPoint chart plan wiring old cycle pictures
           → IsGroupOf chart.lines plan name level group → shut old cycle (BAT group 1) ≡ is_set old group
       latch cycle name level at own =
           transferred_is old cycle group 1 at.between.ordered
           (planned_unit chart.lines plan own.number group at.panel.planned own.served) refl
 
-      by : (cycle : Cycle) → IsPanelCycle chart plan wiring old cycle pictures → (name : List ℕ) (level : ℕ)
+      by : (cycle : Cycle) → IsControlPoint chart plan wiring old cycle pictures → (name : List ℕ) (level : ℕ)
           → IsGroupOf chart.lines plan name level group → ReadsOut chart.lines (shut old cycle) cycle name level group
           → Reading chart plan old group cycle
       by RunIn at name level own (shows_it is) = absurd is
@@ -157,14 +157,14 @@ module _ (chart : Chart) (plan : Lists) (wiring : Wiring) (old : MachineState) (
           third l name (subst (λ k. IsGroupOf chart.lines plan name k group) (sym is.0) own)
       by (Prog l Third) at name level own (turns_it rule is its_sign closed) = absurd (omega (arith, is.1))
 
-      told : (cycle : Cycle) → IsPanelCycle chart plan wiring old cycle pictures → pictures C (RO group) ≡ true
+      told : (cycle : Cycle) → IsControlPoint chart plan wiring old cycle pictures → pictures C (RO group) ≡ true
           → Reading chart plan old group cycle
       told cycle at on =
           let serves = read_serves chart plan wiring old cycle pictures at group on in
           by cycle at serves.name serves.level serves.own
           (read_is chart plan wiring old cycle pictures at serves.name serves.level group serves.own on)
 
-      given : (cycle : Cycle) → IsPanelCycle chart plan wiring old cycle pictures → Reading chart plan old group cycle
+      given : (cycle : Cycle) → IsControlPoint chart plan wiring old cycle pictures → Reading chart plan old group cycle
           → pictures C (RO group) ≡ true
       given cycle at (third l name own) =
           gives_read chart plan wiring old (Prog l Third) pictures at name (level_number l) group own (shows_it (refl, refl))

@@ -35,6 +35,7 @@ pub mod CounterAsksEntries
 pub mod CounterAsks
 pub mod AmountsLawful
 pub mod CounterOthers
+pub mod ReadingOut
 pub mod SpeakersApart
 pub mod SpeakersLawful
 pub mod ToWheels

@@ -2,16 +2,11 @@
 use Rattle.std.proofs.Common.{◌≡◌, ◌≢◌, refl, false}
 use Rattle.net.specs.declared.cycle.Cycle.{Cycle}
 use Rattle.net.specs.declared.cycle.Cycle.TheVariants.{RunIn, Card, Prog, Head}
-use Rattle.whole_cycles.proofs.Contacts.{contacts-one_deep}
-use Rattle.whole_cycles.proofs.Sources.{emit_at_sources}
 use Rattle.impulses.proofs.BehindCycles.{carriage-behind, carriage-behind-other, pilots-behind, pilots-behind-other, program-behind, units-behind, units-behind-other}
 use Rattle.impulses.proofs.Contacts.{is_card_cycle}
 use Rattle.impulses.proofs.CounterAsks.{asks}
+use Rattle.impulses.proofs.Straight.{orderly}
 use Rattle.impulses.specs.PanelLaws.{BreaksCallLevels, CarriageDoesWhatIsAsked, GroupsAreAskedForTotals, PilotsTellTheNextCard, UnitsHoldTheCard}
-use Rattle.impulses.specs.Sensed.{AreOrderly}
-
-orderly : AreOrderly
-orderly = record { deep = contacts-one_deep; sources = emit_at_sources }
 
 -- a cycle other than a card cycle
 no_card : (cycle : Cycle) → cycle ≢ Card → is_card_cycle cycle ≡ false

@@ -22,7 +22,8 @@ use Rattle.hubs.specs.Ranges.{is_within}
 use Rattle.hubs.specs.Wiring.{Wiring}
 use Rattle.hubs.specs.declared.hub.Hub.{Hub}
 use Rattle.hubs.specs.declared.hub.Hub.TheVariants.{SR, CC, PX, SE, SI, SO}
-use Rattle.machine.specs.Machine.{MachineState}
+use Rattle.machine.specs.Machine.{MachineState, closes}
+use Rattle.net.specs.Impulsed.{IsPicture}
 use Rattle.net.specs.Panel.{contact_of}
 use Rattle.net.specs.declared.cycle.Cycle.{Cycle}
 use Rattle.net.specs.declared.cycle.Cycle.TheVariants.{Card}
@@ -34,6 +35,7 @@ use Rattle.storage_units.proofs.CycleLemmas.{reads_in_whole, keeps_held}
 use Rattle.storage_units.specs.Storage.{StorageState, storage_place, holds}
 use Rattle.storage_units.specs.WholeCycles.{after_cycle}
 use Rattle.whole_cycles.specs.Between.{HasAllRows}
+use Rattle.whole_cycles.specs.WholeCycles.{control_emits}
 use Rattle.wire_gen.specs.Figures.{IsText}
 use Rattle.wire_gen.specs.Parts.{unit_for}
 use Rattle.wire_gen.specs.Wires.{LineWire, ChartWire}
@@ -43,9 +45,10 @@ use Rattle.impulses.proofs.Contacts.{is_card_cycle}
 use Rattle.impulses.proofs.JacksAndTape.{same_tests}
 use Rattle.impulses.proofs.PlanPlaces.{unit-own}
 use Rattle.impulses.proofs.SaidOnce.{further}
-use Rattle.impulses.proofs.Straight.{at_control, at_row}
+use Rattle.impulses.proofs.Straight.{at_control, at_row, control_reached}
 use Rattle.impulses.proofs.ToCarriage.{tells-kind, kind-tells}
 use Rattle.impulses.proofs.ToPilots.{sends-second, column-there}
+use Rattle.impulses.specs.Panel.{IsPanel}
 use Rattle.impulses.specs.Sensed.{AreOrderly, IsCycleOf, TellsTo, SendsTo, UnitsHold, IsTextPrinted}
 use Rattle.impulses.specs.Sources.{Sends, Tells}
 use Rattle.impulses.specs.Sources.Sends.{second}
@@ -139,17 +142,11 @@ tells-card (tells_prog level ordinal) is = cc
 tells-card (tells_head heading) is = cc
 
 module _ (chart : Chart) (plan : Lists) (wiring : Wiring) (cycle : Cycle) (old : MachineState) (pictures : Point → Hub → Bool)
-    (orderly : AreOrderly) (it : IsCycleOf chart plan wiring cycle old pictures) where
-  at_stored : (row : CardRow) (unit c : ℕ)
-      → (pictures (Row row) (SE unit c) ≡ true) ↔ SendsTo chart.lines plan old pictures cycle row (SE unit c)
-  at_stored row unit c =
-      at_row chart plan wiring cycle old pictures orderly it row (SE unit c) refl refl (stored-plain chart.lines plan unit c)
-
-  at_read_in : (unit : ℕ) → (pictures C (SI unit) ≡ true) ↔ TellsTo chart.lines plan cycle (SI unit)
-  at_read_in unit = at_control chart plan wiring cycle old pictures orderly it (SI unit) refl refl (read_in-plain chart.lines plan unit)
-
+    (orderly : AreOrderly) (panel : IsPanel chart plan wiring)
+    (control : IsPicture wiring (control_emits cycle) (closes old cycle C) (pictures C)) where
   at_read_out : (unit : ℕ) → (pictures C (SO unit) ≡ true) ↔ TellsTo chart.lines plan cycle (SO unit)
-  at_read_out unit = at_control chart plan wiring cycle old pictures orderly it (SO unit) refl refl (read_out-plain chart.lines plan unit)
+  at_read_out unit =
+      control_reached chart plan wiring orderly panel cycle old (pictures C) control (SO unit) refl refl (read_out-plain chart.lines plan unit)
 
   -- A storage unit reads out in the cycle that prints the total line of its text, and in no other.
   pub unit-reads_out : (unit : ℕ) → (pictures C (SO unit) ≡ true) ↔ IsTextPrinted chart.lines plan cycle unit
@@ -188,6 +185,16 @@ module _ (chart : Chart) (plan : Lists) (wiring : Wiring) (cycle : Cycle) (old :
       by : (b : Bool) → pictures C (SO unit) ≡ b → b ≡ false
       by true on = let text = (unit-reads_out unit).0 on in absurd (none text.level text.printed)
       by false on = refl
+
+module _ (chart : Chart) (plan : Lists) (wiring : Wiring) (cycle : Cycle) (old : MachineState) (pictures : Point → Hub → Bool)
+    (orderly : AreOrderly) (it : IsCycleOf chart plan wiring cycle old pictures) where
+  at_stored : (row : CardRow) (unit c : ℕ)
+      → (pictures (Row row) (SE unit c) ≡ true) ↔ SendsTo chart.lines plan old pictures cycle row (SE unit c)
+  at_stored row unit c =
+      at_row chart plan wiring cycle old pictures orderly it row (SE unit c) refl refl (stored-plain chart.lines plan unit c)
+
+  at_read_in : (unit : ℕ) → (pictures C (SI unit) ≡ true) ↔ TellsTo chart.lines plan cycle (SI unit)
+  at_read_in unit = at_control chart plan wiring cycle old pictures orderly it (SI unit) refl refl (read_in-plain chart.lines plan unit)
 
   -- No storage unit reads in but in card cycles.
   no-unit-reads_in : (unit : ℕ) → is_card_cycle cycle ≡ false → pictures C (SI unit) ≡ false

@@ -52,6 +52,7 @@ use Rattle.impulses.specs.Speakers.{Moment, Speaks, reads, is_closed}
 use Rattle.impulses.specs.Spoken.{IsCardRow}
 use Rattle.impulses.proofs.Contacts.{closes-IX, closes-CSD, closes-PIT, closes-PIN}
 use Rattle.impulses.proofs.SpeakersLawful.{good-field}
+use Rattle.impulses.proofs.ReadingOut.{card-silent}
 use Rattle.impulses.proofs.WheelRows.{SendsRow}
 use Rattle.impulses.proofs.WheelRowsDigits.{digit-in}
 use Rattle.impulses.proofs.WheelRowsField.{left-of, right-of, both-of, field-sent, text-sends, amount-sends, length-digits_on, digit-on, valid-amount, one-digit, digit-zone, amount-shown}
@@ -234,8 +235,8 @@ module _ (wiring : Wiring) (card : List ℕ) (opens : ℕ) (at : Moment) (row : 
       figure-row wheel name (shown.Marked mark) field (record { named = named; holds_amount = ruled-amount field.kind rule ruled }) refl
       (figure_marked mark k refl (negated-by field.kind rule ruled ∙ negative-closed rule pilot k name is served shut) punch)
   speaks-sends line place listed says_it (total_digit level wheel name digits mark field counter position p0 p1 p2 p3 p4 out p5 p6) =
-      let none = row.silent.groups counter.name in cc
+      let none = (card-silent wiring at row.moment row.cycle).groups counter.name in cc
   speaks-sends line place listed says_it (total_mark level wheel name digits mark rule field group k p0 p1 p2 p3 emits p4) =
       absurd (omega (arith, high level, four at.cycle (4 + level_number level) row.cycle emits))
   speaks-sends line place listed says_it (total_text level wheel name field storage j p0 p1 p2 p3 out p4) =
-      let none = row.silent.units (storage_place storage) in cc
+      let none = (card-silent wiring at row.moment row.cycle).units (storage_place storage) in cc

@@ -34,6 +34,7 @@ use Rattle.wire_gen.specs.Figures.IsLiteral.{on_heading, on_detail, on_total}
 use Rattle.impulses.specs.Speakers.Speaks.{text, indicated, literal, point, digit, split_digit, mark as detail_mark, total_digit, total_mark, total_text}
 use Rattle.impulses.specs.Speakers.{Moment, Speaks}
 use Rattle.impulses.specs.Spoken.{IsHeadingRow}
+use Rattle.impulses.proofs.ReadingOut.{heading-silent}
 use Rattle.impulses.proofs.WheelRows.{SendsRow, stands_on, sent_on, rows-same}
 use Rattle.impulses.proofs.WheelRowsText.{literal-sent, literal-of, standing}
 
@@ -86,11 +87,11 @@ speaks-sends wiring heading at number row (split_digit wheel name how field posi
 speaks-sends wiring heading at number row (detail_mark wheel name mark rule field pilot k p0 p1 p2 p3 emits p4) =
     absurd (no_other heading at.cycle row.cycle 4 (omega arith) emits)
 speaks-sends wiring heading at number row (total_digit level wheel name digits mark field counter position p0 p1 p2 p3 p4 out p5 p6) =
-    let none = row.silent.groups counter.name in cc
+    let none = (heading-silent wiring at row.moment heading row.cycle).groups counter.name in cc
 speaks-sends wiring heading at number row (total_mark level wheel name digits mark rule field group k p0 p1 p2 p3 emits p4) =
     absurd (no_other heading at.cycle row.cycle (4 + level_number level) (omega arith) emits)
 speaks-sends wiring heading at number row (total_text level wheel name field storage j p0 p1 p2 p3 out p4) =
-    let none = row.silent.units (storage_place storage) in cc
+    let none = (heading-silent wiring at row.moment heading row.cycle).units (storage_place storage) in cc
 
 -- a line that sends to a heading line
 tested : (heading : Ordinal) (line : HeadingLine) (wheel : ℕ) (characters : List ℕ) {shown : Shown}

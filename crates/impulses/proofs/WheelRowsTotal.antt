@@ -52,6 +52,7 @@ use Rattle.impulses.specs.Sources.{digit_at}
 use Rattle.impulses.specs.Speakers.Speaks.{text, indicated, literal, point, digit, split_digit, mark as detail_mark, total_digit, total_mark, total_text}
 use Rattle.impulses.specs.Speakers.{Moment, Speaks, is_closed}
 use Rattle.impulses.specs.Spoken.{IsTotalRow, HoldsTotal}
+use Rattle.impulses.proofs.ReadingOut.{total-read, text-read}
 use Rattle.impulses.proofs.SpeakersApart.{same-line, group-same, unit-same}
 use Rattle.impulses.proofs.SpeakersLawful.{good-field, kept-at}
 use Rattle.impulses.proofs.WheelRows.{SendsRow}
@@ -162,10 +163,12 @@ module _ (wiring : Wiring) (its : Level) (held : List ℕ → Printed) (card : L
       → Contains at.chart.lines line → line.statement ≡ says.TotalAmount level wheel name digits mark
       → group_for at.chart.lines at.plan line.number ≡ Some group → at.pictures C (RO group) ≡ true → chart_number level ≡ level_number its
   group-level line level wheel name digits mark group listed says_it served out =
-      let g = (row.groups group).0 out in
-      let n = group-same at.chart.lines at.plan g.line.number line.number group row.moment.panel.planned g.served served in
-      let e = one-line g.line line g.listed listed n in
-      by g.its_level g.wheel g.name g.digits g.mark (sym g.says_total ∙ ap (λ l. l.statement) e ∙ says_it) g.same_level
+      let (its_name, own) = total-read wiring at row.moment its row.cycle group out in
+      let n = group-same at.chart.lines at.plan own.number line.number group row.moment.panel.planned own.served served in
+      let total = own.total in
+      let e = one-line total.line line total.listed listed (total.is_number ∙ n) in
+      by total.its_level total.wheel total.its_name total.digits total.mark (sym total.says_total ∙ ap (λ l. l.statement) e ∙ says_it)
+      total.same_level
     where
       by : (other : ChartLevel) (w : ℕ) (n : List ℕ) (d : ℕ) (m : Option Mark) → says.TotalAmount other w n d m ≡ says.TotalAmount level wheel name digits mark
           → chart_number other ≡ level_number its → chart_number level ≡ level_number its
@@ -175,11 +178,14 @@ module _ (wiring : Wiring) (its : Level) (held : List ℕ → Printed) (card : L
       → Contains at.chart.lines line → line.statement ≡ says.TotalText level wheel name
       → unit_for at.plan line.number ≡ Some unit → at.pictures C (SO unit) ≡ true → chart_number level ≡ level_number its
   unit-level line level wheel name unit listed says_it served out =
-      let u = (row.units unit).0 out in
+      let u = text-read wiring at row.moment its row.cycle unit out in
       let n = unit-same at.plan u.line.number line.number unit u.served served in
       let e = one-line u.line line u.listed listed n in
-      by u.its_level u.wheel u.name (sym u.says_text ∙ ap (λ l. l.statement) e ∙ says_it) u.same_level
+      by u.level u.wheel u.name (sym u.is_text ∙ ap (λ l. l.statement) e ∙ says_it) (number-of u.printed)
     where
+      number-of : {a b : ℕ} → Some a ≡ Some b → b ≡ a
+      number-of same = cc
+
       by : (other : ChartLevel) (w : ℕ) (n : List ℕ) → says.TotalText other w n ≡ says.TotalText level wheel name
           → chart_number other ≡ level_number its → chart_number level ≡ level_number its
       by other w n same is = let e : other ≡ level = cc in sym (ap chart_number e) ∙ is

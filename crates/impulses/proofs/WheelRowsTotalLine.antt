@@ -55,6 +55,9 @@ use Rattle.impulses.specs.Sources.{digit_at}
 use Rattle.impulses.specs.Speakers.Speaks.{literal, point, total_digit, total_mark, total_text}
 use Rattle.impulses.specs.Speakers.{Moment, Speaks}
 use Rattle.impulses.specs.Spoken.{IsTotalRow}
+use Rattle.impulses.proofs.ReadingOut.{reads-total, reads-text}
+use Rattle.impulses.proofs.ToCounters.{with_group}
+use Rattle.impulses.specs.ChartAmounts.{IsGroupOf}
 use Rattle.impulses.proofs.SpeakersApart.{place-of, same-line, group-at}
 use Rattle.impulses.proofs.SpeakersLawful.{kept-at}
 use Rattle.impulses.proofs.SpeakersServed.{unit-there, group-there}
@@ -195,18 +198,11 @@ module _ (wiring : Wiring) (its : Level) (held : List ℕ → Printed) (card : L
       let positions : length (group_at at.old group).digits ≡ group.width
       = (counter-is at.old row.moment.between group named).positions ∙ ap (λ g. g.width) by_name in
       let long : position ≤ length (group_at at.old group).digits = omega (arith, to, wide, positions) in
-      let out : at.pictures C (RO group) ≡ true = (row.groups group).1 (record {
-        line = line;
-        listed = there;
-        served = served;
-        its_level = level;
-        wheel = wheel;
-        name = name;
-        digits = digits;
-        mark = mark;
-        says_total = says_it;
-        same_level = same;
-      }) in
+      let own : IsGroupOf at.chart.lines at.plan name (level_number its) group
+      = subst (λ n. IsGroupOf at.chart.lines at.plan name n group) same
+      (with_group at.chart.lines at.plan level wheel name digits mark line.number group
+      (record { line = line; listed = there; numbered = refl; says_it = says_it }) served) in
+      let out : at.pictures C (RO group) ≡ true = reads-total wiring at row.moment its row.cycle name group own in
       let test : (digit_of (held name).figure position == row_number at.row) ≡ true
       = sym (digit-shown wiring its held card at row digits name position (row_number at.row) from to) ∙ on in
       let shows : digit_at (group_at at.old group).digits position ≡ row_number at.row
@@ -249,15 +245,15 @@ module _ (wiring : Wiring) (its : Level) (held : List ℕ → Printed) (card : L
       let to = served.to in
       let to_four : served.n ≤ 4 = omega (arith, to, few) in
       let placed = unit-place at.old row.moment.between served.n from to_four in
-      let out : at.pictures C (SO served.n) ≡ true = (row.units served.n).1 (record {
+      let out : at.pictures C (SO served.n) ≡ true = reads-text wiring at row.moment its row.cycle served.n (record {
         line = line;
         listed = there;
-        served = served.is;
-        its_level = level;
+        level = level;
         wheel = wheel;
         name = name;
-        says_text = says_it;
-        same_level = same;
+        is_text = says_it;
+        served = served.is;
+        printed = ap Some (sym same);
       }) in
       total_text level wheel name field (storage_at at.old served.n) j is within (served.is ∙ ap Some (sym placed))
       (unit-listed at.old row.moment.between served.n from to_four) (ap (λ u. at.pictures C (SO u)) placed ∙ out)

@@ -34,7 +34,6 @@ use Rattle.selectors.specs.Pilots.{is_transferred}
 use Rattle.totals.specs.Amounts.{Kind}
 use Rattle.totals.specs.Amounts.Kind.{Entry, Other, Prog as ProgKind}
 use Rattle.whole_cycles.specs.Between.{IsBetween}
-use Rattle.whole_cycles.specs.Laws.{ContactsAreOneDeep, CyclesEmitAtSources}
 use Rattle.whole_cycles.specs.WholeCycles.{control_emits, row_emits}
 use Rattle.wire_gen.specs.Figures.{IsAmount, IsSigned, rule_of}
 use Rattle.wire_gen.specs.Parts.{pilot_for}
@@ -64,8 +63,6 @@ pub record IsPanelCycle (chart : Chart) (plan : Lists) (wiring : Wiring) (old : 
   pub control : IsPicture wiring (control_emits cycle) (closes old cycle C) (pictures C)
   pub rows :
       (row : CardRow) → IsPicture wiring (row_emits old pictures cycle row) (closes old cycle (Row row)) (pictures (Row row))
-  pub one_deep : ContactsAreOneDeep
-  pub at_sources : CyclesEmitAtSources
 
 -- A valid card stands at second reading, and each pilot is transferred exactly where the card has row 11 in the sign column of its
 -- amount.

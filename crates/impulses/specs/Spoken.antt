@@ -1,5 +1,5 @@
 -- The rows of a cycle on a panel that is wired for a chart.
-use Rattle.std.specs.Prelude.{◌≡◌, ◌↔◌, ℕ, ◌≤◌, ◌<◌, ◌+◌, nat_le, true, false, List, Contains, Option, Some}
+use Rattle.std.specs.Prelude.{◌≡◌, ℕ, ◌≤◌, ◌<◌, ◌+◌, nat_le, List, Contains, Option, Some}
 use Rattle.card_code.specs.CardCode.{has_row}
 use Rattle.card_code.specs.Rows.{row_number}
 use Rattle.chart_rules.specs.Fields.{field_named}
@@ -16,7 +16,6 @@ use Rattle.chart_text.specs.declared.statement.Statement.TheVariants as says
 use Rattle.counters.specs.Numbers.{number}
 use Rattle.hubs.specs.Wiring.{Wiring}
 use Rattle.hubs.specs.declared.hub.Group.{Group}
-use Rattle.hubs.specs.declared.hub.Hub.TheVariants.{RO, SO}
 use Rattle.machine.specs.Machine.{closes}
 use Rattle.net.specs.Cycles.{level_number}
 use Rattle.net.specs.Impulsed.{IsPicture}
@@ -31,31 +30,26 @@ use Rattle.selectors.specs.Pilots.{is_transferred}
 use Rattle.storage_units.specs.Storage.{holds}
 use Rattle.whole_cycles.specs.Between.{IsBetween}
 use Rattle.whole_cycles.specs.Units.{group_at, storage_at}
-use Rattle.whole_cycles.specs.WholeCycles.{row_emits}
+use Rattle.whole_cycles.specs.WholeCycles.{control_emits, row_emits}
 use Rattle.wire_gen.specs.Figures.{IsSigned}
 use Rattle.wire_gen.specs.Parts.{pilot_for, group_for, unit_for}
 use Rattle.impulses.specs.Panel.{IsPanel}
 use Rattle.impulses.specs.Speakers.{Moment}
 
--- A row of a cycle of a machine between cycles, on a panel that is wired for the chart by its plan: the picture of the row is that of the
--- exits that emit there.
+-- A row of a cycle of a machine between cycles, on a panel that is wired for the chart by its plan: the pictures of the control point and
+-- of the row are those of the exits that emit there.
 pub record IsMoment (wiring : Wiring) (at : Moment) : Type 0 where
   pub panel : IsPanel at.chart at.plan wiring
   pub rises : NumbersRise at.chart.lines at.chart.end
   pub between : IsBetween at.old
+  pub control : IsPicture wiring (control_emits at.cycle) (closes at.old at.cycle C) (at.pictures C)
   pub rows :
       IsPicture wiring (row_emits at.old at.pictures at.cycle at.row) (closes at.old at.cycle (Row at.row)) (at.pictures (Row at.row))
-
--- No counter group and no storage unit reads out.
-pub record NothingReadsOut (at : Moment) : Type 0 where
-  pub groups : (group : Group) → at.pictures C (RO group) ≡ false
-  pub units : (unit : ℕ) → at.pictures C (SO unit) ≡ false
 
 -- A row of a heading cycle.
 pub record IsHeadingRow (wiring : Wiring) (heading : Ordinal) (at : Moment) : Type 0 where
   pub moment : IsMoment wiring at
   pub cycle : at.cycle ≡ Head heading
-  pub silent : NothingReadsOut at
 
 -- A row of the card cycle of a card that opens groups of the levels 1 to the given one: the card is valid and stands at second reading, the
 -- indicate latches tell the levels, and the pilot of each signed amount is transferred where the card has row 11 in its sign column.
@@ -68,44 +62,17 @@ pub record IsCardRow (wiring : Wiring) (card : List ℕ) (opens : ℕ) (at : Mom
   pub pilots :
       (name : List ℕ) (rule : SignRule) (pilot : ℕ) → IsSigned at.chart.lines name rule → pilot_for at.plan name ≡ Some pilot
       → is_transferred at.old.pilots pilot ≡ has_row (column_of card (column_of_rule rule)) 11
-  pub silent : NothingReadsOut at
-
--- A total of a level is on a line of the chart, and the counter group serves it.
-pub record IsGroupOf (at : Moment) (level : ℕ) (group : Group) : Type 0 where
-  pub line : Line
-  pub listed : Contains at.chart.lines line
-  pub served : group_for at.chart.lines at.plan line.number ≡ Some group
-  pub its_level : ChartLevel
-  pub wheel : ℕ
-  pub name : List ℕ
-  pub digits : ℕ
-  pub mark : Option Mark
-  pub says_total : line.statement ≡ says.TotalAmount its_level wheel name digits mark
-  pub same_level : chart_number its_level ≡ level
-
--- A text of a level's total line is on a line of the chart, and the storage unit serves it.
-pub record IsUnitOf (at : Moment) (level unit : ℕ) : Type 0 where
-  pub line : Line
-  pub listed : Contains at.chart.lines line
-  pub served : unit_for at.plan line.number ≡ Some unit
-  pub its_level : ChartLevel
-  pub wheel : ℕ
-  pub name : List ℕ
-  pub says_text : line.statement ≡ says.TotalText its_level wheel name
-  pub same_level : chart_number its_level ≡ level
 
 -- A counter group stands at the figure of a total, with its latch as the total has it.
 pub record HoldsTotal (at : Moment) (group : Group) (printed : Printed) : Type 0 where
   pub figure : number (group_at at.old group).digits ≡ printed.figure
   pub latch : (group_at at.old group).latch ≡ printed.latch
 
--- A row of the third program cycle of a level: the counter groups of its totals and the storage units of its texts read out, and no
--- others; the groups stand at the totals by name, and the units hold the columns of a card.
+-- A row of the third program cycle of a level: the counter groups of its totals stand at the totals by name, and the storage units of its
+-- texts hold the columns of a card.
 pub record IsTotalRow (wiring : Wiring) (level : Level) (held : List ℕ → Printed) (card : List ℕ) (at : Moment) : Type 0 where
   pub moment : IsMoment wiring at
   pub cycle : at.cycle ≡ Prog level Third
-  pub groups : (group : Group) → (at.pictures C (RO group) ≡ true) ↔ IsGroupOf at (level_number level) group
-  pub units : (unit : ℕ) → (at.pictures C (SO unit) ≡ true) ↔ IsUnitOf at (level_number level) unit
   pub totals :
       (line : Line) (its_level : ChartLevel) (wheel : ℕ) (name : List ℕ) (digits : ℕ) (mark : Option Mark) (group : Group)
       → Contains at.chart.lines line → line.statement ≡ says.TotalAmount its_level wheel name digits mark

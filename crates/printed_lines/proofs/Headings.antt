@@ -65,6 +65,5 @@ heading-spells chart number texts line there = by line.statement refl
 
 -- a heading line prints as the report has it
 pub heading_lines : HeadingLinesPrint
-heading_lines chart link suppress symbol number lawful texts =
-    text-line chart lawful link suppress symbol (on_heading_line number) (heading_sends number) (heading_piece number)
-    (heading-sending chart.lines number) (heading-spells chart number texts)
+heading_lines chart link suppress symbol number texts =
+    text-line chart link suppress symbol (heading_sends number) (heading_piece number) (heading-spells chart number texts)

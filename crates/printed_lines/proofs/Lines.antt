@@ -1,12 +1,12 @@
 -- A printed line is the line of the report where each item spells what the report puts at its wheels.
 use Rattle.std.proofs.Common.{◌≡◌, ◌∙◌, refl, sym, ap, ap₂, ℕ, suc, pred, ◌+◌, ◌-◌, ◌<◌, ◌≤◌, ◌&&◌, not, nat_le, nat_lt, ◌||◌, cond, if◌then◌else◌, Bool, true, false, List, [], ◌∷◌, length, map, slice_index_or, Contains, Option, Some, None, arith}
 use Rattle.std.specs.List.{filter_map, cons_option, range_with_len}
+use Rattle.std.proofs.lemmas.List.{length-map, get_or-map}
 use Rattle.std.proofs.lemmas.List.FromFn.{get_or-map-range_with_len, length-map-range_with_len}
 use Rattle.chart_text.specs.Chart.{Chart}
 use Rattle.chart_text.specs.declared.chart.Line.{Line}
 use Rattle.chart_text.specs.declared.statement.Statement.{Statement}
 use Rattle.chart_rules.specs.declared.items.PrintedLine.{PrintedLine}
-use Rattle.chart_rules.specs.Rules.{IsLawful}
 use Rattle.print_unit.specs.ZeroControl.{Wheel, character_of, is_zero, shown, printed_line}
 use Rattle.print_unit.proofs.LeftNeighbours.{printed_from-freely}
 use Rattle.print_unit.proofs.Ranges.{map-same}
@@ -14,8 +14,7 @@ use Rattle.report.specs.BodyLines.{Piece, char_at, line_of}
 use Rattle.printed_lines.specs.Shown.{Shown, Characters, Amount, set_on, sets_of, wheel_of_shown, wheel_with, wheels_with}
 use Rattle.printed_lines.proofs.Characters.{received, blank-prints}
 use Rattle.printed_lines.proofs.ItemText.{Spells, item-prints}
-use Rattle.printed_lines.proofs.ItemWheels.{wheels-places, by_places-alike}
-use Rattle.printed_lines.proofs.Sending.{IsSending, covers, covers-true, sets_on, place-set}
+use Rattle.printed_lines.proofs.Sending.{covers, covers-true, sets_on}
 use Rattle.printed_lines.proofs.Significance.{printed_at, printed-wheels, given, IsBodyLine}
 
 -- Both a line of the chart sends and puts nothing, or it puts at the item's wheels what they print.
@@ -140,18 +139,59 @@ SpellsText None None = Unit {0}
 SpellsText None (Some piece) = ⊥
 SpellsText (Some shown) None = ⊥
 
+-- the character on a wheel of a line of texts is what comes there; where texts meet, both take the first
+text-at : (v : ℕ) (sends : Statement → Option Shown) (puts : Statement → Option Piece) (lines : List Line)
+    → ((line : Line) → Contains lines line → SpellsText (sends line.statement) (puts line.statement))
+    → char_at (filter_map (λ l. puts l.statement) lines) v
+    ≡ character_of (received (set_on (filter_map (λ l. sends l.statement) lines) v))
+text-at v sends puts [] each = sym blank-prints
+text-at v sends puts (first ∷ lines) each =
+    by (sends first.statement) (puts first.statement) (each first (0, omega arith, refl))
+    (text-at v sends puts lines (λ line there. each line (later line there)))
+  where
+    sent : List Shown
+    sent = filter_map (λ l. sends l.statement) lines
+
+    pieces : List Piece
+    pieces = filter_map (λ l. puts l.statement) lines
+
+    later : (line : Line) → Contains lines line → Contains (first ∷ lines) line
+    later line (k, within, is) = (suc k, omega (arith, within), is)
+
+    prints : ℕ → ℕ
+    prints set = character_of (received set)
+
+    by : (item : Option Shown) (piece : Option Piece) → SpellsText item piece → char_at pieces v ≡ prints (set_on sent v)
+        → char_at (cons_option piece pieces) v ≡ prints (set_on (cons_option item sent) v)
+    by None None spelled rest = rest
+    by None (Some piece) spelled rest = absurd spelled
+    by (Some item) None spelled rest = absurd spelled
+    by (Some (Amount wheel figure columns negative)) (Some piece) spelled rest = absurd spelled
+    by (Some (Characters wheel sets)) (Some piece) spelled rest =
+        ap₂ (λ from long.
+        cond (nat_le from v && nat_lt v (from + long)) (slice_index_or piece.text (v - from) 32) (char_at pieces v))
+        spelled.0 (sym (ap length spelled.1) ∙ length-map sets prints)
+        ∙ by_test (covers (Characters wheel sets) v) refl
+      where
+        by_test : (b : Bool) → covers (Characters wheel sets) v ≡ b
+            → cond b (slice_index_or piece.text (v - wheel) 32) (char_at pieces v)
+            ≡ prints (cond b (slice_index_or sets (v - wheel) 0) (set_on sent v))
+        by_test true test =
+            let on = covers-true (Characters wheel sets) v test in
+            sym (ap (λ t. slice_index_or t (v - wheel) 32) spelled.1)
+            ∙ get_or-map prints sets (v - wheel) 0 32 (let low = on.0 in let high = on.1 in omega (arith, low, high))
+        by_test false test = rest
+
 -- so many wheels of a line of texts print, without zero control, what the report puts there
-text-wheels : (chart : Chart) → IsLawful chart → (link suppress symbol : ℕ → Bool) (kind : PrintedLine → Bool)
-    (sends : Statement → Option Shown) (puts : Statement → Option Piece) → IsSending chart.lines kind sends
+text-wheels : (chart : Chart) (link suppress symbol : ℕ → Bool) (sends : Statement → Option Shown) (puts : Statement → Option Piece)
     → ((line : Line) → Contains chart.lines line → SpellsText (sends line.statement) (puts line.statement)) → (count : ℕ)
     → printed_line false (map (wheel_with link suppress symbol (sets_on chart sends)) (range_with_len 1 count))
     ≡ map (char_at (filter_map (λ l. puts l.statement) chart.lines)) (range_with_len 1 count)
-text-wheels chart lawful link suppress symbol kind sends puts sending each count =
+text-wheels chart link suppress symbol sends puts each count =
     printed_from-freely false (map (wheel_with link suppress symbol (sets_on chart sends)) (range_with_len 1 count))
     ∙ characters (range_with_len 1 count)
     ∙ map-same prints (char_at (filter_map (λ l. puts l.statement) chart.lines)) 1 count
-    (λ v low high.
-    sym (line-at prints v sends puts chart.lines piece (λ empty. ap (λ set. character_of (received set)) empty ∙ blank-prints)))
+    (λ v low high. sym (text-at v sends puts chart.lines each))
   where
     prints : ℕ → ℕ
     prints v = character_of (received (sets_on chart sends v))
@@ -162,32 +202,11 @@ text-wheels chart lawful link suppress symbol kind sends puts sending each count
     characters [] = refl
     characters (v ∷ wheels) = ap (λ line. prints v ∷ line) (characters wheels)
 
-    by : (line : Line) → Contains chart.lines line → (item : Option Shown) (piece : Option Piece)
-        → sends line.statement ≡ item → SpellsText item piece → PrintsPiece prints item piece
-    by line there None None sent spelled = tt
-    by line there None (Some piece) sent spelled = absurd spelled
-    by line there (Some item) None sent spelled = absurd spelled
-    by line there (Some (Amount wheel figure columns negative)) (Some piece) sent spelled = absurd spelled
-    by line there (Some (Characters wheel sets)) (Some piece) sent spelled = (
-      spelled.0,
-      wheels-places (λ place set. character_of (received set)) prints wheel 0 sets
-          (λ k below.
-          ap (λ set. character_of (received set))
-          (place-set chart lawful kind sends sending (Characters wheel sets) line there sent k below))
-          ∙ by_places-alike (λ place set. character_of (received set)) (λ set. character_of (received set)) 0 sets
-          (λ p set low high. refl)
-          ∙ spelled.1,
-    )
-
-    piece : (line : Line) → Contains chart.lines line → PrintsPiece prints (sends line.statement) (puts line.statement)
-    piece line there = by line there (sends line.statement) (puts line.statement) refl (each line there)
-
 -- a line of texts prints as the report has it
-pub text-line : (chart : Chart) → IsLawful chart → (link suppress symbol : ℕ → Bool) (kind : PrintedLine → Bool)
-    (sends : Statement → Option Shown) (puts : Statement → Option Piece) → IsSending chart.lines kind sends
+pub text-line : (chart : Chart) (link suppress symbol : ℕ → Bool) (sends : Statement → Option Shown) (puts : Statement → Option Piece)
     → ((line : Line) → Contains chart.lines line → SpellsText (sends line.statement) (puts line.statement))
     → printed_line false (wheels_with link suppress symbol (sets_on chart sends))
     ≡ line_of (filter_map (λ l. puts l.statement) chart.lines)
 unfolding line_of
-text-line chart lawful link suppress symbol kind sends puts sending each =
-    text-wheels chart lawful link suppress symbol kind sends puts sending each 120
+text-line chart link suppress symbol sends puts each =
+    text-wheels chart link suppress symbol sends puts each 120

@@ -62,10 +62,11 @@ TotalLinesPrint =
     → printed_line true (wheels_with link suppress symbol (set_on (sent_to_total chart.lines level held card)))
     ≡ total_line chart.lines level group
 
--- A heading line prints as the report has it, with any jacks: zero control is off.
+-- A heading line prints as the report has it, with any jacks: zero control is off. The chart may break rules: where literals meet on a
+-- wheel, the print wheels and the report both have the first.
 abbrev pub HeadingLinesPrint : Type 0
 HeadingLinesPrint =
-    (chart : Chart) (link suppress symbol : ℕ → Bool) (number : ℕ) → IsLawful chart → HaveLiteralTexts chart.lines
+    (chart : Chart) (link suppress symbol : ℕ → Bool) (number : ℕ) → HaveLiteralTexts chart.lines
     → printed_line false (wheels_with link suppress symbol (set_on (sent_to_heading chart.lines number)))
     ≡ heading_line chart.lines number
 
