@@ -10,11 +10,12 @@ use Rattle.std.proofs.lemmas.Option.{get_or_from_slice_get, slice_get-get_or, sl
 use Rattle.std.proofs.lemmas.List.FromFn.{length-map-range_with_len, get_or-map-range_with_len}
 use Rattle.capacity.specs.Capacities.{Capacities, widths, groups_of, groups_at_least, HasGroup, IsAtMost, standard}
 use Rattle.capacity.specs.declared.group.CounterGroup.{CounterGroup}
-use Rattle.allocate.specs.Totals.{NeedsFit, class_of, wanted_at}
+use Rattle.wanted.specs.Totals.{NeedsFit, class_of, wanted_at}
 use Rattle.allocate.specs.HelperCounters.{HasGroupsFor}
-use Rattle.chart_text.specs.declared.level.Level.TheVariants as level
-use Rattle.allocate.specs.Groups.{total_at, group_at, takes_before, IsAssignment}
-use Rattle.allocate.specs.declared.total.Total.{Total}
+use Rattle.charts.specs.declared.level.Level.TheVariants as level
+use Rattle.allocate.specs.Groups.{total_at, group_at, takes_before}
+use Rattle.plans.specs.Assignments.{IsAssignment}
+use Rattle.wanted.specs.declared.total.Total.{Total}
 use Rattle.allocate.proofs.Counting.{count_below, count-strict, count-injective, count_by-below}
 use Rattle.allocate.proofs.Orders.{takes_before-trans, takes_before-total, takes_before-self, takes_before-need}
 use Rattle.allocate.proofs.GroupPlaces.{place_of, group_of, IsAt, place_of-below, place_of-injective, group_of-at}

@@ -8,8 +8,8 @@ use Rattle.std.proofs.lemmas.Bool.{ltb-true, ltb-false}
 use Rattle.std.proofs.lemmas.List.Sums.{sum_by-cons}
 use Rattle.capacity.specs.Capacities.{Capacities, groups_of, groups_at_least, HasGroup}
 use Rattle.capacity.specs.declared.group.CounterGroup.{CounterGroup}
-use Rattle.allocate.specs.Totals.{class_of}
-use Rattle.allocate.proofs.Orders.{same_group}
+use Rattle.wanted.specs.Totals.{class_of}
+use Rattle.plans.proofs.CounterGroups.{width-cases, same_group}
 
 -- how many groups are wider than a width
 abbrev pub wider : Capacities → ℕ → ℕ
@@ -52,12 +52,6 @@ at_least-is machine least =
     (sum-filter f p 6 (4 ∷ 3 ∷ [])
     ∙ ap (λ n. cond (leb least 6) machine.sixes 0 + n)
     (sum-filter f p 4 (3 ∷ []) ∙ ap (λ n. cond (leb least 4) machine.fours 0 + n) (sum-filter f p 3 [] ∙ omega arith)))
-
--- a group of a machine is of one of the four widths
-pub width-cases : (machine : Capacities) (group : CounterGroup) → HasGroup machine group
-    → (group.width ≡ 8) ⊎ (group.width ≡ 6) ⊎ (group.width ≡ 4) ⊎ (group.width ≡ 3)
-width-cases machine group has =
-    let from = has.from in let to = has.to in grind (arith, nat_tests)
 
 -- a group of at least this width stands among the first, as many as there are of such widths
 pub place_of-below : (machine : Capacities) (group : CounterGroup) (least : ℕ) → HasGroup machine group

@@ -6,8 +6,8 @@ use Rattle.capacity.specs.Capacities.{Capacities, HasGroup}
 use Rattle.capacity.specs.declared.group.CounterGroup.{CounterGroup}
 use Rattle.allocate.specs.Groups.{is_before}
 use Rattle.allocate.specs.HelperTaking.{IsTaken, IsLowestNumber, IsWidthTaken, IsLowest, AreAllTaken}
-use Rattle.allocate.proofs.Orders.{same_group}
-use Rattle.allocate.proofs.GroupPlaces.{width-cases}
+use Rattle.plans.proofs.CounterGroups.{same_group}
+use Rattle.plans.proofs.CounterGroups.{width-cases}
 
 -- a number more is taken
 pub taken-more : (width number : ℕ) (taken : List (Option CounterGroup))

@@ -2,11 +2,14 @@
 use Rattle.std.proofs.Common.{◌≡◌, ◌∙◌, refl, sym, ap, ℕ, ◌≤◌, ◌<◌, ◌⊎◌, inl, inr, List, Some, slice_get, arith}
 use Rattle.std.proofs.lemmas.Bool.{cases_lt}
 use Rattle.capacity.specs.Capacities.{Capacities}
-use Rattle.allocate.specs.Exceeded.{HasFault, IsExceeded, IsFirstAmong, IsFirstOver, IsLowestOf, count_there, count_wanted, in_order}
+use Rattle.allocate.specs.Exceeded.{HasFault, IsExceeded, IsFirstAmong, IsFirstOver, in_order}
+use Rattle.wanted.specs.Units.{IsLowestOf}
+use Rattle.plans.specs.Excess.{count_there}
+use Rattle.wanted.specs.Counts.{count_wanted}
 use Rattle.allocate.specs.Laws.{ChartsExceedOneCapacity}
-use Rattle.allocate.specs.Wanted.{Wanted}
-use Rattle.allocate.specs.declared.exceeded.Capacity.{Capacity}
-use Rattle.allocate.specs.declared.exceeded.Capacity.TheVariants as of
+use Rattle.wanted.specs.Wanted.{Wanted}
+use Rattle.wanted.specs.declared.count.Capacity.{Capacity}
+use Rattle.wanted.specs.declared.count.Capacity.TheVariants as of
 use Rattle.allocate.specs.declared.fault.CapacityFault.{CapacityFault}
 use Rattle.allocate.specs.declared.fault.CapacityFault.TheVariants as fault
 

@@ -6,8 +6,9 @@ use Rattle.std.proofs.lemmas.List.{same_lists, get_or_default}
 use Rattle.capacity.specs.Capacities.{Capacities}
 use Rattle.capacity.specs.declared.group.CounterGroup.{CounterGroup}
 use Rattle.allocate.specs.Groups.{group_at, TakesBefore, is_lower, IsByRule}
-use Rattle.allocate.specs.declared.total.Total.{Total}
-use Rattle.allocate.proofs.Orders.{same_group, is_lower-total}
+use Rattle.wanted.specs.declared.total.Total.{Total}
+use Rattle.plans.proofs.CounterGroups.{same_group}
+use Rattle.allocate.proofs.Orders.{is_lower-total}
 use Rattle.allocate.proofs.Assignments.{rank, rank-before}
 
 -- groups are the same, or one is lower than the other

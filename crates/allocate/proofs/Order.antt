@@ -1,11 +1,12 @@
 -- The capacities in the order in which they are asked.
 use Rattle.std.proofs.Common.{length, Option, IfNone, IfSome, refl, arith}
 use Rattle.capacity.specs.Capacities.{Capacities}
-use Rattle.allocate.specs.declared.exceeded.Capacity.{Capacity}
-use Rattle.allocate.specs.declared.exceeded.Capacity.TheVariants as of
-use Rattle.chart_text.specs.declared.level.ControlLevel.TheVariants as control
-use Rattle.allocate.specs.Wanted.{Wanted}
-use Rattle.allocate.specs.Exceeded.{IsOver, NoneIsOver, Fits, IsFirstAmong, IsFirstOver, in_order}
+use Rattle.wanted.specs.declared.count.Capacity.{Capacity}
+use Rattle.wanted.specs.declared.count.Capacity.TheVariants as of
+use Rattle.charts.specs.declared.level.ControlLevel.TheVariants as control
+use Rattle.wanted.specs.Wanted.{Wanted}
+use Rattle.plans.specs.Excess.{IsOver}
+use Rattle.allocate.specs.Exceeded.{NoneIsOver, Fits, IsFirstAmong, IsFirstOver, in_order}
 
 -- what the search among the capacities in order tells
 pub IfNone-fits : (wanted : Wanted) (machine : Capacities) (found : Option Capacity)

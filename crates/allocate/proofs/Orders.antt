@@ -1,11 +1,12 @@
 -- The order in which totals take their groups, and the order of groups.
-use Rattle.std.proofs.Common.{◌≡◌, ◌≢◌, refl, ap, ◌∙◌, ℕ, ◌≤◌, ltb, arith, Bool, true, false}
+use Rattle.std.proofs.Common.{◌≡◌, ◌≢◌, refl, ℕ, ◌≤◌, ltb, arith, Bool, true, false}
 use Rattle.std.proofs.Common.{List, ◌⊎◌}
 use Rattle.std.proofs.lemmas.Bool.Decides.{nat_tests}
 use Rattle.capacity.specs.declared.group.CounterGroup.{CounterGroup}
 use Rattle.allocate.specs.Groups.{total_at, is_before, takes_before, is_lower}
-use Rattle.chart_text.specs.Levels.{level_number}
-use Rattle.allocate.specs.declared.total.Total.{Total}
+use Rattle.charts.specs.Levels.{level_number}
+use Rattle.wanted.specs.declared.total.Total.{Total}
+use Rattle.plans.proofs.CounterGroups.{same_group}
 
 before-trans : (a b c : ℕ) (r s t : Bool) → (r ≡ true → s ≡ true → t ≡ true) → is_before a b r ≡ true
     → is_before b c s ≡ true → is_before a c t ≡ true
@@ -69,12 +70,6 @@ takes_before-need totals i j before = by (total_at totals j).need (total_at tota
   where
     by : (a b : ℕ) (r : Bool) → is_before a b r ≡ true → a ≤ b
     by a b r before = grind (arith, nat_tests)
-
--- groups of one width and one number are one group
-pub same_group : (one other : CounterGroup) → one.width ≡ other.width → one.number ≡ other.number → one ≡ other
-same_group one other width number =
-    let group : ℕ → ℕ → CounterGroup = λ w n. record { width = w; number = n } in
-    ap (λ w. group w one.number) width ∙ ap (λ n. group other.width n) number
 
 -- a group other than this one is lower, or this one is lower
 pub is_lower-total : (one other : CounterGroup) → one ≢ other

@@ -11,11 +11,12 @@ use Rattle.std.proofs.lemmas.Bool.Decides.{eqb_tells}
 use Rattle.std.proofs.lemmas.List.{get_or-set_same, get_or-set_other, length-set, length-map, get_or-map}
 use Rattle.capacity.specs.Capacities.{Capacities, groups_at_least, HasGroup}
 use Rattle.capacity.specs.declared.group.CounterGroup.{CounterGroup}
-use Rattle.allocate.specs.Groups.{total_at, group_at, takes_before, TakesBefore, is_lower, IsByRule, IsAssignment}
-use Rattle.allocate.specs.Totals.{NeedsFit, class_of, wanted_at}
+use Rattle.allocate.specs.Groups.{total_at, group_at, takes_before, TakesBefore, is_lower, IsByRule}
+use Rattle.plans.specs.Assignments.{IsAssignment}
+use Rattle.wanted.specs.Totals.{NeedsFit, class_of, wanted_at}
 use Rattle.allocate.specs.HelperCounters.{HasGroupsFor}
 use Rattle.allocate.specs.HelperTaking.{taken_at, NoneWaitsBelow, IsNext, goes_first, IsLowest, AreAllTaken}
-use Rattle.allocate.specs.declared.total.Total.{Total}
+use Rattle.wanted.specs.declared.total.Total.{Total}
 use Rattle.allocate.proofs.Counting.{count-covers}
 use Rattle.allocate.proofs.GroupPlaces.{place_of, group_of, group_of-at, le-class_of}
 use Rattle.allocate.proofs.Assignments.{rank, rank-below, wanted_at-class}

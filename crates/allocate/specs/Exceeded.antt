@@ -1,14 +1,16 @@
 -- The capacities of a machine, in the order in which they are asked, and the first that a chart exceeds. Each is a
 -- comparison of two counts: what the chart wants, and what is there.
-use Rattle.std.specs.Prelude.{◌≡◌, ℕ, ◌<◌, ◌≤◌, List, [], ◌∷◌, Option, Some, None, length, slice_get, Contains}
-use Rattle.capacity.specs.Capacities.{Capacities, groups_at_least}
-use Rattle.chart_text.specs.declared.level.ControlLevel.TheVariants as control
-use Rattle.allocate.specs.declared.exceeded.Capacity.{Capacity}
-use Rattle.allocate.specs.declared.exceeded.Capacity.TheVariants as of
+use Rattle.std.specs.Prelude.{◌≡◌, ℕ, ◌<◌, List, [], ◌∷◌, Option, Some, None, length, slice_get}
+use Rattle.capacity.specs.Capacities.{Capacities}
+use Rattle.charts.specs.declared.level.ControlLevel.TheVariants as control
+use Rattle.wanted.specs.declared.count.Capacity.{Capacity}
+use Rattle.wanted.specs.declared.count.Capacity.TheVariants as of
 use Rattle.allocate.specs.declared.fault.CapacityFault.{CapacityFault}
 use Rattle.allocate.specs.declared.fault.CapacityFault.TheVariants as fault
-use Rattle.allocate.specs.Totals.{wanted_at}
-use Rattle.allocate.specs.Wanted.{Wanted, indicate_at}
+use Rattle.wanted.specs.Counts.{count_wanted}
+use Rattle.wanted.specs.Units.{IsLowestOf}
+use Rattle.wanted.specs.Wanted.{Wanted}
+use Rattle.plans.specs.Excess.{count_there, IsOver}
 
 -- the number of a fault in the catalogue of faults; want of memory has none
 abbrev pub fault_number : CapacityFault → Option ℕ
@@ -20,33 +22,6 @@ fault_number (fault.StorageUnits count there) = Some 65
 fault_number (fault.Splits count there) = Some 66
 fault_number (fault.Indicate level count there) = Some 67
 fault_number fault.Memory = None
-
--- How many are wanted: at a width of counter groups, the totals of that class or a wider one; a pilot for each signed
--- amount that is shown; a comparing position for each column of each CONTROL line; a storage unit wider than 16 columns for
--- each total text that is; a storage unit for each total text; a split for each DETAIL amount with its sign column inside;
--- an indicate position of a level for each column of each INDICATE item.
-abbrev pub count_wanted : Capacity → Wanted → ℕ
-count_wanted (of.Counters width) wanted = wanted_at width wanted.totals
-count_wanted of.Pilots wanted = length wanted.parts.pilots
-count_wanted of.Comparing wanted = length wanted.parts.comparing
-count_wanted of.StorageWidth wanted = length wanted.wide_texts
-count_wanted of.StorageUnits wanted = length wanted.parts.storage
-count_wanted of.Splits wanted = length wanted.parts.splits
-count_wanted (of.Indicate level) wanted = length (indicate_at wanted.parts level)
-
--- how many a machine has: at a width, the counter groups of that width or a greater one; no storage unit is wider than 16
-abbrev pub count_there : Capacity → Capacities → ℕ
-count_there (of.Counters width) machine = groups_at_least machine width
-count_there of.Pilots machine = machine.pilots
-count_there of.Comparing machine = machine.comparing
-count_there of.StorageWidth machine = 0
-count_there of.StorageUnits machine = machine.storage
-count_there of.Splits machine = machine.splits
-count_there (of.Indicate level) machine = machine.indicate
-
--- a capacity is exceeded: more are wanted than are there
-abbrev pub IsOver : Capacity → Wanted → Capacities → Type 0
-IsOver capacity wanted machine = count_there capacity machine < count_wanted capacity wanted
 
 -- the capacities in the order in which they are asked: 61 from the widest counter groups on, 62 to 66, 67 by level
 unfoldable pub in_order : List Capacity
@@ -79,11 +54,6 @@ pub record IsExceeded (first : Capacity) (count there : ℕ) (wanted : Wanted) (
   pub first_over : IsFirstOver first wanted machine
   pub count_is : count ≡ count_wanted first wanted
   pub there_is : there ≡ count_there first machine
-
--- a line is the lowest of some
-pub record IsLowestOf (lines : List ℕ) (line : ℕ) : Type 0 where
-  pub among : Contains lines line
-  pub lowest : (other : ℕ) → Contains lines other → line ≤ other
 
 -- The fault of what a chart wants on a machine: the first capacity that it exceeds, with what is wanted and what is there,
 -- or the lowest line of a total text that is too wide. No chart makes memory run out.

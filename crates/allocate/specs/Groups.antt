@@ -1,12 +1,12 @@
 -- The counter groups that totals take: by need, the greatest first, then by level, then by line, each total takes the
 -- lowest number that is free of the smallest width that is enough and still has one free.
 use Rattle.std.specs.Prelude.{◌≡◌, ◌≢◌, ℕ, ◌<◌, ◌≤◌, nat_eq, nat_lt, Bool, true, ◌&&◌, ◌||◌}
-use Rattle.std.specs.Prelude.{List, length, Some, slice_get, slice_index_or}
+use Rattle.std.specs.Prelude.{List, length, slice_index_or}
 use Rattle.capacity.specs.Capacities.{Capacities, HasGroup}
 use Rattle.capacity.specs.declared.group.CounterGroup.{CounterGroup}
-use Rattle.chart_text.specs.Levels.{level_number}
-use Rattle.chart_text.specs.declared.level.Level.TheVariants as level
-use Rattle.allocate.specs.declared.total.Total.{Total}
+use Rattle.charts.specs.Levels.{level_number}
+use Rattle.charts.specs.declared.level.Level.TheVariants as level
+use Rattle.wanted.specs.declared.total.Total.{Total}
 
 -- the total at a place of the list; past its end one that needs nothing
 abbrev pub total_at : List Total → ℕ → Total
@@ -52,15 +52,3 @@ pub record IsLowestFree (totals : List Total) (machine : Capacities) (groups : L
 pub record IsByRule (totals : List Total) (machine : Capacities) (groups : List CounterGroup) : Type 0 where
   pub many : length groups ≡ length totals
   pub each : (place : ℕ) → place < length totals → IsLowestFree totals machine groups place
-
--- Each total has a group of its own: as many groups as totals, each of the machine, wide enough for its total, and no
--- group stands twice.
-pub record IsAssignment (totals : List Total) (machine : Capacities) (groups : List CounterGroup) : Type 0 where
-  pub many : length groups ≡ length totals
-  pub there : (place : ℕ) (group : CounterGroup) → slice_get groups place ≡ Some group → HasGroup machine group
-  pub enough :
-      (place : ℕ) (total : Total) (group : CounterGroup) → slice_get totals place ≡ Some total
-      → slice_get groups place ≡ Some group → total.need ≤ group.width
-  pub own :
-      (one other : ℕ) (group : CounterGroup) → slice_get groups one ≡ Some group
-      → slice_get groups other ≡ Some group → one ≡ other

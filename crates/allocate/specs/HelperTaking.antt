@@ -3,7 +3,7 @@ use Rattle.std.specs.Prelude.{◌≡◌, ◌≢◌, ℕ, ◌<◌, ◌≤◌, Boo
 use Rattle.capacity.specs.Capacities.{Capacities, HasGroup, groups_of}
 use Rattle.capacity.specs.declared.group.CounterGroup.{CounterGroup}
 use Rattle.allocate.specs.Groups.{takes_before, is_lower}
-use Rattle.allocate.specs.declared.total.Total.{Total}
+use Rattle.wanted.specs.declared.total.Total.{Total}
 
 -- the group that the total at a place has so far, if it has one
 abbrev pub taken_at : List (Option CounterGroup) → ℕ → Option CounterGroup

@@ -2,13 +2,14 @@
 use Rattle.std.specs.Prelude.{◌≡◌, ℕ, All, List}
 use Rattle.capacity.specs.Capacities.{Capacities, widths}
 use Rattle.capacity.specs.declared.group.CounterGroup.{CounterGroup}
-use Rattle.chart_text.specs.Chart.{Chart}
+use Rattle.charts.specs.Chart.{Chart}
 use Rattle.chart_rules.specs.Rules.{IsLawful}
-use Rattle.allocate.specs.ChartTotals.{totals_of}
-use Rattle.allocate.specs.Exceeded.{HasFault, Fits, IsOver}
-use Rattle.allocate.specs.Groups.{IsAssignment}
-use Rattle.allocate.specs.Wanted.{Wanted, wanted_of}
-use Rattle.allocate.specs.declared.exceeded.Capacity.TheVariants as of
+use Rattle.wanted.specs.ChartTotals.{totals_of}
+use Rattle.allocate.specs.Exceeded.{HasFault, Fits}
+use Rattle.plans.specs.Excess.{IsOver}
+use Rattle.plans.specs.Assignments.{IsAssignment}
+use Rattle.wanted.specs.Wanted.{Wanted, wanted_of}
+use Rattle.wanted.specs.declared.count.Capacity.TheVariants as of
 use Rattle.allocate.specs.declared.fault.CapacityFault.{CapacityFault}
 
 -- the counter groups of a machine are exceeded by a chart at a width

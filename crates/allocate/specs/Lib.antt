@@ -1,15 +1,6 @@
-pub mod ChartTotals
-pub mod Totals
-pub mod Pilots
-pub mod Positions
-pub mod Units
-pub mod Wanted
 pub mod Groups
 pub mod Exceeded
-pub mod Plans
+pub mod Allocated
 pub mod Laws
-pub mod HelperBehind
 pub mod HelperCounters
-pub mod HelperEnough
-pub mod HelperLines
 pub mod HelperTaking

@@ -2,17 +2,18 @@
 
 ghost use Rattle.std.specs.Prelude.{◌≢◌, IfOk, IfErr, OnOk};
 ghost use Rattle.allocate.specs.Exceeded.{Fits, HasFault};
-ghost use Rattle.allocate.specs.Plans.{IsPlanOf, IsFor};
-ghost use Rattle.allocate.specs.Wanted.{wanted_of};
+ghost use Rattle.allocate.specs.Allocated.{IsPlanOf};
+ghost use Rattle.plans.specs.Plans.{IsFor};
+ghost use Rattle.wanted.specs.Wanted.{wanted_of};
 
 use crate::exceeded::fault_on;
 use crate::fault::CapacityFault;
 use crate::groups::assign;
-use crate::plan::Plan;
-use crate::wanted::Wanted;
 use capacity::Profile;
 use chart_rules::Chart;
+use plans::Plan;
 use std::alloc::Global;
+use wanted::Wanted;
 
 /// The plan of a chart on a machine.
 ///

@@ -1,31 +1,13 @@
-//! The capacities of a machine, and the first that a chart exceeds.
+//! The capacities of a machine in their order, and the first that a chart exceeds.
 
 ghost use Rattle.std.specs.Prelude.{◌≡◌, IfNone, IfSome, IsSome, length, true};
 ghost use Rattle.allocate.specs.Exceeded as law;
+ghost use Rattle.plans.specs.Excess.{count_there};
 
 use crate::fault::CapacityFault;
-use crate::wanted::Wanted;
 use capacity::Profile;
-use chart_text::ControlLevel;
-
-/// A capacity of a machine: something that it has so many of.
-#[derive(Clone, Copy, Debug, PartialEq, Eq)]
-pub(crate) enum Capacity {
-    /// Counter groups of a width, 3, 4, 6 or 8, or a greater one: fault 61.
-    Counters(u8),
-    /// Pilots: fault 62.
-    Pilots,
-    /// Comparing positions: fault 63.
-    Comparing,
-    /// Storage units of more than 16 columns, of which there are none: fault 64.
-    StorageWidth,
-    /// Storage units: fault 65.
-    StorageUnits,
-    /// Column splits: fault 66.
-    Splits,
-    /// Indicate positions of a level: fault 67.
-    Indicate(ControlLevel),
-}
+use charts::ControlLevel;
+use wanted::{Capacity, Wanted};
 
 /// The capacities in the order in which they are asked.
 static IN_ORDER: [Capacity; 12] = [
@@ -45,7 +27,7 @@ static IN_ORDER: [Capacity; 12] = [
 
 /// How many of a capacity there are.
 fn count_there(profile: &Profile, capacity: Capacity) -> u32
-    ensures { result ≡ law.count_there capacity profile.now }
+    ensures { result ≡ count_there capacity profile.now }
 {
     match capacity {
         Capacity::Counters(width) => profile.groups_at_least(width),

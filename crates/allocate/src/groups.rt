@@ -2,41 +2,19 @@
 
 ghost use Rattle.std.specs.Prelude.{◌≡◌, ◌<◌, ◌↔◌, length, map, Some, IsTrue, IfOk, MatchOption};
 ghost use Rattle.std.specs.Option.{ForSome};
-ghost use Rattle.allocate.specs.Totals.{NeedsFit, class_of, wanted_at};
+ghost use Rattle.wanted.specs.Totals.{NeedsFit};
 ghost use Rattle.allocate.specs.HelperCounters.{HasGroupsFor};
-ghost use Rattle.allocate.specs.Groups.{IsByRule, IsAssignment, takes_before};
+ghost use Rattle.allocate.specs.Groups.{IsByRule, takes_before};
+ghost use Rattle.plans.specs.Assignments.{IsAssignment};
 ghost use Rattle.allocate.specs.HelperTaking.{IsTaken, NoneWaits, IsNext, goes_first};
 ghost use Rattle.allocate.specs.HelperTaking.{IsLowestNumber, IsWidthTaken, IsLowest, AreAllTaken};
 
-use crate::total::Total;
 use capacity::{CounterGroup, Profile};
 use std::alloc::{AllocError, Global};
+use wanted::Total;
 
 // The widths of counter groups, the narrowest first.
 const WIDTHS: [u8; 4] = [3, 4, 6, 8];
-
-/// How many totals have this width as their class or a wider one. The class of a total is the smallest width of 3, 4, 6
-/// and 8 positions that is enough.
-#[tactic(auto, unfolding(crate::specs::Totals::wanted_at))]
-pub(crate) fn wanted_at(width: u8, totals: &[Total]) -> usize
-    ensures { result ≡ wanted_at width totals.now }
-{
-    totals
-        .iter()
-        .filter(|total| width <= class_of(total.need))
-        .count()
-}
-
-fn class_of(need: u32) -> u8
-    ensures { result ≡ class_of need }
-{
-    match need {
-        0..=3 => 3,
-        4 => 4,
-        5 | 6 => 6,
-        _ => 8,
-    }
-}
 
 /// The counter groups that the totals take, in the order of the totals.
 ///
@@ -162,6 +140,3 @@ fn all_taken(alloc: Global, taken: &[Option<CounterGroup>]) -> Result<Vec<Counte
     }
     Ok(groups)
 }
-
-#[cfg(test)]
-mod tests;

@@ -3,13 +3,13 @@
 ghost use Rattle.std.specs.Prelude.{◌≡◌, List};
 ghost use Rattle.capacity.specs.Capacities.{Capacities};
 ghost use Rattle.capacity.specs.declared.group.CounterGroup.{CounterGroup};
-ghost use Rattle.chart_text.specs.Chart.{Chart};
+ghost use Rattle.charts.specs.Chart.{Chart};
 ghost use Rattle.chart_rules.specs.Rules.{IsLawful};
-ghost use Rattle.allocate.specs.ChartTotals.{totals_of};
-ghost use Rattle.allocate.specs.Totals.{NeedsFit};
+ghost use Rattle.wanted.specs.ChartTotals.{totals_of};
+ghost use Rattle.wanted.specs.Totals.{NeedsFit};
 ghost use Rattle.allocate.specs.Groups.{IsByRule};
 ghost use Rattle.allocate.specs.Laws.{ChartsWithinHaveAnAssignment, ChartsOverHaveNone, FittingChartsHaveNoFault, ChartsExceedOneCapacity};
-ghost use Rattle.allocate.specs.declared.total.Total.{Total};
+ghost use Rattle.wanted.specs.declared.total.Total.{Total};
 
 /// For every chart that breaks no rule: no total needs more positions than the widest counter group has; where the
 /// counter groups are exceeded at no width, each total can have a group of its own; where they are exceeded at one, not

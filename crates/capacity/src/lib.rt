@@ -9,6 +9,3 @@ mod profile;
 
 pub use group::CounterGroup;
 pub use profile::Profile;
-
-#[cfg(test)]
-mod tests;

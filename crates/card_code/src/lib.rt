@@ -19,8 +19,6 @@ mod column;
 mod deck;
 mod lines;
 mod row;
-#[cfg(test)]
-mod tests;
 
 pub use card::{CARD_COLUMNS, Card};
 pub use code::code_is_one_to_one;

@@ -1,5 +1,4 @@
 pub mod Asked
 pub mod Carriage
-pub mod InOrder
 pub mod Laws
 pub mod Moves

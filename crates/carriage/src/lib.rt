@@ -1,14 +1,12 @@
 //! The carriage: it moves the form, and says where a printing cycle's line stands.
 //!
-//! [`Carriage`] is the unit of the machine; [`PlacedLine`] is a printed line with its place in the report.
+//! [`Carriage`] is the unit of the machine.
 #![tactic(auto)]
 
 mod asked;
 mod carriage;
 mod laws;
-mod placed_line;
 mod spot;
 
 pub use carriage::Carriage;
 pub use laws::{going_down_notices_the_overflow_line, skips_go_to_the_next_stop_below};
-pub use placed_line::{LINE_WHEELS, PlacedLine};

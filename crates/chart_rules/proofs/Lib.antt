@@ -1,4 +1,3 @@
-pub mod Places
 pub mod Lowest
 pub mod InOrder
 pub mod Laws

@@ -1,8 +1,8 @@
 -- A helper of the code: charts that were checked.
 use Rattle.std.specs.Prelude.{◌≡◌, List}
-use Rattle.chart_text.specs.Chart.{Chart}
-use Rattle.chart_text.specs.declared.statement.Field.{Field}
-use Rattle.chart_rules.specs.Fields.{fields_of}
+use Rattle.charts.specs.Chart.{Chart}
+use Rattle.charts.specs.declared.statement.Field.{Field}
+use Rattle.field_rules.specs.Fields.{fields_of}
 use Rattle.chart_rules.specs.Rules.{IsLawful}
 
 -- a chart breaks no rule, and these are its fields

@@ -1,22 +1,22 @@
 -- The rules of a chart: which lines break which rule, and which charts are lawful.
 use Rattle.std.specs.Prelude.{◌≡◌, ℕ, ◌<◌, ◌≤◌, Bool, true, false, List, ◌∷◌, ◌++◌}
-use Rattle.chart_text.specs.Chart.{Chart}
-use Rattle.chart_text.specs.declared.chart.Line.{Line}
-use Rattle.chart_text.specs.declared.statement.Statement.{Statement}
+use Rattle.charts.specs.Chart.{Chart}
+use Rattle.charts.specs.declared.chart.Line.{Line}
+use Rattle.charts.specs.declared.statement.Statement.{Statement}
 use Rattle.chart_rules.specs.declared.rule.Rule.{Rule}
 use Rattle.chart_rules.specs.declared.rule.Rule.TheVariants as rule
-use Rattle.chart_rules.specs.Fields.{fields_of}
-use Rattle.chart_rules.specs.Names.{breaks_name_twice, breaks_unknown_name, breaks_wrong_kind}
-use Rattle.chart_rules.specs.Columns.{breaks_columns, breaks_amount_size}
-use Rattle.chart_rules.specs.Repeats.{breaks_line_twice}
-use Rattle.chart_rules.specs.Control.{breaks_no_control, breaks_total_text_not_control}
-use Rattle.chart_rules.specs.Digits.{breaks_digits_range}
-use Rattle.chart_rules.specs.Shrink.{breaks_digits_shrink}
-use Rattle.chart_rules.specs.Marks.{breaks_mark_mismatch}
-use Rattle.chart_rules.specs.Wheels.{breaks_wheel_range, breaks_wheel_overlap, breaks_wheel_clash}
-use Rattle.chart_rules.specs.Printing.{breaks_print_kind, lacks_print}
-use Rattle.chart_rules.specs.Forms.{breaks_form, lacks_form}
-use Rattle.chart_rules.specs.Tapes.{breaks_tape}
+use Rattle.field_rules.specs.Fields.{fields_of}
+use Rattle.field_rules.specs.Names.{breaks_name_twice, breaks_unknown_name, breaks_wrong_kind}
+use Rattle.field_rules.specs.Columns.{breaks_columns, breaks_amount_size}
+use Rattle.field_rules.specs.Repeats.{breaks_line_twice}
+use Rattle.field_rules.specs.Control.{breaks_no_control, breaks_total_text_not_control}
+use Rattle.field_rules.specs.Digits.{breaks_digits_range}
+use Rattle.field_rules.specs.Shrink.{breaks_digits_shrink}
+use Rattle.print_rules.specs.Marks.{breaks_mark_mismatch}
+use Rattle.print_rules.specs.Wheels.{breaks_wheel_range, breaks_wheel_overlap, breaks_wheel_clash}
+use Rattle.print_rules.specs.Printing.{breaks_print_kind, lacks_print}
+use Rattle.print_rules.specs.Forms.{breaks_form, lacks_form}
+use Rattle.print_rules.specs.Tapes.{breaks_tape}
 
 -- the number of a rule
 abbrev pub rule_number : Rule → ℕ

@@ -2,14 +2,14 @@
 
 ghost use Rattle.std.specs.Prelude.{◌≡◌, ◌+◌, ◌<◌, ◌≤◌, ◌↔◌, ℕ, IsTrue, IsOk, IfErr, length};
 ghost use Rattle.card_code.specs.CardCode.{deck_character};
-ghost use Rattle.chart_rules.specs.Fields.{fields_of};
-ghost use Rattle.chart_text.specs.Field.{sign_column, decimals_of};
+ghost use Rattle.field_rules.specs.Fields.{fields_of};
+ghost use Rattle.charts.specs.Field.{sign_column, decimals_of};
 ghost use Rattle.chart_rules.specs.HelperOnCard.{IsOnCard, AreOnCard};
 ghost use Rattle.chart_rules.specs.ValidCard as valid;
 
 use crate::chart::Chart;
 use card_code::{Card, Column, Row};
-use chart_text::{Field, FieldKind};
+use charts::{Field, FieldKind};
 use thiserror::Error;
 
 /// The rows of the digits.

@@ -1,8 +1,8 @@
 //! Charts that break no rule.
 
-use crate::fields::Fields;
-use crate::items::Item;
-use chart_text::{Field, Line, Name, RawChart, Statement};
+use charts::{Field, Line, Name, RawChart, Statement};
+use field_rules::Fields;
+use print_rules::Item;
 use std::marker::Model;
 
 /// A planning chart that breaks no rule.
@@ -15,7 +15,7 @@ pub struct Chart {
 }
 
 impl Model for Chart {
-    ghost use Rattle.chart_text.specs.Chart.{Chart as Lines};
+    ghost use Rattle.charts.specs.Chart.{Chart as Lines};
     ghost use Rattle.chart_rules.specs.HelperChecked.{IsChecked};
 
     ghost Value = { Lines };
@@ -27,9 +27,9 @@ impl Model for Chart {
 
 impl Chart {
     ghost use Rattle.std.specs.Prelude.{◌≡◌};
-    ghost use Rattle.chart_text.specs.Chart.{NumbersRise};
-    ghost use Rattle.chart_rules.specs.Fields.{fields_of, field_named};
-    ghost use Rattle.chart_rules.specs.Items.{item_of};
+    ghost use Rattle.charts.specs.Chart.{NumbersRise};
+    ghost use Rattle.field_rules.specs.Fields.{fields_of, field_named};
+    ghost use Rattle.print_rules.specs.Items.{item_of};
     ghost use Rattle.chart_rules.specs.HelperChecked.{IsChecked};
     ghost use Rattle.chart_rules.specs.Rules.{IsLawful};
 

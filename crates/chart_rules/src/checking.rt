@@ -1,28 +1,25 @@
 //! Checking a chart by the rules.
 
 ghost use Rattle.std.specs.Prelude.{◌≡◌, ◌≢◌, ◌<◌, ◌≤◌, ◌++◌, ℕ, List, Some, length, slice_get, MatchOption, IfSome, IfNone, IfOk, IfErr, OnOk};
-ghost use Rattle.chart_text.specs.declared.statement.Field.{Field};
-ghost use Rattle.chart_rules.specs.Fields.{fields_of};
+ghost use Rattle.charts.specs.declared.statement.Field.{Field};
+ghost use Rattle.field_rules.specs.Fields.{fields_of};
 ghost use Rattle.chart_rules.specs.RuleFaults.{IsTold};
 ghost use Rattle.chart_rules.specs.Rules as law;
 ghost use Rattle.chart_rules.specs.HelperOrder as order;
 
 use crate::chart::Chart;
-use crate::columns::{breaks_amount_size, breaks_columns};
-use crate::control::{breaks_no_control, breaks_total_text_not_control};
-use crate::digits::breaks_digits_range;
 use crate::fault::RuleFault;
-use crate::fields::Fields;
-use crate::forms::{breaks_form, lacks_form};
-use crate::marks::breaks_mark_mismatch;
-use crate::names::{breaks_name_twice, breaks_unknown_name, breaks_wrong_kind};
-use crate::printing::{breaks_print_kind, lacks_print};
-use crate::repeats::breaks_line_twice;
 use crate::rule::Rule;
-use crate::shrink::breaks_digits_shrink;
-use crate::tapes::breaks_tape;
-use crate::wheels::{breaks_wheel_clash, breaks_wheel_overlap, breaks_wheel_range};
-use chart_text::{Line, RawChart, Statement};
+use charts::{Line, RawChart, Statement};
+use field_rules::{
+    Fields, breaks_amount_size, breaks_columns, breaks_digits_range, breaks_digits_shrink,
+    breaks_line_twice, breaks_name_twice, breaks_no_control, breaks_total_text_not_control,
+    breaks_unknown_name, breaks_wrong_kind,
+};
+use print_rules::{
+    breaks_form, breaks_mark_mismatch, breaks_print_kind, breaks_tape, breaks_wheel_clash,
+    breaks_wheel_overlap, breaks_wheel_range, lacks_form, lacks_print,
+};
 use std::alloc::Global;
 
 /// The rules in the order of their numbers.

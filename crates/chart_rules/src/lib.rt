@@ -1,33 +1,26 @@
-//! The rules of planning charts, and the cards that are valid for a chart.
+//! Charts that break no rule, and the cards that are valid for a chart.
+//!
+//! [`check`] asks the rules of a chart in the order of their numbers, and answers a [`Chart`], or a [`RuleFault`] with the lowest
+//! [`Rule`] that is broken and the lowest line that breaks it. [`valid_card`] tells whether a card is valid for a chart, and
+//! else, as a [`CardFault`], the first field that is not. The test of each rule stands below: in `field_rules` what is said of
+//! fields, levels and totals, in `print_rules` what is said of the wheels and the form.
+//!
+//! `specs/Rules.antt` joins those tests to the rules of a chart, and says which charts are lawful. That a chart or a card has
+//! one fault at most is a law. The files `Helper..` there are words of the code alone, but for `HelperChecked`, which says
+//! what a checked chart keeps, and `HelperOnCard`, which proofs of the crates above speak of.
 #![tactic(auto)]
 
 mod card;
 mod chart;
 mod checking;
-mod columns;
-mod control;
-mod digits;
 mod fault;
-mod fields;
-mod forms;
-mod items;
-mod marks;
-mod names;
 mod outcomes;
-mod printing;
-mod repeats;
 mod rule;
-mod shrink;
-mod tapes;
-mod wheels;
 
 pub use card::{CardFault, valid_card};
 pub use chart::Chart;
 pub use checking::check;
 pub use fault::RuleFault;
-pub use items::{Figure, Item, PrintedLine};
 pub use outcomes::{cards_have_one_fault, charts_have_one_fault};
+pub use print_rules::{Figure, Item, PrintedLine};
 pub use rule::Rule;
-
-#[cfg(test)]
-mod tests;

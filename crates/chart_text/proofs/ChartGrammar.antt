@@ -4,7 +4,7 @@ use Rattle.std.proofs.lemmas.Bool.{cases_order, both_ways}
 use Rattle.std.specs.Bool.{Decides}
 use Rattle.std.specs.List.{AllByRecursion}
 use Rattle.card_code.specs.Lines.{lines_of}
-use Rattle.chart_text.specs.Chart.{Chart}
+use Rattle.charts.specs.Chart.{Chart}
 use Rattle.tokens.specs.Frame.{IsEmptyLine, IsEndLine, line_at, IsLineFrom, IsBehindEnd, IsNoLine, LacksEnd}
 use Rattle.chart_text.specs.ChartText.{IsFirstLine, IsFormLine, IsTooLarge, ReadsFrom, empty_line, form_line, end_line, Reads}
 use Rattle.chart_text.specs.TextFaults.{HasFirstLine, IsMisplaced, IsLowestMisplaced, HasFault, HaveFault}
@@ -13,8 +13,8 @@ use Rattle.tokens.proofs.LineContent as lines
 use Rattle.tokens.proofs.TextFrame.{larger_by, title_by, told_false, refused_by}
 use Rattle.chart_text.specs.HelperForms.{statement_of}
 use Rattle.chart_text.specs.HelperText.{Content, content_of, is_first, is_large, with_lines, line_then, chart_from, chart_of_lines, chart_of}
-use Rattle.chart_text.specs.declared.chart.Line.{Line}
-use Rattle.chart_text.specs.declared.statement.Statement.{Statement}
+use Rattle.charts.specs.declared.chart.Line.{Line}
+use Rattle.charts.specs.declared.statement.Statement.{Statement}
 use Rattle.tokens.specs.declared.frame.Content.TheVariants.{Empty, End, Says, NoLine}
 use Rattle.chart_text.specs.declared.fault.TextFault.{TextFault}
 use Rattle.chart_text.specs.declared.fault.TextFault.TheVariants.{TooLarge, NoFirstLine, NotALine, NoEnd, Memory}

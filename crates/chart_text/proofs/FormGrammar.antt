@@ -4,7 +4,7 @@ use Rattle.std.proofs.lemmas.Bool.{and_parts, leb-true, le-leb}
 use Rattle.std.proofs.lemmas.Option.{same_Some, cond_some}
 use Rattle.std.specs.Str.{bytes_eq}
 use Rattle.tokens.specs.Number.{IsNumber}
-use Rattle.chart_text.specs.Name.{IsName}
+use Rattle.charts.specs.Name.{IsName}
 use Rattle.chart_text.specs.Forms.{SaysSign, unsigned, by_row, by_absence, SaysMark, unmarked, total_marked, SaysOption, as_it_is, indicated, item_marked, SaysKind, detail_line, total_line, Says, text_field, amount_field, control, print_detail, print_group, head, detail_literal, detail_field, total_literal, total_text, total_amount, space, page_after, skip_after, form, tape}
 use Rattle.tokens.specs.NumberReading.{number_of, numbers_of}
 use Rattle.chart_text.specs.HelperWords.{name_of, literal_of, mark_of, keyword_of, level_of, control_level_of, heading_line_of, spacing_lines_of}
@@ -14,17 +14,17 @@ use Rattle.tokens.proofs.TokenWord.{is_word}
 use Rattle.tokens.proofs.NumberGrammar.{number_is, number_read, numbers_are, numbers_read, as_many_numbers}
 use Rattle.chart_text.proofs.NumberedWords.{level_is, level_read, control_level_is, control_level_read, heading_line_is, heading_line_read, spacing_lines_is, spacing_lines_read}
 use Rattle.chart_text.proofs.WordGrammar.{name_is, name_read, literal_is, literal_read, name_no_literal, mark_is, mark_read}
-use Rattle.chart_text.specs.declared.statement.SignRule.{SignRule}
-use Rattle.chart_text.specs.declared.statement.SignRule.TheVariants.{X, NX}
-use Rattle.chart_text.specs.declared.statement.FieldKind.{FieldKind}
-use Rattle.chart_text.specs.declared.statement.FieldKind.TheVariants as kinds
-use Rattle.chart_text.specs.declared.statement.Mark.{Mark}
-use Rattle.chart_text.specs.declared.statement.BodyLine.{BodyLine}
-use Rattle.chart_text.specs.declared.statement.BodyLine.TheVariants as lines
-use Rattle.chart_text.specs.declared.statement.DetailOption.{DetailOption}
-use Rattle.chart_text.specs.declared.statement.DetailOption.TheVariants.{Plain, Indicated, Marked}
-use Rattle.chart_text.specs.declared.statement.Statement.{Statement}
-use Rattle.chart_text.specs.declared.statement.Statement.TheVariants as says
+use Rattle.charts.specs.declared.statement.SignRule.{SignRule}
+use Rattle.charts.specs.declared.statement.SignRule.TheVariants.{X, NX}
+use Rattle.charts.specs.declared.statement.FieldKind.{FieldKind}
+use Rattle.charts.specs.declared.statement.FieldKind.TheVariants as kinds
+use Rattle.charts.specs.declared.statement.Mark.{Mark}
+use Rattle.charts.specs.declared.statement.BodyLine.{BodyLine}
+use Rattle.charts.specs.declared.statement.BodyLine.TheVariants as lines
+use Rattle.charts.specs.declared.statement.DetailOption.{DetailOption}
+use Rattle.charts.specs.declared.statement.DetailOption.TheVariants.{Plain, Indicated, Marked}
+use Rattle.charts.specs.declared.statement.Statement.{Statement}
+use Rattle.charts.specs.declared.statement.Statement.TheVariants as says
 use Rattle.chart_text.specs.declared.words.Keyword.{Keyword}
 use Rattle.chart_text.specs.declared.words.Keyword.TheVariants as words
 

@@ -1,4 +1,3 @@
-pub mod Fronts
 pub mod Numbers
 mod NumberedWords
 pub mod LineSteps

@@ -2,7 +2,7 @@
 use Rattle.std.proofs.Common.{◌≡◌, ℕ, List, sym, ◌∙◌}
 use Rattle.tokens.specs.Frame.{IsEmptyLine, IsEndLine}
 use Rattle.chart_text.specs.ChartText.{IsFormLine}
-use Rattle.chart_text.specs.declared.statement.Statement.{Statement}
+use Rattle.charts.specs.declared.statement.Statement.{Statement}
 use Rattle.tokens.specs.declared.frame.Content.TheVariants.{Empty, End, Says}
 use Rattle.chart_text.proofs.ChartGrammar.{empty_read, end_read, form_read}
 

@@ -1,12 +1,12 @@
 -- The literals of charts that are read from a text.
 use Rattle.std.proofs.Common.{◌≡◌, ◌∙◌, ap, subst, ℕ, zero, suc, List, Some, arith}
-use Rattle.chart_text.specs.Chart.{Chart}
+use Rattle.charts.specs.Chart.{Chart}
 use Rattle.chart_text.specs.ChartText.{Reads, ReadsFrom, empty_line, form_line, end_line}
 use Rattle.chart_text.specs.Forms.{Says, head, detail_literal, total_literal}
-use Rattle.chart_text.specs.Literal.{IsLiteralText}
-use Rattle.chart_text.specs.Literals.{HaveLiteralTexts, literal_in}
-use Rattle.chart_text.specs.declared.chart.Line.{Line}
-use Rattle.chart_text.specs.declared.statement.Statement.{Statement}
+use Rattle.charts.specs.Literal.{IsLiteralText}
+use Rattle.charts.specs.Literals.{HaveLiteralTexts, literal_in}
+use Rattle.charts.specs.declared.chart.Line.{Line}
+use Rattle.charts.specs.declared.statement.Statement.{Statement}
 
 -- a literal text by another name
 same-text : (characters literal : List ℕ) → IsLiteralText characters → Some characters ≡ Some literal → IsLiteralText literal

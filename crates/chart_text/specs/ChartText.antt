@@ -3,12 +3,12 @@
 use Rattle.std.specs.Prelude.{◌≡◌, ℕ, suc, List, [], ◌∷◌, codes}
 use Rattle.std.specs.List.{AllByRecursion}
 use Rattle.card_code.specs.Lines.{lines_of}
-use Rattle.chart_text.specs.Chart.{Chart}
+use Rattle.charts.specs.Chart.{Chart}
 use Rattle.tokens.specs.Frame.{IsEmptyLine, IsEndLine, IsLarger, IsTitleLine}
 use Rattle.tokens.specs.Tokens.{HasTokens}
 use Rattle.chart_text.specs.Forms.{Says}
-use Rattle.chart_text.specs.declared.chart.Line.{Line}
-use Rattle.chart_text.specs.declared.statement.Statement.{Statement}
+use Rattle.charts.specs.declared.chart.Line.{Line}
+use Rattle.charts.specs.declared.statement.Statement.{Statement}
 
 -- a line `CHART407 1`
 abbrev pub IsFirstLine : List ℕ → Type 0

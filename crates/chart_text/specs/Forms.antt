@@ -1,28 +1,33 @@
 -- The forms of a chart: what the tokens of a line say.
-use Rattle.std.specs.Prelude.{ℕ, ◌≤◌, List, [], ◌∷◌, ◌++◌, length, Option, Some, None, codes}
+use Rattle.std.specs.Prelude.{◌≡◌, ℕ, ◌≤◌, List, [], ◌∷◌, ◌++◌, length, Option, Some, None, codes}
 use Rattle.tokens.specs.Number.{IsNumber, AreNumbers}
-use Rattle.chart_text.specs.Name.{IsName}
-use Rattle.chart_text.specs.Literal.{IsLiteral}
-use Rattle.chart_text.specs.Levels.{level_number, control_number}
-use Rattle.chart_text.specs.Headings.{heading_number}
-use Rattle.chart_text.specs.Spacings.{spacing_number}
-use Rattle.chart_text.specs.declared.heading.HeadingLine.{HeadingLine}
-use Rattle.chart_text.specs.declared.level.ControlLevel.{ControlLevel}
-use Rattle.chart_text.specs.declared.level.Level.{Level}
-use Rattle.chart_text.specs.declared.spacing.Spacing.{Spacing}
-use Rattle.chart_text.specs.declared.statement.SignRule.{SignRule}
-use Rattle.chart_text.specs.declared.statement.SignRule.TheVariants.{X, NX}
-use Rattle.chart_text.specs.declared.statement.FieldKind.TheVariants as kinds
-use Rattle.chart_text.specs.declared.statement.Printing.TheVariants as printings
-use Rattle.chart_text.specs.declared.statement.Mark.{Mark}
-use Rattle.chart_text.specs.declared.statement.Mark.TheVariants.{Credit, Minus}
-use Rattle.chart_text.specs.declared.statement.BodyLine.{BodyLine}
-use Rattle.chart_text.specs.declared.statement.BodyLine.TheVariants as lines
-use Rattle.chart_text.specs.declared.statement.After.TheVariants.{Page, Skip}
-use Rattle.chart_text.specs.declared.statement.DetailOption.{DetailOption}
-use Rattle.chart_text.specs.declared.statement.DetailOption.TheVariants.{Plain, Indicated, Marked}
-use Rattle.chart_text.specs.declared.statement.Statement.{Statement}
-use Rattle.chart_text.specs.declared.statement.Statement.TheVariants as says
+use Rattle.charts.specs.Name.{IsName}
+use Rattle.charts.specs.Literal.{IsLiteralText}
+use Rattle.charts.specs.Levels.{level_number, control_number}
+use Rattle.charts.specs.Headings.{heading_number}
+use Rattle.charts.specs.Spacings.{spacing_number}
+use Rattle.charts.specs.declared.heading.HeadingLine.{HeadingLine}
+use Rattle.charts.specs.declared.level.ControlLevel.{ControlLevel}
+use Rattle.charts.specs.declared.level.Level.{Level}
+use Rattle.charts.specs.declared.spacing.Spacing.{Spacing}
+use Rattle.charts.specs.declared.statement.SignRule.{SignRule}
+use Rattle.charts.specs.declared.statement.SignRule.TheVariants.{X, NX}
+use Rattle.charts.specs.declared.statement.FieldKind.TheVariants as kinds
+use Rattle.charts.specs.declared.statement.Printing.TheVariants as printings
+use Rattle.charts.specs.declared.statement.Mark.{Mark}
+use Rattle.charts.specs.declared.statement.Mark.TheVariants.{Credit, Minus}
+use Rattle.charts.specs.declared.statement.BodyLine.{BodyLine}
+use Rattle.charts.specs.declared.statement.BodyLine.TheVariants as lines
+use Rattle.charts.specs.declared.statement.After.TheVariants.{Page, Skip}
+use Rattle.charts.specs.declared.statement.DetailOption.{DetailOption}
+use Rattle.charts.specs.declared.statement.DetailOption.TheVariants.{Plain, Indicated, Marked}
+use Rattle.charts.specs.declared.statement.Statement.{Statement}
+use Rattle.charts.specs.declared.statement.Statement.TheVariants as says
+
+-- the token is the literal of these characters
+pub record IsLiteral (token characters : List ℕ) : Type 0 where
+  pub text : IsLiteralText characters
+  pub spelled : token ≡ 39 ∷ (characters ++ 39 ∷ [])
 
 -- the sign rule of an amount: nothing, `X c` or `NX c`
 pub data SaysSign : List (List ℕ) → Option SignRule → Type 0 where

@@ -2,15 +2,15 @@
 -- This is a step between the code and the grammar: no public clause speaks of it.
 use Rattle.std.specs.Prelude.{◌≡◌, ℕ, Bool, List, [], ◌∷◌, ◌++◌, Option, Some, None, Result, Ok, Err, suc, if◌then◌else◌, codes}
 use Rattle.card_code.specs.Lines.{lines_of}
-use Rattle.chart_text.specs.Chart.{Chart}
+use Rattle.charts.specs.Chart.{Chart}
 use Rattle.tokens.specs.Dividing.{tokens_of}
 use Rattle.tokens.specs.FrameReading.{is_larger, is_title_line}
 use Rattle.tokens.specs.HelperLines.{divided_content}
 use Rattle.tokens.specs.declared.frame.Content as frame
 use Rattle.tokens.specs.declared.frame.Content.TheVariants.{Empty, End, Says, NoLine}
 use Rattle.chart_text.specs.HelperForms.{statement_of}
-use Rattle.chart_text.specs.declared.chart.Line.{Line}
-use Rattle.chart_text.specs.declared.statement.Statement.{Statement}
+use Rattle.charts.specs.declared.chart.Line.{Line}
+use Rattle.charts.specs.declared.statement.Statement.{Statement}
 use Rattle.chart_text.specs.declared.fault.TextFault.{TextFault}
 use Rattle.chart_text.specs.declared.fault.TextFault.TheVariants.{TooLarge, NoFirstLine, NotALine, NoEnd, Memory}
 

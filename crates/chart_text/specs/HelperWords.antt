@@ -5,18 +5,17 @@ use Rattle.std.specs.List.{list_all}
 use Rattle.std.specs.Str.{bytes_eq}
 use Rattle.tokens.specs.NumberReading.{number_of}
 use Rattle.tokens.specs.Steps.{◌>>=◌}
-use Rattle.chart_text.specs.Name.{begins_with_letter}
-use Rattle.chart_text.specs.Literal.{is_printable}
-use Rattle.chart_text.specs.declared.heading.HeadingLine.{HeadingLine}
-use Rattle.chart_text.specs.declared.heading.HeadingLine.TheVariants as heading
-use Rattle.chart_text.specs.declared.level.ControlLevel.{ControlLevel}
-use Rattle.chart_text.specs.declared.level.ControlLevel.TheVariants as control
-use Rattle.chart_text.specs.declared.level.Level.{Level}
-use Rattle.chart_text.specs.declared.level.Level.TheVariants as level
-use Rattle.chart_text.specs.declared.spacing.Spacing.{Spacing}
-use Rattle.chart_text.specs.declared.spacing.Spacing.TheVariants as spacing
-use Rattle.chart_text.specs.declared.statement.Mark.{Mark}
-use Rattle.chart_text.specs.declared.statement.Mark.TheVariants.{Credit, Minus}
+use Rattle.charts.specs.Name.{begins_with_letter}
+use Rattle.charts.specs.Literal.{is_printable}
+use Rattle.charts.specs.Levels.{level_with, control_with}
+use Rattle.charts.specs.Headings.{heading_with}
+use Rattle.charts.specs.Spacings.{spacing_with}
+use Rattle.charts.specs.declared.heading.HeadingLine.{HeadingLine}
+use Rattle.charts.specs.declared.level.ControlLevel.{ControlLevel}
+use Rattle.charts.specs.declared.level.Level.{Level}
+use Rattle.charts.specs.declared.spacing.Spacing.{Spacing}
+use Rattle.charts.specs.declared.statement.Mark.{Mark}
+use Rattle.charts.specs.declared.statement.Mark.TheVariants.{Credit, Minus}
 use Rattle.chart_text.specs.declared.words.Keyword.{Keyword}
 use Rattle.chart_text.specs.declared.words.Keyword.TheVariants as words
 
@@ -56,35 +55,6 @@ keyword_of token =
     else (if bytes_eq token (codes "AFTER") then Some words.After
     else (if bytes_eq token (codes "FORM") then Some words.Form
     else (if bytes_eq token (codes "TAPE") then Some words.Tape else None)))))))))
-
--- the level with a number
-abbrev pub level_with : ℕ → Option Level
-level_with number =
-    if number == 1 then Some level.Minor
-    else (if number == 2 then Some level.Intermediate
-    else (if number == 3 then Some level.Major
-    else (if number == 4 then Some level.Final else None)))
-
--- the control level with a number
-abbrev pub control_with : ℕ → Option ControlLevel
-control_with number =
-    if number == 1 then Some control.Minor
-    else (if number == 2 then Some control.Intermediate
-    else (if number == 3 then Some control.Major else None))
-
--- the heading line with a number
-abbrev pub heading_with : ℕ → Option HeadingLine
-heading_with number =
-    if number == 1 then Some heading.First
-    else (if number == 2 then Some heading.Second
-    else (if number == 3 then Some heading.Third else None))
-
--- the spacing of so many lines
-abbrev pub spacing_with : ℕ → Option Spacing
-spacing_with number =
-    if number == 1 then Some spacing.Single
-    else (if number == 2 then Some spacing.Double
-    else (if number == 3 then Some spacing.Triple else None))
 
 -- the level that a token is
 unfoldable pub level_of : List ℕ → Option Level

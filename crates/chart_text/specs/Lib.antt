@@ -1,14 +1,6 @@
-pub mod Chart
 pub mod ChartText
-pub mod Field
 pub mod Forms
-pub mod Headings
 pub mod HelperForms
 pub mod HelperText
 pub mod HelperWords
-pub mod Levels
-pub mod Literal
-pub mod Literals
-pub mod Name
-pub mod Spacings
 pub mod TextFaults

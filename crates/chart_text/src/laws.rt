@@ -1,12 +1,12 @@
 //! Laws of the grammar: functions without a body, whose contracts are proved.
 
 ghost use Rattle.std.specs.Prelude.{◌≡◌, ℕ, List};
-ghost use Rattle.chart_text.specs.Chart.{Chart};
+ghost use Rattle.charts.specs.Chart.{Chart};
 ghost use Rattle.tokens.specs.Frame.{IsEmptyLine, IsEndLine};
 ghost use Rattle.chart_text.specs.ChartText.{IsFormLine, Reads};
-ghost use Rattle.chart_text.specs.Literals.{HaveLiteralTexts};
+ghost use Rattle.charts.specs.Literals.{HaveLiteralTexts};
 ghost use Rattle.chart_text.specs.TextFaults.{HasFault};
-ghost use Rattle.chart_text.specs.declared.statement.Statement.{Statement};
+ghost use Rattle.charts.specs.declared.statement.Statement.{Statement};
 ghost use Rattle.chart_text.specs.declared.fault.TextFault.{TextFault};
 
 /// A line says one thing at most: what one form says, or END, or nothing.

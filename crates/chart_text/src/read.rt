@@ -5,16 +5,15 @@ ghost use Rattle.card_code.specs.Lines.{lines_of};
 ghost use Rattle.tokens.specs.Dividing.{texts};
 ghost use Rattle.tokens.specs.HelperLines.{tokens_content};
 ghost use Rattle.chart_text.specs.HelperForms.{statement_of};
-ghost use Rattle.chart_text.specs.Chart.{Chart, NumbersRise};
+ghost use Rattle.charts.specs.Chart.{Chart, NumbersRise};
 ghost use Rattle.chart_text.specs.ChartText.{Reads};
 ghost use Rattle.chart_text.specs.TextFaults.{HasFault};
 ghost use Rattle.chart_text.specs.HelperText.{content_of, chart_from, chart_of, chart_of_lines, Answers, TakesLine, RefusesLine};
 
-use crate::chart::{Line, RawChart};
 use crate::fault::TextFault;
 use crate::forms::read_statement;
-use crate::statement::Statement;
 use card_code::next_line;
+use charts::{Line, RawChart, Statement};
 use std::alloc::{AllocError, Global};
 use tokens::{Content, is, is_larger, is_title_line, split_line};
 

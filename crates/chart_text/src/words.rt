@@ -4,15 +4,11 @@ ghost use Rattle.std.specs.Prelude.{◌≡◌, ◌+◌, ◌-◌, ◌*◌, ◌<�
 ghost use Rattle.std.specs.List.{list_all};
 ghost use Rattle.std.specs.Str.{bytes_eq};
 ghost use Rattle.chart_text.specs.HelperWords.{name_of, literal_of, is_literal_text, mark_of, keyword_of, level_of, control_level_of, heading_line_of, spacing_lines_of};
-ghost use Rattle.chart_text.specs.Name.{begins_with_letter, is_letter, is_letter_or_digit};
-ghost use Rattle.chart_text.specs.Literal.{is_printable};
+ghost use Rattle.charts.specs.Name.{begins_with_letter, is_letter, is_letter_or_digit};
+ghost use Rattle.charts.specs.Literal.{is_printable};
 
-use crate::heading::HeadingLine;
-use crate::level::{ControlLevel, Level};
-use crate::name::Name;
-use crate::spacing::Spacing;
-use crate::statement::{Literal, MAX_LITERAL, Mark};
 use card_code::Column;
+use charts::{ControlLevel, HeadingLine, Level, Literal, MAX_LITERAL, Mark, Name, Spacing};
 use std::alloc::{AllocError, Global};
 use tokens::{is, read_number};
 

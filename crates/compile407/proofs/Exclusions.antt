@@ -5,13 +5,13 @@ use Rattle.std.proofs.lemmas.List.Elements.{All-get_or}
 use Rattle.std.proofs.lemmas.Option.{slice_get_within, get_or_from_slice_get}
 use Rattle.allocate.proofs.Exclusions.{fitting_charts_have_no_fault}
 use Rattle.allocate.specs.Exceeded.{HasFault as Exceeds}
-use Rattle.allocate.specs.Wanted.{wanted_of}
+use Rattle.wanted.specs.Wanted.{wanted_of}
 use Rattle.capacity.specs.Capacities.{standard}
-use Rattle.chart_text.specs.Chart.{Chart}
+use Rattle.charts.specs.Chart.{Chart}
 use Rattle.chart_text.specs.declared.fault.TextFault.TheVariants as text
 use Rattle.chart_text.proofs.ChartGrammar.{one_chart, no_chart}
 use Rattle.chart_rules.specs.Rules.{Broken, IsKept, IsLawful}
-use Rattle.chart_rules.specs.Fields.{fields_of}
+use Rattle.field_rules.specs.Fields.{fields_of}
 use Rattle.chart_rules.specs.ValidCard.{IsValidCard, IsFirstInvalid}
 use Rattle.chart_rules.specs.declared.card.CardFault.{CardFault}
 use Rattle.report.specs.Totals.{first_of}

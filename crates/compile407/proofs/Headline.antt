@@ -1,17 +1,17 @@
 -- The pages that the machine prints, wired for a chart, are the chart's report of the deck.
 use Rattle.std.proofs.Common.{◌≡◌, ◌∙◌, ℕ, ◌≤◌, List, length, ap, subst, sym}
 use Rattle.std.specs.List.{All}
-use Rattle.allocate.specs.Plans.{Lists, IsFor}
-use Rattle.carriage.specs.declared.placed_line.PlacedLine.{PlacedLine}
+use Rattle.plans.specs.Plans.{Lists, IsFor}
+use Rattle.placed_lines.specs.declared.placed_line.PlacedLine.{PlacedLine}
 use Rattle.chart_rules.specs.Rules.{IsLawful}
 use Rattle.chart_rules.specs.ValidCard.{IsValidCard}
-use Rattle.chart_runs.proofs.Begun.{machines_begin_reports}
-use Rattle.chart_runs.proofs.Reports.{machine_prints_reports}
-use Rattle.chart_text.specs.Chart.{Chart, NumbersRise}
+use Rattle.printed_reports.proofs.Begun.{machines_begin_reports}
+use Rattle.printed_reports.proofs.Reports.{machine_prints_reports}
+use Rattle.charts.specs.Chart.{Chart, NumbersRise}
 use Rattle.chart_text.specs.ChartText.{Reads}
-use Rattle.chart_text.specs.declared.chart.Line.{Line}
+use Rattle.charts.specs.declared.chart.Line.{Line}
 use Rattle.chart_text.proofs.ReadLiterals.{read_literals}
-use Rattle.hubs.specs.Wiring.{Wiring}
+use Rattle.setups.specs.Wiring.{Wiring}
 use Rattle.machine.proofs.SameSetups.{MachineLines-same}
 use Rattle.machine.proofs.SomeOutcome.{MachineLines-some}
 use Rattle.machine.specs.Feeds.{MachineLines}
@@ -19,9 +19,9 @@ use Rattle.page_text.specs.Pages.{Pages}
 use Rattle.report.specs.ChartForm.{form_of}
 use Rattle.report.specs.Report.{report_lines}
 use Rattle.report.specs.Totals.{Fits}
-use Rattle.wire_chart.proofs.Answered.{one_setup}
-use Rattle.wire_chart.specs.Laws.{IsSameSetup}
-use Rattle.wire_gen.specs.WiredFor.{WiredFor}
+use Rattle.wiring_reader.proofs.Answered.{one_setup}
+use Rattle.wiring_text.specs.WiringText.{IsSameSetup}
+use Rattle.wiring_table.specs.WiredFor.{WiredFor}
 use Rattle.compile407.specs.Compilation.{Compilation, IsCompiled}
 use Rattle.compile407.specs.Headline.{IsDeck, IsSound, ReadSetupsPrintAlike, WiredSetupsBeginReports, WiredSetupsPrintReports, WrittenSetupsPrintReports}
 

@@ -7,17 +7,17 @@ use Rattle.std.proofs.lemmas.List.Elements.{All-get_or}
 use Rattle.std.proofs.lemmas.Option.{slice_get_within, get_or_from_slice_get}
 use Rattle.allocate.proofs.OneFault.{charts_exceed_one_capacity}
 use Rattle.allocate.specs.Exceeded.{HasFault as Exceeds}
-use Rattle.allocate.specs.Wanted.{wanted_of}
+use Rattle.wanted.specs.Wanted.{wanted_of}
 use Rattle.allocate.specs.declared.fault.CapacityFault.{CapacityFault}
 use Rattle.capacity.specs.Capacities.{standard}
 use Rattle.chart_text.proofs.ChartGrammar.{one_chart, no_chart, one_fault}
-use Rattle.chart_text.specs.Chart.{Chart}
+use Rattle.charts.specs.Chart.{Chart}
 use Rattle.chart_text.specs.ChartText.{Reads}
 use Rattle.chart_text.specs.TextFaults.{HasFault}
 use Rattle.chart_text.specs.declared.fault.TextFault.{TextFault}
 use Rattle.chart_text.specs.declared.fault.TextFault.TheVariants as text
 use Rattle.chart_rules.proofs.OneFault as rules
-use Rattle.chart_rules.specs.Fields.{fields_of}
+use Rattle.field_rules.specs.Fields.{fields_of}
 use Rattle.chart_rules.specs.RuleFaults.{IsTold}
 use Rattle.chart_rules.specs.Rules.{IsKept, IsLawful}
 use Rattle.chart_rules.specs.ValidCard.{IsFirstInvalid, IsValidCard}

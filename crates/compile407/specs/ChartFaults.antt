@@ -1,11 +1,11 @@
 -- What a fault says of the text of a chart.
 use Rattle.std.specs.Prelude.{◌≢◌, ℕ, List}
 use Rattle.allocate.specs.Exceeded.{HasFault as Exceeds}
-use Rattle.allocate.specs.Wanted.{wanted_of}
+use Rattle.wanted.specs.Wanted.{wanted_of}
 use Rattle.allocate.specs.declared.fault.CapacityFault.{CapacityFault}
 use Rattle.allocate.specs.declared.fault.CapacityFault.TheVariants as capacity
 use Rattle.capacity.specs.Capacities.{standard}
-use Rattle.chart_text.specs.Chart.{Chart}
+use Rattle.charts.specs.Chart.{Chart}
 use Rattle.chart_text.specs.ChartText.{Reads}
 use Rattle.chart_text.specs.TextFaults.{HasFault}
 use Rattle.chart_text.specs.declared.fault.TextFault.{TextFault}

@@ -1,11 +1,12 @@
 -- A chart with its plan and the setup of the panel that is wired for it.
 use Rattle.allocate.specs.Exceeded.{Fits}
-use Rattle.allocate.specs.Plans.{Lists, IsFor, IsPlanOf}
-use Rattle.allocate.specs.Wanted.{wanted_of}
+use Rattle.plans.specs.Plans.{Lists, IsFor}
+use Rattle.allocate.specs.Allocated.{IsPlanOf}
+use Rattle.wanted.specs.Wanted.{wanted_of}
 use Rattle.capacity.specs.Capacities.{standard}
-use Rattle.chart_text.specs.Chart.{Chart}
-use Rattle.hubs.specs.Wiring.{Wiring}
-use Rattle.wire_gen.specs.WiredFor.{WiredFor}
+use Rattle.charts.specs.Chart.{Chart}
+use Rattle.setups.specs.Wiring.{Wiring}
+use Rattle.wiring_table.specs.WiredFor.{WiredFor}
 use Rattle.compile407.specs.Headline.{IsSound}
 
 -- a chart, its plan and a setup

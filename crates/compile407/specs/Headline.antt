@@ -1,23 +1,23 @@
 -- The headline: the pages that the machine prints, wired for a chart, are the chart's report of the deck.
 use Rattle.std.specs.Prelude.{◌≡◌, ℕ, ◌≤◌, List, ◌∷◌, ◌++◌, length, All}
-use Rattle.allocate.specs.Plans.{Lists, IsFor}
-use Rattle.carriage.specs.declared.placed_line.PlacedLine.{PlacedLine}
+use Rattle.plans.specs.Plans.{Lists, IsFor}
+use Rattle.placed_lines.specs.declared.placed_line.PlacedLine.{PlacedLine}
 use Rattle.chart_rules.specs.Rules.{IsLawful}
 use Rattle.chart_rules.specs.ValidCard.{IsValidCard}
-use Rattle.chart_runs.specs.Begun.{FitBefore}
-use Rattle.chart_text.specs.Chart.{Chart, NumbersRise}
-use Rattle.chart_text.specs.Literals.{HaveLiteralTexts}
+use Rattle.printed_reports.specs.Begun.{FitBefore}
+use Rattle.charts.specs.Chart.{Chart, NumbersRise}
+use Rattle.charts.specs.Literals.{HaveLiteralTexts}
 use Rattle.decks.specs.Stands.{report_before}
-use Rattle.hubs.specs.Tapes.{IsForm}
-use Rattle.hubs.specs.Wiring.{Wiring}
+use Rattle.setups.specs.Tapes.{IsForm}
+use Rattle.setups.specs.Wiring.{Wiring}
 use Rattle.machine.specs.Feeds.{FedLines, MachineLines}
 use Rattle.machine.specs.Machine.{MachineState, machine_at_start}
 use Rattle.page_text.specs.Pages.{Pages}
 use Rattle.report.specs.ChartForm.{form_of}
 use Rattle.report.specs.Report.{Report}
 use Rattle.report.specs.Totals.{Fits}
-use Rattle.wire_chart.specs.WiringText.{ReadsAs}
-use Rattle.wire_gen.specs.WiredFor.{WiredFor}
+use Rattle.wiring_text.specs.WiringText.{ReadsAs}
+use Rattle.wiring_table.specs.WiredFor.{WiredFor}
 
 -- A chart that breaks no rule; as in every chart that is read, the numbers of its lines rise and its literals are print characters.
 pub record IsSound (chart : Chart) : Type 0 where

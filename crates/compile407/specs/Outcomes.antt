@@ -1,6 +1,6 @@
 -- What can be answered excludes what else can be told, and one thing at most is told.
 use Rattle.std.specs.Prelude.{◌≡◌, ℕ, List}
-use Rattle.chart_text.specs.Chart.{Chart}
+use Rattle.charts.specs.Chart.{Chart}
 use Rattle.chart_text.specs.ChartText.{Reads}
 use Rattle.compile407.specs.declared.fault.ChartFault.{ChartFault}
 use Rattle.compile407.specs.declared.fault.RunFault.{RunFault}

@@ -1,7 +1,7 @@
 -- What a fault says of a deck of cards.
 use Rattle.std.specs.Prelude.{◌≡◌, ℕ, ◌+◌, ◌<◌, ◌≤◌, List, Some, length, take, slice_get, All}
-use Rattle.chart_text.specs.Chart.{Chart}
-use Rattle.chart_rules.specs.Fields.{fields_of}
+use Rattle.charts.specs.Chart.{Chart}
+use Rattle.field_rules.specs.Fields.{fields_of}
 use Rattle.chart_rules.specs.ValidCard.{IsValidCard, IsFirstInvalid}
 use Rattle.chart_rules.specs.declared.card.CardFault.{CardFault}
 use Rattle.chart_rules.specs.declared.card.CardFault.TheVariants as card

@@ -1,6 +1,6 @@
 -- Decks that can be run: their cards are valid, not too many, and their totals fit.
 use Rattle.std.specs.Prelude.{ℕ, List}
-use Rattle.chart_text.specs.Chart.{Chart}
+use Rattle.charts.specs.Chart.{Chart}
 use Rattle.report.specs.Totals.{Fits}
 use Rattle.compile407.specs.Headline.{IsDeck}
 

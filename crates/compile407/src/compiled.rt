@@ -1,8 +1,8 @@
 //! Charts with the setups that are wired for them.
 
-use allocate::Plan;
 use chart_rules::Chart;
-use hubs::Setup;
+use plans::Plan;
+use setups::Setup;
 use std::marker::Model;
 
 /// A planning chart with its plan, which says what of the machine serves what of the chart, and the setup of the panel that is

@@ -6,7 +6,8 @@ ghost use Rattle.compile407.specs.declared.fault.RunFault.TheVariants as deck;
 
 use allocate::CapacityFault;
 use chart_rules::{Rule, RuleFault};
-use chart_text::{Level, Name, TextFault};
+use chart_text::TextFault;
+use charts::{Level, Name};
 use std::alloc::AllocError;
 use thiserror::Error;
 

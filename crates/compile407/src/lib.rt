@@ -21,6 +21,3 @@ pub use laws::{
     wired_setups_print_reports, written_setups_print_reports,
 };
 pub use running::{MOST_CARDS, first_misfit, run};
-
-#[cfg(test)]
-mod tests;

@@ -4,8 +4,8 @@
 -- the end.
 use Rattle.std.specs.Prelude.{ℕ, ◌+◌, ◌-◌, ◌%◌, ◌==◌, ◌&&◌, ◌||◌, not, nat_le, nat_lt, Bool, false, List, [], ◌∷◌, length, replicate, if◌then◌else◌}
 use Rattle.card_code.specs.Rows.{row_number}
-use Rattle.hubs.specs.Ranges.{is_within}
-use Rattle.hubs.specs.Wiring.{Wiring, is_wired}
+use Rattle.hub_table.specs.Ranges.{is_within}
+use Rattle.setups.specs.Wiring.{Wiring, is_wired}
 use Rattle.hubs.specs.declared.hub.Group.{Group}
 use Rattle.hubs.specs.declared.hub.Hub.{Hub}
 use Rattle.hubs.specs.declared.hub.Hub.TheVariants.{GX, CO, BAN, BAT, GE, PL, MI, RO, BT, CI}

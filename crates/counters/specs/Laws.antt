@@ -1,8 +1,8 @@
 -- What can be said of every counter group: it keeps its shape, and its cycles are sums.
 use Rattle.std.specs.Prelude.{◌≡◌, ℕ, ◌+◌, ◌*◌, ◌^◌, ◌≤◌, Bool, true, List, All, length, map, if◌then◌else◌}
-use Rattle.hubs.specs.Places.{is_width}
-use Rattle.hubs.specs.Ranges.{is_within}
-use Rattle.hubs.specs.Wiring.{Wiring}
+use Rattle.hub_table.specs.Places.{is_width}
+use Rattle.hub_table.specs.Ranges.{is_within}
+use Rattle.setups.specs.Wiring.{Wiring}
 use Rattle.hubs.specs.declared.hub.Hub.{Hub}
 use Rattle.net.specs.declared.cycle.Cycle.{Cycle}
 use Rattle.net.specs.declared.cycle.Point.{Point}

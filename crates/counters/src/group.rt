@@ -6,8 +6,9 @@ use crate::controls::Controls;
 use crate::digits::{Digits, from_units, number_of};
 use crate::sensing::{controls_of, show, take_row, takes};
 use crate::turn::{latch_after, turn_round};
-use hubs::{Hub, Setup};
+use hubs::Hub;
 use net::{Cycle, Picture, Point, Unit};
+use setups::Setup;
 use std::marker::Model;
 
 /// The most positions that a group has.

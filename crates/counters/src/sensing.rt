@@ -1,8 +1,8 @@
 //! What a counter group emits and senses at its positions.
 
 ghost use Rattle.std.specs.Prelude.{◌≡◌, ℕ, ◌≤◌, ◌<◌, ◌-◌, ◌==◌, ◌&&◌, true, All, length};
-ghost use Rattle.hubs.specs.Places.{is_width};
-ghost use Rattle.hubs.specs.Ranges.{is_within};
+ghost use Rattle.hub_table.specs.Places.{is_width};
+ghost use Rattle.hub_table.specs.Ranges.{is_within};
 ghost use Rattle.net.specs.HubSets.{GainsHubs, has_hub, is_bit};
 ghost use Rattle.counters.specs.Counters.{all_taken, controls_of, group_of_unit, shows, taken, takes};
 ghost use Rattle.counters.specs.Laws.{IsDigit};

@@ -1,7 +1,7 @@
 -- The first misfit of a deck, and the groups that fit before it.
 use Rattle.std.proofs.Common.{◌≡◌, ◌∙◌, refl, sym, ap, subst, ℕ, zero, suc, ◌+◌, ◌≤◌, nat_le, Bool, true, false, ◌⊎◌, inl, inr, List, [], ◌∷◌, ◌++◌, Some, arith}
 use Rattle.std.proofs.lemmas.Bool.Decides.{nat_tests}
-use Rattle.chart_text.specs.declared.chart.Line.{Line}
+use Rattle.charts.specs.declared.chart.Line.{Line}
 use Rattle.report.specs.Breaks.{ended_behind, no_cards, taking, cleared}
 use Rattle.report.specs.Totals.{Misfit, misfits_in, first_of}
 use Rattle.decks.specs.CardMisfits.{misfits_to, misfits_from, GroupFits, GroupsFit, FitFrom}

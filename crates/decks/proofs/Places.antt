@@ -1,8 +1,8 @@
 -- Places of body lines in parts.
 use Rattle.std.proofs.Common.{◌≡◌, ◌∙◌, refl, sym, ap, List, [], ◌∷◌, ◌++◌}
 use Rattle.std.proofs.lemmas.List.{append_assoc}
-use Rattle.carriage.specs.declared.placed_line.PlacedLine.{PlacedLine}
-use Rattle.chart_text.specs.declared.chart.Line.{Line}
+use Rattle.placed_lines.specs.declared.placed_line.PlacedLine.{PlacedLine}
+use Rattle.charts.specs.declared.chart.Line.{Line}
 use Rattle.report.specs.Places.{BodyText, Left, page_of, line_below, left_by, headed, placed}
 use Rattle.decks.specs.Left.{left_behind}
 use Rattle.decks.specs.Laws.{PlacesSplit}

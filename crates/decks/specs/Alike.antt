@@ -1,6 +1,6 @@
 -- Cards of one group are alike: they have the same punches in all control fields of the group's level and of the levels above.
 use Rattle.std.specs.Prelude.{◌≡◌, ℕ, ◌≤◌, true, List, All}
-use Rattle.chart_text.specs.declared.chart.Line.{Line}
+use Rattle.charts.specs.declared.chart.Line.{Line}
 use Rattle.report.specs.Groups.{is_same_at}
 
 -- The cards of the unfinished group of each level are the same as a card on the control fields of the level and of those above.

@@ -1,6 +1,6 @@
 -- Misfits card by card: those of a card are the misfits of the groups that end behind it.
 use Rattle.std.specs.Prelude.{◌≡◌, ℕ, zero, suc, ◌+◌, ◌≤◌, List, [], ◌∷◌, ◌++◌, Some, None}
-use Rattle.chart_text.specs.declared.chart.Line.{Line}
+use Rattle.charts.specs.declared.chart.Line.{Line}
 use Rattle.report.specs.Breaks.{ended_behind, no_cards, taking, cleared}
 use Rattle.report.specs.Totals.{Misfit, misfits_in}
 

@@ -1,15 +1,15 @@
 -- Laws of decks: how a report, its misfits and its places follow the cards.
 use Rattle.std.specs.Prelude.{◌≡◌, ◌↔◌, ℕ, ◌+◌, ◌*◌, ◌^◌, ◌≤◌, ◌<◌, List, ◌∷◌, ◌++◌, Option, Some, true, length, All}
 use Rattle.std.specs.List.{Contains}
-use Rattle.carriage.specs.declared.placed_line.PlacedLine.{PlacedLine}
-use Rattle.chart_text.specs.Chart.{Chart}
-use Rattle.chart_text.specs.declared.chart.Line.{Line}
-use Rattle.chart_text.specs.declared.statement.Field.{Field}
-use Rattle.chart_text.specs.declared.statement.Mark.{Mark}
-use Rattle.chart_text.specs.declared.statement.Statement.TheVariants as says
-use Rattle.chart_text.specs.declared.level.Level.{Level}
-use Rattle.chart_text.specs.Levels.{level_number}
-use Rattle.chart_rules.specs.Fields.{field_named}
+use Rattle.placed_lines.specs.declared.placed_line.PlacedLine.{PlacedLine}
+use Rattle.charts.specs.Chart.{Chart}
+use Rattle.charts.specs.declared.chart.Line.{Line}
+use Rattle.charts.specs.declared.statement.Field.{Field}
+use Rattle.charts.specs.declared.statement.Mark.{Mark}
+use Rattle.charts.specs.declared.statement.Statement.TheVariants as says
+use Rattle.charts.specs.declared.level.Level.{Level}
+use Rattle.charts.specs.Levels.{level_number}
+use Rattle.field_rules.specs.Fields.{field_named}
 use Rattle.report.specs.BodyLines.{text_on, a_card_of}
 use Rattle.report.specs.Breaks.{taking}
 use Rattle.report.specs.Groups.{control_fields}

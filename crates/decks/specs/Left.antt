@@ -1,7 +1,7 @@
 -- Places of body lines in parts: where some of them leave the form, those behind go on.
 use Rattle.std.specs.Prelude.{List, [], ◌∷◌}
 use Rattle.std.specs.List.{flat_map}
-use Rattle.chart_text.specs.declared.chart.Line.{Line}
+use Rattle.charts.specs.declared.chart.Line.{Line}
 use Rattle.report.specs.Outline.{OutlineLine}
 use Rattle.report.specs.Places.{BodyText, Left, left_by}
 use Rattle.report.specs.Report.{body_of}

@@ -1,8 +1,8 @@
 -- Machines that are fed cards, whatever they are made of. A machine gets the next card, or none behind the last one, and places the
 -- lines of the card before.
 use Rattle.std.specs.Prelude.{◌≡◌, ℕ, ◌+◌, ◌^◌, ◌<◌, List, [], ◌∷◌, ◌++◌, Option, Some, None}
-use Rattle.carriage.specs.declared.placed_line.PlacedLine.{PlacedLine}
-use Rattle.chart_text.specs.Chart.{Chart}
+use Rattle.placed_lines.specs.declared.placed_line.PlacedLine.{PlacedLine}
+use Rattle.charts.specs.Chart.{Chart}
 use Rattle.report.specs.Breaks.{ended_behind, taking}
 use Rattle.report.specs.Places.{placed}
 use Rattle.decks.specs.Alike.{AlikeWith}

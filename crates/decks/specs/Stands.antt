@@ -1,8 +1,8 @@
 -- Where a report stands between two cards: what the cards before have left.
 use Rattle.std.specs.Prelude.{ℕ, zero, suc, List, [], ◌∷◌, ◌++◌, Option, Some}
-use Rattle.carriage.specs.declared.placed_line.PlacedLine.{PlacedLine}
-use Rattle.chart_text.specs.Chart.{Chart}
-use Rattle.chart_text.specs.declared.chart.Line.{Line}
+use Rattle.placed_lines.specs.declared.placed_line.PlacedLine.{PlacedLine}
+use Rattle.charts.specs.Chart.{Chart}
+use Rattle.charts.specs.declared.chart.Line.{Line}
 use Rattle.report.specs.Breaks.{ended_behind, no_cards, taking, cleared, chunk_of}
 use Rattle.report.specs.Outline.{OutlineLine, Detail, Total, outline_of}
 use Rattle.report.specs.Places.{BodyText, Left, before_all, placed}

@@ -1,8 +1,1 @@
 pub mod HubLemmas
-pub mod KindLemmas
-pub mod PlaceLemmas
-pub mod RowLemmas
-pub mod SameTapes
-pub mod StopLemmas
-pub mod WiredLemmas
-pub mod WiringLemmas

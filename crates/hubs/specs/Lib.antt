@@ -1,10 +1,2 @@
-pub mod Fields
-pub mod HubTable
 pub mod Hubs
 pub mod Jacks
-pub mod Places
-pub mod Ranges
-pub mod Rows
-pub mod SetupFaults
-pub mod Tapes
-pub mod Wiring

@@ -2,12 +2,10 @@
 
 ghost use Rattle.std.specs.Prelude.{◌≡◌};
 ghost use Rattle.hubs.specs.Hubs.{hub_named};
-ghost use Rattle.hubs.specs.Places.{AreSmall};
-ghost use Rattle.hubs.specs.Ranges.{is_within};
-ghost use Rattle.hubs.specs.declared.shape.Numbers.TheVariants.{Bare, One, Two, Three};
+ghost use Rattle.hub_table.specs.Places.{AreSmall};
+ghost use Rattle.hub_table.specs.declared.shape.Numbers.TheVariants.{Bare, One, Two, Three};
 
-use crate::letters::Letters;
-use crate::shape::Numbers;
+use hub_table::{Letters, Numbers};
 
 /// A counter group: its width, 3, 4, 6 or 8 positions, and its number among those of its width, 1 to 8.
 #[derive(Clone, Copy, Debug, PartialEq, Eq)]
@@ -359,11 +357,4 @@ fn with_three(letters: Letters, width: u8, number: u8, part: u8) -> Option<Hub>
         Letters::BAC => Hub::BAC(group, part),
         _ => return None,
     })
-}
-
-// Whether a number is one of 1 to last.
-pub(crate) fn is_within(number: u8, last: u8) -> bool
-    ensures { result ≡ is_within number last }
-{
-    1 <= number && number <= last
 }

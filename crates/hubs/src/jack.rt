@@ -1,8 +1,7 @@
 //! The jacks of the panel.
 
 ghost use Rattle.std.specs.Prelude.{◌≡◌};
-
-use crate::hub::is_within;
+ghost use Rattle.hub_table.specs.Ranges.{is_within};
 
 /// How many jacks the panel has.
 pub const JACKS: usize = 368;
@@ -62,8 +61,8 @@ impl Jack {
         }
     }
 
-    // The place of a jack in range among the jacks of the panel.
-    pub(crate) fn place(self) -> usize
+    /// The place of a jack in range among the jacks of the panel, 0 to 367, in the order of `at`.
+    pub fn place(self) -> usize
         requires { is_jack_in_range self ≡ true }
         ensures place { result ≡ jack_place self }
         ensures within { result < JACKS }
@@ -77,4 +76,11 @@ impl Jack {
             Jack::Symbol(wheel) => 247 + usize::from(wheel),
         }
     }
+}
+
+// Whether a number is one of 1 to last.
+fn is_within(number: u8, last: u8) -> bool
+    ensures { result ≡ is_within number last }
+{
+    1 <= number && number <= last
 }

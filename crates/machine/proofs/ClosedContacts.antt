@@ -5,8 +5,8 @@ use Rattle.std.specs.List.{list_any}
 use Rattle.card_code.specs.declared.row.Row.{Row as CardRow}
 use Rattle.card_code.specs.declared.row.Row.TheVariants as rows
 use Rattle.counters.specs.Counters.{Counter, counter_number, counter_closes, counter_sensed}
-use Rattle.hubs.specs.Places.{width_place, up_to, part_place}
-use Rattle.hubs.specs.Ranges.{is_within}
+use Rattle.hub_table.specs.Places.{width_place, up_to, part_place}
+use Rattle.hub_table.specs.Ranges.{is_within}
 use Rattle.hubs.specs.declared.hub.Group.{Group}
 use Rattle.hubs.specs.declared.hub.Hub.{Hub}
 use Rattle.hubs.specs.declared.hub.Hub.TheVariants.{BAN, BAT, PIN, PIT, CSD, CSZ}

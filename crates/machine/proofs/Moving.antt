@@ -4,11 +4,11 @@ use Rattle.std.proofs.lemmas.Bool.Decides.{nat_tests}
 use Rattle.carriage.proofs.Descents.{down_by-on_form, down_by-to_next}
 use Rattle.carriage.proofs.StopSteps.{next_stop-tells}
 use Rattle.carriage.specs.Carriage.{CarriageState, carriage_ended, moved, spaced, placed}
-use Rattle.carriage.specs.InOrder.{IsAfter, FollowInOrder}
+use Rattle.placed_lines.specs.InOrder.{IsAfter, FollowInOrder}
 use Rattle.carriage.specs.Moves.{down_by, next_page, next_stop, skipped, skipped_to, restored, latched, at_first_line}
-use Rattle.carriage.specs.declared.placed_line.PlacedLine.{PlacedLine}
+use Rattle.placed_lines.specs.declared.placed_line.PlacedLine.{PlacedLine}
 use Rattle.carriage.specs.declared.spot.Spot.{Spot}
-use Rattle.hubs.specs.Tapes.{Form, IsForm}
+use Rattle.setups.specs.Tapes.{Form, IsForm}
 use Rattle.net.specs.Printing.{prints}
 use Rattle.net.specs.declared.cycle.Cycle.{Cycle}
 use Rattle.net.specs.declared.cycle.Cycle.TheVariants.{RunIn, Card, Prog, Head}

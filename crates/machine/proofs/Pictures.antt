@@ -1,6 +1,6 @@
 -- Pictures of equal sets.
 use Rattle.std.proofs.Common.{◌≡◌, Bool, subst}
-use Rattle.hubs.specs.Wiring.{Wiring}
+use Rattle.setups.specs.Wiring.{Wiring}
 use Rattle.hubs.specs.declared.hub.Hub.{Hub}
 use Rattle.net.specs.Impulsed.{IsPicture}
 

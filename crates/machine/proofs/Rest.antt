@@ -8,8 +8,8 @@ use Rattle.card_code.specs.Rows.{row_number}
 use Rattle.counters.specs.Counters.{Counter, no_controls, controls_of, counter_emits, counter_sensed, counter_ended, counter_at_start, all_taken, takes, shows}
 use Rattle.counters.specs.declared.controls.Controls.{Controls}
 use Rattle.hubs.specs.Hubs.{number_of}
-use Rattle.hubs.specs.Places.{group_place}
-use Rattle.hubs.specs.Wiring.{Wiring}
+use Rattle.hub_table.specs.Places.{group_place}
+use Rattle.setups.specs.Wiring.{Wiring}
 use Rattle.hubs.specs.declared.hub.Group.{Group}
 use Rattle.hubs.specs.declared.hub.Hub.{Hub}
 use Rattle.hubs.specs.declared.hub.Hub.TheVariants.{GE, PL, MI, RO, BT}

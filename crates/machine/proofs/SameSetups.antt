@@ -2,12 +2,12 @@
 use Rattle.std.proofs.Common.{◌≡◌, ℕ, zero, suc, ◌↔◌, inl, inr, Bool, true, false, IsTrue, List, [], ◌∷◌, Option, Some, None, map, replicate, refl, sym, subst}
 use Rattle.std.specs.List.{range_with_len}
 use Rattle.carriage.specs.Asked.{nothing_asked}
-use Rattle.carriage.specs.declared.placed_line.PlacedLine.{PlacedLine}
+use Rattle.placed_lines.specs.declared.placed_line.PlacedLine.{PlacedLine}
 use Rattle.counters.specs.Counters.{counter_of, group_of_unit}
-use Rattle.hubs.proofs.SameTapes.{SameTape-same}
-use Rattle.hubs.proofs.WiredLemmas.{HasWire-is_wired}
-use Rattle.hubs.specs.Tapes.{IsForm, SameTape}
-use Rattle.hubs.specs.Wiring.{Wiring, HasWire, SameWires, SameJacks, is_wired}
+use Rattle.setups.proofs.SameTapes.{SameTape-same}
+use Rattle.setups.proofs.WiredLemmas.{HasWire-is_wired}
+use Rattle.setups.specs.Tapes.{IsForm, SameTape}
+use Rattle.setups.specs.Wiring.{Wiring, HasWire, SameWires, SameJacks, is_wired}
 use Rattle.hubs.specs.declared.hub.Hub.{Hub}
 use Rattle.hubs.specs.declared.hub.Hub.TheVariants.{CO, CI}
 use Rattle.hubs.specs.declared.jack.Jack.TheVariants as jack

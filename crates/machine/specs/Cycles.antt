@@ -1,8 +1,8 @@
 -- A cycle of the machine. At each of its fourteen points all units emit by their states, wires and closed contacts make of that
 -- the picture of the impulsed hubs, and all units sense it. Behind the last point every unit ends the cycle.
 use Rattle.std.specs.Prelude.{◌≡◌, ℕ, zero, suc, Bool, List, [], ◌∷◌, Option, Some, None, slice_index_or}
-use Rattle.carriage.specs.declared.placed_line.PlacedLine.{PlacedLine}
-use Rattle.hubs.specs.Wiring.{Wiring}
+use Rattle.placed_lines.specs.declared.placed_line.PlacedLine.{PlacedLine}
+use Rattle.setups.specs.Wiring.{Wiring}
 use Rattle.hubs.specs.declared.hub.Hub.{Hub}
 use Rattle.net.specs.Cycles.{points}
 use Rattle.net.specs.Impulsed.{IsPicture}

@@ -2,8 +2,8 @@
 -- card, or none behind the last one, and runs the card cycle of the card before, with the heading cycles before that and
 -- all cycles behind it up to those of the next card. The cards move on exactly when a card cycle is due, just before it runs.
 use Rattle.std.specs.Prelude.{◌≡◌, ℕ, Bool, true, false, not, ◌||◌, List, [], ◌∷◌, ◌++◌, Option, Some, None, is_some, if◌then◌else◌}
-use Rattle.carriage.specs.declared.placed_line.PlacedLine.{PlacedLine}
-use Rattle.hubs.specs.Wiring.{Wiring}
+use Rattle.placed_lines.specs.declared.placed_line.PlacedLine.{PlacedLine}
+use Rattle.setups.specs.Wiring.{Wiring}
 use Rattle.net.specs.declared.cycle.Cycle.{Cycle}
 use Rattle.net.specs.declared.cycle.Cycle.TheVariants.{Card}
 use Rattle.program_unit.specs.CycleOrder.{is_fresh, next_cycle, card_over}

@@ -1,9 +1,9 @@
 -- Laws of whole runs, for every setup of the panel and every deck.
 use Rattle.std.specs.Prelude.{◌≡◌, ℕ, ◌+◌, ◌*◌, ◌≤◌, List, [], ◌∷◌, ◌++◌, length}
-use Rattle.carriage.specs.InOrder.{IsInOrder}
-use Rattle.carriage.specs.declared.placed_line.PlacedLine.{PlacedLine}
-use Rattle.hubs.specs.Tapes.{IsForm, SameTape}
-use Rattle.hubs.specs.Wiring.{Wiring, SameWires, SameJacks}
+use Rattle.placed_lines.specs.InOrder.{IsInOrder}
+use Rattle.placed_lines.specs.declared.placed_line.PlacedLine.{PlacedLine}
+use Rattle.setups.specs.Tapes.{IsForm, SameTape}
+use Rattle.setups.specs.Wiring.{Wiring, SameWires, SameJacks}
 use Rattle.net.specs.declared.cycle.Cycle.{Cycle}
 use Rattle.machine.specs.Feeds.{Fed, FedLines, FeedStep, LinesFrom, MachineLines}
 use Rattle.machine.specs.Machine.{MachineState, machine_at_start}

@@ -1,7 +1,7 @@
 -- A machine that runs: it is fed at most 999,999 cards and then the end, and takes nothing more behind the end. Where memory
 -- was refused in a feed it is spoiled, and takes nothing from then on.
 use Rattle.std.specs.Prelude.{◌≡◌, ℕ, ◌+◌, ◌==◌, ◌&&◌, Bool, true, false, List, Option, Some, None, is_some, if◌then◌else◌}
-use Rattle.hubs.specs.Wiring.{Wiring}
+use Rattle.setups.specs.Wiring.{Wiring}
 use Rattle.net.specs.Nets.{NetRows, IsNetOf}
 use Rattle.machine.specs.Machine.{MachineState, machine_at_start}
 use Rattle.machine.specs.declared.fault.FeedFault.{FeedFault}

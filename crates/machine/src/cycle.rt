@@ -7,13 +7,13 @@ use crate::closed::Closed;
 use crate::groups::latches;
 use crate::units::Units;
 use card_code::Row;
-use carriage::PlacedLine;
 use net::{Cycle, Net, POINTS, Picture, Point};
+use placed_lines::PlacedLine;
 use selectors::{steady_contacts, with_splits};
 
 impl Units {
     ghost use Rattle.std.specs.Prelude.{◌≡◌, option_to_list};
-    ghost use Rattle.hubs.specs.Wiring.{Wiring};
+    ghost use Rattle.setups.specs.Wiring.{Wiring};
     ghost use Rattle.net.specs.Nets.{IsNetOf};
     ghost use Rattle.machine.specs.Cycles.{PointStep, CycleRun, line_of};
     ghost use Rattle.machine.specs.Ends.{SensesSome, EndsCycle};

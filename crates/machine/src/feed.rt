@@ -4,13 +4,13 @@ ghost use Rattle.std.specs.Prelude.{◌≡◌, ◌++◌, OnOk, OnErr, option_to_
 
 use crate::units::Units;
 use card_code::Card;
-use carriage::PlacedLine;
 use net::{Cycle, Net};
+use placed_lines::PlacedLine;
 use std::alloc::AllocError;
 
 impl Units {
     ghost use Rattle.std.specs.Prelude.{◌≡◌, Some};
-    ghost use Rattle.hubs.specs.Wiring.{Wiring};
+    ghost use Rattle.setups.specs.Wiring.{Wiring};
     ghost use Rattle.net.specs.Nets.{IsNetOf};
     ghost use Rattle.machine.specs.Ends.{GoesOn};
     ghost use Rattle.machine.specs.Gains.{GainsFeed, GainsPrefix};

@@ -12,9 +12,10 @@ ghost use Rattle.machine.specs.Steady.{latches_of};
 
 use crate::rows::{emit_all, sense_all};
 use counters::Group;
-use hubs::{Hub, Setup};
+use hubs::Hub;
 use net::{Cycle, Picture, Point};
 use selectors::GROUPS;
+use setups::Setup;
 
 // The counter groups of a setup in the order of their units.
 pub(crate) fn groups(setup: &Setup) -> [Group; GROUPS]

@@ -14,11 +14,9 @@ pub mod laws;
 mod machine;
 mod rows;
 mod run;
-#[cfg(test)]
-mod tests;
 mod units;
 
-pub use carriage::{LINE_WHEELS, PlacedLine};
 pub use fault::FeedFault;
 pub use machine::{MOST_CARDS, Machine};
+pub use placed_lines::{LINE_WHEELS, PlacedLine};
 pub use run::simulate;

@@ -3,9 +3,9 @@
 use crate::fault::FeedFault;
 use crate::units::Units;
 use card_code::Card;
-use carriage::PlacedLine;
-use hubs::Setup;
 use net::Net;
+use placed_lines::PlacedLine;
+use setups::Setup;
 use std::alloc::{AllocError, Global};
 use std::marker::Model;
 

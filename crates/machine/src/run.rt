@@ -1,14 +1,14 @@
 //! A whole run of the machine.
 
 ghost use Rattle.std.specs.Prelude.{◌≤◌, IfOk, length};
-ghost use Rattle.carriage.specs.InOrder.{IsInOrder};
+ghost use Rattle.placed_lines.specs.InOrder.{IsInOrder};
 ghost use Rattle.machine.specs.Feeds.{MachineLines};
 
 use crate::units::Units;
 use card_code::Card;
-use carriage::PlacedLine;
-use hubs::Setup;
 use net::Net;
+use placed_lines::PlacedLine;
+use setups::Setup;
 use std::alloc::{AllocError, Global};
 
 /// Runs a deck of at most 999,999 cards through a setup of the panel, and answers the printed lines in order with their

@@ -4,15 +4,15 @@ use Rattle.std.specs.List.{cons_option, filter_map, list_all}
 use Rattle.report.specs.Groups.{control_field, is_same_on}
 use Rattle.misfits.specs.HelperGroups.{all_stay_same, is_same_where}
 use Rattle.std.specs.Option.{option_and_then}
-use Rattle.chart_text.specs.Chart.{Chart}
-use Rattle.chart_text.specs.Name.{is_same_name}
-use Rattle.chart_text.specs.declared.chart.Line.{Line}
-use Rattle.chart_text.specs.declared.statement.Field.{Field}
-use Rattle.chart_rules.specs.Fields.{fields_of, field_named}
+use Rattle.charts.specs.Chart.{Chart}
+use Rattle.charts.specs.Name.{is_same_name}
+use Rattle.charts.specs.declared.chart.Line.{Line}
+use Rattle.charts.specs.declared.statement.Field.{Field}
+use Rattle.field_rules.specs.Fields.{fields_of, field_named}
 use Rattle.chart_rules.specs.HelperOnCard.{IsOnCard}
 use Rattle.chart_rules.specs.Rules.{IsLawful}
 use Rattle.chart_rules.proofs.Laws.{LineOf, LineOf-field, AreOnCard-lawful}
-use Rattle.chart_rules.proofs.Places.{find_at_position}
+use Rattle.field_rules.proofs.Places.{find_at_position}
 
 -- where a named field stands among the fields
 pub place_of : (lines : List Line) (name : List ℕ) (field : Field) → field_named lines name ≡ Some field

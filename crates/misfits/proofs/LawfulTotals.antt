@@ -1,18 +1,18 @@
 -- The totals of a lawful chart keep the bounds.
 use Rattle.std.proofs.Common.{◌≡◌, ◌∙◌, refl, sym, ap, ℕ, ◌≤◌, ◌&&◌, ◌||◌, not, nat_le, nat_lt, Bool, true, false, List, ◌∷◌, ◌++◌, Option, Some, None, is_some, arith}
 use Rattle.std.proofs.lemmas.Bool.Decides.{nat_tests}
-use Rattle.chart_text.specs.Chart.{Chart}
-use Rattle.chart_text.specs.Field.{columns_of, sign_column, is_amount}
-use Rattle.chart_text.specs.declared.chart.Line.{Line}
-use Rattle.chart_text.specs.declared.statement.Field.{Field}
-use Rattle.chart_text.specs.declared.statement.FieldKind.{FieldKind}
-use Rattle.chart_text.specs.declared.statement.FieldKind.TheVariants as holds
-use Rattle.chart_text.specs.declared.statement.Statement.{Statement}
-use Rattle.chart_text.specs.declared.statement.Statement.TheVariants as says
-use Rattle.chart_rules.specs.Columns.{breaks_columns, breaks_amount_size, has_good_sign, is_too_large}
-use Rattle.chart_rules.specs.Digits.{is_out_of_digits}
-use Rattle.chart_rules.specs.Fields.{field_named}
-use Rattle.chart_rules.specs.Names.{names_text}
+use Rattle.charts.specs.Chart.{Chart}
+use Rattle.charts.specs.Field.{columns_of, sign_column, is_amount}
+use Rattle.charts.specs.declared.chart.Line.{Line}
+use Rattle.charts.specs.declared.statement.Field.{Field}
+use Rattle.charts.specs.declared.statement.FieldKind.{FieldKind}
+use Rattle.charts.specs.declared.statement.FieldKind.TheVariants as holds
+use Rattle.charts.specs.declared.statement.Statement.{Statement}
+use Rattle.charts.specs.declared.statement.Statement.TheVariants as says
+use Rattle.field_rules.specs.Columns.{breaks_columns, breaks_amount_size, has_good_sign, is_too_large}
+use Rattle.field_rules.specs.Digits.{is_out_of_digits}
+use Rattle.field_rules.specs.Fields.{field_named}
+use Rattle.field_rules.specs.Names.{names_text}
 use Rattle.chart_rules.specs.Rules.{breaks, IsLawful}
 use Rattle.chart_rules.specs.declared.rule.Rule.TheVariants as rule
 use Rattle.chart_rules.proofs.Laws.{breaks-lawful, statement-field}

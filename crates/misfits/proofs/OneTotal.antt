@@ -3,15 +3,15 @@ use Rattle.std.proofs.Common.{◌≡◌, ◌∙◌, refl, sym, ap, ℕ, zero, su
 use Rattle.std.specs.List.{cons_option}
 use Rattle.std.proofs.lemmas.Int.{ints}
 use Rattle.std.proofs.lemmas.Bool.Decides.{nat_tests}
-use Rattle.chart_text.specs.Levels.{level_number}
-use Rattle.chart_text.specs.declared.chart.Line.{Line}
-use Rattle.chart_text.specs.declared.level.Level.{Level}
-use Rattle.chart_text.specs.declared.level.Level.TheVariants as level
-use Rattle.chart_text.specs.declared.statement.Field.{Field}
-use Rattle.chart_text.specs.declared.statement.Mark.{Mark}
-use Rattle.chart_text.specs.declared.statement.Statement.{Statement}
-use Rattle.chart_text.specs.declared.statement.Statement.TheVariants as says
-use Rattle.chart_rules.specs.Fields.{field_named}
+use Rattle.charts.specs.Levels.{level_number}
+use Rattle.charts.specs.declared.chart.Line.{Line}
+use Rattle.charts.specs.declared.level.Level.{Level}
+use Rattle.charts.specs.declared.level.Level.TheVariants as level
+use Rattle.charts.specs.declared.statement.Field.{Field}
+use Rattle.charts.specs.declared.statement.Mark.{Mark}
+use Rattle.charts.specs.declared.statement.Statement.{Statement}
+use Rattle.charts.specs.declared.statement.Statement.TheVariants as says
+use Rattle.field_rules.specs.Fields.{field_named}
 use Rattle.report.specs.Amounts.{value_of}
 use Rattle.report.specs.Breaks.{ended_behind, no_cards, taking, cleared, totals_to, flat}
 use Rattle.report.specs.Outline.{OutlineLine, Detail, Total, outline_of}

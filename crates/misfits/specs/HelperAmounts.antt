@@ -1,8 +1,8 @@
 -- Helper words of the code: amounts whose columns and digits a lawful chart keeps in bounds.
 use Rattle.std.specs.Prelude.{ℕ, ◌≤◌, Option, Some, None}
-use Rattle.chart_text.specs.Field.{columns_of, sign_column, column_of_rule}
-use Rattle.chart_text.specs.declared.statement.Field.{Field}
-use Rattle.chart_text.specs.declared.statement.SignRule.{SignRule}
+use Rattle.charts.specs.Field.{columns_of, sign_column, column_of_rule}
+use Rattle.charts.specs.declared.statement.Field.{Field}
+use Rattle.charts.specs.declared.statement.SignRule.{SignRule}
 use Rattle.chart_rules.specs.HelperOnCard.{IsOnCard}
 
 -- a sign column, if there is one, is a column of the card

@@ -1,9 +1,9 @@
 -- Helper words of the code: where groups end, line of the chart by line.
 use Rattle.std.specs.Prelude.{ℕ, Bool, true, List, ◌∷◌, Option, Some, None, nat_le}
 use Rattle.std.specs.List.{list_all}
-use Rattle.chart_text.specs.declared.chart.Line.{Line}
-use Rattle.chart_text.specs.declared.statement.Field.{Field}
-use Rattle.chart_text.specs.declared.statement.Statement.{Statement}
+use Rattle.charts.specs.declared.chart.Line.{Line}
+use Rattle.charts.specs.declared.statement.Field.{Field}
+use Rattle.charts.specs.declared.statement.Statement.{Statement}
 use Rattle.report.specs.Breaks.{highest}
 use Rattle.report.specs.Groups.{control_field, is_same_on}
 

@@ -1,12 +1,12 @@
 -- Helper words of the code: one total line's misfits, and which misfit is told first.
 use Rattle.std.specs.Prelude.{◌≡◌, ℕ, ℤ, pos, ◌+◌, ◌+ℤ◌, ◌≤ℤ◌, neg_ℤ, ◌≤◌, ◌==◌, ◌&&◌, ◌||◌, nat_lt, Bool, true, false, List, [], ◌∷◌, ◌++◌, Option, Some, None, if◌then◌else◌}
 use Rattle.std.specs.List.{filter_map}
-use Rattle.chart_text.specs.Levels.{level_number}
-use Rattle.chart_text.specs.declared.chart.Line.{Line}
-use Rattle.chart_text.specs.declared.statement.Field.{Field}
-use Rattle.chart_text.specs.declared.statement.Statement.{Statement}
-use Rattle.chart_text.specs.declared.statement.Statement.TheVariants as says
-use Rattle.chart_rules.specs.Fields.{field_named}
+use Rattle.charts.specs.Levels.{level_number}
+use Rattle.charts.specs.declared.chart.Line.{Line}
+use Rattle.charts.specs.declared.statement.Field.{Field}
+use Rattle.charts.specs.declared.statement.Statement.{Statement}
+use Rattle.charts.specs.declared.statement.Statement.TheVariants as says
+use Rattle.field_rules.specs.Fields.{field_named}
 use Rattle.report.specs.Amounts.{value_of}
 use Rattle.report.specs.Outline.{OutlineLine, Detail, Total}
 use Rattle.report.specs.Totals.{fits_in, misfit_on, Misfit}

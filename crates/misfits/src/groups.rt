@@ -10,7 +10,7 @@ ghost use Rattle.misfits.specs.HelperGroups.{all_stay_same, ends_group, stays_sa
 
 use card_code::Card;
 use chart_rules::Chart;
-use chart_text::{Field, Line, Statement};
+use charts::{Field, Line, Statement};
 
 /// Whether two cards have the same punches in a column.
 fn is_same_in(column: u16, one: &Card, other: &Card) -> bool

@@ -7,6 +7,3 @@ mod totals;
 mod values;
 
 pub use misfit::{Misfit, first_misfit};
-
-#[cfg(test)]
-mod tests;

@@ -10,7 +10,7 @@ ghost use Rattle.misfits.specs.Told.{told};
 use crate::totals::first_over;
 use card_code::Card;
 use chart_rules::Chart;
-use chart_text::{Level, Line, Name, Statement};
+use charts::{Level, Line, Name, Statement};
 
 /// A total that has more digits than its total line has room for.
 #[derive(Clone, Copy, Debug, PartialEq, Eq)]

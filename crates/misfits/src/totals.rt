@@ -10,7 +10,7 @@ use crate::groups::ends_group;
 use crate::values::value_of;
 use card_code::Card;
 use chart_rules::Chart;
-use chart_text::Field;
+use charts::Field;
 
 /// Whether a total has at most so many digits.
 fn fits_in(digits: u16, total: i64) -> bool

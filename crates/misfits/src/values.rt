@@ -3,14 +3,14 @@
 ghost use Rattle.std.specs.Prelude.{◌≡◌, ◌+◌, ◌-◌, ◌<◌, ◌≤◌, ◌^◌, length};
 ghost use Rattle.std.specs.Option.{unwrap_or};
 ghost use Rattle.card_code.specs.CardCode.{has_row};
-ghost use Rattle.chart_text.specs.Field.{sign_column};
+ghost use Rattle.charts.specs.Field.{sign_column};
 ghost use Rattle.chart_rules.specs.ValidCard.{column_of};
 ghost use Rattle.report.specs.Amounts.{digit_in, digits_on, is_negated, is_negative_by, number_in, value_of};
 ghost use Rattle.report.specs.Edits.{size};
 ghost use Rattle.misfits.specs.HelperAmounts.{IsColumn, IsGoodAmount, IsGoodSign};
 
 use card_code::{Card, Column, Row};
-use chart_text::{Field, FieldKind, SignRule};
+use charts::{Field, FieldKind, SignRule};
 
 /// The rows punched in a column of a card.
 fn column_of(card: &Card, column: u16) -> Column

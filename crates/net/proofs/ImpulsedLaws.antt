@@ -1,9 +1,9 @@
 -- Laws of impulsed hubs, for those who show hubs impulsed or not.
 use Rattle.std.proofs.Common.{◌≡◌, ◌∙◌, sym, Bool, true, false, not, ◌&&◌, ◌↔◌, inl, inr}
 use Rattle.std.proofs.lemmas.Bool.{and_parts, false≢true}
-use Rattle.hubs.specs.HubTable.{row_of}
+use Rattle.hub_table.specs.HubTable.{row_of}
 use Rattle.hubs.specs.Hubs.{is_entry_hub, is_exit_hub, is_hub_in_range, letters_of}
-use Rattle.hubs.specs.Wiring.{LeadsToEntries, Wiring}
+use Rattle.setups.specs.Wiring.{LeadsToEntries, Wiring}
 use Rattle.hubs.specs.declared.hub.Hub.{Hub}
 use Rattle.net.specs.Impulsed.{IsImpulsed}
 use Rattle.net.specs.Impulsed.IsImpulsed.{emitting, led_on}

@@ -7,8 +7,8 @@ use Rattle.hubs.proofs.HubLemmas.{number_of-injective, number_of-kind}
 use Rattle.hubs.specs.Hubs.{number_of}
 use Rattle.hubs.specs.declared.hub.Hub.{Hub}
 use Rattle.hubs.specs.declared.hub.Hub.TheVariants.{BAN, BAT, PIN, PIT, IX, CSD, CSZ, BAC, PIC, IE, CSE}
-use Rattle.words.specs.Contacts.{is_any_contact, is_contact}
-use Rattle.words.specs.declared.contacts.Run.{Run}
+use Rattle.bit_sets.specs.Contacts.{is_any_contact, is_contact}
+use Rattle.bit_sets.specs.declared.contacts.Run.{Run}
 use Rattle.net.specs.Panel.{contact_of}
 use Rattle.net.specs.declared.contacts.TheConstants.{CONTACTS}
 

@@ -4,13 +4,13 @@ use Rattle.std.specs.Prelude.{is_some}
 use Rattle.std.proofs.lemmas.Bool.{cases_lt, false≢true}
 use Rattle.hubs.proofs.HubLemmas.{hub_numbered, in_range, number_of-range}
 use Rattle.hubs.specs.Hubs.{number_of}
-use Rattle.hubs.specs.Wiring.{Wiring}
+use Rattle.setups.specs.Wiring.{Wiring}
 use Rattle.hubs.specs.declared.hub.Hub.{Hub}
-use Rattle.words.proofs.LedLemmas.{leads-past}
-use Rattle.words.specs.Bits.{has_place}
-use Rattle.words.specs.Reached.{IsReached}
-use Rattle.words.specs.Reached.IsReached.{emitting as emits, by_row, by_contact}
-use Rattle.words.specs.Rows.{leads}
+use Rattle.bit_sets.proofs.LedLemmas.{leads-past}
+use Rattle.bit_sets.specs.Bits.{has_place}
+use Rattle.bit_sets.specs.Reached.{IsReached}
+use Rattle.bit_sets.specs.Reached.IsReached.{emitting as emits, by_row, by_contact}
+use Rattle.bit_sets.specs.Rows.{leads}
 use Rattle.net.specs.HubSets.{HubSet, has_hub, has_number}
 use Rattle.net.specs.Impulsed.{IsImpulsed, IsPicture}
 use Rattle.net.specs.Impulsed.IsImpulsed.{emitting, led_on}

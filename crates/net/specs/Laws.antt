@@ -2,7 +2,7 @@
 use Rattle.std.specs.Prelude.{◌≡◌, Bool, true, false, ◌⊎◌}
 use Rattle.hubs.specs.declared.hub.Hub.{Hub}
 use Rattle.hubs.specs.Hubs.{is_hub_in_range}
-use Rattle.hubs.specs.Wiring.{Wiring, HasWire}
+use Rattle.setups.specs.Wiring.{Wiring, HasWire}
 use Rattle.net.specs.Impulsed.{IsImpulsed, IsPicture, LeadsOn}
 
 -- the set has each hub of the panel that the test has

@@ -1,6 +1,6 @@
 -- Rows while a net is made: helper words for its loops.
 use Rattle.std.specs.Prelude.{◌≡◌, ◌↔◌, ℕ, ◌+◌, true, ◌⊎◌, List, Contains}
-use Rattle.words.specs.Rows.{leads}
+use Rattle.bit_sets.specs.Rows.{leads}
 
 -- new leads where old does, and from a place to those whose numbers are listed
 abbrev pub AddsRow : List (List ℕ) → List (List ℕ) → ℕ → List ℕ → Type 0

@@ -18,6 +18,3 @@ pub use net::Net;
 pub use picture::{Contacts, HUBS, Picture};
 pub use printing::Printing;
 pub use unit::Unit;
-
-#[cfg(test)]
-mod tests;

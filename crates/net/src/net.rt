@@ -1,15 +1,16 @@
 //! The wires of a setup, made ready for pictures.
 
 ghost use Rattle.std.specs.Prelude.{◌≡◌, ◌<◌, All, length};
-ghost use Rattle.hubs.specs.Wiring.{IsEntryNumber};
+ghost use Rattle.setups.specs.Wiring.{IsEntryNumber};
 ghost use Rattle.net.specs.NetRows.{AddsRow};
 
 use crate::contacts::CONTACTS;
 use crate::picture::{Contacts, Picture, cut_behind_hubs};
-use hubs::{Hub, Setup};
+use bit_sets::{EXITS, Rows, reach};
+use hubs::Hub;
+use setups::Setup;
 use std::alloc::{AllocError, Global};
 use std::marker::Model;
-use words::{EXITS, Rows, reach};
 
 /// The wires of one setup, made ready for pictures at every point of a run.
 #[derive(Drop)]
@@ -28,7 +29,7 @@ impl Model for Net {
 
 impl Net {
     ghost use Rattle.std.specs.Prelude.{IfOk};
-    ghost use Rattle.hubs.specs.Wiring.{Wiring};
+    ghost use Rattle.setups.specs.Wiring.{Wiring};
     ghost use Rattle.net.specs.HubSets.{has_hub};
     ghost use Rattle.net.specs.Impulsed.{IsPicture};
     ghost use Rattle.net.specs.Nets.{IsNetOf};

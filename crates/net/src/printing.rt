@@ -1,7 +1,8 @@
 //! Which cycles print.
 
 use crate::cycle::{Cycle, Level, Ordinal};
-use hubs::{Jack, Setup};
+use hubs::Jack;
+use setups::Setup;
 
 /// The cycles of a setup that print, as the jacks LIST, TOTAL and HEAD say.
 #[derive(Clone, Copy, Debug, PartialEq, Eq)]

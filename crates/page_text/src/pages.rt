@@ -1,11 +1,11 @@
 //! The bytes of pages.
 
 ghost use Rattle.std.specs.Prelude.{◌≡◌, ◌+◌, ◌++◌, ◌∷◌, [], ◌≤◌, ◌<◌, ◌^◌, IfOk, OnOk};
-ghost use Rattle.carriage.specs.InOrder.{IsInOrder};
+ghost use Rattle.placed_lines.specs.InOrder.{IsInOrder};
 ghost use Rattle.page_text.specs.Pages.{Pages, without_trailing_blanks, last_page};
 ghost use Rattle.page_text.specs.Walking.{first_text, behind, behind_lines, walked_lines};
 
-use carriage::PlacedLine;
+use placed_lines::PlacedLine;
 use std::alloc::{AllocError, Global};
 
 const BLANK: u8 = b' ';

@@ -4,7 +4,8 @@ ghost use Rattle.std.specs.Prelude.{◌≡◌, ℕ, ◌<◌, ◌&&◌, ◌||◌,
 ghost use Rattle.net.specs.HubSets.{is_bit};
 ghost use Rattle.print_unit.specs.WheelWords.{ArePlugged};
 
-use hubs::{Jack, Setup};
+use hubs::Jack;
+use setups::Setup;
 
 /// How many print wheels there are.
 pub const WHEELS: usize = 120;

@@ -7,8 +7,9 @@ use crate::characters::Characters;
 use crate::line::print;
 use crate::wheel_words::{WHEELS, WheelJack, plugged};
 use crate::zero_control::hidden;
-use hubs::{Hub, Setup};
+use hubs::Hub;
 use net::{Cycle, Picture, Point, Unit};
+use setups::Setup;
 use std::marker::Model;
 
 /// The print wheels 1 to 120.

@@ -4,9 +4,9 @@ use Rattle.std.proofs.Common.{◌≡◌, ◌∙◌, refl, sym, ap, ap₂, ℕ, z
 use Rattle.std.proofs.lemmas.List.{take-map, drop-map, map-append, length-map, length-take, length-drop, take-append-drop, replicate-append-replicate}
 use Rattle.std.proofs.lemmas.List.Folds.{list_any-append}
 use Rattle.card_code.specs.CardCode.{print_character, deck_character, code, rows_of}
-use Rattle.chart_rules.specs.Items.{mark_width}
-use Rattle.chart_text.specs.declared.statement.Mark.{Mark}
-use Rattle.chart_text.specs.declared.statement.Mark.TheVariants as mark
+use Rattle.print_rules.specs.Items.{mark_width}
+use Rattle.charts.specs.declared.statement.Mark.{Mark}
+use Rattle.charts.specs.declared.statement.Mark.TheVariants as mark
 use Rattle.print_unit.specs.ZeroControl.{Wheel, character_of, is_figure, is_zero, shown, has_significance, gives, printed_from}
 use Rattle.report.specs.Edits.{figure, without_leading_zeros, free_digits, point, marked, edited_digits, edited_blank}
 use Rattle.printed_lines.specs.Shown.{digit_set, point_sets, mark_sets}

@@ -1,8 +1,8 @@
 -- On each printed line of a lawful chart the items keep apart.
 use Rattle.std.proofs.Common.{Bool, Option}
-use Rattle.chart_text.specs.Chart.{Chart}
-use Rattle.chart_text.specs.declared.statement.Statement.{Statement}
-use Rattle.chart_rules.specs.declared.items.PrintedLine.{PrintedLine}
+use Rattle.charts.specs.Chart.{Chart}
+use Rattle.charts.specs.declared.statement.Statement.{Statement}
+use Rattle.print_rules.specs.declared.items.PrintedLine.{PrintedLine}
 use Rattle.chart_rules.specs.Rules.{IsLawful}
 use Rattle.printed_lines.specs.Laws.{HasItemSets, LawfulItemsKeepApart}
 use Rattle.printed_lines.specs.Shown.{Shown, card_sends, total_sends, heading_sends}

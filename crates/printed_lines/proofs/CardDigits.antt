@@ -5,8 +5,8 @@ use Rattle.std.proofs.lemmas.Bool.Decides.{nat_tests}
 use Rattle.std.proofs.lemmas.List.Sums.{sum_by-cons}
 use Rattle.std.proofs.lemmas.List.FromFn.{length-map-range_with_len}
 use Rattle.card_code.specs.CardCode.{has_row}
-use Rattle.chart_text.specs.Field.{columns_of, decimals_of}
-use Rattle.chart_text.specs.declared.statement.Field.{Field}
+use Rattle.charts.specs.Field.{columns_of, decimals_of}
+use Rattle.charts.specs.declared.statement.Field.{Field}
 use Rattle.chart_rules.specs.ValidCard.{column_of, digit_count, digit_rows, IsValidAmount}
 use Rattle.report.specs.Amounts.{digit_in, digits_on, is_blank_on}
 use Rattle.report.specs.Edits.{free_digits}

@@ -6,7 +6,7 @@ use Rattle.std.proofs.lemmas.List.FromFn.{get_or-range_with_len, length-range_wi
 use Rattle.card_code.specs.CardCode.{has_row, code, deck_character, rows_of, print_character, printed_for}
 use Rattle.card_code.specs.Rows.{row_number, rows}
 use Rattle.card_code.proofs.OneToOne.{Contains-rows, Contains-character}
-use Rattle.chart_text.specs.Literal.{is_printable}
+use Rattle.charts.specs.Literal.{is_printable}
 use Rattle.print_unit.specs.ZeroControl.{character_of, is_figure, is_zero}
 use Rattle.printed_lines.specs.Shown.{set_of_character, digit_set}
 

@@ -1,15 +1,15 @@
 -- A heading line: its items are literals, and print without zero control.
 use Rattle.std.proofs.Common.{◌≡◌, refl, ap, subst, ℕ, ◌==◌, if◌then◌else◌, Bool, true, false, List, map, Contains, Some, None, arith}
 use Rattle.std.proofs.lemmas.Bool.Decides.{nat_tests}
-use Rattle.chart_text.specs.Chart.{Chart}
-use Rattle.chart_text.specs.Headings.{heading_number}
-use Rattle.chart_text.specs.Literals.{HaveLiteralTexts, literal_in}
-use Rattle.chart_text.specs.declared.chart.Line.{Line}
-use Rattle.chart_text.specs.declared.statement.Statement.{Statement}
-use Rattle.chart_text.specs.declared.statement.Statement.TheVariants as says
-use Rattle.chart_rules.specs.declared.items.PrintedLine.{PrintedLine}
-use Rattle.chart_rules.specs.declared.items.PrintedLine.TheVariants.{Heading, Body}
-use Rattle.chart_rules.specs.Items.{is_same_line}
+use Rattle.charts.specs.Chart.{Chart}
+use Rattle.charts.specs.Headings.{heading_number}
+use Rattle.charts.specs.Literals.{HaveLiteralTexts, literal_in}
+use Rattle.charts.specs.declared.chart.Line.{Line}
+use Rattle.charts.specs.declared.statement.Statement.{Statement}
+use Rattle.charts.specs.declared.statement.Statement.TheVariants as says
+use Rattle.print_rules.specs.declared.items.PrintedLine.{PrintedLine}
+use Rattle.print_rules.specs.declared.items.PrintedLine.TheVariants.{Heading, Body}
+use Rattle.print_rules.specs.Items.{is_same_line}
 use Rattle.report.specs.BodyLines.{piece_at, heading_piece}
 use Rattle.printed_lines.specs.Laws.{HeadingLinesPrint}
 use Rattle.printed_lines.specs.Shown.{Shown, Characters, heading_sends, set_of_character}

@@ -3,13 +3,13 @@ use Rattle.std.proofs.Common.{◌≡◌, ◌∙◌, refl, sym, ap, ap₂, ℕ, z
 use Rattle.std.specs.List.{range_with_len}
 use Rattle.std.proofs.lemmas.Bool.Decides.{nat_tests}
 use Rattle.std.proofs.lemmas.List.{length-map, length-append, length-take, length-drop, map-append, take-append-drop}
-use Rattle.chart_text.specs.Chart.{Chart}
-use Rattle.chart_text.specs.declared.chart.Line.{Line}
-use Rattle.chart_text.specs.declared.statement.Mark.{Mark}
-use Rattle.chart_text.specs.declared.statement.Statement.{Statement}
-use Rattle.chart_rules.specs.declared.items.Figure.{Figure}
-use Rattle.chart_rules.specs.declared.items.PrintedLine.{PrintedLine}
-use Rattle.chart_rules.specs.Items.{figure_width, mark_width}
+use Rattle.charts.specs.Chart.{Chart}
+use Rattle.charts.specs.declared.chart.Line.{Line}
+use Rattle.charts.specs.declared.statement.Mark.{Mark}
+use Rattle.charts.specs.declared.statement.Statement.{Statement}
+use Rattle.print_rules.specs.declared.items.Figure.{Figure}
+use Rattle.print_rules.specs.declared.items.PrintedLine.{PrintedLine}
+use Rattle.print_rules.specs.Items.{figure_width, mark_width}
 use Rattle.print_unit.specs.ZeroControl.{Wheel, character_of, shown, gives, printed_from}
 use Rattle.print_unit.proofs.Ranges.{map-same}
 use Rattle.report.specs.Edits.{free_digits}

@@ -1,21 +1,21 @@
 -- The jacks on the wheels of an item are those of its own line of the chart, whatever other lines plug.
 use Rattle.std.proofs.Common.{◌≡◌, ◌∙◌, refl, ap, subst, ℕ, ◌+◌, ◌<◌, ◌≤◌, true, List, Contains, Some, option_map}
-use Rattle.chart_text.specs.Field.{columns_of, decimals_of, is_amount}
-use Rattle.chart_text.specs.declared.chart.Line.{Line}
-use Rattle.chart_text.specs.declared.statement.BodyLine.TheVariants as body
-use Rattle.chart_text.specs.declared.statement.FieldKind.{FieldKind}
-use Rattle.chart_text.specs.declared.statement.FieldKind.TheVariants as holds
-use Rattle.chart_text.specs.declared.statement.Statement.{Statement}
-use Rattle.chart_rules.specs.declared.items.Figure.{Figure}
-use Rattle.chart_rules.specs.declared.items.PrintedLine.{PrintedLine}
-use Rattle.chart_rules.specs.declared.items.PrintedLine.TheVariants.{Body}
-use Rattle.chart_rules.specs.Fields.{fields_of}
-use Rattle.chart_rules.specs.Items.{item_of, detail_item, total_item, figure_item, figure_width, mark_shown}
-use Rattle.chart_rules.specs.Wheels.{is_body}
+use Rattle.charts.specs.Field.{columns_of, decimals_of, is_amount}
+use Rattle.charts.specs.declared.chart.Line.{Line}
+use Rattle.charts.specs.declared.statement.BodyLine.TheVariants as body
+use Rattle.charts.specs.declared.statement.FieldKind.{FieldKind}
+use Rattle.charts.specs.declared.statement.FieldKind.TheVariants as holds
+use Rattle.charts.specs.declared.statement.Statement.{Statement}
+use Rattle.print_rules.specs.declared.items.Figure.{Figure}
+use Rattle.print_rules.specs.declared.items.PrintedLine.{PrintedLine}
+use Rattle.print_rules.specs.declared.items.PrintedLine.TheVariants.{Body}
+use Rattle.field_rules.specs.Fields.{fields_of}
+use Rattle.print_rules.specs.Items.{item_of, detail_item, total_item, figure_item, figure_width, mark_shown}
+use Rattle.print_rules.specs.Wheels.{is_body}
 use Rattle.hubs.specs.declared.jack.Jack.{Jack}
 use Rattle.hubs.specs.declared.jack.Jack.TheVariants as jack
-use Rattle.wire_gen.specs.Figures.{IsFigure, on_detail, on_total, mark_wheel, suppressed_digits}
-use Rattle.wire_gen.specs.Jacks.{ChartJack, HasFigure, list, total, head, link, suppress, symbol}
+use Rattle.wiring_table.specs.Figures.{IsFigure, on_detail, on_total, mark_wheel, suppressed_digits}
+use Rattle.wiring_table.specs.Jacks.{ChartJack, HasFigure, list, total, head, link, suppress, symbol}
 
 -- An amount of the chart as an item of a body line.
 pub record FigureItem (lines : List Line) (wheel : ℕ) (figure : Figure) : Type 0 where

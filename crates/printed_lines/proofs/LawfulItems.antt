@@ -4,30 +4,30 @@ use Rattle.std.specs.List.{position_or_len}
 use Rattle.std.proofs.lemmas.Bool.Decides.{nat_tests}
 use Rattle.std.proofs.lemmas.List.Folds.{find_at}
 use Rattle.std.proofs.lemmas.Option.{slice_get_within}
-use Rattle.chart_text.specs.Chart.{Chart}
-use Rattle.chart_text.specs.Field.{columns_of, decimals_of, sign_column}
-use Rattle.chart_text.specs.Name.{is_same_name}
-use Rattle.chart_text.specs.declared.chart.Line.{Line}
-use Rattle.chart_text.specs.declared.statement.DetailOption.{DetailOption}
-use Rattle.chart_text.specs.declared.statement.Field.{Field}
-use Rattle.chart_text.specs.declared.statement.FieldKind.{FieldKind}
-use Rattle.chart_text.specs.declared.statement.FieldKind.TheVariants as holds
-use Rattle.chart_text.specs.declared.statement.Mark.{Mark}
-use Rattle.chart_text.specs.declared.statement.Statement.{Statement}
-use Rattle.chart_text.specs.declared.statement.Statement.TheVariants as says
-use Rattle.chart_rules.specs.declared.items.Figure.{Figure}
-use Rattle.chart_rules.specs.declared.items.Item.{Item}
+use Rattle.charts.specs.Chart.{Chart}
+use Rattle.charts.specs.Field.{columns_of, decimals_of, sign_column}
+use Rattle.charts.specs.Name.{is_same_name}
+use Rattle.charts.specs.declared.chart.Line.{Line}
+use Rattle.charts.specs.declared.statement.DetailOption.{DetailOption}
+use Rattle.charts.specs.declared.statement.Field.{Field}
+use Rattle.charts.specs.declared.statement.FieldKind.{FieldKind}
+use Rattle.charts.specs.declared.statement.FieldKind.TheVariants as holds
+use Rattle.charts.specs.declared.statement.Mark.{Mark}
+use Rattle.charts.specs.declared.statement.Statement.{Statement}
+use Rattle.charts.specs.declared.statement.Statement.TheVariants as says
+use Rattle.print_rules.specs.declared.items.Figure.{Figure}
+use Rattle.print_rules.specs.declared.items.Item.{Item}
 use Rattle.chart_rules.specs.declared.rule.Rule.TheVariants as rule
-use Rattle.chart_rules.specs.Columns.{breaks_amount_size, is_too_large}
-use Rattle.chart_rules.specs.Digits.{breaks_digits_range, is_out_of_digits}
-use Rattle.chart_rules.specs.Fields.{fields_of, field_named}
-use Rattle.chart_rules.specs.declared.items.PrintedLine.TheVariants.{Body}
-use Rattle.chart_text.specs.declared.level.Level.{Level}
-use Rattle.chart_text.specs.declared.statement.BodyLine.TheVariants as body
-use Rattle.chart_rules.specs.Items.{item_of, mark_shown, text_item, detail_item, total_item}
+use Rattle.field_rules.specs.Columns.{breaks_amount_size, is_too_large}
+use Rattle.field_rules.specs.Digits.{breaks_digits_range, is_out_of_digits}
+use Rattle.field_rules.specs.Fields.{fields_of, field_named}
+use Rattle.print_rules.specs.declared.items.PrintedLine.TheVariants.{Body}
+use Rattle.charts.specs.declared.level.Level.{Level}
+use Rattle.charts.specs.declared.statement.BodyLine.TheVariants as body
+use Rattle.print_rules.specs.Items.{item_of, mark_shown, text_item, detail_item, total_item}
 use Rattle.chart_rules.specs.Rules.{IsLawful}
 use Rattle.chart_rules.specs.ValidCard.{IsValidCard, IsValidField}
-use Rattle.chart_rules.specs.Wheels.{is_off_wheels}
+use Rattle.print_rules.specs.Wheels.{is_off_wheels}
 use Rattle.chart_rules.proofs.Laws.{breaks-lawful, LineOf-field, statement-field, AreOnCard-lawful}
 use Rattle.printed_lines.proofs.Meeting.{Place-line}
 

@@ -3,10 +3,10 @@ use Rattle.std.proofs.Common.{◌≡◌, ◌∙◌, refl, sym, ap, ap₂, ℕ, s
 use Rattle.std.specs.List.{filter_map, cons_option, range_with_len}
 use Rattle.std.proofs.lemmas.List.{length-map, get_or-map}
 use Rattle.std.proofs.lemmas.List.FromFn.{get_or-map-range_with_len, length-map-range_with_len}
-use Rattle.chart_text.specs.Chart.{Chart}
-use Rattle.chart_text.specs.declared.chart.Line.{Line}
-use Rattle.chart_text.specs.declared.statement.Statement.{Statement}
-use Rattle.chart_rules.specs.declared.items.PrintedLine.{PrintedLine}
+use Rattle.charts.specs.Chart.{Chart}
+use Rattle.charts.specs.declared.chart.Line.{Line}
+use Rattle.charts.specs.declared.statement.Statement.{Statement}
+use Rattle.print_rules.specs.declared.items.PrintedLine.{PrintedLine}
 use Rattle.print_unit.specs.ZeroControl.{Wheel, character_of, is_zero, shown, printed_line}
 use Rattle.print_unit.proofs.LeftNeighbours.{printed_from-freely}
 use Rattle.print_unit.proofs.Ranges.{map-same}

@@ -3,17 +3,17 @@ use Rattle.std.proofs.Common.{◌≡◌, ◌∙◌, ◌⊎◌, inl, inr, refl, s
 use Rattle.std.specs.List.{list_any}
 use Rattle.std.proofs.lemmas.Bool.{eqb-true}
 use Rattle.std.proofs.lemmas.Bool.Decides.{nat_tests}
-use Rattle.chart_text.specs.Chart.{Chart}
-use Rattle.chart_text.specs.declared.chart.Line.{Line}
-use Rattle.chart_text.specs.declared.statement.Mark.{Mark}
-use Rattle.chart_text.specs.declared.statement.Mark.TheVariants as mark
-use Rattle.chart_rules.specs.declared.items.Figure.{Figure}
-use Rattle.chart_rules.specs.declared.items.Item.{Item}
+use Rattle.charts.specs.Chart.{Chart}
+use Rattle.charts.specs.declared.chart.Line.{Line}
+use Rattle.charts.specs.declared.statement.Mark.{Mark}
+use Rattle.charts.specs.declared.statement.Mark.TheVariants as mark
+use Rattle.print_rules.specs.declared.items.Figure.{Figure}
+use Rattle.print_rules.specs.declared.items.Item.{Item}
 use Rattle.chart_rules.specs.declared.rule.Rule.TheVariants as rule
-use Rattle.chart_rules.specs.Fields.{fields_of}
-use Rattle.chart_rules.specs.Items.{item_of, is_same_line}
+use Rattle.field_rules.specs.Fields.{fields_of}
+use Rattle.print_rules.specs.Items.{item_of, is_same_line}
 use Rattle.chart_rules.specs.Rules.{IsLawful}
-use Rattle.chart_rules.specs.Wheels.{HasWheel, meet, overlap, clash, is_body, may_share, is_same_style, is_same_mark}
+use Rattle.print_rules.specs.Wheels.{HasWheel, meet, overlap, clash, is_body, may_share, is_same_style, is_same_mark}
 use Rattle.chart_rules.proofs.Laws.{breaks-lawful}
 use Rattle.printed_lines.proofs.Characters.{both_true}
 

@@ -1,19 +1,19 @@
 -- What the laws rest on, for those who use them: the totals of unsigned amounts, and the texts on total lines.
 use Rattle.std.proofs.Common.{◌≡◌, ◌∙◌, refl, sym, ap, ap₂, subst, ℕ, pos, ◌+ℤ◌, ◌+◌, false, List, [], ◌∷◌, Some, None}
 use Rattle.std.proofs.Math.IntN.{pos-+ℤ-pos}
-use Rattle.chart_text.specs.declared.statement.Field.{Field}
-use Rattle.chart_text.specs.declared.statement.FieldKind.{FieldKind}
-use Rattle.chart_text.specs.declared.statement.FieldKind.TheVariants as holds
-use Rattle.chart_text.specs.Field.{is_amount}
+use Rattle.charts.specs.declared.statement.Field.{Field}
+use Rattle.charts.specs.declared.statement.FieldKind.{FieldKind}
+use Rattle.charts.specs.declared.statement.FieldKind.TheVariants as holds
+use Rattle.charts.specs.Field.{is_amount}
 use Rattle.chart_rules.specs.declared.rule.Rule.TheVariants as rule
-use Rattle.chart_rules.specs.Fields.{fields_of, field_named}
-use Rattle.chart_rules.specs.Names.{breaks_wrong_kind, names_amount}
+use Rattle.field_rules.specs.Fields.{fields_of, field_named}
+use Rattle.field_rules.specs.Names.{breaks_wrong_kind, names_amount}
 use Rattle.chart_rules.specs.ValidCard.{IsValidKind}
 use Rattle.chart_rules.proofs.Laws.{breaks-lawful}
 use Rattle.report.specs.Amounts.{is_negated, number_in, digits_on, signed}
 use Rattle.report.specs.Edits.{is_below_zero}
 use Rattle.report.specs.Totals.{total_of}
-use Rattle.wire_gen.specs.Figures.{rule_of}
+use Rattle.wiring_table.specs.Figures.{rule_of}
 use Rattle.printed_lines.specs.Laws.{UnsignedTotalsHaveNoSign, TotalTextsAreTexts}
 use Rattle.printed_lines.proofs.LawfulItems.{named-valid}
 use Rattle.printed_lines.proofs.Meeting.{Place-line}

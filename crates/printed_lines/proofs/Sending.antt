@@ -2,16 +2,16 @@
 use Rattle.std.proofs.Common.{◌≡◌, ◌∙◌, ◌⊎◌, inl, inr, refl, sym, ap, subst, ℕ, zero, suc, ◌+◌, ◌-◌, ◌<◌, ◌&&◌, nat_le, nat_lt, cond, Bool, true, false, List, [], ◌∷◌, length, slice_index_or, Contains, Option, Some, None, arith}
 use Rattle.std.specs.List.{filter_map, cons_option}
 use Rattle.std.proofs.lemmas.Bool.Decides.{nat_tests}
-use Rattle.chart_text.specs.Chart.{Chart}
-use Rattle.chart_text.specs.declared.chart.Line.{Line}
-use Rattle.chart_text.specs.declared.statement.Statement.{Statement}
-use Rattle.chart_rules.specs.declared.items.Figure.{Figure}
-use Rattle.chart_rules.specs.declared.items.Item.{Item}
-use Rattle.chart_rules.specs.declared.items.PrintedLine.{PrintedLine}
-use Rattle.chart_rules.specs.Fields.{fields_of}
-use Rattle.chart_rules.specs.Items.{item_of, is_same_line}
+use Rattle.charts.specs.Chart.{Chart}
+use Rattle.charts.specs.declared.chart.Line.{Line}
+use Rattle.charts.specs.declared.statement.Statement.{Statement}
+use Rattle.print_rules.specs.declared.items.Figure.{Figure}
+use Rattle.print_rules.specs.declared.items.Item.{Item}
+use Rattle.print_rules.specs.declared.items.PrintedLine.{PrintedLine}
+use Rattle.field_rules.specs.Fields.{fields_of}
+use Rattle.print_rules.specs.Items.{item_of, is_same_line}
 use Rattle.chart_rules.specs.Rules.{IsLawful}
-use Rattle.wire_gen.specs.Figures.{IsFigure}
+use Rattle.wiring_table.specs.Figures.{IsFigure}
 use Rattle.printed_lines.specs.Laws.{HasWheelOf}
 use Rattle.printed_lines.specs.Shown.{Shown, Characters, Amount, wheel_of_shown, sets_of, set_on}
 use Rattle.printed_lines.proofs.Meeting.{one-line}

@@ -4,12 +4,12 @@ use Rattle.std.specs.List.{list_all, range_with_len}
 use Rattle.std.proofs.lemmas.List.{length-map}
 use Rattle.std.proofs.lemmas.List.FromFn.{length-map-range_with_len}
 use Rattle.card_code.specs.CardCode.{deck_character, print_character}
-use Rattle.chart_text.specs.Field.{columns_of}
-use Rattle.chart_text.specs.Literal.{is_printable}
-use Rattle.chart_text.specs.declared.statement.Field.{Field}
-use Rattle.chart_rules.specs.declared.items.Figure.{Figure}
-use Rattle.chart_rules.specs.declared.items.PrintedLine.{PrintedLine}
-use Rattle.chart_rules.specs.Items.{text_item, figure_item}
+use Rattle.charts.specs.Field.{columns_of}
+use Rattle.charts.specs.Literal.{is_printable}
+use Rattle.charts.specs.declared.statement.Field.{Field}
+use Rattle.print_rules.specs.declared.items.Figure.{Figure}
+use Rattle.print_rules.specs.declared.items.PrintedLine.{PrintedLine}
+use Rattle.print_rules.specs.Items.{text_item, figure_item}
 use Rattle.chart_rules.specs.ValidCard.{column_of, is_printed}
 use Rattle.print_unit.specs.ZeroControl.{character_of}
 use Rattle.report.specs.Amounts.{columns_in}

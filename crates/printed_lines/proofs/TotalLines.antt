@@ -1,33 +1,33 @@
 -- The total line of a level: what the chart's lines send to it comes from their items, and spells what the report puts there.
 use Rattle.std.proofs.Common.{◌≡◌, ◌∙◌, refl, ap, subst, ℕ, ◌==◌, not, if◌then◌else◌, Bool, true, false, List, length, map, Contains, Option, Some, None, option_map, arith}
 use Rattle.std.proofs.lemmas.Bool.Decides.{nat_tests}
-use Rattle.chart_text.specs.Chart.{Chart}
-use Rattle.chart_text.specs.Field.{columns_of, decimals_of, is_amount}
-use Rattle.chart_text.specs.Levels.{level_number}
-use Rattle.chart_text.specs.Literals.{HaveLiteralTexts, literal_in}
-use Rattle.chart_text.specs.declared.chart.Line.{Line}
-use Rattle.chart_text.specs.declared.level.Level.{Level}
-use Rattle.chart_text.specs.declared.statement.BodyLine.TheVariants as body
-use Rattle.chart_text.specs.declared.statement.Field.{Field}
-use Rattle.chart_text.specs.declared.statement.Mark.{Mark}
-use Rattle.chart_text.specs.declared.statement.Statement.{Statement}
-use Rattle.chart_text.specs.declared.statement.Statement.TheVariants as says
-use Rattle.chart_rules.specs.declared.items.Figure.{Figure}
-use Rattle.chart_rules.specs.declared.items.PrintedLine.{PrintedLine}
-use Rattle.chart_rules.specs.declared.items.PrintedLine.TheVariants.{Heading, Body}
+use Rattle.charts.specs.Chart.{Chart}
+use Rattle.charts.specs.Field.{columns_of, decimals_of, is_amount}
+use Rattle.charts.specs.Levels.{level_number}
+use Rattle.charts.specs.Literals.{HaveLiteralTexts, literal_in}
+use Rattle.charts.specs.declared.chart.Line.{Line}
+use Rattle.charts.specs.declared.level.Level.{Level}
+use Rattle.charts.specs.declared.statement.BodyLine.TheVariants as body
+use Rattle.charts.specs.declared.statement.Field.{Field}
+use Rattle.charts.specs.declared.statement.Mark.{Mark}
+use Rattle.charts.specs.declared.statement.Statement.{Statement}
+use Rattle.charts.specs.declared.statement.Statement.TheVariants as says
+use Rattle.print_rules.specs.declared.items.Figure.{Figure}
+use Rattle.print_rules.specs.declared.items.PrintedLine.{PrintedLine}
+use Rattle.print_rules.specs.declared.items.PrintedLine.TheVariants.{Heading, Body}
 use Rattle.chart_rules.specs.declared.rule.Rule.TheVariants as rule
-use Rattle.chart_rules.specs.Fields.{fields_of, field_named}
-use Rattle.chart_rules.specs.Items.{is_same_line, text_item, total_item}
-use Rattle.chart_rules.specs.Names.{breaks_wrong_kind, names_text}
+use Rattle.field_rules.specs.Fields.{fields_of, field_named}
+use Rattle.print_rules.specs.Items.{is_same_line, text_item, total_item}
+use Rattle.field_rules.specs.Names.{breaks_wrong_kind, names_text}
 use Rattle.chart_rules.specs.Rules.{IsLawful}
 use Rattle.chart_rules.specs.ValidCard.{column_of}
-use Rattle.chart_rules.specs.Wheels.{is_body}
+use Rattle.print_rules.specs.Wheels.{is_body}
 use Rattle.chart_rules.proofs.Laws.{breaks-lawful}
 use Rattle.report.specs.Amounts.{columns_in}
 use Rattle.report.specs.BodyLines.{piece_at, total_piece, text_on, a_card_of}
 use Rattle.report.specs.Edits.{last_digits, edited}
 use Rattle.report.specs.Totals.{total_of}
-use Rattle.wire_gen.specs.Figures.{on_total, total_emitter}
+use Rattle.wiring_table.specs.Figures.{on_total, total_emitter}
 use Rattle.printed_lines.specs.Held.{HoldsLine}
 use Rattle.printed_lines.specs.Laws.{TotalLinesPrint}
 use Rattle.printed_lines.specs.Shown.{Shown, Characters, Amount, Printed, total_sends, set_of_character}

@@ -1,12 +1,12 @@
 -- What a total line rests on: what the totals and the storage units hold when a group ends.
 use Rattle.std.specs.Prelude.{◌≡◌, ℕ, ℤ, ◌<◌, ◌^◌, true, false, List, Contains, Option, Some, is_some}
-use Rattle.chart_text.specs.Levels.{level_number}
-use Rattle.chart_text.specs.declared.chart.Line.{Line}
-use Rattle.chart_text.specs.declared.level.Level.{Level}
-use Rattle.chart_text.specs.declared.statement.Field.{Field}
-use Rattle.chart_text.specs.declared.statement.Mark.{Mark}
-use Rattle.chart_text.specs.declared.statement.Statement.TheVariants as says
-use Rattle.chart_rules.specs.Fields.{field_named}
+use Rattle.charts.specs.Levels.{level_number}
+use Rattle.charts.specs.declared.chart.Line.{Line}
+use Rattle.charts.specs.declared.level.Level.{Level}
+use Rattle.charts.specs.declared.statement.Field.{Field}
+use Rattle.charts.specs.declared.statement.Mark.{Mark}
+use Rattle.charts.specs.declared.statement.Statement.TheVariants as says
+use Rattle.field_rules.specs.Fields.{field_named}
 use Rattle.chart_rules.specs.ValidCard.{EachColumn, IsText, column_of}
 use Rattle.report.specs.BodyLines.{a_card_of}
 use Rattle.report.specs.Edits.{size, is_below_zero}

@@ -4,26 +4,26 @@ use Rattle.std.specs.Prelude.{◌≡◌, ◌↔◌, ℕ, ◌+◌, ◌-◌, ◌==
 use Rattle.std.specs.List.{filter_map, range_with_len}
 use Rattle.card_code.specs.CardCode.{has_row, rows_of}
 use Rattle.card_code.specs.Rows.{row_number, rows}
-use Rattle.chart_rules.specs.Fields.{field_named}
-use Rattle.chart_rules.specs.Items.{mark_shown}
+use Rattle.field_rules.specs.Fields.{field_named}
+use Rattle.print_rules.specs.Items.{mark_shown}
 use Rattle.chart_rules.specs.ValidCard.{column_of}
-use Rattle.chart_rules.specs.declared.items.Figure.{Figure}
-use Rattle.chart_text.specs.Field.{columns_of, decimals_of}
-use Rattle.chart_text.specs.Headings.{heading_number}
-use Rattle.chart_text.specs.Levels.{level_number}
-use Rattle.chart_text.specs.declared.chart.Line.{Line}
-use Rattle.chart_text.specs.declared.statement.Field.{Field}
-use Rattle.chart_text.specs.declared.statement.FieldKind.{FieldKind}
-use Rattle.chart_text.specs.declared.statement.FieldKind.TheVariants as holds
-use Rattle.chart_text.specs.declared.statement.Mark.{Mark}
-use Rattle.chart_text.specs.declared.statement.Statement.{Statement}
-use Rattle.chart_text.specs.declared.statement.Statement.TheVariants as says
+use Rattle.print_rules.specs.declared.items.Figure.{Figure}
+use Rattle.charts.specs.Field.{columns_of, decimals_of}
+use Rattle.charts.specs.Headings.{heading_number}
+use Rattle.charts.specs.Levels.{level_number}
+use Rattle.charts.specs.declared.chart.Line.{Line}
+use Rattle.charts.specs.declared.statement.Field.{Field}
+use Rattle.charts.specs.declared.statement.FieldKind.{FieldKind}
+use Rattle.charts.specs.declared.statement.FieldKind.TheVariants as holds
+use Rattle.charts.specs.declared.statement.Mark.{Mark}
+use Rattle.charts.specs.declared.statement.Statement.{Statement}
+use Rattle.charts.specs.declared.statement.Statement.TheVariants as says
 use Rattle.hubs.specs.declared.jack.Jack.TheVariants as jack
 use Rattle.print_unit.specs.ZeroControl.{Wheel}
 use Rattle.report.specs.Amounts.{columns_in, digits_on, is_negated}
 use Rattle.report.specs.BodyLines.{is_shown}
 use Rattle.report.specs.Edits.{last_digits, mark_text}
-use Rattle.wire_gen.specs.Jacks.{ChartJack}
+use Rattle.wiring_table.specs.Jacks.{ChartJack}
 
 -- What an item sends. Characters: the set of rows of each of its wheels, from its first wheel on. An amount: the digits of its positions
 -- from the left, none where no digit comes, and whether the rows of its mark come.

@@ -6,8 +6,9 @@ ghost use Rattle.program_unit.specs.Program.{called_for, waiting, stage_ended, t
 ghost use Rattle.net.specs.HubSets.{GainsHubs, has_hub};
 
 use crate::stage::Stage;
-use hubs::{Hub, Setup};
+use hubs::Hub;
 use net::{Cycle, Level, Ordinal, Picture, Point, Printing, Unit};
+use setups::Setup;
 use std::marker::Model;
 
 /// The program unit: it says which cycle follows, and tells of each cycle at its control point.

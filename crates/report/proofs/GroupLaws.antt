@@ -1,7 +1,7 @@
 -- Groups and their totals: runs, put together, are what they were cut from.
 use Rattle.std.proofs.Common.{◌≡◌, ◌∙◌, refl, sym, ap, ℕ, ◌+ℤ◌, Bool, true, false, List, [], ◌∷◌, ◌++◌, if◌then◌else◌, arith}
 use Rattle.std.proofs.lemmas.Int.{ints}
-use Rattle.chart_text.specs.declared.statement.Field.{Field}
+use Rattle.charts.specs.declared.statement.Field.{Field}
 use Rattle.report.specs.Groups.{rest_of_run, later_runs, groups_within, is_same_at}
 use Rattle.report.specs.Laws.{cards_of, totals_of, GroupsMakeTheWhole, TotalsAddUp}
 use Rattle.report.specs.Totals.{total_of}

@@ -2,18 +2,18 @@
 use Rattle.std.proofs.Common.{◌≡◌, ◌∙◌, refl, sym, ap, subst, ℕ, ◌+◌, ◌-◌, ◌<◌, ◌≤◌, ◌==◌, ◌&&◌, ◌||◌, not, nat_le, nat_lt, max, Bool, true, false, List, [], ◌∷◌, ◌++◌, if◌then◌else◌, arith, append_assoc}
 use Rattle.std.specs.List.{list_any}
 use Rattle.std.proofs.lemmas.Bool.Decides.{nat_tests}
-use Rattle.chart_text.specs.Chart.{Chart}
-use Rattle.chart_text.specs.declared.chart.Line.{Line}
-use Rattle.chart_text.specs.Spacings.{spacing_number}
-use Rattle.chart_text.specs.declared.spacing.Spacing.{Spacing}
-use Rattle.chart_text.specs.declared.spacing.Spacing.TheVariants.{Single, Double, Triple}
-use Rattle.chart_text.specs.declared.statement.Statement.{Statement}
-use Rattle.chart_text.specs.declared.statement.Statement.TheVariants as says
+use Rattle.charts.specs.Chart.{Chart}
+use Rattle.charts.specs.declared.chart.Line.{Line}
+use Rattle.charts.specs.Spacings.{spacing_number}
+use Rattle.charts.specs.declared.spacing.Spacing.{Spacing}
+use Rattle.charts.specs.declared.spacing.Spacing.TheVariants.{Single, Double, Triple}
+use Rattle.charts.specs.declared.statement.Statement.{Statement}
+use Rattle.charts.specs.declared.statement.Statement.TheVariants as says
 use Rattle.chart_rules.specs.declared.rule.Rule.TheVariants as rule
-use Rattle.chart_rules.specs.Forms.{has_form, has_room, heading_count, is_form, lacks_form}
-use Rattle.chart_rules.specs.Forms as rules
+use Rattle.print_rules.specs.Forms.{has_form, has_room, heading_count, is_form, lacks_form}
+use Rattle.print_rules.specs.Forms as rules
 use Rattle.chart_rules.specs.Rules.{breaks, lacks, by_end, IsKept, IsLawful}
-use Rattle.chart_rules.specs.Tapes.{form_lines, rise_above, are_within}
+use Rattle.print_rules.specs.Tapes.{form_lines, rise_above, are_within}
 use Rattle.chart_rules.proofs.Laws.{breaks-lawful}
 use Rattle.report.specs.ChartForm.{Form, form_of, form_from, heading_of, headings, spacing_from, spacing_of, kind_number, stops_from, stops_of}
 

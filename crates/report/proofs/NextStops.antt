@@ -2,7 +2,7 @@
 use Rattle.std.proofs.Common.{◌≡◌, refl, ap, ℕ, ◌<◌, ◌≤◌, ◌==◌, ◌&&◌, ◌||◌, nat_lt, cond, Bool, true, false, List, [], ◌∷◌, Some, None, find, arith}
 use Rattle.std.specs.List.{list_any}
 use Rattle.std.proofs.lemmas.Bool.Decides.{nat_tests}
-use Rattle.chart_rules.specs.Tapes.{rise_above}
+use Rattle.print_rules.specs.Tapes.{rise_above}
 
 -- whether stops have one at a line
 abbrev has_stop : List ℕ → ℕ → Bool

@@ -7,8 +7,8 @@ use Rattle.std.proofs.lemmas.Bool.Decides.{nat_tests}
 use Rattle.std.proofs.lemmas.List.{take-append-drop}
 use Rattle.std.proofs.lemmas.List.Folds.{list_any-append}
 use Rattle.card_code.specs.CardCode.{has_row}
-use Rattle.chart_text.specs.declared.statement.Mark.{Mark}
-use Rattle.chart_text.specs.declared.statement.Mark.TheVariants as mark
+use Rattle.charts.specs.declared.statement.Mark.{Mark}
+use Rattle.charts.specs.declared.statement.Mark.TheVariants as mark
 use Rattle.chart_rules.specs.ValidCard.{column_of}
 use Rattle.report.specs.AmountLaws.{is_digit, spelled_behind, is_of_mark, EditsReadBack, SignByPunch, SignByAbsence, SizesAreOfDigits}
 use Rattle.report.specs.Amounts.{digits_on, number_in, is_negated, signed}

@@ -3,8 +3,8 @@ use Rattle.std.proofs.Common.{◌≡◌, refl, ap, ℕ, nat_le, Bool, true, fals
 use Rattle.std.specs.List.{All}
 use Rattle.std.proofs.lemmas.Bool.Decides.{nat_tests}
 use Rattle.std.proofs.lemmas.List.Elements.{All-nil, All-cons}
-use Rattle.chart_text.specs.Levels.{control_number}
-use Rattle.chart_text.specs.declared.chart.Line.{Line}
+use Rattle.charts.specs.Levels.{control_number}
+use Rattle.charts.specs.declared.chart.Line.{Line}
 use Rattle.report.specs.Groups.{rest_of_run, later_runs, is_same_at}
 use Rattle.report.specs.OutlineLaws.{AreAlike, AreCutAt, GroupsAreLongestRuns, IndicatedOnFirstCards}
 

@@ -1,10 +1,10 @@
 -- Laws of reports, by which a reader can check what a report is.
 use Rattle.std.specs.Prelude.{◌≡◌, ℕ, ℤ, pos, ◌+ℤ◌, ◌+◌, ◌≤◌, nat_lt, List, [], ◌∷◌, ◌++◌, Option, length, if◌then◌else◌}
-use Rattle.chart_text.specs.Chart.{Chart}
-use Rattle.chart_text.specs.declared.chart.Line.{Line}
-use Rattle.chart_text.specs.declared.statement.Field.{Field}
-use Rattle.chart_text.specs.declared.statement.Mark.{Mark}
-use Rattle.chart_rules.specs.Items.{mark_width}
+use Rattle.charts.specs.Chart.{Chart}
+use Rattle.charts.specs.declared.chart.Line.{Line}
+use Rattle.charts.specs.declared.statement.Field.{Field}
+use Rattle.charts.specs.declared.statement.Mark.{Mark}
+use Rattle.print_rules.specs.Items.{mark_width}
 use Rattle.report.specs.BodyLines.{Piece, line_of}
 use Rattle.report.specs.Edits.{edited, edited_blank}
 use Rattle.report.specs.Groups.{groups_within}

@@ -1,11 +1,11 @@
 -- Laws of groups and of the outline: where groups end, in which order their totals stand, and which cards show an indicated field.
 use Rattle.std.specs.Prelude.{◌≡◌, ℕ, ◌<◌, ◌≤◌, true, false, List, [], ◌∷◌, None}
 use Rattle.std.specs.List.{All}
-use Rattle.chart_text.specs.Levels.{control_number}
-use Rattle.chart_text.specs.declared.chart.Line.{Line}
-use Rattle.chart_text.specs.declared.level.ControlLevel.{ControlLevel}
-use Rattle.chart_text.specs.declared.statement.DetailOption.TheVariants as shown
-use Rattle.chart_text.specs.declared.statement.Statement.TheVariants as says
+use Rattle.charts.specs.Levels.{control_number}
+use Rattle.charts.specs.declared.chart.Line.{Line}
+use Rattle.charts.specs.declared.level.ControlLevel.{ControlLevel}
+use Rattle.charts.specs.declared.statement.DetailOption.TheVariants as shown
+use Rattle.charts.specs.declared.statement.Statement.TheVariants as says
 use Rattle.report.specs.BodyLines.{a_card_of, card_piece}
 use Rattle.report.specs.Breaks.{flat_outline}
 use Rattle.report.specs.Groups.{groups_within, is_same_at}

@@ -4,11 +4,9 @@ ghost use Rattle.std.specs.Prelude.{◌≡◌, ◌≢◌};
 ghost use Rattle.std.specs.IoError.{error_kind};
 ghost use Rattle.clap.specs.Values.{kind_of};
 
-use crate::fault::Fault;
-use crate::input::{chart_and_deck, read_whole};
-use crate::serve::{serve, tell, unprinted};
 use clap::error::ErrorKind;
 use clap::{Arg, ArgMatches, Command, Error};
+use commands::{Fault, chart_and_deck, read_whole, serve, tell, unprinted};
 use std::alloc::Global;
 use std::io::{ErrorKind as IoErrorKind, Write};
 use std::{fs, io};

@@ -3,19 +3,19 @@ use Rattle.std.proofs.Common.{◌≡◌, ◌≤◌, ◌<◌, ◌+◌, ◌-◌, �
 use Rattle.std.specs.Prelude.{option_map}
 use Rattle.std.proofs.lemmas.Bool.Decides.{nat_tests}
 use Rattle.std.proofs.lemmas.Nat.Bits.{bit_at_ones}
-use Rattle.hubs.proofs.PlaceLemmas.{place-range}
+use Rattle.hub_table.proofs.PlaceLemmas.{place-range}
 use Rattle.card_code.specs.declared.row.Row.{Row as CardRow}
-use Rattle.hubs.specs.HubTable.{row_of}
+use Rattle.hub_table.specs.HubTable.{row_of}
 use Rattle.hubs.specs.Hubs.{letters_of, number_of}
-use Rattle.hubs.specs.Places.{up_to, part_place, group_place, count_of}
-use Rattle.hubs.specs.Ranges.{is_within}
+use Rattle.hub_table.specs.Places.{up_to, part_place, group_place, count_of}
+use Rattle.hub_table.specs.Ranges.{is_within}
 use Rattle.hubs.specs.declared.hub.Group.{Group}
 use Rattle.hubs.specs.declared.hub.Hub.{Hub}
 use Rattle.hubs.specs.declared.hub.Hub.TheVariants.{BAN, BAT, PIN, PIT, IX, CSD, CSZ}
-use Rattle.hubs.specs.declared.letters.Letters.{Letters}
-use Rattle.hubs.specs.declared.letters.Letters.TheVariants as kind
-use Rattle.hubs.specs.declared.shape.Numbers.TheVariants.{Two}
-use Rattle.hubs.specs.declared.shape.Shape.TheVariants.{Groups}
+use Rattle.hub_table.specs.declared.letters.Letters.{Letters}
+use Rattle.hub_table.specs.declared.letters.Letters.TheVariants as kind
+use Rattle.hub_table.specs.declared.shape.Numbers.TheVariants.{Two}
+use Rattle.hub_table.specs.declared.shape.Shape.TheVariants.{Groups}
 use Rattle.net.specs.HubSets.{is_bit, is_bit_from, is_in_row}
 use Rattle.net.specs.Panel.{unit_behind}
 use Rattle.net.specs.declared.cycle.Cycle.{Cycle}

@@ -8,7 +8,7 @@ use Rattle.hubs.specs.declared.hub.Hub.{Hub}
 use Rattle.hubs.specs.declared.hub.Hub.TheVariants.{PIX}
 use Rattle.net.proofs.KindRows.{row_bit, PIX_numbered}
 use Rattle.net.specs.HubSets.{HubSet, has_hub, is_bit, is_in_row, is_in_reach}
-use Rattle.hubs.specs.Ranges.{is_within}
+use Rattle.hub_table.specs.Ranges.{is_within}
 use Rattle.selectors.specs.Numbered.{tests_to}
 
 -- a pilot's bit in the row of the pickups

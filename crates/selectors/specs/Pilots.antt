@@ -3,7 +3,7 @@
 -- cycles leave it as it is. While it is normal its normal contacts are closed, else its transferred ones.
 use Rattle.std.specs.Prelude.{ℕ, ◌-◌, ◌&&◌, not, Bool, true, false, List, replicate, slice_index_or, if◌then◌else◌}
 use Rattle.card_code.specs.declared.row.Row.TheVariants as row
-use Rattle.hubs.specs.Ranges.{is_within}
+use Rattle.hub_table.specs.Ranges.{is_within}
 use Rattle.hubs.specs.declared.hub.Hub.{Hub}
 use Rattle.hubs.specs.declared.hub.Hub.TheVariants.{PIN, PIT, PIX}
 use Rattle.net.specs.declared.cycle.Cycle.{Cycle}

@@ -7,8 +7,6 @@ mod laws;
 mod pilots;
 mod splits;
 mod spread;
-#[cfg(test)]
-mod tests;
 
 pub use closed::{GROUPS, close_balances, contacts, steady_contacts, with_splits};
 pub use indicate::Indicate;

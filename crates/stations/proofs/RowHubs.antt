@@ -4,8 +4,8 @@ use Rattle.std.specs.Prelude.{option_map, if◌then◌else◌}
 use Rattle.std.proofs.lemmas.Bool.Decides.{nat_tests}
 use Rattle.card_code.specs.Rows.{row_place}
 use Rattle.card_code.specs.declared.row.Row.{Row}
-use Rattle.hubs.specs.Ranges.{is_within}
-use Rattle.hubs.specs.HubTable.{HasNumber}
+use Rattle.hub_table.specs.Ranges.{is_within}
+use Rattle.hub_table.specs.HubTable.{HasNumber}
 use Rattle.hubs.specs.Hubs.{number_of, letters_of}
 use Rattle.hubs.specs.declared.hub.Hub.{Hub}
 use Rattle.hubs.specs.declared.hub.Hub.TheVariants.{FR, SR, CX, CA, CB}

@@ -7,7 +7,7 @@ use Rattle.std.proofs.lemmas.Nat.Bits.{bit_at-zero}
 use Rattle.card_code.specs.Rows.{row_place, rows}
 use Rattle.card_code.specs.declared.row.Row.{Row}
 use Rattle.card_code.specs.declared.row.Row.TheVariants.{Zero, One, Two, Three, Four, Five, Six, Seven, Eight, Nine, Eleven, Twelve}
-use Rattle.hubs.specs.Ranges.{is_within}
+use Rattle.hub_table.specs.Ranges.{is_within}
 use Rattle.net.specs.HubSets.{is_bit}
 use Rattle.stations.specs.Punches.{is_punched_at, AreRowsAt}
 use Rattle.stations.specs.Words.{is_row_bit, GainsColumn, HasColumnsBefore}

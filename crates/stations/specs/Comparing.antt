@@ -3,7 +3,7 @@
 use Rattle.std.specs.Prelude.{ℕ, zero, suc, ◌-◌, ◌^◌, ◌&&◌, not, Bool, true, false, List, replicate, if◌then◌else◌, slice_index_or, slice_set, bit_or}
 use Rattle.std.specs.List.{list_any}
 use Rattle.card_code.specs.Rows.{row_place}
-use Rattle.hubs.specs.Ranges.{is_within}
+use Rattle.hub_table.specs.Ranges.{is_within}
 use Rattle.hubs.specs.declared.hub.Hub.{Hub}
 use Rattle.hubs.specs.declared.hub.Hub.TheVariants.{CX, CA, CB}
 use Rattle.net.specs.HubSets.{is_bit}

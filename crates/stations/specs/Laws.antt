@@ -3,7 +3,7 @@ use Rattle.std.specs.Prelude.{◌≡◌, ℕ, ◌&&◌, Bool, true, List, [], �
 use Rattle.std.specs.List.{list_any}
 use Rattle.card_code.specs.Rows.{rows}
 use Rattle.card_code.specs.declared.row.Row.{Row as CardRow}
-use Rattle.hubs.specs.Ranges.{is_within}
+use Rattle.hub_table.specs.Ranges.{is_within}
 use Rattle.hubs.specs.declared.hub.Hub.{Hub}
 use Rattle.hubs.specs.declared.hub.Hub.TheVariants.{CX, CA, CB}
 use Rattle.net.specs.Panel.{owner_of, reader_of}

@@ -19,8 +19,6 @@ mod frame;
 mod laws;
 mod line;
 mod number;
-#[cfg(test)]
-mod tests;
 mod word;
 
 pub use frame::{Content, is_end_line, is_larger, is_title_line};

@@ -2,8 +2,8 @@
 use Rattle.std.proofs.Common.{◌≡◌, ◌∙◌, refl, sym, ap, ℕ, zero, suc, ◌^◌, ◌≤◌, ◌<◌, ◌==◌, Bool, true, false, ◌&&◌, ℤ, ◌+ℤ◌, ◌-ℤ◌, pos, if◌then◌else◌, arith}
 use Rattle.std.proofs.lemmas.Bool.Decides.{nat_tests}
 use Rattle.std.proofs.lemmas.Int.{ints}
-use Rattle.acts.specs.Acts.{Held, number_after}
-use Rattle.acts.specs.Acts.Act.{Still, Show}
+use Rattle.counter_cycles.specs.Acts.{Held, number_after}
+use Rattle.counter_cycles.specs.Acts.Act.{Still, Show}
 use Rattle.net.specs.declared.cycle.Ordinal.TheVariants.{Third}
 use Rattle.totals.specs.Amounts.{Amount, IsLawful, lower, posted, act_of, total_act, state_after}
 use Rattle.totals.specs.Amounts.Kind.{Prog}

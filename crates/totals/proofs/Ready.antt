@@ -2,8 +2,8 @@
 use Rattle.std.proofs.Common.{◌≡◌, ◌∙◌, refl, sym, ap, ℕ, ◌+◌, ◌-◌, ◌*◌, ◌^◌, ◌≤◌, ◌<◌, ◌==◌, nat_le, Bool, true, false, ◌&&◌, ℤ, if◌then◌else◌, arith}
 use Rattle.std.proofs.lemmas.Bool.{false≢true}
 use Rattle.std.proofs.lemmas.Bool.Decides.{nat_tests}
-use Rattle.acts.specs.Acts.{Held, held_after}
-use Rattle.acts.specs.Acts.Act.{Still, Test, Turn}
+use Rattle.counter_cycles.specs.Acts.{Held, held_after}
+use Rattle.counter_cycles.specs.Acts.Act.{Still, Test, Turn}
 use Rattle.counters.specs.Numbers.{left_number}
 use Rattle.totals.specs.Amounts.{Amount, sign_positions}
 use Rattle.totals.specs.Laws.{ready}

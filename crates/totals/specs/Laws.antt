@@ -1,7 +1,7 @@
 -- Laws of the totals of an amount.
 use Rattle.std.specs.Prelude.{◌≡◌, ℕ, ◌+◌, ◌^◌, ◌≤◌, ◌<◌, ◌==◌, ℤ, pos, Bool, true, false}
-use Rattle.acts.specs.Acts.{Held, IsWithinGroup}
-use Rattle.acts.specs.Acts.Act.{Show}
+use Rattle.counter_cycles.specs.Acts.{Held, IsWithinGroup}
+use Rattle.counter_cycles.specs.Acts.Act.{Show}
 use Rattle.net.specs.declared.cycle.Ordinal.{Ordinal}
 use Rattle.net.specs.declared.cycle.Ordinal.TheVariants.{First, Second, Third}
 use Rattle.totals.specs.Amounts.{Amount, Kind, IsLawful, IsOnCard, IsSmall, act_of, state_after}

@@ -1,9 +1,9 @@
 -- The ways of an impulse where no wire leads from one contact to the next.
 use Rattle.std.proofs.Common.{◌≡◌, ◌∙◌, sym, ap, refl, inl, inr, Bool, true, false, not, ◌&&◌, Some, is_some}
 use Rattle.std.proofs.lemmas.Bool.{false≢true}
-use Rattle.hubs.specs.HubTable.{row_of}
+use Rattle.hub_table.specs.HubTable.{row_of}
 use Rattle.hubs.specs.Hubs.{is_entry_hub, is_exit_hub, is_hub_in_range, letters_of}
-use Rattle.hubs.specs.Wiring.{HasWire, Wiring}
+use Rattle.setups.specs.Wiring.{HasWire, Wiring}
 use Rattle.hubs.specs.declared.hub.Hub.{Hub}
 use Rattle.hubs.specs.declared.hub.Hub.TheVariants.{BAN, BAT, PIN, PIT, IX, CSD, CSZ, BAC, PIC, IE, CSE}
 use Rattle.net.specs.Impulsed.{IsImpulsed}

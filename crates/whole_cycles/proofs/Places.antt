@@ -4,8 +4,8 @@ use Rattle.std.specs.List.{list_any}
 use Rattle.std.proofs.lemmas.Bool.Decides.{nat_tests}
 use Rattle.std.proofs.lemmas.List.{get_or-map, length-map}
 use Rattle.hubs.proofs.HubLemmas.{number_of-injective}
-use Rattle.hubs.specs.Places.{group_place, is_width}
-use Rattle.hubs.specs.Ranges.{is_within}
+use Rattle.hub_table.specs.Places.{group_place, is_width}
+use Rattle.hub_table.specs.Ranges.{is_within}
 use Rattle.hubs.specs.declared.hub.Group.{Group}
 use Rattle.hubs.specs.declared.hub.Hub.TheVariants.{PL}
 use Rattle.net.specs.Panel.{unit_behind, unit_of}

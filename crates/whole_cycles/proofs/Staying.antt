@@ -9,7 +9,7 @@ use Rattle.card_code.specs.declared.row.Row.TheVariants.{Eleven}
 use Rattle.counters.proofs.Staying.{counters-stay}
 use Rattle.counters.specs.Counters.{Counter, counter_at_start, counter_number, counter_sensed}
 use Rattle.counters.specs.Laws.{IsCounter}
-use Rattle.hubs.specs.Wiring.{Wiring}
+use Rattle.setups.specs.Wiring.{Wiring}
 use Rattle.hubs.specs.declared.hub.Hub.{Hub}
 use Rattle.hubs.specs.declared.hub.Hub.TheVariants.{PIX}
 use Rattle.net.specs.Cycles.{points}

@@ -3,7 +3,7 @@ use Rattle.std.proofs.Common.{◌≡◌, ◌∙◌, ap, refl, ℕ, zero, suc, Bo
 use Rattle.card_code.specs.Rows.{rows}
 use Rattle.carriage.specs.Carriage.{CarriageState, carriage_ended}
 use Rattle.counters.specs.Counters.{counter_ended}
-use Rattle.hubs.specs.Wiring.{Wiring}
+use Rattle.setups.specs.Wiring.{Wiring}
 use Rattle.hubs.specs.declared.hub.Hub.{Hub}
 use Rattle.net.specs.Cycles.{points}
 use Rattle.net.specs.Impulsed.{IsPicture}

@@ -5,7 +5,7 @@ use Rattle.std.specs.Prelude.{◌≡◌, false, All, length, replicate, map}
 use Rattle.std.specs.List.{range_with_len}
 use Rattle.counters.specs.Counters.{Counter, no_controls}
 use Rattle.counters.specs.Laws.{IsCounter}
-use Rattle.hubs.specs.Wiring.{Wiring, is_wired}
+use Rattle.setups.specs.Wiring.{Wiring, is_wired}
 use Rattle.hubs.specs.declared.hub.Hub.TheVariants.{CO, CI}
 use Rattle.net.specs.Printing.{printing_of}
 use Rattle.print_unit.specs.Wheels.{wheel_at_start}

@@ -2,8 +2,8 @@
 use Rattle.std.specs.Prelude.{◌≡◌, ◌↔◌, ℕ, ◌≤◌, Bool, List, Option, map}
 use Rattle.std.specs.List.{range_with_len}
 use Rattle.card_code.specs.declared.row.Row.{Row as CardRow}
-use Rattle.carriage.specs.declared.placed_line.PlacedLine.{PlacedLine}
-use Rattle.hubs.specs.Wiring.{Wiring}
+use Rattle.placed_lines.specs.declared.placed_line.PlacedLine.{PlacedLine}
+use Rattle.setups.specs.Wiring.{Wiring}
 use Rattle.hubs.specs.declared.hub.Group.{Group}
 use Rattle.hubs.specs.declared.hub.Hub.{Hub}
 use Rattle.net.specs.Impulsed.{IsImpulsed}

@@ -2,7 +2,7 @@
 -- every way of an impulse is one of four.
 use Rattle.std.specs.Prelude.{◌≡◌, Bool, true, false, Some, is_some}
 use Rattle.hubs.specs.Hubs.{is_hub_in_range}
-use Rattle.hubs.specs.Wiring.{Wiring, HasWire, LeadsToEntries}
+use Rattle.setups.specs.Wiring.{Wiring, HasWire, LeadsToEntries}
 use Rattle.hubs.specs.declared.hub.Hub.{Hub}
 use Rattle.hubs.specs.declared.hub.Hub.TheVariants.{FR, SR, CX, GX, SX, EM, CC, PX, HX, BAC, PIC, IE, CSE}
 use Rattle.net.specs.Panel.{contact_of}

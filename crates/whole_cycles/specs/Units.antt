@@ -4,9 +4,9 @@ use Rattle.std.specs.Prelude.{◌≡◌, ℕ, ◌+◌, ◌-◌, ◌≤◌, ◌&&
 use Rattle.card_code.specs.Rows.{row_number}
 use Rattle.card_code.specs.declared.row.Row.{Row as CardRow}
 use Rattle.counters.specs.Counters.{Counter, counter_of, shows}
-use Rattle.hubs.specs.Places.{is_width}
-use Rattle.hubs.specs.Ranges.{is_within}
-use Rattle.hubs.specs.Wiring.{Wiring, is_wired}
+use Rattle.hub_table.specs.Places.{is_width}
+use Rattle.hub_table.specs.Ranges.{is_within}
+use Rattle.setups.specs.Wiring.{Wiring, is_wired}
 use Rattle.hubs.specs.declared.hub.Group.{Group}
 use Rattle.hubs.specs.declared.hub.Hub.{Hub}
 use Rattle.hubs.specs.declared.hub.Hub.TheVariants.{FR, SR, GX, CO, BAN, BAT, PIN, PIT, SX, IX, CSD, CSZ, EM, RO, CI, SO}

@@ -8,8 +8,8 @@ use Rattle.card_code.specs.Rows.{rows, row_number}
 use Rattle.card_code.specs.declared.row.Row.{Row as CardRow}
 use Rattle.carriage.specs.Carriage.{carriage_sensed, carriage_ended}
 use Rattle.counters.specs.Counters.{Counter, counter_sensed, counter_ended, shows}
-use Rattle.hubs.specs.Ranges.{is_within}
-use Rattle.hubs.specs.Wiring.{Wiring}
+use Rattle.hub_table.specs.Ranges.{is_within}
+use Rattle.setups.specs.Wiring.{Wiring}
 use Rattle.hubs.specs.declared.hub.Hub.{Hub}
 use Rattle.hubs.specs.declared.hub.Hub.TheVariants.{CX, SX, CA, CB, RO, SO, W}
 use Rattle.net.specs.Cycles.{points}

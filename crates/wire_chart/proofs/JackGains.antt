@@ -2,9 +2,9 @@
 use Rattle.std.proofs.Common.{◌≡◌, inl, inr, ℕ, ◌+◌, ◌<◌, ◌≤◌, List, ◌++◌, true, false, Some, refl, sym, ap, ◌∙◌, arith, true≢false, leb}
 use Rattle.std.proofs.lemmas.Bool.{and_parts, leb-true}
 use Rattle.std.proofs.lemmas.Option.{same_Some}
-use Rattle.hubs.specs.Ranges.{is_within}
+use Rattle.hub_table.specs.Ranges.{is_within}
 use Rattle.hubs.specs.Jacks.{jack_place, is_jack_in_range}
-use Rattle.hubs.specs.Wiring.{Wiring, HasJack, is_plugged}
+use Rattle.setups.specs.Wiring.{Wiring, HasJack, is_plugged}
 use Rattle.hubs.specs.declared.jack.Jack.{Jack}
 use Rattle.hubs.specs.declared.jack.Jack.TheVariants as jacks
 use Rattle.wire_chart.specs.WrittenText.{ended, jack_line, IsJackBefore}

@@ -1,32 +1,16 @@
-pub mod LetterReading
-pub mod NamePieces
-pub mod NameGrammar
-pub mod StatementGrammar
-pub mod LineGrammar
-pub mod SameStatement
-pub mod SetupSteps
-pub mod LineSteps
-pub mod Takings
-pub mod NewSetup
-pub mod LinesGrammar
-pub mod LinePlaces
-pub mod LineOutcomes
-pub mod LowestFaults
-pub mod WiringGrammar
-pub mod Answered
-pub mod Gains
-pub mod HubRanges
-pub mod JackGains
-pub mod OneText
-pub mod Ordered
-pub mod ReadBack
-pub mod RowLemmas
-pub mod StopGains
-pub mod TextLines
-pub mod TextSize
-pub mod WireGains
-pub mod Written
-pub mod WrittenBytes
-pub mod WrittenLines
-pub mod WrittenSaid
-pub mod WrittenWords
+mod Gains
+mod HubRanges
+mod JackGains
+mod OneText
+mod Ordered
+mod ReadBack
+mod RowLemmas
+mod StopGains
+mod TextLines
+mod TextSize
+mod WireGains
+mod Written
+mod WrittenBytes
+mod WrittenLines
+mod WrittenSaid
+mod WrittenWords

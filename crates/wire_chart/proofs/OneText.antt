@@ -1,11 +1,11 @@
 -- A setup has one text.
 use Rattle.std.proofs.Common.{◌≡◌, inl, inr, ℕ, ◌<◌, List, refl, sym, ap, ◌∙◌, subst, arith}
 use Rattle.std.proofs.lemmas.Option.{same_Some}
-use Rattle.hubs.specs.Tapes.{Form, SameTape}
-use Rattle.hubs.specs.Wiring.{Wiring}
+use Rattle.setups.specs.Tapes.{Form, SameTape}
+use Rattle.setups.specs.Wiring.{Wiring}
 use Rattle.hubs.specs.declared.hub.Hub.{Hub}
 use Rattle.hubs.specs.declared.jack.Jack.{Jack}
-use Rattle.wire_chart.specs.Laws.{IsSameSetup}
+use Rattle.wiring_text.specs.WiringText.{IsSameSetup}
 use Rattle.wire_chart.specs.WrittenText.{IsWritten, IsStopBefore, IsJackBefore, IsHubBefore, IsWireBefore, text_of}
 use Rattle.wire_chart.proofs.Ordered.{IsOneWay, same_list}
 

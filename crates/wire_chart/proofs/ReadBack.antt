@@ -4,18 +4,18 @@ use Rattle.std.specs.Prelude.{map}
 use Rattle.std.specs.List.{All, AllPairs, Contains}
 use Rattle.std.proofs.lemmas.Option.{same_Some}
 use Rattle.std.proofs.lemmas.List.Elements.{All-append, All-nil, Contains-append_left, Contains-append_right, Contains-append_cases}
-use Rattle.hubs.specs.Tapes.{IsStop, has_stop}
-use Rattle.hubs.specs.Wiring.{Wiring, HasWire, HasJack}
+use Rattle.setups.specs.Tapes.{IsStop, has_stop}
+use Rattle.setups.specs.Wiring.{Wiring, HasWire, HasJack}
 use Rattle.hubs.specs.declared.hub.Hub.{Hub}
 use Rattle.hubs.specs.declared.jack.Jack.{Jack}
 use Rattle.hubs.proofs.HubLemmas.{hub_named-own}
-use Rattle.wire_chart.specs.HubNames.{name_of, hub_of}
+use Rattle.wiring_text.specs.HubNames.{name_of, hub_of}
 use Rattle.wire_chart.specs.Laws.{IsSetup}
-use Rattle.wire_chart.specs.Statements.{statement_fault}
-use Rattle.wire_chart.specs.WiringText.{IsSetupOf, ReadsAs}
+use Rattle.wiring_text.specs.Statements.{statement_fault}
+use Rattle.wiring_text.specs.WiringText.{IsSetupOf, ReadsAs}
 use Rattle.wire_chart.specs.WrittenText.{IsWritten, form_line, IsStopBefore, IsJackBefore, IsWireBefore}
-use Rattle.wire_chart.specs.declared.statement.Statement.{Statement}
-use Rattle.wire_chart.specs.declared.statement.Statement.TheVariants.{Stop, Plug, Wire}
+use Rattle.wiring_text.specs.declared.statement.Statement.{Statement}
+use Rattle.wiring_text.specs.declared.statement.Statement.TheVariants.{Stop, Plug, Wire}
 use Rattle.wire_chart.proofs.Ordered.{pairs_none, pairs_append, contains_none, contains_mapped, contains_unmapped, pairs_mapped}
 use Rattle.wire_chart.proofs.OneText.{stops_one_way, jacks_one_way, wires_one_way}
 use Rattle.wire_chart.proofs.WrittenSaid.{stop_fits, wire_fits}

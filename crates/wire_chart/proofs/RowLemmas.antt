@@ -4,17 +4,17 @@ use Rattle.std.specs.List.{list_all}
 use Rattle.std.specs.Prelude.{nat_le, nat_lt, option_map}
 use Rattle.std.proofs.lemmas.Bool.{and_parts, ltb-true, leb-true, false≢true}
 use Rattle.std.proofs.lemmas.Bool.Decides.{nat_tests}
-use Rattle.hubs.specs.Ranges.{is_within}
-use Rattle.hubs.specs.HubTable.{row_of}
+use Rattle.hub_table.specs.Ranges.{is_within}
+use Rattle.hub_table.specs.HubTable.{row_of}
 use Rattle.hubs.specs.Hubs.{letters_of, numbers_of, number_of}
-use Rattle.hubs.specs.Places.{up_to, two_or_three, row_place, width_place, part_place, group_place, is_width, positions_before, position_place, place_of, has_as_many}
+use Rattle.hub_table.specs.Places.{up_to, two_or_three, row_place, width_place, part_place, group_place, is_width, positions_before, position_place, place_of, has_as_many}
 use Rattle.hubs.specs.declared.hub.Hub.{Hub}
-use Rattle.hubs.specs.declared.letters.Letters.{Letters}
-use Rattle.hubs.specs.declared.letters.Letters.TheVariants.{FR, SR, CX, GX, CO, BAN, BAT, PIN, PIT, SX, IX, CSD, CSZ, EM, CC, PX, HX, CA, CB, GE, PL, MI, RO, BT, CI, BAC, PIC, PIX, SE, SI, SO, IE, CSE, W, ST, SP, SK, RS}
-use Rattle.hubs.specs.declared.shape.Numbers.{Numbers}
-use Rattle.hubs.specs.declared.shape.Numbers.TheVariants.{Bare, One, Two, Three}
-use Rattle.hubs.specs.declared.shape.Shape.{Shape}
-use Rattle.hubs.specs.declared.shape.Shape.TheVariants.{Alone, To, TwoOrThree, Each, Rows, Groups, GroupsEach, Positions}
+use Rattle.hub_table.specs.declared.letters.Letters.{Letters}
+use Rattle.hub_table.specs.declared.letters.Letters.TheVariants.{FR, SR, CX, GX, CO, BAN, BAT, PIN, PIT, SX, IX, CSD, CSZ, EM, CC, PX, HX, CA, CB, GE, PL, MI, RO, BT, CI, BAC, PIC, PIX, SE, SI, SO, IE, CSE, W, ST, SP, SK, RS}
+use Rattle.hub_table.specs.declared.shape.Numbers.{Numbers}
+use Rattle.hub_table.specs.declared.shape.Numbers.TheVariants.{Bare, One, Two, Three}
+use Rattle.hub_table.specs.declared.shape.Shape.{Shape}
+use Rattle.hub_table.specs.declared.shape.Shape.TheVariants.{Alone, To, TwoOrThree, Each, Rows, Groups, GroupsEach, Positions}
 use Rattle.wire_chart.specs.Writing.{AreSmall}
 use Rattle.wire_chart.proofs.WrittenBytes.{is_high}
 

@@ -3,14 +3,15 @@ use Rattle.std.proofs.Common.{◌≡◌, ℕ, ◌≤◌, List, [], ◌∷◌, �
 use Rattle.std.specs.Prelude.{map}
 use Rattle.std.specs.List.{flat_map}
 use Rattle.card_code.specs.Lines.{lines_of}
-use Rattle.hubs.specs.Tapes.{Form, IsFormed}
-use Rattle.hubs.specs.Wiring.{Wiring}
+use Rattle.setups.specs.Tapes.{Form, IsFormed}
+use Rattle.setups.specs.Wiring.{Wiring}
 use Rattle.hubs.specs.declared.hub.Hub.{Hub}
 use Rattle.hubs.specs.declared.jack.Jack.{Jack}
-use Rattle.wire_chart.specs.WiringText.{FormNumbers, IsFormLine, SaysLines, end_line}
+use Rattle.wiring_text.specs.WiringText.{IsFormLine, SaysLines, end_line}
+use Rattle.wiring_text.specs.declared.statement.FormNumbers.{FormNumbers}
 use Rattle.wire_chart.specs.WrittenText.{IsWritten, ended, number_text, form_line, stop_line, jack_line, wire_line}
-use Rattle.wire_chart.specs.declared.statement.Statement.{Statement}
-use Rattle.wire_chart.specs.declared.statement.Statement.TheVariants.{Plug}
+use Rattle.wiring_text.specs.declared.statement.Statement.{Statement}
+use Rattle.wiring_text.specs.declared.statement.Statement.TheVariants.{Plug}
 use Rattle.wire_chart.proofs.WrittenBytes.{IsWrittenLine, words_line, line_of_words, ended_line, ended_lines, no_lines}
 use Rattle.wire_chart.proofs.WrittenSaid.{jack_said}
 use Rattle.wire_chart.proofs.WrittenWords.{number_written, number_word}

@@ -7,13 +7,13 @@ use Rattle.std.proofs.lemmas.List.Elements.{All-append, All-cons, All-nil}
 use Rattle.card_code.specs.Lines.{lines_of}
 use Rattle.hubs.specs.Hubs.{number_of}
 use Rattle.hubs.specs.Jacks.{jack_place}
-use Rattle.hubs.specs.Tapes.{IsStop}
-use Rattle.hubs.specs.Wiring.{Wiring, HasWire}
+use Rattle.setups.specs.Tapes.{IsStop}
+use Rattle.setups.specs.Wiring.{Wiring, HasWire}
 use Rattle.hubs.specs.declared.hub.Hub.{Hub}
 use Rattle.hubs.specs.declared.jack.Jack.{Jack}
-use Rattle.wire_chart.specs.WiringText.{IsTooLarge}
+use Rattle.wiring_text.specs.WiringText.{IsTooLarge}
 use Rattle.wire_chart.specs.WrittenText.{IsWritten, form_line, stop_line, jack_line, wire_line, IsStopBefore, IsJackBefore, IsHubBefore, IsWireBefore}
-use Rattle.wire_chart.specs.declared.statement.Statement.TheVariants.{Plug}
+use Rattle.wiring_text.specs.declared.statement.Statement.TheVariants.{Plug}
 use Rattle.wire_chart.proofs.HubRanges.{exit_number, entry_number}
 use Rattle.wire_chart.proofs.JackGains.{place_within}
 use Rattle.wire_chart.proofs.Ordered.{few_by_key}

@@ -5,7 +5,7 @@ use Rattle.std.specs.Option.{is_some}
 use Rattle.std.proofs.lemmas.Option.{same_Some}
 use Rattle.std.proofs.lemmas.List.Elements.{All-contains}
 use Rattle.hubs.specs.Hubs.{number_of, is_hub_in_range}
-use Rattle.hubs.specs.Wiring.{Wiring, HasWire}
+use Rattle.setups.specs.Wiring.{Wiring, HasWire}
 use Rattle.hubs.specs.declared.hub.Hub.{Hub}
 use Rattle.wire_chart.specs.WrittenText.{ended, wire_line, IsHubBefore, IsWireBefore}
 use Rattle.wire_chart.specs.Writing.{GainsWires, IsListedAt, IsWireTo, IsWireToBelow, IsWireToAny, IsWireOf, IsWireFrom, IsWireFromBelow}

@@ -1,8 +1,8 @@
 -- The parts of a text make the whole.
 use Rattle.std.proofs.Common.{◌≡◌, ℕ, List, ◌++◌, ap, ◌∙◌, subst, append_assoc, codes}
 use Rattle.std.specs.List.{flat_map}
-use Rattle.hubs.specs.Tapes.{Form}
-use Rattle.hubs.specs.Wiring.{Wiring, HasJack}
+use Rattle.setups.specs.Tapes.{Form}
+use Rattle.setups.specs.Wiring.{Wiring, HasJack}
 use Rattle.wire_chart.specs.WrittenText.{IsWritten, ended, form_line, stop_line, jack_line, wire_line}
 use Rattle.wire_chart.specs.Writing.{GainsStops, GainsJacks, GainsWires, IsStopOf, IsWireOf}
 

@@ -4,16 +4,16 @@ use Rattle.std.specs.Prelude.{map}
 use Rattle.std.specs.List.{All, AllByRecursion, Contains, list_all}
 use Rattle.std.proofs.lemmas.List.Elements.{All-cons, All-nil}
 use Rattle.hubs.specs.Jacks.{is_jack_in_range}
-use Rattle.hubs.specs.Tapes.{IsStop}
-use Rattle.hubs.specs.Wiring.{Wiring, HasWire}
+use Rattle.setups.specs.Tapes.{IsStop}
+use Rattle.setups.specs.Wiring.{Wiring, HasWire}
 use Rattle.hubs.specs.declared.hub.Hub.{Hub}
 use Rattle.hubs.specs.declared.jack.Jack.{Jack}
-use Rattle.wire_chart.specs.HubNames.{name_of}
+use Rattle.wiring_text.specs.HubNames.{name_of}
 use Rattle.wire_chart.specs.Laws.{IsSetup}
-use Rattle.wire_chart.specs.WiringText.{SaysLines, said_line}
+use Rattle.wiring_text.specs.WiringText.{SaysLines, said_line}
 use Rattle.wire_chart.specs.WrittenText.{IsWritten, stop_line, wire_line}
-use Rattle.wire_chart.specs.declared.statement.Statement.{Statement}
-use Rattle.wire_chart.specs.declared.statement.Statement.TheVariants.{Stop, Wire}
+use Rattle.wiring_text.specs.declared.statement.Statement.{Statement}
+use Rattle.wiring_text.specs.declared.statement.Statement.TheVariants.{Stop, Wire}
 use Rattle.wire_chart.proofs.JackGains.{plugged_in_range}
 use Rattle.wire_chart.proofs.Ordered.{contains_first, contains_more}
 use Rattle.wire_chart.proofs.WrittenBytes.{is_inner}

@@ -4,18 +4,18 @@ use Rattle.std.specs.List.{list_all, AllByRecursion}
 use Rattle.std.proofs.lemmas.Bool.{and_parts, leb-true, le-leb}
 use Rattle.hubs.specs.Hubs.{number_of, is_exit_hub, is_entry_hub, keeps_ring}
 use Rattle.hubs.specs.Jacks.{is_jack_in_range}
-use Rattle.hubs.specs.Ranges.{is_within}
+use Rattle.hub_table.specs.Ranges.{is_within}
 use Rattle.hubs.specs.declared.hub.Hub.{Hub}
 use Rattle.hubs.specs.declared.jack.Jack.{Jack}
 use Rattle.hubs.specs.declared.jack.Jack.TheVariants as jacks
 use Rattle.hubs.proofs.HubLemmas.{hub_named-own}
 use Rattle.tokens.specs.Number.{IsNumberTo}
-use Rattle.wire_chart.specs.HubNames.{name_of, hub_of}
-use Rattle.wire_chart.specs.Statements.{SaysJack, list, total, head, link, suppress, symbol, Says, stop, plug, wire, fault_between, wire_fault, statement_fault}
-use Rattle.wire_chart.specs.WiringText.{SaysLine}
+use Rattle.wiring_text.specs.HubNames.{name_of, hub_of}
+use Rattle.wiring_text.specs.Statements.{SaysJack, list, total, head, link, suppress, symbol, Says, stop, plug, wire, fault_between, wire_fault, statement_fault}
+use Rattle.wiring_text.specs.WiringText.{SaysLine}
 use Rattle.wire_chart.specs.WrittenText.{number_text, spaced, hub_text, stop_line, jack_line, wire_line}
-use Rattle.wire_chart.specs.declared.statement.Statement.{Statement}
-use Rattle.wire_chart.specs.declared.statement.Statement.TheVariants.{Stop, Plug, Wire}
+use Rattle.wiring_text.specs.declared.statement.Statement.{Statement}
+use Rattle.wiring_text.specs.declared.statement.Statement.TheVariants.{Stop, Plug, Wire}
 use Rattle.wire_chart.proofs.WrittenBytes.{IsWord, IsWrittenLine, words_line, line_of_words, is_inner, both}
 use Rattle.wire_chart.proofs.WrittenWords.{number_written, number_word, hub_written, hub_word}
 

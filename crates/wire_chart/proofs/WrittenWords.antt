@@ -4,13 +4,13 @@ use Rattle.std.specs.List.{list_all}
 use Rattle.std.specs.Prelude.{nat_lt, nat_le}
 use Rattle.std.proofs.lemmas.Bool.{and_parts, ltb-true, lt-ltb, leb-true}
 use Rattle.std.proofs.lemmas.Bool.Decides.{nat_tests}
-use Rattle.hubs.specs.HubTable.{row_of}
+use Rattle.hub_table.specs.HubTable.{row_of}
 use Rattle.hubs.specs.Hubs.{letters_of, numbers_of, number_of}
 use Rattle.hubs.specs.declared.hub.Hub.{Hub}
-use Rattle.hubs.specs.declared.shape.Numbers.{Numbers}
-use Rattle.hubs.specs.declared.shape.Numbers.TheVariants.{Bare, One, Two, Three}
+use Rattle.hub_table.specs.declared.shape.Numbers.{Numbers}
+use Rattle.hub_table.specs.declared.shape.Numbers.TheVariants.{Bare, One, Two, Three}
 use Rattle.tokens.specs.Number.{IsNumber, is_digit}
-use Rattle.wire_chart.specs.HubNames.{IsPointed, IsDotted, bare, one, two, three, IsHubName, name_of}
+use Rattle.wiring_text.specs.HubNames.{IsPointed, IsDotted, bare, one, two, three, IsHubName, name_of}
 use Rattle.wire_chart.specs.Writing.{AreSmall}
 use Rattle.wire_chart.specs.WrittenText.{digit_text, number_text, pointed, numbers_text, hub_text}
 use Rattle.wire_chart.proofs.RowLemmas.{good_letters, numbered_small}

@@ -1,22 +1,16 @@
 -- Laws of wiring charts: a setup has one text, that text reads as the setup, and a text reads as one setup at most.
 use Rattle.std.specs.Prelude.{◌≡◌, ℕ, List}
-use Rattle.hubs.specs.Tapes.{IsForm, SameTape}
-use Rattle.hubs.specs.Wiring.{Wiring, IsLawfulWiring, SameWires, SameJacks}
-use Rattle.wire_chart.specs.WiringText.{ReadsAs}
-use Rattle.wire_chart.specs.WiringFaults.{HasFault}
+use Rattle.setups.specs.Tapes.{IsForm}
+use Rattle.setups.specs.Wiring.{Wiring, IsLawfulWiring}
+use Rattle.wiring_text.specs.WiringText.{ReadsAs, IsSameSetup}
+use Rattle.wiring_text.specs.WiringFaults.{HasFault}
 use Rattle.wire_chart.specs.WrittenText.{IsWritten}
-use Rattle.wire_chart.specs.declared.fault.WiringFault.{WiringFault}
+use Rattle.wiring_text.specs.declared.fault.WiringFault.{WiringFault}
 
 -- what every setup is: wires that the panel can have, and a form that a tape can have
 pub record IsSetup (wiring : Wiring) : Type 0 where
   pub wires : IsLawfulWiring wiring
   pub form : IsForm wiring.tape
-
--- two setups are the same: the same wires, jacks and tape
-pub record IsSameSetup (one other : Wiring) : Type 0 where
-  pub wires : SameWires one other
-  pub jacks : SameJacks one other
-  pub tape : SameTape one.tape other.tape
 
 -- What is written of a setup reads as that setup.
 abbrev pub WrittenTextsReadBack : Type 0

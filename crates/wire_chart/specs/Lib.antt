@@ -1,10 +1,3 @@
-pub mod HubNames
 pub mod Laws
-pub mod Reading
-pub mod Statements
-pub mod TextReading
-pub mod WiringFaultNumbers
-pub mod WiringFaults
-pub mod WiringText
 pub mod Writing
 pub mod WrittenText

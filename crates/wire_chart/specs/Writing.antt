@@ -4,12 +4,12 @@ use Rattle.std.specs.Prelude.{◌≡◌, ◌↔◌, ℕ, ◌<◌, true, List, �
 use Rattle.std.specs.List.{flat_map}
 use Rattle.hubs.specs.Hubs.{number_of}
 use Rattle.hubs.specs.Jacks.{jack_place}
-use Rattle.hubs.specs.Tapes.{Form, has_stop}
-use Rattle.hubs.specs.Wiring.{Wiring, HasWire, HasJack}
+use Rattle.setups.specs.Tapes.{Form, has_stop}
+use Rattle.setups.specs.Wiring.{Wiring, HasWire, HasJack}
 use Rattle.hubs.specs.declared.hub.Hub.{Hub}
 use Rattle.hubs.specs.declared.jack.Jack.{Jack}
-use Rattle.hubs.specs.declared.shape.Numbers.{Numbers}
-use Rattle.hubs.specs.declared.shape.Numbers.TheVariants.{Bare, One, Two, Three}
+use Rattle.hub_table.specs.declared.shape.Numbers.{Numbers}
+use Rattle.hub_table.specs.declared.shape.Numbers.TheVariants.{Bare, One, Two, Three}
 use Rattle.wire_chart.specs.WrittenText.{ended, stop_line, jack_line, wire_line, IsStopBefore, IsJackBefore, IsWireBefore}
 
 -- each number is below 1,000

@@ -3,16 +3,16 @@
 -- ends with LF.
 use Rattle.std.specs.Prelude.{◌≡◌, ◌↔◌, ◌⊎◌, ℕ, ◌+◌, ◌<◌, true, List, [], ◌∷◌, ◌++◌, AllPairs, Contains, Some, codes, if◌then◌else◌, nat_lt, ◌/◌, ◌%◌}
 use Rattle.std.specs.List.{flat_map}
-use Rattle.hubs.specs.HubTable.{row_of}
+use Rattle.hub_table.specs.HubTable.{row_of}
 use Rattle.hubs.specs.Hubs.{letters_of, numbers_of, number_of}
 use Rattle.hubs.specs.Jacks.{jack_place}
-use Rattle.hubs.specs.Tapes.{Form, has_stop}
-use Rattle.hubs.specs.Wiring.{Wiring, HasWire, HasJack}
+use Rattle.setups.specs.Tapes.{Form, has_stop}
+use Rattle.setups.specs.Wiring.{Wiring, HasWire, HasJack}
 use Rattle.hubs.specs.declared.hub.Hub.{Hub}
 use Rattle.hubs.specs.declared.jack.Jack.{Jack}
 use Rattle.hubs.specs.declared.jack.Jack.TheVariants as jacks
-use Rattle.hubs.specs.declared.shape.Numbers.{Numbers}
-use Rattle.hubs.specs.declared.shape.Numbers.TheVariants.{Bare, One, Two, Three}
+use Rattle.hub_table.specs.declared.shape.Numbers.{Numbers}
+use Rattle.hub_table.specs.declared.shape.Numbers.TheVariants.{Bare, One, Two, Three}
 
 -- a digit as it is written
 abbrev pub digit_text : ℕ → List ℕ

@@ -7,7 +7,8 @@ ghost use Rattle.hubs.specs.Jacks.{is_jack_in_range};
 ghost use Rattle.wire_chart.specs.WrittenText.{digit_text, number_text, pointed, numbers_text, hub_text, spaced, jack_text};
 ghost use Rattle.wire_chart.specs.Writing.{AreSmall};
 
-use hubs::{Hub, Jack, Numbers};
+use hub_table::Numbers;
+use hubs::{Hub, Jack};
 use std::alloc::AllocError;
 
 // A digit.

@@ -4,14 +4,15 @@ ghost use Rattle.std.specs.Prelude.{◌≡◌, ◌↔◌, ◌++◌, ◌<◌, ◌
 ghost use Rattle.std.specs.String.{string_bytes};
 ghost use Rattle.hubs.specs.Hubs.{is_hub_in_range, number_of};
 ghost use Rattle.hubs.specs.Jacks.{is_jack_in_range};
-ghost use Rattle.hubs.specs.Tapes.{IsForm};
-ghost use Rattle.hubs.specs.Wiring.{HasJack};
-ghost use Rattle.wire_chart.specs.WiringText.{ReadsAs};
+ghost use Rattle.setups.specs.Tapes.{IsForm};
+ghost use Rattle.setups.specs.Wiring.{HasJack};
+ghost use Rattle.wiring_text.specs.WiringText.{ReadsAs};
 ghost use Rattle.wire_chart.specs.WrittenText.{IsWritten, ended, form_line, stop_line, jack_line, wire_line};
 ghost use Rattle.wire_chart.specs.Writing.{GainsStops, GainsJacks, GainsWires, IsStopOf, IsStopAt, IsStopIn, IsJackAt, IsWireTo, IsWireToAny, IsWireFrom, IsWireOf};
 
 use crate::words::{write_jack_words, write_number, write_spaced_hub, write_spaced_number};
-use hubs::{Hub, JACKS, Jack, Setup, Tape};
+use hubs::{Hub, JACKS, Jack};
+use setups::{Setup, Tape};
 use std::alloc::{AllocError, Global};
 
 /// The wiring chart of a setup: `WIRING407 1`, the form, the stops by channel and line, the jacks in the order LIST, TOTAL, HEAD, LINK,

@@ -1,14 +1,14 @@
 -- The field of a name, and the punches of marks.
 use Rattle.std.proofs.Common.{◌≡◌, ℕ, zero, suc, [], ◌∷◌, true, Option, Some, None, slice_get, refl, subst}
-use Rattle.chart_text.specs.Field.{is_amount}
-use Rattle.chart_text.specs.declared.statement.Field.{Field}
-use Rattle.chart_text.specs.declared.statement.FieldKind.{FieldKind}
-use Rattle.chart_text.specs.declared.statement.FieldKind.TheVariants as holds
-use Rattle.chart_text.specs.declared.statement.Mark.{Mark}
-use Rattle.chart_text.specs.declared.statement.Mark.TheVariants as marks
-use Rattle.chart_text.specs.declared.statement.SignRule.{SignRule}
-use Rattle.wire_gen.specs.Figures.{HasPunchAt, rule_of, mark_characters}
-use Rattle.wire_gen.specs.HelperItems.{IsNamed}
+use Rattle.charts.specs.Field.{is_amount}
+use Rattle.charts.specs.declared.statement.Field.{Field}
+use Rattle.charts.specs.declared.statement.FieldKind.{FieldKind}
+use Rattle.charts.specs.declared.statement.FieldKind.TheVariants as holds
+use Rattle.charts.specs.declared.statement.Mark.{Mark}
+use Rattle.charts.specs.declared.statement.Mark.TheVariants as marks
+use Rattle.charts.specs.declared.statement.SignRule.{SignRule}
+use Rattle.wiring_table.specs.Figures.{HasPunchAt, rule_of, mark_characters}
+use Rattle.wire_gen.specs.HelperKnown.{IsNamed}
 use Rattle.card_code.specs.CardCode.{code, rows_of, set_of}
 
 -- a field with a sign rule is an amount

@@ -1,30 +1,32 @@
--- The amounts of a line of a lawful chart as its items, and the jacks of a chart.
+-- The amounts of a line of a lawful chart as its items.
 use Rattle.std.proofs.Common.{option_map, ◌≡◌, ℕ, ◌+◌, ◌≤◌, true, List, Option, Some, None, refl, sym, ap, ◌∙◌, subst, arith}
-use Rattle.allocate.specs.Plans.{Lists}
-use Rattle.chart_rules.specs.Fields.{field_named}
-use Rattle.chart_rules.specs.Items.{mark_shown, item_of, detail_item, total_item}
-use Rattle.chart_text.specs.Field.{columns_of, decimals_of, is_amount}
-use Rattle.chart_text.specs.Levels.{level_number}
-use Rattle.chart_text.specs.declared.chart.Line.{Line}
-use Rattle.chart_text.specs.declared.level.Level.{Level}
-use Rattle.chart_text.specs.declared.statement.DetailOption.{DetailOption}
-use Rattle.chart_text.specs.declared.statement.Field.{Field}
-use Rattle.chart_text.specs.declared.statement.FieldKind.{FieldKind}
-use Rattle.chart_text.specs.declared.statement.FieldKind.TheVariants as holds
-use Rattle.chart_text.specs.declared.statement.Mark.{Mark}
-use Rattle.chart_text.specs.declared.statement.Statement.{Statement}
-use Rattle.chart_text.specs.declared.statement.Statement.TheVariants as says
-use Rattle.wire_gen.specs.Figures.{IsText, IsAmount, IsSigned, IsUnsigned, IsLiteral, on_heading, on_detail, on_total, IsFigure, HasPunch, HasPunchAt, rule_of, digit_wheel, point_wheel, mark_wheel, mark_characters, detail_emitter, heading_emitter, total_emitter}
-use Rattle.wire_gen.specs.Figures as figures
-use Rattle.wire_gen.specs.HelperItems.{HasFigureWheels, DetailRanges, IsGood, IsGoodDetail, IsGoodTotal, IsNamed}
-use Rattle.chart_rules.specs.Fields.{fields_of}
-use Rattle.chart_rules.specs.declared.items.Figure.{Figure}
-use Rattle.chart_rules.specs.declared.items.Item.{Item}
+use Rattle.plans.specs.Plans.{Lists}
+use Rattle.field_rules.specs.Fields.{field_named}
+use Rattle.print_rules.specs.Items.{mark_shown, item_of, detail_item, total_item}
+use Rattle.charts.specs.Field.{columns_of, decimals_of, is_amount}
+use Rattle.charts.specs.Levels.{level_number}
+use Rattle.charts.specs.declared.chart.Line.{Line}
+use Rattle.charts.specs.declared.level.Level.{Level}
+use Rattle.charts.specs.declared.statement.DetailOption.{DetailOption}
+use Rattle.charts.specs.declared.statement.Field.{Field}
+use Rattle.charts.specs.declared.statement.FieldKind.{FieldKind}
+use Rattle.charts.specs.declared.statement.FieldKind.TheVariants as holds
+use Rattle.charts.specs.declared.statement.Mark.{Mark}
+use Rattle.charts.specs.declared.statement.Statement.{Statement}
+use Rattle.charts.specs.declared.statement.Statement.TheVariants as says
+use Rattle.wiring_table.specs.Figures.{IsText, IsAmount, IsSigned, IsUnsigned, IsLiteral, on_heading, on_detail, on_total, IsFigure, HasPunch, HasPunchAt, rule_of, digit_wheel, point_wheel, mark_wheel, mark_characters, detail_emitter, heading_emitter, total_emitter}
+use Rattle.wiring_table.specs.Figures as figures
+use Rattle.line_wires.specs.HelperItems.{HasFigureWheels, DetailRanges, IsGoodDetail}
+use Rattle.total_wires.specs.HelperTotals.{IsGoodTotal}
+use Rattle.wire_gen.specs.HelperKnown.{IsGood, IsNamed}
+use Rattle.field_rules.specs.Fields.{fields_of}
+use Rattle.print_rules.specs.declared.items.Figure.{Figure}
+use Rattle.print_rules.specs.declared.items.Item.{Item}
 use Rattle.hubs.specs.declared.jack.Jack.{Jack}
-use Rattle.hubs.specs.Wiring.{Wiring}
-use Rattle.wire_gen.specs.HelperJacks.{FiguresAre, FigureJacks, IsGoodFigure, ItemWith, LineJacks, Plugs}
+use Rattle.setups.specs.Wiring.{Wiring}
+use Rattle.jacks_and_tape.specs.HelperJacks.{FiguresAre, FigureJacks, IsGoodFigure, ItemWith, LineJacks, Plugs}
 use Rattle.wire_gen.proofs.Fields.{named-field, named-has}
-use Rattle.wire_gen.proofs.Plugging.{plugs-as, plugs-none}
+use Rattle.jacks_and_tape.proofs.Plugging.{plugs-as, plugs-none}
 
 named-same : (a b : Field) → Some a ≡ Some b → a ≡ b
 named-same a b e = cc
@@ -184,40 +186,3 @@ module _ (lines : List Line) where
   figures-are plan number (says.TotalLiteral level wheel text) is =
       none-are (says.TotalLiteral level wheel text) (λ emitter at figure wrong. elim wrong [ ]) (λ item figure same has. no-figure _ item figure same refl has)
   figures-are plan number other is = none-are other (λ emitter at figure wrong. elim wrong [ ]) (λ item figure same has. cc)
-
--- the jacks of a line by its item
-pub line-jacks : (lines : List Line) (statement : Statement) (item : Item) (figure : Figure) (old new : Wiring)
-    → FiguresAre lines statement → item_of (fields_of lines) statement ≡ Some item → item.figure ≡ Some figure
-    → Plugs (FigureJacks item.first figure) old new → Plugs (LineJacks lines statement) old new
-line-jacks lines statement item figure old new known is has added = plugs-as onward back-again added
-  where
-    onward : (each : Jack) → FigureJacks item.first figure each → LineJacks lines statement each
-    onward each jacks =
-        let from = known.there item figure is has in
-        record { emitter = from.0; wheel = item.first; figure = figure; is_figure = from.1; jacks = jacks }
-
-    back-again : (each : Jack) → LineJacks lines statement each → FigureJacks item.first figure each
-    back-again each jacks =
-        let from = known.back jacks.emitter jacks.wheel jacks.figure jacks.is_figure in
-        let same : from.item ≡ item = item-same from.item item (sym from.is_item ∙ is) in
-        let e : jacks.wheel ≡ item.first = sym from.from ∙ ap (λ i. i.first) same in
-        let f : jacks.figure ≡ figure = figure-same jacks.figure figure (sym from.has ∙ ap (λ i. i.figure) same ∙ has) in
-        let P : ℕ → Type 0 = λ w. FigureJacks w figure each in
-        let Q : Figure → Type 0 = λ x. FigureJacks jacks.wheel x each in
-        subst P e (subst Q f jacks.jacks)
-      where
-        item-same : (a b : Item) → Some a ≡ Some b → a ≡ b
-        item-same a b e = cc
-
-        figure-same : (a b : Figure) → Some a ≡ Some b → a ≡ b
-        figure-same a b e = cc
-
--- a line without an item, or with one that is no amount, has no jacks
-pub no-jacks : (lines : List Line) (statement : Statement) (setup : Wiring) → FiguresAre lines statement
-    → ((item : Item) → item_of (fields_of lines) statement ≡ Some item → item.figure ≡ None) → Plugs (LineJacks lines statement) setup setup
-no-jacks lines statement setup known none = plugs-none nothing
-  where
-    nothing : (each : Jack) → LineJacks lines statement each → ⊥
-    nothing each jacks =
-        let from = known.back jacks.emitter jacks.wheel jacks.figure jacks.is_figure in
-        let e = sym (none from.item from.is_item) ∙ from.has in cc

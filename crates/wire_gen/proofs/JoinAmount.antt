@@ -1,27 +1,28 @@
 -- The wires that the code adds for a total of an amount are those of the table.
 use Rattle.std.proofs.Common.{◌≡◌, ℕ, ◌+◌, List, Option, Some, None, refl, sym, subst, arith}
-use Rattle.allocate.specs.Plans.{Lists}
-use Rattle.chart_rules.specs.Fields.{field_named}
-use Rattle.chart_text.specs.Field.{decimals_of}
-use Rattle.chart_text.specs.Levels.{level_number}
-use Rattle.chart_text.specs.declared.chart.Line.{Line}
-use Rattle.chart_text.specs.declared.level.Level.{Level}
-use Rattle.chart_text.specs.declared.statement.Field.{Field}
-use Rattle.chart_text.specs.declared.statement.Mark.{Mark}
-use Rattle.chart_text.specs.declared.statement.SignRule.{SignRule}
-use Rattle.chart_text.specs.declared.statement.Statement.TheVariants as says
+use Rattle.plans.specs.Plans.{Lists}
+use Rattle.field_rules.specs.Fields.{field_named}
+use Rattle.charts.specs.Field.{decimals_of}
+use Rattle.charts.specs.Levels.{level_number}
+use Rattle.charts.specs.declared.chart.Line.{Line}
+use Rattle.charts.specs.declared.level.Level.{Level}
+use Rattle.charts.specs.declared.statement.Field.{Field}
+use Rattle.charts.specs.declared.statement.Mark.{Mark}
+use Rattle.charts.specs.declared.statement.SignRule.{SignRule}
+use Rattle.charts.specs.declared.statement.Statement.TheVariants as says
 use Rattle.hubs.specs.declared.hub.Group.{Group}
 use Rattle.hubs.specs.declared.hub.Hub.{Hub}
-use Rattle.wire_gen.specs.Figures.{IsText, IsAmount, IsSigned, IsUnsigned, IsLiteral, on_heading, on_detail, on_total, IsFigure, HasPunch, HasPunchAt, rule_of, digit_wheel, point_wheel, mark_wheel, mark_characters, detail_emitter, heading_emitter, total_emitter}
-use Rattle.wire_gen.specs.Figures as figures
-use Rattle.wire_gen.specs.HelperAdds.{first, second, below, some, given, punched}
-use Rattle.wire_gen.specs.HelperItems.{IsGoodTotal, IsNamed, TotalWires}
-use Rattle.wire_gen.specs.HelperLevels.{next}
+use Rattle.wiring_table.specs.Figures.{IsText, IsAmount, IsSigned, IsUnsigned, IsLiteral, on_heading, on_detail, on_total, IsFigure, HasPunch, HasPunchAt, rule_of, digit_wheel, point_wheel, mark_wheel, mark_characters, detail_emitter, heading_emitter, total_emitter}
+use Rattle.wiring_table.specs.Figures as figures
+use Rattle.line_wires.specs.HelperAdds.{first, second, below, some, given, punched}
+use Rattle.total_wires.specs.HelperTotals.{IsGoodTotal, TotalWires}
+use Rattle.wire_gen.specs.HelperKnown.{IsNamed}
+use Rattle.total_wires.specs.HelperLevels.{next}
 use Rattle.wire_gen.specs.HelperLines.{StatementWires}
-use Rattle.wire_gen.specs.HelperRows.{EntrySense, SignedTotal, TotalMark, TransferSense}
-use Rattle.wire_gen.specs.Parts.{IsLowest, IsNextHigher, group_for}
-use Rattle.wire_gen.specs.Wires.{LineWire}
-use Rattle.wire_gen.specs.Wires as table
+use Rattle.total_wires.specs.HelperTotalRows.{EntrySense, SignedTotal, TotalMark, TransferSense}
+use Rattle.wiring_table.specs.Parts.{IsLowest, IsNextHigher, group_for}
+use Rattle.wiring_table.specs.Wires.{LineWire}
+use Rattle.wiring_table.specs.Wires as table
 use Rattle.wire_gen.proofs.Fields.{mark-punch, named-field, named-has}
 use Rattle.wire_gen.proofs.JoinLines.{by-one}
 

@@ -1,29 +1,29 @@
 -- The wires that the code adds for a field on the line of a card are those of the table.
 use Rattle.std.proofs.Common.{◌≡◌, ℕ, ◌+◌, ◌-◌, ◌≤◌, true, false, List, Some, refl, sym, ap, ◌∙◌, subst, arith}
 use Rattle.std.proofs.lemmas.Option.{slice_get_within}
-use Rattle.allocate.specs.Plans.{Lists}
-use Rattle.chart_rules.specs.Fields.{field_named}
-use Rattle.chart_rules.specs.Items.{mark_shown}
-use Rattle.chart_text.specs.Field.{columns_of, decimals_of, is_amount, sign_column}
-use Rattle.chart_text.specs.declared.chart.Line.{Line}
-use Rattle.chart_text.specs.declared.statement.DetailOption.{DetailOption}
-use Rattle.chart_text.specs.declared.statement.DetailOption.TheVariants as shown_as
-use Rattle.chart_text.specs.declared.statement.Field.{Field}
-use Rattle.chart_text.specs.declared.statement.FieldKind.{FieldKind}
-use Rattle.chart_text.specs.declared.statement.FieldKind.TheVariants as holds
-use Rattle.chart_text.specs.declared.statement.Mark.{Mark}
-use Rattle.chart_text.specs.declared.statement.SignRule.{SignRule}
-use Rattle.chart_text.specs.declared.statement.Statement.TheVariants as says
+use Rattle.plans.specs.Plans.{Lists}
+use Rattle.field_rules.specs.Fields.{field_named}
+use Rattle.print_rules.specs.Items.{mark_shown}
+use Rattle.charts.specs.Field.{columns_of, decimals_of, is_amount, sign_column}
+use Rattle.charts.specs.declared.chart.Line.{Line}
+use Rattle.charts.specs.declared.statement.DetailOption.{DetailOption}
+use Rattle.charts.specs.declared.statement.DetailOption.TheVariants as shown_as
+use Rattle.charts.specs.declared.statement.Field.{Field}
+use Rattle.charts.specs.declared.statement.FieldKind.{FieldKind}
+use Rattle.charts.specs.declared.statement.FieldKind.TheVariants as holds
+use Rattle.charts.specs.declared.statement.Mark.{Mark}
+use Rattle.charts.specs.declared.statement.SignRule.{SignRule}
+use Rattle.charts.specs.declared.statement.Statement.TheVariants as says
 use Rattle.hubs.specs.declared.hub.Hub.{Hub}
-use Rattle.wire_gen.specs.Figures.{IsText, IsAmount, IsSigned, IsUnsigned, IsLiteral, on_heading, on_detail, on_total, IsFigure, HasPunch, HasPunchAt, rule_of, digit_wheel, point_wheel, mark_wheel, mark_characters, detail_emitter, heading_emitter, total_emitter}
-use Rattle.wire_gen.specs.Figures as figures
-use Rattle.wire_gen.specs.HelperAdds.{one, first, second, below, OfSome, some, given, punched}
-use Rattle.wire_gen.specs.HelperItems.{DetailAmount, DetailMarks, DetailText, DetailWires}
+use Rattle.wiring_table.specs.Figures.{IsText, IsAmount, IsSigned, IsUnsigned, IsLiteral, on_heading, on_detail, on_total, IsFigure, HasPunch, HasPunchAt, rule_of, digit_wheel, point_wheel, mark_wheel, mark_characters, detail_emitter, heading_emitter, total_emitter}
+use Rattle.wiring_table.specs.Figures as figures
+use Rattle.line_wires.specs.HelperAdds.{one, first, second, below, OfSome, some, given, punched}
+use Rattle.line_wires.specs.HelperItems.{DetailAmount, DetailMarks, DetailText, DetailWires}
 use Rattle.wire_gen.specs.HelperLines.{StatementWires}
-use Rattle.wire_gen.specs.HelperRows.{DetailMark, DigitWires}
-use Rattle.wire_gen.specs.Parts.{pilot_for}
-use Rattle.wire_gen.specs.Wires.{LineWire}
-use Rattle.wire_gen.specs.Wires as table
+use Rattle.line_wires.specs.HelperRows.{DetailMark, DigitWires}
+use Rattle.wiring_table.specs.Parts.{pilot_for}
+use Rattle.wiring_table.specs.Wires.{LineWire}
+use Rattle.wiring_table.specs.Wires as table
 use Rattle.wire_gen.proofs.Fields.{mark-punch, ruled-amount}
 use Rattle.wire_gen.proofs.JoinLines.{at-position, by-one}
 

@@ -1,32 +1,32 @@
 -- The wires that the code adds for a line of the chart are those of the table: literals, fields, control and the carriage.
 use Rattle.std.proofs.Common.{◌≡◌, ℕ, ◌+◌, ◌-◌, ◌≤◌, List, Some, None, refl, ap, subst, arith}
 use Rattle.std.proofs.lemmas.Option.{slice_get_within}
-use Rattle.allocate.specs.Plans.{Lists}
-use Rattle.chart_text.specs.Field.{sign_column, column_of_rule}
-use Rattle.chart_text.specs.Headings.{heading_number}
-use Rattle.chart_text.specs.Levels.{level_number}
-use Rattle.chart_text.specs.declared.chart.Line.{Line}
-use Rattle.chart_text.specs.declared.level.ControlLevel.{ControlLevel}
-use Rattle.chart_text.specs.declared.level.Level.{Level}
-use Rattle.chart_text.specs.declared.spacing.Spacing.{Spacing}
-use Rattle.chart_text.specs.declared.spacing.Spacing.TheVariants as spacings
-use Rattle.chart_text.specs.declared.statement.After.{After}
-use Rattle.chart_text.specs.declared.statement.After.TheVariants as action
-use Rattle.chart_text.specs.declared.statement.BodyLine.{BodyLine}
-use Rattle.chart_text.specs.declared.statement.Field.{Field}
-use Rattle.chart_text.specs.declared.statement.FieldKind.{FieldKind}
-use Rattle.chart_text.specs.declared.statement.FieldKind.TheVariants as holds
-use Rattle.chart_text.specs.declared.statement.SignRule.{SignRule}
-use Rattle.chart_text.specs.declared.statement.Statement.{Statement}
-use Rattle.chart_text.specs.declared.statement.Statement.TheVariants as says
+use Rattle.plans.specs.Plans.{Lists}
+use Rattle.charts.specs.Field.{sign_column, column_of_rule}
+use Rattle.charts.specs.Headings.{heading_number}
+use Rattle.charts.specs.Levels.{level_number}
+use Rattle.charts.specs.declared.chart.Line.{Line}
+use Rattle.charts.specs.declared.level.ControlLevel.{ControlLevel}
+use Rattle.charts.specs.declared.level.Level.{Level}
+use Rattle.charts.specs.declared.spacing.Spacing.{Spacing}
+use Rattle.charts.specs.declared.spacing.Spacing.TheVariants as spacings
+use Rattle.charts.specs.declared.statement.After.{After}
+use Rattle.charts.specs.declared.statement.After.TheVariants as action
+use Rattle.charts.specs.declared.statement.BodyLine.{BodyLine}
+use Rattle.charts.specs.declared.statement.Field.{Field}
+use Rattle.charts.specs.declared.statement.FieldKind.{FieldKind}
+use Rattle.charts.specs.declared.statement.FieldKind.TheVariants as holds
+use Rattle.charts.specs.declared.statement.SignRule.{SignRule}
+use Rattle.charts.specs.declared.statement.Statement.{Statement}
+use Rattle.charts.specs.declared.statement.Statement.TheVariants as says
 use Rattle.hubs.specs.declared.hub.Hub.{Hub}
 use Rattle.hubs.specs.declared.hub.Hub.TheVariants.{FR, EM, PIX, W}
-use Rattle.wire_gen.specs.Figures.{IsLiteral, on_heading, on_detail, on_total, HasPunchAt, rule_of, detail_emitter, heading_emitter, total_emitter}
-use Rattle.wire_gen.specs.HelperAdds.{One, one, first, second, Upto, below, some, given, punched}
+use Rattle.wiring_table.specs.Figures.{IsLiteral, on_heading, on_detail, on_total, HasPunchAt, rule_of, detail_emitter, heading_emitter, total_emitter}
+use Rattle.line_wires.specs.HelperAdds.{One, one, first, second, Upto, below, some, given, punched}
 use Rattle.wire_gen.specs.HelperLines.{StatementWires}
-use Rattle.wire_gen.specs.HelperRows.{AfterWires, LiteralWires, PickupWires, SpaceWires, Wires}
-use Rattle.wire_gen.specs.Wires.{LineWire}
-use Rattle.wire_gen.specs.Wires as table
+use Rattle.line_wires.specs.HelperRows.{AfterWires, LiteralWires, PickupWires, SpaceWires, Wires}
+use Rattle.wiring_table.specs.Wires.{LineWire}
+use Rattle.wiring_table.specs.Wires as table
 
 -- the places of a text as positions from 1
 pub at-position : (at : ℕ → Wires) (bound position : ℕ) {exit to : Hub} → 1 ≤ position → position ≤ bound

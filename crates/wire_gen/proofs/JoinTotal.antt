@@ -1,16 +1,16 @@
 -- The wires that the code adds for a total are those of the table.
 use Rattle.std.proofs.Common.{ℕ, List}
-use Rattle.allocate.specs.Plans.{Lists}
-use Rattle.chart_rules.specs.Fields.{field_named}
-use Rattle.chart_text.specs.declared.chart.Line.{Line}
-use Rattle.chart_text.specs.declared.level.Level.{Level}
-use Rattle.chart_text.specs.declared.statement.Statement.TheVariants as says
+use Rattle.plans.specs.Plans.{Lists}
+use Rattle.field_rules.specs.Fields.{field_named}
+use Rattle.charts.specs.declared.chart.Line.{Line}
+use Rattle.charts.specs.declared.level.Level.{Level}
+use Rattle.charts.specs.declared.statement.Statement.TheVariants as says
 use Rattle.hubs.specs.declared.hub.Hub.{Hub}
-use Rattle.wire_gen.specs.HelperAdds.{one, first, second, below, some}
-use Rattle.wire_gen.specs.HelperItems.{IsGoodTotalText, IsNamed}
+use Rattle.line_wires.specs.HelperAdds.{one, first, second, below, some}
+use Rattle.wire_gen.specs.HelperKnown.{IsGoodTotalText, IsNamed}
 use Rattle.wire_gen.specs.HelperLines.{StatementWires}
-use Rattle.wire_gen.specs.Wires.{LineWire}
-use Rattle.wire_gen.specs.Wires as table
+use Rattle.wiring_table.specs.Wires.{LineWire}
+use Rattle.wiring_table.specs.Wires as table
 use Rattle.wire_gen.proofs.Fields.{named-field, named-has}
 use Rattle.wire_gen.proofs.JoinLines.{by-one}
 

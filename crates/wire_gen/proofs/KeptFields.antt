@@ -1,27 +1,27 @@
 -- What the rules of charts tell of the fields of a lawful chart, and of its lines one by one.
 use Rattle.std.proofs.Common.{◌≡◌, ℕ, ◌≤◌, ◌⊎◌, inl, inr, Bool, true, false, not, ◌&&◌, nat_le, is_none, List, length, Option, Some, None, refl, sym, ap, ◌∙◌, subst, arith}
 use Rattle.std.proofs.lemmas.Option.{slice_get_read}
-use Rattle.chart_rules.specs.Fields.{field_named}
-use Rattle.chart_text.specs.Field.{columns_of, decimals_of, is_amount, sign_column}
-use Rattle.chart_text.specs.declared.chart.Line.{Line}
-use Rattle.chart_text.specs.declared.statement.Field.{Field}
-use Rattle.chart_text.specs.declared.statement.FieldKind.{FieldKind}
-use Rattle.chart_text.specs.declared.statement.FieldKind.TheVariants as holds
-use Rattle.chart_text.specs.declared.statement.Statement.TheVariants as says
-use Rattle.wire_gen.specs.HelperItems.{IsNamed}
+use Rattle.field_rules.specs.Fields.{field_named}
+use Rattle.charts.specs.Field.{columns_of, decimals_of, is_amount, sign_column}
+use Rattle.charts.specs.declared.chart.Line.{Line}
+use Rattle.charts.specs.declared.statement.Field.{Field}
+use Rattle.charts.specs.declared.statement.FieldKind.{FieldKind}
+use Rattle.charts.specs.declared.statement.FieldKind.TheVariants as holds
+use Rattle.charts.specs.declared.statement.Statement.TheVariants as says
+use Rattle.wire_gen.specs.HelperKnown.{IsNamed}
 use Rattle.std.specs.List.{Contains}
 use Rattle.std.proofs.lemmas.Bool.Decides.{nat_tests}
 use Rattle.chart_rules.proofs.Laws.{breaks-lawful, LineOf, LineOf-field, statement-field, IsOnCard-field}
-use Rattle.chart_rules.specs.Columns.{breaks_columns, breaks_amount_size, has_good_sign, is_too_large}
-use Rattle.chart_rules.specs.Fields.{fields_of}
+use Rattle.field_rules.specs.Columns.{breaks_columns, breaks_amount_size, has_good_sign, is_too_large}
+use Rattle.field_rules.specs.Fields.{fields_of}
 use Rattle.chart_rules.specs.HelperOnCard.{IsOnCard}
 use Rattle.chart_rules.specs.Rules.{breaks, IsLawful}
 use Rattle.chart_rules.specs.declared.rule.Rule.{Rule}
 use Rattle.chart_rules.specs.declared.rule.Rule.TheVariants as rule
-use Rattle.chart_text.specs.Chart.{Chart}
-use Rattle.chart_text.specs.Name.{is_same_name}
-use Rattle.wire_gen.proofs.Listed.{listed-place, found-listed}
-use Rattle.wire_gen.specs.HelperItems.{HasGoodSign}
+use Rattle.charts.specs.Chart.{Chart}
+use Rattle.charts.specs.Name.{is_same_name}
+use Rattle.wiring_table.proofs.Listed.{listed-place, found-listed}
+use Rattle.wire_gen.specs.HelperKnown.{HasGoodSign}
 
 -- the rules that a listed line keeps
 pub kept-line : (chart : Chart) → IsLawful chart → (line : Line) → Contains chart.lines line → (each : Rule)

@@ -1,55 +1,56 @@
 -- What is known of each line of a lawful chart and its plan.
 use Rattle.std.proofs.Common.{◌≡◌, ℕ, zero, suc, ◌+◌, ◌<◌, ◌≤◌, ◌⊎◌, inl, inr, Bool, true, false, not, ◌&&◌, ◌||◌, ◌==◌, cond, nat_lt, nat_le, is_some, option_map, List, [], ◌∷◌, length, Option, Some, None, slice_get, refl, sym, ap, ◌∙◌, subst, arith}
 use Rattle.std.proofs.lemmas.Option.{slice_get_within, get_or_from_slice_get}
-use Rattle.allocate.specs.Plans.{Lists}
-use Rattle.chart_rules.specs.Fields.{field_named}
-use Rattle.chart_rules.specs.Items.{mark_shown}
-use Rattle.chart_text.specs.Field.{columns_of, decimals_of, is_amount, sign_column}
-use Rattle.chart_text.specs.Levels.{level_number}
-use Rattle.chart_text.specs.declared.chart.Line.{Line}
-use Rattle.chart_text.specs.declared.level.ControlLevel.{ControlLevel}
-use Rattle.chart_text.specs.declared.level.Level.{Level}
-use Rattle.chart_text.specs.declared.statement.After.{After}
-use Rattle.chart_text.specs.declared.statement.After.TheVariants as action
-use Rattle.chart_text.specs.declared.statement.BodyLine.{BodyLine}
-use Rattle.chart_text.specs.declared.statement.DetailOption.{DetailOption}
-use Rattle.chart_text.specs.declared.statement.Field.{Field}
-use Rattle.chart_text.specs.declared.statement.FieldKind.{FieldKind}
-use Rattle.chart_text.specs.declared.statement.FieldKind.TheVariants as holds
-use Rattle.chart_text.specs.declared.statement.Mark.{Mark}
-use Rattle.chart_text.specs.declared.statement.Statement.{Statement}
-use Rattle.chart_text.specs.declared.statement.Statement.TheVariants as says
-use Rattle.wire_gen.specs.Figures.{mark_wheel}
-use Rattle.wire_gen.specs.HelperItems.{IsGood, IsGoodDetail, IsGoodTotal, IsGoodTotalText, IsNamed}
-use Rattle.wire_gen.specs.HelperLevels.{HasGroupFor}
-use Rattle.wire_gen.specs.Parts.{IsNextHigher}
+use Rattle.plans.specs.Plans.{Lists, IsFor}
+use Rattle.field_rules.specs.Fields.{field_named}
+use Rattle.print_rules.specs.Items.{mark_shown}
+use Rattle.charts.specs.Field.{columns_of, decimals_of, is_amount, sign_column}
+use Rattle.charts.specs.Levels.{level_number}
+use Rattle.charts.specs.declared.chart.Line.{Line}
+use Rattle.charts.specs.declared.level.ControlLevel.{ControlLevel}
+use Rattle.charts.specs.declared.level.Level.{Level}
+use Rattle.charts.specs.declared.statement.After.{After}
+use Rattle.charts.specs.declared.statement.After.TheVariants as action
+use Rattle.charts.specs.declared.statement.BodyLine.{BodyLine}
+use Rattle.charts.specs.declared.statement.DetailOption.{DetailOption}
+use Rattle.charts.specs.declared.statement.Field.{Field}
+use Rattle.charts.specs.declared.statement.FieldKind.{FieldKind}
+use Rattle.charts.specs.declared.statement.FieldKind.TheVariants as holds
+use Rattle.charts.specs.declared.statement.Mark.{Mark}
+use Rattle.charts.specs.declared.statement.Statement.{Statement}
+use Rattle.charts.specs.declared.statement.Statement.TheVariants as says
+use Rattle.wiring_table.specs.Figures.{mark_wheel}
+use Rattle.line_wires.specs.HelperItems.{IsGoodDetail}
+use Rattle.total_wires.specs.HelperTotals.{IsGoodTotal}
+use Rattle.wire_gen.specs.HelperKnown.{IsGood, IsGoodTotalText, IsNamed}
+use Rattle.total_wires.specs.HelperLevels.{HasGroupFor}
+use Rattle.wiring_table.specs.Parts.{IsNextHigher}
 use Rattle.std.specs.Prelude.{map}
 use Rattle.std.specs.List.{Contains, filter}
 use Rattle.std.proofs.lemmas.Bool.{cases_lt}
 use Rattle.std.proofs.lemmas.Bool.Decides.{nat_tests}
-use Rattle.allocate.specs.Plans.{IsFor}
-use Rattle.allocate.specs.Units.{is_of_kind, is_wide, is_wide_text, wide_texts_of}
-use Rattle.chart_rules.proofs.Places.{is_same_name-equal}
-use Rattle.chart_rules.specs.Fields.{fields_of}
+use Rattle.wanted.specs.Units.{is_of_kind, is_wide, is_wide_text, wide_texts_of}
+use Rattle.field_rules.proofs.Places.{is_same_name-equal}
+use Rattle.field_rules.specs.Fields.{fields_of}
 use Rattle.chart_rules.specs.HelperOnCard.{IsOnCard}
-use Rattle.chart_rules.specs.Items.{item_of, mark_width, detail_item, text_item, total_item}
-use Rattle.chart_rules.specs.declared.items.Item.{Item}
-use Rattle.chart_rules.specs.declared.items.PrintedLine.TheVariants.{Body, Heading}
-use Rattle.chart_text.specs.declared.statement.BodyLine.TheVariants as body
-use Rattle.chart_rules.specs.Names.{names_amount, names_text, is_unknown}
-use Rattle.chart_rules.specs.Digits.{is_out_of_digits}
+use Rattle.print_rules.specs.Items.{item_of, mark_width, detail_item, text_item, total_item}
+use Rattle.print_rules.specs.declared.items.Item.{Item}
+use Rattle.print_rules.specs.declared.items.PrintedLine.TheVariants.{Body, Heading}
+use Rattle.charts.specs.declared.statement.BodyLine.TheVariants as body
+use Rattle.field_rules.specs.Names.{names_amount, names_text, is_unknown}
+use Rattle.field_rules.specs.Digits.{is_out_of_digits}
 use Rattle.chart_rules.specs.Rules.{breaks, IsLawful}
-use Rattle.chart_rules.specs.Shrink.{has_wider_below, is_wider_below}
-use Rattle.chart_rules.specs.Tapes.{has_tape, is_tape_of, form_lines, rise_above, are_within}
-use Rattle.chart_rules.specs.Wheels.{is_off_wheels}
+use Rattle.field_rules.specs.Shrink.{has_wider_below, is_wider_below}
+use Rattle.print_rules.specs.Tapes.{has_tape, is_tape_of, form_lines, rise_above, are_within}
+use Rattle.print_rules.specs.Wheels.{is_off_wheels}
 use Rattle.chart_rules.specs.declared.rule.Rule.{Rule}
 use Rattle.chart_rules.specs.declared.rule.Rule.TheVariants as rule
-use Rattle.chart_text.specs.Chart.{Chart, NumbersRise}
-use Rattle.chart_text.specs.Name.{is_same_name}
-use Rattle.wire_gen.proofs.Listed.{listed-cases, listed-none, none-any, any-passing}
-use Rattle.wire_gen.specs.HelperItems.{HasWheels, DetailRanges}
-use Rattle.wire_gen.specs.HelperRanges.{HasChannel}
-use Rattle.wire_gen.specs.Parts.{HasTotal}
+use Rattle.charts.specs.Chart.{Chart, NumbersRise}
+use Rattle.charts.specs.Name.{is_same_name}
+use Rattle.wiring_table.proofs.Listed.{listed-cases, listed-none, none-any, any-passing}
+use Rattle.line_wires.specs.HelperItems.{HasWheels, DetailRanges}
+use Rattle.line_wires.specs.HelperRanges.{HasChannel}
+use Rattle.wiring_table.specs.Parts.{HasTotal}
 use Rattle.wire_gen.proofs.KeptFields.{kept-line, good-field, known-name, named-by, good-sign, wheels-within}
 use Rattle.wire_gen.proofs.KeptTotals.{group-there, total-alone}
 

@@ -1,35 +1,34 @@
 -- The counter groups of the totals of a lawful chart, and its next higher totals.
 use Rattle.std.proofs.Common.{append_assoc, get_or, ◌≡◌, ℕ, ◌<◌, ◌≤◌, ◌⊎◌, inl, inr, Bool, true, false, ◌&&◌, ◌||◌, ◌==◌, find, option_map, option_and_then, position, List, [], ◌∷◌, ◌++◌, Option, Some, None, slice_get, refl, sym, ap, ◌∙◌, arith}
 use Rattle.std.proofs.lemmas.Option.{slice_get_within, slice_get-get_or}
-use Rattle.allocate.specs.Plans.{Lists}
-use Rattle.chart_rules.specs.Fields.{field_named}
-use Rattle.chart_text.specs.Levels.{level_number}
-use Rattle.chart_text.specs.declared.chart.Line.{Line}
-use Rattle.chart_text.specs.declared.level.Level.{Level}
-use Rattle.chart_text.specs.declared.statement.Mark.{Mark}
-use Rattle.chart_text.specs.declared.statement.Statement.{Statement}
-use Rattle.chart_text.specs.declared.statement.Statement.TheVariants as says
-use Rattle.wire_gen.specs.HelperLevels.{HasGroupFor}
+use Rattle.plans.specs.Plans.{Lists, IsFor, group_on}
+use Rattle.field_rules.specs.Fields.{field_named}
+use Rattle.charts.specs.Levels.{level_number}
+use Rattle.charts.specs.declared.chart.Line.{Line}
+use Rattle.charts.specs.declared.level.Level.{Level}
+use Rattle.charts.specs.declared.statement.Mark.{Mark}
+use Rattle.charts.specs.declared.statement.Statement.{Statement}
+use Rattle.charts.specs.declared.statement.Statement.TheVariants as says
+use Rattle.total_wires.specs.HelperLevels.{HasGroupFor}
 use Rattle.std.specs.List.{Contains, list_any}
 use Rattle.std.proofs.lemmas.Bool.Decides.{nat_tests}
-use Rattle.allocate.specs.ChartTotals.{need_of, total_of, totals_of}
-use Rattle.allocate.specs.Plans.{IsFor, group_on}
-use Rattle.allocate.specs.declared.total.Total.{Total}
-use Rattle.allocate.proofs.GroupPlaces.{width-cases}
+use Rattle.wanted.specs.ChartTotals.{need_of, total_of, totals_of}
+use Rattle.wanted.specs.declared.total.Total.{Total}
+use Rattle.plans.proofs.CounterGroups.{width-cases}
 use Rattle.capacity.specs.Capacities.{HasGroup, standard}
 use Rattle.capacity.specs.declared.group.CounterGroup.{CounterGroup}
 use Rattle.chart_rules.proofs.Laws.{breaks-lawful}
-use Rattle.chart_rules.proofs.Places.{find_at_position, is_same_name-equal}
-use Rattle.chart_rules.specs.Repeats.{repeats}
+use Rattle.field_rules.proofs.Places.{find_at_position, is_same_name-equal}
+use Rattle.field_rules.specs.Repeats.{repeats}
 use Rattle.chart_rules.specs.Rules.{IsLawful}
 use Rattle.chart_rules.specs.declared.rule.Rule.TheVariants as rule
-use Rattle.chart_text.specs.Chart.{Chart, NumbersRise}
-use Rattle.chart_text.specs.Name.{is_same_name}
-use Rattle.wire_gen.proofs.Listed.{listed-cases, listed-none, listed-place, found-listed, none-found, given-by, listed-given}
-use Rattle.wire_gen.specs.HelperRanges.{IsOnPanel}
-use Rattle.wire_gen.specs.Parts.{HasTotal, panel_group}
+use Rattle.charts.specs.Chart.{Chart, NumbersRise}
+use Rattle.charts.specs.Name.{is_same_name}
+use Rattle.wiring_table.proofs.Listed.{listed-cases, listed-none, listed-place, found-listed, none-found, given-by, listed-given}
+use Rattle.total_wires.specs.HelperLevels.{IsOnPanel}
+use Rattle.wiring_table.specs.Parts.{HasTotal, panel_group}
 use Rattle.std.proofs.lemmas.List.Folds.{list_any-append}
-use Rattle.allocate.specs.Groups.{IsAssignment}
+use Rattle.plans.specs.Assignments.{IsAssignment}
 
 above-head : (line : Line) (lines : List Line) (end : ℕ) (other : Line) → NumbersRise (line ∷ lines) end → Contains lines other
     → line.number < other.number

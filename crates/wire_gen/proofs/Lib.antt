@@ -1,20 +1,12 @@
-pub mod AmountBack
-pub mod ChartJacks
-pub mod Fields
-pub mod FigureLines
-pub mod JoinAmount
-pub mod JoinDetail
-pub mod JoinLines
-pub mod JoinTotal
-pub mod KeptFields
-pub mod KeptLines
-pub mod KeptTape
-pub mod KeptTotals
-pub mod Listed
-pub mod Plugging
-pub mod RowSets
-pub mod Steps
-pub mod TapeStops
-pub mod TotalLevels
-pub mod Whole
-pub mod WholeLines
+mod AmountBack
+mod Fields
+mod FigureLines
+mod JoinAmount
+mod JoinDetail
+mod JoinLines
+mod JoinTotal
+mod KeptFields
+mod KeptLines
+mod KeptTotals
+mod Whole
+mod WholeLines

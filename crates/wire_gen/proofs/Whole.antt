@@ -1,16 +1,16 @@
 -- A setup with the tape, the jacks and the wires of a chart is wired for it.
 use Rattle.std.proofs.Common.{◌≡◌, inl, inr, true, false, List, sym, ◌∙◌, subst}
-use Rattle.allocate.specs.Plans.{Lists}
-use Rattle.chart_text.specs.declared.chart.Line.{Line}
-use Rattle.hubs.specs.Tapes.{Form}
-use Rattle.hubs.specs.Wiring.{Wiring, HasWire, is_plugged}
+use Rattle.plans.specs.Plans.{Lists}
+use Rattle.charts.specs.declared.chart.Line.{Line}
+use Rattle.setups.specs.Tapes.{Form}
+use Rattle.setups.specs.Wiring.{Wiring, HasWire, is_plugged}
 use Rattle.hubs.specs.declared.hub.Hub.{Hub}
 use Rattle.hubs.specs.declared.jack.Jack.{Jack}
-use Rattle.wire_gen.specs.HelperAdds.{Adds}
-use Rattle.wire_gen.specs.HelperJacks.{Plugs}
-use Rattle.wire_gen.specs.Jacks.{ChartJack}
-use Rattle.wire_gen.specs.Wires.{ChartWire}
-use Rattle.wire_gen.specs.WiredFor.{IsTapeOf, WiredFor}
+use Rattle.line_wires.specs.HelperAdds.{Adds}
+use Rattle.jacks_and_tape.specs.HelperJacks.{Plugs}
+use Rattle.wiring_table.specs.Jacks.{ChartJack}
+use Rattle.wiring_table.specs.Wires.{ChartWire}
+use Rattle.wiring_table.specs.WiredFor.{IsTapeOf, WiredFor}
 
 pub whole : (lines : List Line) (plan : Lists) (tape : Form) (bare plugged wired : Wiring) → IsTapeOf lines tape
     → ((exit entry : Hub) → ¬ HasWire bare exit entry) → ((jack : Jack) → is_plugged bare jack ≡ false) → bare.tape ≡ tape

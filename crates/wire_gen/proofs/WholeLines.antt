@@ -1,29 +1,29 @@
 -- The wires of the lines of a chart, one by one and all together, are those of the table.
 use Rattle.std.proofs.Common.{ℕ, List, length, refl, sym}
 use Rattle.std.proofs.lemmas.Option.{get_or_from_slice_get, slice_get_read}
-use Rattle.allocate.specs.Plans.{Lists}
-use Rattle.chart_text.specs.Headings.{heading_number}
-use Rattle.chart_text.specs.Levels.{level_number}
-use Rattle.chart_text.specs.declared.chart.Line.{Line}
-use Rattle.chart_text.specs.declared.statement.Statement.{Statement}
-use Rattle.chart_text.specs.declared.statement.Statement.TheVariants as says
+use Rattle.plans.specs.Plans.{Lists}
+use Rattle.charts.specs.Headings.{heading_number}
+use Rattle.charts.specs.Levels.{level_number}
+use Rattle.charts.specs.declared.chart.Line.{Line}
+use Rattle.charts.specs.declared.statement.Statement.{Statement}
+use Rattle.charts.specs.declared.statement.Statement.TheVariants as says
 use Rattle.hubs.specs.declared.hub.Hub.{Hub}
-use Rattle.wire_gen.specs.Figures.{IsText, IsAmount, IsSigned, IsUnsigned, IsLiteral, on_heading, on_detail, on_total, IsFigure, HasPunch, HasPunchAt, rule_of, digit_wheel, point_wheel, mark_wheel, mark_characters, detail_emitter, heading_emitter, total_emitter}
-use Rattle.wire_gen.specs.Figures as figures
-use Rattle.wire_gen.specs.HelperAdds.{below, some}
-use Rattle.wire_gen.specs.HelperItems.{IsGood}
+use Rattle.wiring_table.specs.Figures.{IsText, IsAmount, IsSigned, IsUnsigned, IsLiteral, on_heading, on_detail, on_total, IsFigure, HasPunch, HasPunchAt, rule_of, digit_wheel, point_wheel, mark_wheel, mark_characters, detail_emitter, heading_emitter, total_emitter}
+use Rattle.wiring_table.specs.Figures as figures
+use Rattle.line_wires.specs.HelperAdds.{below, some}
+use Rattle.wire_gen.specs.HelperKnown.{IsGood}
 use Rattle.wire_gen.specs.HelperLines.{StatementWires, WiresBefore}
-use Rattle.wire_gen.specs.Wires.{LineWire}
-use Rattle.wire_gen.specs.Wires as table
-use Rattle.hubs.specs.Wiring.{Wiring}
-use Rattle.wire_gen.specs.HelperAdds.{Adds}
-use Rattle.wire_gen.specs.Wires.{ChartWire}
+use Rattle.wiring_table.specs.Wires.{LineWire}
+use Rattle.wiring_table.specs.Wires as table
+use Rattle.setups.specs.Wiring.{Wiring}
+use Rattle.line_wires.specs.HelperAdds.{Adds}
+use Rattle.wiring_table.specs.Wires.{ChartWire}
 use Rattle.wire_gen.proofs.AmountBack.{total-back}
 use Rattle.wire_gen.proofs.JoinAmount.{total-there}
 use Rattle.wire_gen.proofs.JoinDetail.{detail-there, detail-back}
 use Rattle.wire_gen.proofs.JoinLines.{field-there, field-back, literal-there, heading-back, detail_literal-back, total_literal-back, control-there, control-back, space-there, space-back, after-there, after-back}
 use Rattle.wire_gen.proofs.JoinTotal.{total_text-there, total_text-back}
-use Rattle.wire_gen.proofs.Steps.{adds-as}
+use Rattle.line_wires.proofs.Steps.{adds-as}
 
 module _ (lines : List Line) (plan : Lists) (number : ℕ) where
   there : (statement : Statement) → IsGood lines plan number statement → (exit to : Hub)

@@ -1,18 +1,20 @@
 -- A helper of the code: the wires of a line of the chart as the code adds them.
 use Rattle.std.specs.Prelude.{ℕ, List, slice_get}
-use Rattle.allocate.specs.Plans.{Lists}
-use Rattle.chart_rules.specs.Fields.{field_named}
-use Rattle.chart_text.specs.Headings.{heading_number}
-use Rattle.chart_text.specs.Levels.{level_number}
-use Rattle.chart_text.specs.declared.chart.Line.{Line}
-use Rattle.chart_text.specs.declared.statement.Statement.{Statement}
-use Rattle.chart_text.specs.declared.statement.Statement.TheVariants as says
-use Rattle.wire_gen.specs.Figures.{detail_emitter, heading_emitter, total_emitter}
-use Rattle.wire_gen.specs.HelperAdds.{OfSome, Upto}
-use Rattle.wire_gen.specs.HelperItems.{DetailWires, NoWires, TotalWires}
-use Rattle.wire_gen.specs.HelperRows.{AfterWires, ComparedWires, LiteralWires, PickupWires, SpaceWires, TotalTextWires, Wires}
-use Rattle.wire_gen.specs.Parts.{group_for, unit_for}
-use Rattle.wire_gen.specs.Wires.{LineWire}
+use Rattle.plans.specs.Plans.{Lists}
+use Rattle.field_rules.specs.Fields.{field_named}
+use Rattle.charts.specs.Headings.{heading_number}
+use Rattle.charts.specs.Levels.{level_number}
+use Rattle.charts.specs.declared.chart.Line.{Line}
+use Rattle.charts.specs.declared.statement.Statement.{Statement}
+use Rattle.charts.specs.declared.statement.Statement.TheVariants as says
+use Rattle.wiring_table.specs.Figures.{detail_emitter, heading_emitter, total_emitter}
+use Rattle.line_wires.specs.HelperAdds.{OfSome, Upto}
+use Rattle.line_wires.specs.HelperItems.{DetailWires, NoWires}
+use Rattle.total_wires.specs.HelperTotals.{TotalWires}
+use Rattle.line_wires.specs.HelperRows.{AfterWires, ComparedWires, LiteralWires, PickupWires, SpaceWires, Wires}
+use Rattle.total_wires.specs.HelperTotalRows.{TotalTextWires}
+use Rattle.wiring_table.specs.Parts.{group_for, unit_for}
+use Rattle.wiring_table.specs.Wires.{LineWire}
 
 -- the wires that a line of the chart gives, by its number and what it says
 abbrev pub StatementWires : List Line → Lists → ℕ → Statement → Wires

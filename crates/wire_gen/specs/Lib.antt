@@ -1,12 +1,2 @@
-pub mod Figures
-pub mod Parts
-pub mod Wires
-pub mod Jacks
-pub mod WiredFor
-pub mod HelperAdds
-pub mod HelperRows
-pub mod HelperRanges
-pub mod HelperLevels
-pub mod HelperItems
+pub mod HelperKnown
 pub mod HelperLines
-pub mod HelperJacks

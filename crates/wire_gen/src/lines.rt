@@ -1,27 +1,26 @@
 //! The lines of a chart, one by one.
 
 ghost use Rattle.std.specs.Prelude.{◌≡◌, ℕ, OnOk, Some, slice_get, length};
-ghost use Rattle.chart_rules.specs.Fields.{field_named};
+ghost use Rattle.field_rules.specs.Fields.{field_named};
 ghost use Rattle.chart_rules.specs.HelperOnCard.{IsOnCard};
-ghost use Rattle.chart_text.specs.declared.chart.Line.{Line};
-ghost use Rattle.wire_gen.specs.HelperAdds.{Adds, OfSome};
-ghost use Rattle.wire_gen.specs.HelperItems.{DetailWires, IsGood, IsGoodDetail, IsGoodTotal, IsGoodTotalText, IsNamed, TotalWires};
+ghost use Rattle.charts.specs.declared.chart.Line.{Line};
+ghost use Rattle.line_wires.specs.HelperAdds.{Adds, OfSome};
+ghost use Rattle.line_wires.specs.HelperItems.{DetailWires, IsGoodDetail};
+ghost use Rattle.total_wires.specs.HelperTotals.{IsGoodTotal, TotalWires};
+ghost use Rattle.wire_gen.specs.HelperKnown.{IsGood, IsGoodTotalText, IsNamed};
 ghost use Rattle.wire_gen.specs.HelperLines.{StatementWires, WiresBefore};
-ghost use Rattle.wire_gen.specs.HelperRows.{ComparedWires, TotalTextWires};
-ghost use Rattle.wire_gen.specs.Parts.{group_for, unit_for};
-ghost use Rattle.wire_gen.specs.Wires.{LineWire};
+ghost use Rattle.line_wires.specs.HelperRows.{ComparedWires};
+ghost use Rattle.total_wires.specs.HelperTotalRows.{TotalTextWires};
+ghost use Rattle.wiring_table.specs.Parts.{group_for, unit_for};
+ghost use Rattle.wiring_table.specs.Wires.{LineWire};
 
-use crate::character::wire_literal;
-use crate::control::wire_control;
-use crate::items::{wire_detail, wire_total};
-use crate::pilot::wire_pickup;
-use crate::spacing::{wire_after, wire_space};
-use crate::total_text::wire_total_text;
-use allocate::Plan;
 use chart_rules::Chart;
-use chart_text::{ControlLevel, DetailOption, Level, Line, Mark, Name, Statement};
-use hubs::Setup;
+use charts::{ControlLevel, DetailOption, Level, Line, Mark, Name, Statement};
+use line_wires::{wire_after, wire_control, wire_detail, wire_literal, wire_pickup, wire_space};
+use plans::Plan;
+use setups::Setup;
 use std::alloc::AllocError;
+use total_wires::{wire_total, wire_total_text};
 
 // Wires a control field.
 fn wire_control_line(

@@ -1,15 +1,14 @@
 //! Wiring a setup for a chart and its plan.
 
 ghost use Rattle.std.specs.Prelude.{IfOk};
-ghost use Rattle.allocate.specs.Plans.{IsFor};
-ghost use Rattle.wire_gen.specs.WiredFor.{WiredFor};
+ghost use Rattle.plans.specs.Plans.{IsFor};
+ghost use Rattle.wiring_table.specs.WiredFor.{WiredFor};
 
-use crate::chart_tape::tape_of;
 use crate::lines::wire_lines;
-use crate::panel_jacks::plug_jacks;
-use allocate::Plan;
 use chart_rules::Chart;
-use hubs::Setup;
+use jacks_and_tape::{plug_jacks, tape_of};
+use plans::Plan;
+use setups::Setup;
 use std::alloc::{AllocError, Global};
 
 /// The setup that is wired for a chart by its plan: exactly the wires, jacks and tape that they ask for. Its only refusal is

@@ -1,5 +1,5 @@
 use Rattle.std.proofs.Common.{◌∙◌}
-use Rattle.allocate.proofs.Plans.{HasGroupsFor-fits, IsWithinMachine-fits, Serves-fits}
+use Rattle.allocate.proofs.Fitting.{HasGroupsFor-fits, IsWithinMachine-fits, Serves-fits}
 use Rattle.allocate.proofs.allocation.allocate.Goals as goal
 
 pub assign-requires-clause-enough : goal.assign-requires-clause-enough

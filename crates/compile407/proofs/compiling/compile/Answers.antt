@@ -1,8 +1,8 @@
 use Rattle.std.proofs.Common.{◌≢◌, subst, sym}
 use Rattle.std.proofs.lemmas.Result.{err_from_is_err_and}
 use Rattle.allocate.specs.Exceeded.{Fits, HasFault as Exceeds}
-use Rattle.allocate.specs.Plans.{IsPlanOf}
-use Rattle.allocate.specs.Wanted.{wanted_of}
+use Rattle.allocate.specs.Allocated.{IsPlanOf}
+use Rattle.wanted.specs.Wanted.{wanted_of}
 use Rattle.allocate.specs.declared.fault.CapacityFault.TheVariants as exceeds
 use Rattle.capacity.specs.Capacities.{Capacities}
 use Rattle.chart_text.specs.ChartText.{Reads}

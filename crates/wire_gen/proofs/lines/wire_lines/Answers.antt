@@ -1,6 +1,6 @@
 use Rattle.std.proofs.Common.{Some, ap, arith, length, refl, slice_get, sym, ◌∙◌, ◌≡◌}
 use Rattle.std.proofs.lemmas.Option.{slice_get_read}
-use Rattle.wire_gen.proofs.Steps.{adds-some, upto-all, upto-more, upto-none}
+use Rattle.line_wires.proofs.Steps.{adds-some, upto-all, upto-more, upto-none}
 use Rattle.wire_gen.proofs.lines.wire_lines.Goals as goal
 
 pub loop-line-init : goal.loop-line-init

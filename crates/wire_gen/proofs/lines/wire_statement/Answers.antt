@@ -1,6 +1,6 @@
 use Rattle.std.proofs.Common.{OnOk}
-use Rattle.wire_gen.proofs.Steps.{by-said}
-use Rattle.wire_gen.specs.HelperAdds.{Adds}
+use Rattle.line_wires.proofs.Steps.{by-said}
+use Rattle.line_wires.specs.HelperAdds.{Adds}
 use Rattle.wire_gen.specs.HelperLines.{StatementWires}
 use Rattle.wire_gen.proofs.lines.wire_statement.Goals as goal
 

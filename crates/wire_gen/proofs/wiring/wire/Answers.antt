@@ -1,12 +1,8 @@
 use Rattle.wire_gen.proofs.FigureLines.{figures-are}
 use Rattle.wire_gen.proofs.KeptLines.{good-lines}
-use Rattle.wire_gen.proofs.KeptTape.{has-tape}
 use Rattle.wire_gen.proofs.Whole.{whole}
 use Rattle.wire_gen.proofs.WholeLines.{chart-wires}
 use Rattle.wire_gen.proofs.wiring.wire.Goals as goal
-
-pub tape_of-requires : goal.tape_of-requires
-tape_of-requires c = has-tape c.args.chart.now c.lines-lines.ensures.lawful
 
 pub plug_jacks-requires : goal.plug_jacks-requires
 plug_jacks-requires c =

@@ -1,8 +1,8 @@
 use Rattle.std.proofs.Common.{◌≤◌, ◌∙◌, ap, take, replicate, arith}
 use Rattle.std.proofs.lemmas.Bool.Decides.{nat_tests}
 use Rattle.std.proofs.lemmas.List.{take-replicate}
-use Rattle.hubs.proofs.WiredLemmas.{HasWire-is_wired}
-use Rattle.hubs.specs.Wiring.{is_wired}
+use Rattle.setups.proofs.WiredLemmas.{HasWire-is_wired}
+use Rattle.setups.specs.Wiring.{is_wired}
 use Rattle.hubs.specs.declared.hub.Group.{Group}
 use Rattle.hubs.specs.declared.hub.Hub.TheVariants.{CO, CI}
 use Rattle.counters.specs.Counters.{counter_of}

@@ -4,7 +4,7 @@ use Rattle.std.proofs.lemmas.List.{length-take-le}
 use Rattle.std.proofs.lemmas.List.Elements.{All-append, All-drop}
 use borrow.Rule.Slice.PartMut.{post_of}
 use Rattle.card_code.specs.Rows.{row_number}
-use Rattle.hubs.specs.Places.{positions_before}
+use Rattle.hub_table.specs.Places.{positions_before}
 use Rattle.hubs.specs.declared.hub.Hub.TheVariants.{GE}
 use Rattle.net.proofs.KindRows.{row_bit, GE_numbered}
 use Rattle.net.specs.HubSets.{has_hub, is_bit}

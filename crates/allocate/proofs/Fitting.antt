@@ -1,0 +1,43 @@
+-- What fits a machine can be planned.
+use Rattle.std.proofs.Common.{◌≡◌, ℕ, ◌<◌, ◌≤◌, [], arith}
+use Rattle.capacity.specs.Capacities.{Capacities, standard, IsAtMost}
+use Rattle.wanted.specs.Wanted.{Wanted}
+use Rattle.plans.specs.Assignments.{IsAssignment}
+use Rattle.plans.specs.Plans.{Lists, IsWithinMachine, Serves}
+use Rattle.plans.proofs.Plans.{Serves-from, wide_texts-none}
+use Rattle.allocate.specs.Exceeded.{Fits}
+use Rattle.allocate.specs.HelperCounters.{HasGroupsFor}
+use Rattle.allocate.proofs.Assignments.{HasGroupsFor-from, IsAssignment-standard}
+use Rattle.allocate.proofs.Order.{NotOver-fits}
+
+-- where what is wanted fits a machine, what its parts serve is within the standard machine
+pub IsWithinMachine-fits : (wanted : Wanted) (machine : Capacities) → Fits wanted machine → IsAtMost machine standard → IsWithinMachine wanted.parts
+IsWithinMachine-fits wanted machine fits most =
+    let not = NotOver-fits wanted machine fits in
+    let below : (m n : ℕ) → ¬ (m < n) → n ≤ m = λ m n h. omega arith in
+    record {
+      pilots = omega (arith, below _ _ not.pilots, most.pilots);
+      comparing = omega (arith, below _ _ not.comparing, most.comparing);
+      storage = omega (arith, below _ _ not.storage_units, most.storage);
+      splits = omega (arith, below _ _ not.splits, most.splits);
+      minor = omega (arith, below _ _ not.minor, most.indicate);
+      intermediate = omega (arith, below _ _ not.intermediate, most.indicate);
+      major = omega (arith, below _ _ not.major, most.indicate);
+    }
+
+-- where what is wanted fits, no total text is too wide
+pub wide_texts-fits : (wanted : Wanted) (machine : Capacities) → Fits wanted machine → [] ≡ wanted.wide_texts
+wide_texts-fits wanted machine fits = wide_texts-none wanted.wide_texts (NotOver-fits wanted machine fits).storage_width
+
+-- where what is wanted fits, there are counter groups enough
+pub HasGroupsFor-fits : (wanted : Wanted) (machine : Capacities) → Fits wanted machine → HasGroupsFor machine wanted.totals
+HasGroupsFor-fits wanted machine fits =
+    let not = NotOver-fits wanted machine fits in
+    HasGroupsFor-from wanted.totals machine not.eights not.sixes not.fours not.threes
+
+-- a plan that serves all where what is wanted fits a machine
+pub Serves-fits : (wanted : Wanted) (machine : Capacities) (plan : Lists) → Fits wanted machine → IsAtMost machine standard
+    → IsAssignment wanted.totals machine plan.groups → plan.parts ≡ wanted.parts → Serves wanted plan
+Serves-fits wanted machine plan fits most assigned same =
+    Serves-from wanted plan (rw same (IsWithinMachine-fits wanted machine fits most))
+    (IsAssignment-standard wanted.totals machine plan.groups assigned most) same (wide_texts-fits wanted machine fits)

@@ -1,5 +1,0 @@
-use Rattle.allocate.proofs.Single.{AreSingleBelow}
-use Rattle.allocate.proofs.assignment.are_single.Given as goal
-
-abbrev pub invariant-loop-place : goal.invariant-loop-place
-invariant-loop-place l = AreSingleBelow l.groups l.place

@@ -1,0 +1,123 @@
+-- Closed contacts passed on by rows of bits.
+use Rattle.std.proofs.Common.{⊎_elim, ◌≡◌, ℕ, ◌+◌, ◌-◌, ◌*◌, ◌%◌, ◌^◌, ◌<◌, ◌≤◌, ◌∙◌, sym, ap, refl, arith, Bool, true, false, not, ◌&&◌, ◌||◌, List, length, slice_index_or, drop, [], ◌∷◌, add-one}
+use Rattle.std.proofs.Math.Seq.{drop-cons}
+use Rattle.std.proofs.lemmas.Grind.{common_steps}
+use Rattle.std.specs.Prelude.{nat_le, nat_lt}
+use Rattle.std.specs.Int.{bit_not, w128}
+use Rattle.std.specs.Int.Bits.{bit_and}
+use Rattle.std.proofs.lemmas.Bool.Decides.{nat_tests}
+use Rattle.std.proofs.lemmas.Bool.{cases_lt}
+use Rattle.std.proofs.lemmas.Nat.{one_shl}
+use Rattle.std.proofs.Math.Bool.{and-false, or-false}
+use Rattle.bit_sets.specs.Bits.{is_bit, has_place, is_in_run}
+use Rattle.bit_sets.specs.Contacts.{passes_run, passes, IsRunInRange}
+use Rattle.bit_sets.specs.declared.contacts.Run.{Run}
+use Rattle.bit_sets.proofs.BitLemmas.{is_bit-and, is_bit-not, is_bit-ones, none_set}
+
+-- the first so many bits, as code makes them
+pub ones_short : (count k : ℕ) → count < 128 → is_bit (1 * 2 ^ count % 2 ^ 128 - 1) k ≡ nat_lt k count
+ones_short count k small = ap (λ n. is_bit (n - 1) k) (one_shl count 128 small) ∙ is_bit-ones count k
+
+pub ones_full : (count k : ℕ) → count ≤ 128 → 128 ≤ count → is_bit (2 ^ 128 - 1) k ≡ nat_lt k count
+ones_full count k le ge = let same : 128 ≡ count = omega arith in is_bit-ones 128 k ∙ ap (nat_lt k) same
+
+-- what a row of bits says of its places, cut off at 128
+abbrev pub IsRow : ℕ → List ℕ → ℕ → Type 0
+IsRow bits words first = (k : ℕ) → is_bit bits k ≡ (nat_lt k 128 && has_place words (first + k))
+
+-- the bits that a run passes on are those of its places
+pub run_passes :
+    (run : Run) (closed words : List ℕ) (commons ones shut there place : ℕ) → IsRunInRange run → IsRow commons words run.common
+    → ((k : ℕ) → is_bit ones k ≡ nat_lt k run.count) → IsRow shut closed run.exits → IsRow there words run.exits
+    → there < 2 ^ 128
+    → is_in_run run.exits (bit_and (bit_and (bit_and commons ones) shut) (bit_not w128 there)) place
+    ≡ passes_run closed words run place
+run_passes run closed words commons ones shut there place range at_commons at_ones at_shut at_there small =
+    ⊎_elim
+    (λ (before : place < run.exits).
+    let no_place : nat_le run.exits place ≡ false = grind (arith, nat_tests) in
+    by_none _ _ _ no_place)
+    (λ behind. ap (λ b. nat_le run.exits place && b) (by_bit (place - run.exits) (omega arith)))
+    (cases_lt place run.exits) where
+      by_none : (a b c : Bool) → a ≡ false → (a && b) ≡ (a && c)
+      by_none a b c e = grind (arith, nat_tests)
+
+      by_bit : (k : ℕ) → run.exits + k ≡ place
+          → is_bit (bit_and (bit_and (bit_and commons ones) shut) (bit_not w128 there)) k
+          ≡ (nat_lt k run.count && (has_place closed place && (has_place words (run.common + k) && not (has_place words place))))
+      by_bit k back =
+          is_bit-and (bit_and (bit_and commons ones) shut) (bit_not w128 there) k
+          ∙ ap (λ b. b && is_bit (bit_not w128 there) k)
+          (is_bit-and (bit_and commons ones) shut k ∙ ap (λ b. b && is_bit shut k) (is_bit-and commons ones k))
+          ∙ ⊎_elim near far (cases_lt k 128) where
+            near : k < 128 → (((is_bit commons k && is_bit ones k) && is_bit shut k) && is_bit (bit_not w128 there) k)
+                ≡ (nat_lt k run.count && (has_place closed place && (has_place words (run.common + k) && not (has_place words place))))
+            near low =
+                let yes : nat_lt k 128 ≡ true = grind (arith, nat_tests) in
+                let a : is_bit commons k ≡ has_place words (run.common + k) = at_commons k ∙ ap (λ b. b && has_place words (run.common + k)) yes in
+                let s : is_bit shut k ≡ has_place closed place =
+                at_shut k ∙ ap (λ b. b && has_place closed (run.exits + k)) yes ∙ ap (has_place closed) back in
+                let t : is_bit there k ≡ has_place words place =
+                at_there k ∙ ap (λ b. b && has_place words (run.exits + k)) yes ∙ ap (has_place words) back in
+                all _ _ _ _ _ _ _ _ a (at_ones k) s (is_bit-not w128 there k small low ∙ ap not t) where
+                  all : (a o s t hc lt hs ht : Bool) → a ≡ hc → o ≡ lt → s ≡ hs → t ≡ not ht
+                      → (((a && o) && s) && t) ≡ (lt && (hs && (hc && not ht)))
+                  all a o s t hc lt hs ht p q r u = grind (arith, nat_tests)
+
+            far : 128 ≤ k → (((is_bit commons k && is_bit ones k) && is_bit shut k) && is_bit (bit_not w128 there) k)
+                ≡ (nat_lt k run.count && (has_place closed place && (has_place words (run.common + k) && not (has_place words place))))
+            far high =
+                let no_bit : nat_lt k 128 ≡ false = grind (arith, nat_tests) in
+                let count = range.count in
+                let past : nat_lt k run.count ≡ false = grind (arith, nat_tests) in
+                let a : is_bit commons k ≡ false = at_commons k ∙ ap (λ b. b && has_place words (run.common + k)) no_bit in
+                none _ _ _ _ _ _ a past where
+                  none : (a o s t lt rest : Bool) → a ≡ false → lt ≡ false → (((a && o) && s) && t) ≡ (lt && rest)
+                  none a o s t lt rest e f = grind (arith, nat_tests)
+
+-- where no common place is impulsed a run passes nothing on
+pub run_passes_none :
+    (run : Run) (closed words : List ℕ) (commons ones place : ℕ) → IsRunInRange run → IsRow commons words run.common
+    → ((k : ℕ) → is_bit ones k ≡ nat_lt k run.count) → bit_and commons ones ≡ 0 → passes_run closed words run place ≡ false
+run_passes_none run closed words commons ones place range at_commons at_ones none =
+    by_test (nat_lt (place - run.exits) run.count) refl where
+      by_test : (b : Bool) → nat_lt (place - run.exits) run.count ≡ b → passes_run closed words run place ≡ false
+      by_test false e = ap (λ b. nat_le run.exits place && (b && (has_place closed place && (has_place words (run.common + (place - run.exits)) && not (has_place words place))))) e ∙ and-false (nat_le run.exits place)
+      by_test true e =
+          let count = range.count in
+          let yes : nat_lt (place - run.exits) 128 ≡ true = grind (arith, nat_tests, e) in
+          let a : is_bit commons (place - run.exits) ≡ has_place words (run.common + (place - run.exits)) =
+          at_commons (place - run.exits) ∙ ap (λ b. b && has_place words (run.common + (place - run.exits))) yes in
+          let o : is_bit ones (place - run.exits) ≡ true = at_ones (place - run.exits) ∙ e in
+          let both : (is_bit commons (place - run.exits) && is_bit ones (place - run.exits)) ≡ false =
+          sym (is_bit-and commons ones (place - run.exits)) ∙ none_set (bit_and commons ones) none (place - run.exits) in
+          all (is_bit commons (place - run.exits)) (is_bit ones (place - run.exits))
+          (has_place words (run.common + (place - run.exits))) (nat_le run.exits place)
+          (nat_lt (place - run.exits) run.count) (has_place closed place) (not (has_place words place)) a o both where
+            all : (a o hc le lt hs ht : Bool) → a ≡ hc → o ≡ true → (a && o) ≡ false → (le && (lt && (hs && (hc && ht)))) ≡ false
+            all a o hc le lt hs ht p q r = grind (arith, nat_tests)
+
+-- one run more
+
+pub passes_first : (closed words : List ℕ) (runs : List Run) (new : List ℕ) (k : ℕ) → has_place new k ≡ false
+    → (has_place new k || (nat_lt k 1984 && passes closed words runs k)) ≡ (nat_lt k 1984 && passes closed words runs k)
+passes_first closed words runs new k none = ap (λ b. b || (nat_lt k 1984 && passes closed words runs k)) none
+
+pub passes_more :
+    (closed words : List ℕ) (runs : List Run) (i : ℕ) (d : Run) (k : ℕ) (old now whole : Bool) → i < length runs
+    → (old || (nat_lt k 1984 && passes closed words (drop i runs) k)) ≡ whole
+    → now ≡ (old || (nat_lt k 1984 && passes_run closed words (slice_index_or runs i d) k))
+    → (now || (nat_lt k 1984 && passes closed words (drop (i + 1) runs) k)) ≡ whole
+passes_more closed words runs i d k old now whole inside before gained =
+    let parts : drop i runs ≡ slice_index_or runs i d ∷ drop (i + 1) runs = rw (add-one, drop-cons runs i d) in
+    by (nat_lt k 1984) (passes_run closed words (slice_index_or runs i d) k) (passes closed words (drop (i + 1) runs) k) whole
+    gained (ap (λ (rest : List Run). old || (nat_lt k 1984 && passes closed words rest k)) (sym parts) ∙ before) where
+      by : (t r rest w : Bool) → now ≡ (old || (t && r)) → (old || (t && (r || rest))) ≡ w → (now || (t && rest)) ≡ w
+      by t r rest w e f = grind (arith, nat_tests)
+
+pub passes_last : (closed words : List ℕ) (runs : List Run) (i k : ℕ) (old whole : Bool) → length runs ≤ i
+    → (old || (nat_lt k 1984 && passes closed words (drop i runs) k)) ≡ whole → old ≡ whole
+passes_last closed words runs i k old whole end before =
+    let none : drop i runs ≡ [] = grind (arith, common_steps) in
+    sym (ap (λ (rest : List Run). old || (nat_lt k 1984 && passes closed words rest k)) none
+    ∙ ap (λ b. old || b) (and-false _) ∙ or-false _) ∙ before

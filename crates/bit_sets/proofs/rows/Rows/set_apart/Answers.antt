@@ -1,0 +1,12 @@
+use Rattle.bit_sets.proofs.BundleLemmas.{AreCovered-more, AreCovered-all}
+use Rattle.bit_sets.proofs.rows.Rows.set_apart.Goals as goal
+
+pub loop-from-preserved : goal.loop-from-preserved
+loop-from-preserved c =
+    AreCovered-more c.args.self.now c.args.runs.now c.loop-from.from _ _ _ c.loop-from.invariant c.put_where.ensures
+    c.is_covered.ensures
+
+pub returns : goal.returns
+returns c =
+    AreCovered-all c.args.self.now c.args.runs.now c.loop-from.from _ c.known.ensures.short c.loop-from-test.false
+    c.loop-from.invariant

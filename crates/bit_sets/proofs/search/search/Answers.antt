@@ -1,0 +1,28 @@
+use Rattle.bit_sets.proofs.SearchLemmas.{IsSearching-start, IsSearching-next, IsReached-found, missing-step, smaller}
+use Rattle.bit_sets.proofs.search.search.Goals as goal
+
+pub loop-has_new-init : goal.loop-has_new-init
+loop-has_new-init c =
+    IsSearching-start c.args.rows.now c.args.runs.now c.args.words.now c.args.closed.now _ c.has_any-has_new.ensures.none
+
+pub loop-has_new-smaller : goal.loop-has_new-smaller
+loop-has_new-smaller c =
+    smaller _ _ c.loop-has_new.has_new c.loop-has_new-test.true
+    (missing-step c.args.rows.now c.args.runs.now c.args.words.now c.args.closed.now c.loop-has_new.words c.loop-has_new.new
+    c.join_all.new.words c.passed_on-new.result c.join_set.new.words c.known.ensures.short c.known.ensures.onward
+    c.told-closed c.loop-has_new.has_new c.has_any-has_new-in-loop-has_new.result c.loop-has_new.invariant
+    c.join_all.ensures c.passed_on-new.ensures c.join_set.ensures c.has_any-has_new-in-loop-has_new.ensures.none
+    c.has_any-has_new-in-loop-has_new.ensures.some)
+
+pub loop-has_new-preserved : goal.loop-has_new-preserved
+loop-has_new-preserved c =
+    IsSearching-next c.args.rows.now c.args.runs.now c.args.words.now c.args.closed.now c.loop-has_new.words
+    c.loop-has_new.new c.join_all.new.words c.passed_on-new.result c.join_set.new.words c.known.ensures.short
+    c.known.ensures.onward c.told-closed c.loop-has_new.has_new c.has_any-has_new-in-loop-has_new.result
+    c.loop-has_new.invariant c.join_all.ensures c.passed_on-new.ensures c.join_set.ensures
+    c.has_any-has_new-in-loop-has_new.ensures.none
+
+pub returns : goal.returns
+returns c place =
+    IsReached-found c.args.rows.now c.args.runs.now c.args.words.now c.args.closed.now _ _ _ c.loop-has_new-test.false
+    c.loop-has_new.invariant place

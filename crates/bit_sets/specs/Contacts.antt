@@ -1,0 +1,32 @@
+-- Runs of contacts: from a common place and those behind it to an exit place and those behind it, one by one.
+use Rattle.std.specs.Prelude.{ℕ, ◌+◌, ◌-◌, ◌<◌, ◌≤◌, ◌==◌, ◌&&◌, ◌||◌, not, nat_le, nat_lt, Bool, false, List, [], ◌∷◌}
+use Rattle.bit_sets.specs.Bits.{has_place}
+use Rattle.bit_sets.specs.declared.contacts.Run.{Run}
+
+-- whether a contact of the run leads from one place to another
+abbrev pub is_contact : Run → ℕ → ℕ → Bool
+is_contact run from to =
+    nat_le run.exits to && (nat_lt (to - run.exits) run.count && (from == run.common + (to - run.exits)))
+
+-- whether a contact of the runs leads from one place to another
+abbrev pub is_any_contact : List Run → ℕ → ℕ → Bool
+is_any_contact [] from to = false
+is_any_contact (run ∷ runs) from to = is_contact run from to || is_any_contact runs from to
+
+-- whether a closed contact of the run leads to a place that the set does not have, from one that it has
+abbrev pub passes_run : List ℕ → List ℕ → Run → ℕ → Bool
+passes_run closed hubs run to =
+    nat_le run.exits to
+    && (nat_lt (to - run.exits) run.count
+    && (has_place closed to && (has_place hubs (run.common + (to - run.exits)) && not (has_place hubs to))))
+
+-- whether a closed contact of the runs leads to a place that the set does not have, from one that it has
+abbrev pub passes : List ℕ → List ℕ → List Run → ℕ → Bool
+passes closed hubs [] to = false
+passes closed hubs (run ∷ runs) to = passes_run closed hubs run to || passes closed hubs runs to
+
+-- the run's first places are among those of a set, and it has at most 128 contacts
+pub record IsRunInRange (run : Run) : Type 0 where
+  pub exits : run.exits < 1984
+  pub common : run.common < 1984
+  pub count : run.count ≤ 128

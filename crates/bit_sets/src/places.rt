@@ -1,0 +1,68 @@
+//! Sets of places.
+
+ghost use Rattle.std.specs.Prelude.{◌≡◌, ℕ, ◌+◌, ◌*◌, ◌<◌, ◌&&◌, ◌==◌, nat_lt, length};
+ghost use Rattle.bit_sets.specs.Bits.{is_bit, is_in_run, has_place, GainsPlaces};
+
+use crate::bits::{bit_where, has_bit, run_of_word, word_of_run};
+
+/// How many words a set has.
+pub const WORDS: usize = 31;
+
+/// How many places a set has.
+pub const PLACES: usize = 1984;
+
+/// Whether the set has a place; none from 1984 on.
+pub fn has(words: &[u64; WORDS], place: usize) -> bool
+    ensures { result ≡ has_place words.now place }
+{
+    has_in(words, place)
+}
+
+// Whether these words have a place; none behind their last.
+pub(crate) fn has_in(words: &[u64], place: usize) -> bool
+    ensures { result ≡ has_place words.now place }
+{
+    place / 64 < words.len() && has_bit(words[place / 64], place % 64)
+}
+
+/// Adds a place where the test is true.
+pub fn put_where(words: &mut [u64; WORDS], place: usize, test: bool)
+    requires { place < PLACES }
+    ensures { GainsPlaces (λ other. test && (other == place)) words.old words.new }
+{
+    words[place / 64] |= bit_where(place % 64, test);
+}
+
+// Adds a place.
+pub(crate) fn put(words: &mut [u64], place: usize)
+    requires { place < 64 * length words.old }
+    ensures { GainsPlaces (λ other. other == place) words.old words.new }
+{
+    words[place / 64] |= bit_where(place % 64, true);
+}
+
+/// Adds a row of up to 128 places that follow one another: bit k stands for the place that is k behind the first one. Bits
+/// behind the last place change nothing.
+pub fn put_run(words: &mut [u64; WORDS], first: usize, bits: u128)
+    requires { first < PLACES }
+    ensures { GainsPlaces (λ place. nat_lt place PLACES && is_in_run first bits place) words.old words.new }
+{
+    let from = first / 64;
+    for number in from..WORDS.min(from + 3) {
+        words[number] |= word_of_run(bits, first, 64 * number);
+    }
+}
+
+/// Which of the 128 places that follow one another from the first one are in the set: bit k stands for the place that is k
+/// behind the first one.
+pub fn run(words: &[u64; WORDS], first: usize) -> u128
+    requires { first < PLACES }
+    ensures { (k : ℕ) → is_bit result k ≡ (nat_lt k 128 && has_place words.now (first + k)) }
+{
+    let from = first / 64;
+    let mut bits = 0;
+    for number in from..WORDS.min(from + 3) {
+        bits |= run_of_word(words[number], 64 * number, first);
+    }
+    bits
+}

@@ -1,0 +1,247 @@
+//! Rows of places: which places each place leads to.
+
+ghost use Rattle.std.specs.Prelude.{◌≡◌, ℕ};
+
+use crate::bundles::{LEAST, MOST, follow_runs, is_in_runs};
+use crate::contacts::Run;
+use crate::joins::{ROW_WORDS, join};
+use crate::places::{PLACES, WORDS, has, has_in, put, put_where};
+use std::alloc::{AllocError, Global};
+use std::marker::Model;
+
+/// How many places have a row: those below 1040.
+pub const EXITS: usize = 1040;
+
+/// Rows of places. A row of a place below 1040 has places from 1040 to 1983.
+#[derive(Drop)]
+pub struct Rows {
+    // The places whose row has any place.
+    marked: [u64; WORDS],
+    // The places whose row has a place that the runs don't lead to.
+    apart: [u64; WORDS],
+    // Wires side by side. The rows have them too.
+    runs: Vec<Run>,
+    // The rows in the order of the places that have them. A row stands for the places from 1024 on.
+    rows: Vec<[u64; ROW_WORDS]>,
+}
+
+impl Model for Rows {
+    ghost use Rattle.std.specs.Prelude.{List, ℕ};
+    ghost use Rattle.bit_sets.specs.Bundles.{AreRows};
+
+    ghost Value = { List (List ℕ) };
+
+    ghost view = { λ rows. rows.rows.items };
+
+    ghost invariant = { λ rows. AreRows rows.marked rows.apart rows.runs.items rows.rows.items };
+}
+
+impl Rows {
+    ghost use Rattle.std.specs.Prelude.{◌≡◌, ℕ, ◌<◌, ◌≤◌, ◌⊎◌, ◌==◌, ◌&&◌, ◌||◌, true, false, length, All, IfOk, IfSome, OnOk};
+    ghost use Rattle.bit_sets.specs.Bits.{has_place, is_in_run};
+    ghost use Rattle.bit_sets.specs.Bundles.{AreCovered, IsBundle};
+    ghost use Rattle.bit_sets.specs.Contacts.{is_any_contact};
+    ghost use Rattle.bit_sets.specs.Rows.{leads, GainsLed};
+
+    /// Empty rows.
+    pub fn new(alloc: Global) -> Result<Rows, AllocError>
+        ensures long { IfOk result (λ rows. length rows ≡ EXITS) }
+        ensures empty { IfOk result (λ rows. (from to : ℕ) → leads rows from to ≡ false) }
+    {
+        let mut rows = Vec::new(alloc);
+        for _exit in 0..EXITS {
+            rows.push([0; ROW_WORDS])?;
+        }
+        Ok(Rows {
+            marked: [0; WORDS],
+            apart: [0; WORDS],
+            runs: Vec::new(alloc),
+            rows,
+        })
+    }
+
+    /// Adds a place to the row of another.
+    pub fn add(&mut self, from: usize, to: usize)
+        requires row { from < length self.old }
+        requires low { 1040 ≤ to }
+        requires high { to < 1984 }
+        ensures long { length self.new ≡ length self.old }
+        ensures added { (f t : ℕ) → leads self.new f t ≡ (leads self.old f t || ((f == from) && (t == to))) }
+    {
+        put(&mut self.rows[from], to - 1024);
+        put(&mut self.marked, from);
+        put(&mut self.apart, from);
+    }
+
+    /// Notes wires side by side, so that many of them are followed at once. Nothing leads to other places than before.
+    pub fn bundle(&mut self, alloc: Global) -> Result<(), AllocError>
+        ensures { self.new ≡ self.old }
+    {
+        let runs = self.bundled(alloc)?;
+        self.apart = self.set_apart(&runs);
+        self.runs = runs;
+        Ok(())
+    }
+
+    // What is known of all rows: no row leads to a place that has a row.
+    pub(crate) fn known(&self)
+        ensures short { length self.now ≤ EXITS }
+        ensures onward { (from to : ℕ) → leads self.now from to ≡ true → EXITS ≤ to }
+    {
+        let _rows = &self.rows;
+    }
+
+    // Adds what the places of `new` lead to: by runs where they save rows.
+    pub(crate) fn join_all(&self, new: &[u64; WORDS], words: &mut [u64; WORDS])
+        ensures { GainsLed self.now (has_place new.now) words.old words.new }
+    {
+        if self.has_more_exits(new) {
+            follow_runs(&self.runs, new, words);
+            self.join_marked(&self.apart, new, words);
+        } else {
+            self.join_marked(&self.marked, new, words);
+        }
+    }
+
+    // Whether more places of `new` lead on by runs alone than there are runs. The answer saves time and changes nothing else.
+    fn has_more_exits(&self, new: &[u64; WORDS]) -> bool {
+        let mut count: u32 = 0;
+        for number in 0..17 {
+            let by_runs = new[number] & self.marked[number] & !self.apart[number];
+            count = count.wrapping_add(by_runs.count_ones());
+        }
+        count as usize > self.runs.len()
+    }
+
+    // Adds what those places of `new` lead to that are marked.
+    fn join_marked(&self, marked: &[u64; WORDS], new: &[u64; WORDS], words: &mut [u64; WORDS])
+        ensures { GainsLed self.now (λ place. has_place new.now place && has_place marked.now place) words.old words.new }
+    {
+        self.known();
+        for number in 0..17 {
+            self.join_bits(64 * number, new[number] & marked[number], words);
+        }
+    }
+
+    // Adds what the places of a word lead to, of which the first stands for `first`.
+    fn join_bits(&self, first: usize, bits: u64, words: &mut [u64; WORDS])
+        requires { first ≤ 1024 }
+        ensures { GainsLed self.now (is_in_run first bits) words.old words.new }
+    {
+        let mut left = bits;
+        while left != 0 {
+            let bit = left.trailing_zeros() as usize;
+            left &= !(1 << bit);
+            self.join_row(first + bit, words);
+        }
+    }
+
+    // Adds what a place leads to.
+    fn join_row(&self, from: usize, words: &mut [u64; WORDS])
+        ensures { GainsLed self.now (λ place. place == from) words.old words.new }
+    {
+        if from < self.rows.len() {
+            join(words, &self.rows[from]);
+        }
+    }
+
+    // Whether one place leads to another.
+    fn leads(&self, from: usize, to: usize) -> bool
+        ensures { result ≡ leads self.now from to }
+    {
+        if from < self.rows.len() {
+            1024 <= to && has_in(&self.rows[from], to - 1024)
+        } else {
+            false
+        }
+    }
+
+    // Runs of wires side by side, up to so many as are kept.
+    fn bundled(&self, alloc: Global) -> Result<Vec<Run>, AllocError>
+        ensures { IfOk result (λ runs. All (IsBundle self.now) runs.items) }
+    {
+        let mut runs = Vec::new(alloc);
+        for from in 0..EXITS {
+            self.bundle_row(from, &mut runs)?;
+        }
+        Ok(runs)
+    }
+
+    // Adds the runs whose first wires lead from this place.
+    fn bundle_row(&self, from: usize, runs: &mut Vec<Run>) -> Result<(), AllocError>
+        requires row { from < EXITS }
+        requires runs { All (IsBundle self.now) runs.old.items }
+        ensures { OnOk result (All (IsBundle self.now) runs.new.items) }
+    {
+        if !has(&self.marked, from) {
+            return Ok(());
+        }
+        for to in EXITS..PLACES {
+            if runs.len() >= MOST {
+                return Ok(());
+            }
+            if let Some(run) = self.bundle_from(from, to) {
+                runs.push(run)?;
+            }
+        }
+        Ok(())
+    }
+
+    // The run that begins with the wire from one place to another: none where it is too short, or begins before.
+    fn bundle_from(&self, from: usize, to: usize) -> Option<Run>
+        requires from { from < EXITS }
+        requires low { EXITS ≤ to }
+        requires high { to < PLACES }
+        ensures { IfSome result (IsBundle self.now) }
+    {
+        if !self.leads(from, to) || (from > 0 && self.leads(from - 1, to - 1)) {
+            return None;
+        }
+        let run = self.side_by_side(from, to);
+        if run.count >= LEAST { Some(run) } else { None }
+    }
+
+    // The wires side by side from one on, up to 128.
+    fn side_by_side(&self, from: usize, to: usize) -> Run
+        requires from { from < PLACES }
+        requires to { to < PLACES }
+        ensures { IsBundle self.now result }
+    {
+        let mut count = 0;
+        while count < 128 && self.leads(from + count, to + count) {
+            count += 1;
+        }
+        Run {
+            common: from,
+            exits: to,
+            count,
+        }
+    }
+
+    // The places whose row has a place that the runs don't lead to.
+    fn set_apart(&self, runs: &[Run]) -> [u64; WORDS]
+        ensures { AreCovered result runs.now self.now }
+    {
+        self.known();
+        let mut apart = [0; WORDS];
+        for from in 0..EXITS {
+            put_where(&mut apart, from, !self.is_covered(from, runs));
+        }
+        apart
+    }
+
+    // Whether the runs lead to each place of a row.
+    fn is_covered(&self, from: usize, runs: &[Run]) -> bool
+        ensures { result ≡ true → (to : ℕ) → leads self.now from to ≡ true → is_any_contact runs.now from to ≡ true }
+    {
+        if !has(&self.marked, from) {
+            return true;
+        }
+        for to in EXITS..PLACES {
+            if self.leads(from, to) && !is_in_runs(runs, from, to) {
+                return false;
+            }
+        }
+        true
+    }
+}

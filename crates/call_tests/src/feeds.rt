@@ -1,0 +1,92 @@
+//! Feeds of a panel that lists one column. The expected lines follow from the machine's rules by hand.
+
+use crate::given::setup_of;
+use card_code::{MOST_CARDS, read_deck};
+use hubs::{Hub, Jack};
+use machine::{FeedFault, Machine, PlacedLine, simulate};
+use setups::{Setup, Tape};
+use std::alloc::Global;
+use std::test::Fail;
+
+// A panel whose wheel 1 prints column 1 of each card, on forms of 12 lines with the first line 1 and the overflow line 9.
+fn listing(alloc: Global) -> Result<Setup, Fail> {
+    let tape = Tape::new(12, 1, 9, &[])?;
+    setup_of(alloc, tape, &[Jack::List], &[(Hub::SR(1), Hub::W(1))])
+}
+
+// Whether the lines stand at these places, with a text of one character each.
+fn read_so(lines: &[PlacedLine], expected: &[(u64, u32, u8)]) -> bool {
+    lines.len() == expected.len()
+        && lines.iter().zip(expected).all(|(placed, (page, line, character))| {
+            placed.page == *page
+                && placed.line == *line
+                && placed.text[0] == *character
+                && placed.text[1..].iter().all(|blank| *blank == b' ')
+        })
+}
+
+// The lines of a machine that is fed the cards of a deck, then so many ends, then the cards of another deck, and what the
+// last feed answered.
+fn fed(
+    alloc: Global,
+    deck: &[u8],
+    ends: u8,
+    behind: &[u8],
+) -> Result<(Vec<PlacedLine>, Result<(), FeedFault>), Fail> {
+    let setup = listing(alloc)?;
+    let mut machine = Machine::new(alloc, &setup)?;
+    let mut lines = Vec::new(alloc);
+    let mut last = Ok(());
+    for card in &read_deck(alloc, deck)? {
+        last = machine.feed(Some(*card), &mut lines);
+    }
+    for _ in 0..ends {
+        last = machine.feed(None, &mut lines);
+    }
+    for card in &read_deck(alloc, behind)? {
+        last = machine.feed(Some(*card), &mut lines);
+    }
+    Ok((lines, last))
+}
+
+/// A deck, how many ends follow it, and a deck behind them; the lines as page, line and character, and the last feed's answer.
+#[rattlefmt::skip]
+static FEEDS: [(&[u8], u8, &[u8], &[(u64, u32, u8)], Result<(), FeedFault>); 6] = [
+    // An end that comes first runs nothing, and nothing comes behind an end.
+    (b"", 1, b"", &[], Ok(())),
+    (b"", 2, b"", &[], Err(FeedFault::Ended)),
+    (b"A\n", 1, b"B\n", &[(1, 2, b'A')], Err(FeedFault::Ended)),
+    // A card prints when the next one is fed.
+    (b"A\n", 0, b"", &[], Ok(())),
+    (b"A\nB\n", 0, b"", &[(1, 2, b'A')], Ok(())),
+    (b"A\nB\n", 1, b"", &[(1, 2, b'A'), (1, 3, b'B')], Ok(())),
+];
+
+#[test]
+fn cards_and_ends_are_fed(rt: HostRuntime) -> Result<(), Fail> {
+    for (deck, ends, behind, expected, answer) in FEEDS {
+        let (lines, last) = fed(rt.alloc(), deck, ends, behind)?;
+        assert!(rt; read_so(lines.as_slice(), expected));
+        assert_eq!(rt; last, answer);
+    }
+    Ok(())
+}
+
+#[test]
+fn feeds_are_a_run(rt: HostRuntime) -> Result<(), Fail> {
+    let setup = listing(rt.alloc())?;
+    let cards = read_deck(rt.alloc(), b"A\nB\nC\nD\nE\nF\nG\nH\nI\n")?;
+    assert!(rt; cards.len() <= MOST_CARDS);
+    let lines = simulate(rt.alloc(), &setup, cards.as_slice())?;
+    let mut machine = Machine::new(rt.alloc(), &setup)?;
+    let mut gained = Vec::new(rt.alloc());
+    for card in &cards {
+        assert!(rt; machine.feed(Some(*card), &mut gained).is_ok());
+    }
+    assert!(rt; machine.feed(None, &mut gained).is_ok());
+    assert!(rt; gained.as_slice() == lines.as_slice());
+    assert_eq!(rt; lines.len(), 9);
+    // The eighth line stands on the overflow line, so the ninth begins a page.
+    assert!(rt; read_so(&lines.as_slice()[7..], &[(1, 9, b'H'), (2, 2, b'I')]));
+    Ok(())
+}

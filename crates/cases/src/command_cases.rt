@@ -1,0 +1,151 @@
+//! Does commands, and tells of each what it printed, what it told and its status.
+//!
+//! The file `rows` has a command, its text and its deck in each line, divided by `|`. A text or deck stands in its row with `;` in
+//! place of each line feed, or in a file whose name is given between parentheses. Between parentheses stand too: `(standard input)`
+//! and `(divide)` in place of a command, a text that has a chart and its deck, which are run, or of which the lengths are told;
+//! `(unreadable)` and `(1000000 blank cards)` in place of a deck; and last of all `(unwritable)`, where the output can't be written.
+
+use crate::served::Served;
+use allocate::CapacityFault;
+use anyhow::Result;
+use commands::{Fault, chart_and_deck, serve, tell};
+use std::alloc::Global;
+use std::io::{ErrorKind, Read, Write};
+use std::{fs, io};
+
+// A deck that can't be read, and an output that can't be written.
+#[derive(Drop)]
+struct Broken;
+
+impl Read for Broken {
+    fn read(&mut self, _buf: &mut [u8]) -> io::Result<usize> {
+        Err(io::Error::from(ErrorKind::Other))
+    }
+}
+
+impl Write for Broken {
+    fn write(&mut self, _buf: &[u8]) -> io::Result<usize> {
+        Err(io::Error::from(ErrorKind::Other))
+    }
+
+    fn flush(&mut self) -> io::Result<()> {
+        Ok(())
+    }
+}
+
+// A row's text or deck.
+fn bytes_of(rt: &HostRuntime, part: &str) -> Result<Vec<u8>> {
+    let alloc = rt.alloc();
+    let named = part
+        .strip_prefix('(')
+        .and_then(|rest| rest.strip_suffix(')'));
+    if let Some(name) = named {
+        return Ok(fs::read(rt, &format!(in alloc; "commands/{name}")?)?);
+    }
+    let mut bytes = Vec::new(alloc);
+    for byte in part.as_bytes() {
+        bytes.push(if *byte == b';' { b'\n' } else { *byte })?;
+    }
+    Ok(bytes)
+}
+
+// What a command gives on a text and the deck of a row.
+fn serve_deck(rt: &HostRuntime, command: &str, text: &[u8], deck: &str) -> Result<Served> {
+    let alloc = rt.alloc();
+    Ok(match deck {
+        "(unreadable)" => Served::of(alloc, command, text, Broken),
+        "(1000000 blank cards)" => {
+            let cards = vec![in alloc; b'\n'; 1_000_000]?;
+            Served::of(alloc, command, text, cards.as_slice())
+        }
+        _ => {
+            let cards = bytes_of(rt, deck)?;
+            Served::of(alloc, command, text, cards.as_slice())
+        }
+    })
+}
+
+// What a command gives where its output can't be written.
+fn serve_unwritable(alloc: Global, command: &str, text: &[u8], deck: &[u8]) -> Served {
+    let mut told = Vec::new(alloc);
+    let status = serve(
+        alloc,
+        command,
+        text,
+        "my.deck",
+        deck,
+        &mut Broken,
+        &mut told,
+    );
+    Served {
+        output: Vec::new(alloc),
+        told,
+        status,
+    }
+}
+
+fn write_served<W: Write>(out: &mut W, served: &Served) -> Result<()> {
+    served.write(out)?;
+    writeln!(out, "status {}", served.status)?;
+    Ok(())
+}
+
+// Does what a row says: its command, its text, and its deck with all behind that.
+fn write_row<W: Write>(
+    rt: &HostRuntime,
+    out: &mut W,
+    command: &str,
+    text: &str,
+    deck: &str,
+) -> Result<()> {
+    let alloc = rt.alloc();
+    let text = bytes_of(rt, text)?;
+    if command == "(divide)" {
+        let (chart, cards) = chart_and_deck(text.as_slice());
+        writeln!(out, "chart {} deck {}", chart.len(), cards.len())?;
+        return Ok(());
+    }
+    if command == "(standard input)" {
+        let (chart, cards) = chart_and_deck(text.as_slice());
+        return write_served(out, &Served::of(alloc, "run", chart, cards));
+    }
+    if let Some((deck, "(unwritable)")) = deck.split_once('|') {
+        let cards = bytes_of(rt, deck)?;
+        let served = serve_unwritable(alloc, command, text.as_slice(), cards.as_slice());
+        return write_served(out, &served);
+    }
+    write_served(out, &serve_deck(rt, command, text.as_slice(), deck)?)
+}
+
+// Two lines that no text brings: a chart that wants too many splits wants too many pilots, which are asked first, and memory suffices here.
+fn write_told<W: Write>(alloc: Global, out: &mut W) -> Result<()> {
+    out.write_all(b"told without a text\n")?;
+    let splits = CapacityFault::Splits {
+        wanted: 17,
+        there: 16,
+    };
+    for fault in [Fault::from(splits), Fault::Memory] {
+        let mut told = Vec::new(alloc);
+        let status = tell(&fault, &mut told);
+        out.write_all(told.as_slice())?;
+        writeln!(out, "status {status}")?;
+    }
+    Ok(())
+}
+
+/// Writes what each command gives, behind its row.
+pub fn write_all<W: Write>(rt: &HostRuntime, out: &mut W) -> Result<()> {
+    out.write_all(b"== commands\n")?;
+    let rows = fs::read_to_string(rt, "commands/rows")?;
+    for row in rows.as_str().lines() {
+        writeln!(out, "{row}")?;
+        let Some((command, given)) = row.split_once('|') else {
+            continue;
+        };
+        let Some((text, deck)) = given.split_once('|') else {
+            continue;
+        };
+        write_row(rt, out, command, text, deck)?;
+    }
+    write_told(rt.alloc(), out)
+}

@@ -1,0 +1,33 @@
+//! Runs all cases whose answers are known: charts, wiring charts, wired panels with decks, charts with decks, and commands.
+//!
+//! Each kind has a folder of `data`, and its file here says what is told of its cases. What this program must print was made outside of
+//! this repository or worked out by hand, never by the program.
+#![tactic(auto)]
+
+mod chart_cases;
+mod command_cases;
+mod panel_cases;
+mod report_cases;
+mod served;
+mod wiring_cases;
+
+use anyhow::Result;
+use std::fs;
+use std::io::{BufWriter, Write};
+
+// The bytes of a file of a case, by the folder of its kind, its name and what it holds.
+fn read_case(rt: &HostRuntime, kind: &str, name: &str, holding: &str) -> Result<Vec<u8>> {
+    let path = format!(in rt.alloc(); "{kind}/{name}.{holding}")?;
+    Ok(fs::read(rt, &path)?)
+}
+
+fn main(rt: HostRuntime) -> Result<()> {
+    let mut out = BufWriter::new(rt.alloc(), rt.stdout())?;
+    chart_cases::write_all(&rt, &mut out)?;
+    wiring_cases::write_all(&rt, &mut out)?;
+    panel_cases::write_all(&rt, &mut out)?;
+    report_cases::write_all(&rt, &mut out)?;
+    command_cases::write_all(&rt, &mut out)?;
+    out.flush()?;
+    Ok(())
+}

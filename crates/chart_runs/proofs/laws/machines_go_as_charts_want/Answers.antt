@@ -1,5 +1,0 @@
-use Rattle.chart_runs.proofs.Going.{machines_go}
-use Rattle.chart_runs.proofs.laws.machines_go_as_charts_want.Goals as goal
-
-pub returns : goal.returns
-returns c = machines_go

@@ -1,0 +1,14 @@
+-- A planning chart: what its lines say, apart from how they are spelled.
+use Rattle.std.specs.Prelude.{ℕ, ◌<◌, List, [], ◌∷◌}
+use Rattle.charts.specs.declared.chart.Line.{Line}
+
+-- the lines that say something, in order, and the number of the line END
+pub record Chart : Type 0 where
+  pub lines : List Line
+  pub end : ℕ
+
+-- the numbers of the lines rise, and stay below the number of END
+abbrev pub NumbersRise : List Line → ℕ → Type 0
+NumbersRise [] end = Unit {0}
+NumbersRise (line ∷ []) end = line.number < end
+NumbersRise (line ∷ next ∷ lines) end = (line.number < next.number) × NumbersRise (next ∷ lines) end

@@ -1,0 +1,51 @@
+-- Rules on control levels: a total or an indicated field has its level controlled, and a text on a total line controls it.
+use Rattle.std.specs.Prelude.{ℕ, Bool, false, List, Option, Some, None, not, ◌&&◌, ◌==◌, nat_le}
+use Rattle.std.specs.List.{list_any}
+use Rattle.charts.specs.Levels.{control_level, control_number, level_number}
+use Rattle.charts.specs.declared.chart.Line.{Line}
+use Rattle.charts.specs.declared.level.ControlLevel.{ControlLevel}
+use Rattle.charts.specs.declared.level.Level.{Level}
+use Rattle.charts.specs.declared.statement.DetailOption.TheVariants as shown
+use Rattle.charts.specs.declared.statement.Statement.{Statement}
+use Rattle.charts.specs.declared.statement.Statement.TheVariants as says
+use Rattle.charts.specs.Name.{is_same_name}
+
+-- the level that a line needs to be controlled, if it needs one; level 4 is the whole deck, and needs none
+abbrev pub level_needed : Statement → Option ControlLevel
+level_needed (says.DetailField wheel name (shown.Indicated level)) = Some level
+level_needed (says.TotalLiteral level wheel literal) = control_level level
+level_needed (says.TotalText level wheel name) = control_level level
+level_needed (says.TotalAmount level wheel name digits mark) = control_level level
+level_needed other = None
+
+-- whether a line is CONTROL of a level
+abbrev pub controls : ControlLevel → Statement → Bool
+controls wanted (says.Control level name) = control_number level == control_number wanted
+controls wanted other = false
+
+-- whether a chart has a CONTROL line of a level
+abbrev pub is_controlled : List Line → ControlLevel → Bool
+is_controlled lines level = list_any (λ line. controls level line.statement) lines
+
+-- whether a level, if one is needed, has no CONTROL line
+abbrev pub is_uncontrolled : List Line → Option ControlLevel → Bool
+is_uncontrolled lines (Some level) = not (is_controlled lines level)
+is_uncontrolled lines None = false
+
+-- No control: TOTAL or INDICATE of a level 1 to 3 without CONTROL of that level.
+abbrev pub breaks_no_control : List Line → Statement → Bool
+breaks_no_control lines line = is_uncontrolled lines (level_needed line)
+
+-- whether a line makes a name a control field of a level or a higher one
+abbrev pub controls_by : Level → List ℕ → Statement → Bool
+controls_by lowest wanted (says.Control level name) = nat_le (level_number lowest) (control_number level) && is_same_name name wanted
+controls_by lowest wanted other = false
+
+-- whether a chart makes a name a control field of a level or a higher one
+abbrev pub is_controlled_by : List Line → Level → List ℕ → Bool
+is_controlled_by lines lowest name = list_any (λ line. controls_by lowest name line.statement) lines
+
+-- Total text not control: a text on a total line that is no control field of its level or higher.
+abbrev pub breaks_total_text_not_control : List Line → Statement → Bool
+breaks_total_text_not_control lines (says.TotalText level wheel name) = not (is_controlled_by lines level name)
+breaks_total_text_not_control lines other = false

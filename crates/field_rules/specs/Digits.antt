@@ -1,0 +1,17 @@
+-- A rule on the digits of a total.
+use Rattle.std.specs.Prelude.{ℕ, Bool, false, List, Option, Some, None, is_some, ◌&&◌, ◌||◌, nat_lt}
+use Rattle.charts.specs.declared.statement.Field.{Field}
+use Rattle.charts.specs.declared.statement.Statement.{Statement}
+use Rattle.charts.specs.declared.statement.Statement.TheVariants as says
+use Rattle.field_rules.specs.Fields.{first_named}
+use Rattle.charts.specs.Field.{sign_column, columns_of}
+
+-- whether a total of a field has fewer digits than the field, more than 8, or more than 7 with a sign column
+abbrev pub is_out_of_digits : Option Field → ℕ → Bool
+is_out_of_digits (Some field) digits = nat_lt digits (columns_of field) || nat_lt 8 digits || (is_some (sign_column field.kind) && nat_lt 7 digits)
+is_out_of_digits None digits = false
+
+-- Digits range: a total in fewer digits than its field, in more than 8, or in more than 7 with a sign column.
+abbrev pub breaks_digits_range : List Field → Statement → Bool
+breaks_digits_range fields (says.TotalAmount level wheel name digits mark) = is_out_of_digits (first_named fields name) digits
+breaks_digits_range fields other = false

@@ -1,0 +1,3 @@
+pub mod HubTable
+pub mod Places
+pub mod Ranges

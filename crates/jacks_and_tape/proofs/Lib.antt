@@ -1,0 +1,5 @@
+mod ChartJacks
+mod KeptTape
+mod LineJacks
+pub mod Plugging
+mod TapeStops

@@ -1,0 +1,202 @@
+//! The jacks of a chart: which cycles print, and zero control on the wheels of amounts.
+
+ghost use Rattle.std.specs.Prelude.{◌≡◌, ◌+◌, ◌≤◌, ℕ, Some, slice_get, length, true};
+ghost use Rattle.print_rules.specs.Items.{figure_width};
+ghost use Rattle.hubs.specs.declared.jack.Jack.TheVariants as jack;
+ghost use Rattle.report.specs.ChartForm as form;
+ghost use Rattle.wiring_table.specs.Figures.{mark_wheel, suppressed_digits};
+ghost use Rattle.jacks_and_tape.specs.HelperJacks.{FigureJacks, FiguresAre, IsGoodFigure, JacksBefore, LineJacks, Plugs, Ranged, TotalsBelow};
+ghost use Rattle.wiring_table.specs.Jacks.{ChartJack};
+ghost use Rattle.charts.specs.declared.chart.Line.{Line};
+
+use chart_rules::{Chart, Figure};
+use charts::{Line, Printing, Statement};
+use hubs::Jack;
+use setups::Setup;
+
+// Plugs LINK on the wheels from one on and before another.
+fn plug_links(setup: &mut Setup, from: u8, end: u8)
+    requires from { 1 ≤ from }
+    requires order { from ≤ end }
+    requires end { end ≤ 121 }
+    ensures { Plugs (Ranged jack.Link from end) setup.old setup.new }
+{
+    for wheel in from..end {
+        setup.plug(Jack::Link(wheel));
+    }
+}
+
+// Plugs SUPPRESS on the wheels from one on and before another.
+fn plug_suppresses(setup: &mut Setup, from: u8, end: u8)
+    requires from { 1 ≤ from }
+    requires order { from ≤ end }
+    requires end { end ≤ 121 }
+    ensures { Plugs (Ranged jack.Suppress from end) setup.old setup.new }
+{
+    for wheel in from..end {
+        setup.plug(Jack::Suppress(wheel));
+    }
+}
+
+// Plugs SYMBOL on the wheels from one on and before another.
+fn plug_symbols(setup: &mut Setup, from: u8, end: u8)
+    requires from { 1 ≤ from }
+    requires order { from ≤ end }
+    requires end { end ≤ 121 }
+    ensures { Plugs (Ranged jack.Symbol from end) setup.old setup.new }
+{
+    for wheel in from..end {
+        setup.plug(Jack::Symbol(wheel));
+    }
+}
+
+// Whether a chart has a line for each card.
+fn prints_details(lines: &[Line]) -> bool
+    ensures { result ≡ form.prints_details lines.now }
+{
+    lines.iter().any(|line| matches!(line.statement, Statement::Print(Printing::Detail)))
+}
+
+// Whether a line puts an item on the total line of a level.
+fn is_total_item(wanted: u8, statement: &Statement) -> bool
+    ensures { result ≡ form.is_total_item wanted statement.now }
+{
+    match statement {
+        Statement::TotalLiteral { level, .. }
+        | Statement::TotalText { level, .. }
+        | Statement::TotalAmount { level, .. } => level.number() == wanted,
+        _ => false,
+    }
+}
+
+// Whether a chart has a total line for each group of a level.
+fn prints_totals(lines: &[Line], level: u8) -> bool
+    ensures { result ≡ form.prints_totals lines.now level }
+{
+    lines
+        .iter()
+        .any(|line| is_total_item(level, &line.statement))
+}
+
+// The heading line that a line names, or 0.
+fn heading_of(statement: &Statement) -> u8
+    ensures value { result ≡ form.heading_of statement.now }
+    ensures few { result ≤ 3 }
+{
+    match statement {
+        Statement::Head { line, .. } => line.number(),
+        _ => 0,
+    }
+}
+
+// How many heading lines each page has.
+fn headings(lines: &[Line]) -> u8
+    ensures value { result ≡ form.headings lines.now }
+    ensures few { result ≤ 3 }
+{
+    let mut most = 0;
+    for line in lines {
+        most = most.max(heading_of(&line.statement));
+    }
+    most
+}
+
+// Plugs LIST where cards have lines.
+fn plug_list(setup: &mut Setup, lines: &[Line])
+    ensures { Plugs (λ each. (each ≡ jack.List) × (form.prints_details lines.now ≡ true)) setup.old setup.new }
+{
+    if prints_details(lines) {
+        setup.plug(Jack::List);
+    }
+}
+
+// Plugs TOTAL for each level with an item.
+fn plug_totals(setup: &mut Setup, lines: &[Line])
+    ensures { Plugs (TotalsBelow lines.now 5) setup.old setup.new }
+{
+    for level in 1..5 {
+        plug_total(setup, lines, level);
+    }
+}
+
+// Plugs TOTAL for a level, if it has an item.
+fn plug_total(setup: &mut Setup, lines: &[Line], level: u8)
+    requires { (1 ≤ level) × (level ≤ 4) }
+    ensures { Plugs (λ each. (each ≡ jack.Total level) × (form.prints_totals lines.now level ≡ true)) setup.old setup.new }
+{
+    if prints_totals(lines, level) {
+        setup.plug(Jack::Total(level));
+    }
+}
+
+// Plugs HEAD for the heading lines from the first on and before another.
+fn plug_heads(setup: &mut Setup, end: u8)
+    requires { (1 ≤ end) × (end ≤ 4) }
+    ensures { Plugs (Ranged jack.Head 1 end) setup.old setup.new }
+{
+    for heading in 1..end {
+        setup.plug(Jack::Head(heading));
+    }
+}
+
+// Plugs zero control on the wheels of an amount from a wheel on.
+fn plug_figure(setup: &mut Setup, wheel: usize, figure: Figure)
+    requires { IsGoodFigure wheel figure }
+    ensures { Plugs (FigureJacks wheel figure) setup.old setup.new }
+{
+    let from = wheel as u8;
+    let (digits, decimals) = (figure.digits as u8, figure.decimals as u8);
+    let end = (wheel + figure.width()) as u8;
+    plug_links(setup, from + 1, end);
+    plug_suppresses(setup, from, from + digits - decimals.max(1));
+    plug_symbols(setup, behind_units(from, digits, decimals), end);
+}
+
+// The wheel behind the units of an amount.
+fn behind_units(wheel: u8, digits: u8, decimals: u8) -> u8
+    requires { mark_wheel wheel digits decimals ≤ 121 }
+    ensures { result ≡ mark_wheel wheel digits decimals }
+{
+    if decimals > 0 {
+        wheel + digits + 1
+    } else {
+        wheel + digits
+    }
+}
+
+// Plugs zero control on the wheels of the amount of a line, if it puts one on a line of the report.
+fn plug_line(setup: &mut Setup, chart: &Chart, statement: &Statement)
+    requires { FiguresAre chart.now.lines statement.now }
+    ensures { Plugs (LineJacks chart.now.lines statement.now) setup.old setup.new }
+{
+    if let Some(item) = chart.item(statement) {
+        if let Some(figure) = item.figure {
+            plug_figure(setup, item.first, figure);
+        }
+    }
+}
+
+// Plugs zero control on the wheels of all amounts.
+fn plug_lines(setup: &mut Setup, chart: &Chart)
+    requires { (place : ℕ) (line : Line) → slice_get chart.now.lines place ≡ Some line
+        → FiguresAre chart.now.lines line.statement }
+    ensures { Plugs (JacksBefore chart.now.lines (length chart.now.lines)) setup.old setup.new }
+{
+    for line in chart.lines() {
+        plug_line(setup, chart, &line.statement);
+    }
+}
+
+/// Plugs the jacks of a chart.
+pub fn plug_jacks(setup: &mut Setup, chart: &Chart)
+    requires { (place : ℕ) (line : Line) → slice_get chart.now.lines place ≡ Some line
+        → FiguresAre chart.now.lines line.statement }
+    ensures { Plugs (ChartJack chart.now.lines) setup.old setup.new }
+{
+    let lines = chart.lines();
+    let heads = headings(lines);
+    plug_list(setup, lines);
+    plug_totals(setup, lines);
+    plug_heads(setup, heads + 1);
+    plug_lines(setup, chart);
+}

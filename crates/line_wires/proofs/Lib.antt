@@ -1,0 +1,2 @@
+mod RowSets
+pub mod Steps

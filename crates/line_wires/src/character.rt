@@ -1,0 +1,110 @@
+//! Characters from an emitter.
+
+ghost use Rattle.std.specs.Prelude.{◌≡◌, ◌+◌, ◌≤◌, ◌<◌, OnOk, None, length, true};
+ghost use Rattle.card_code.specs.CardCode.{has_row};
+ghost use Rattle.card_code.specs.Rows.{is_row_set};
+ghost use Rattle.hubs.specs.Hubs.{is_entry_hub, carry_into};
+ghost use Rattle.hubs.specs.declared.hub.Hub.TheVariants.{W};
+ghost use Rattle.wiring_table.specs.Figures.{mark_wheel};
+ghost use Rattle.line_wires.specs.HelperAdds.{Adds, Upto};
+ghost use Rattle.line_wires.specs.HelperRows.{RowWire, CharacterWires, LiteralWires, PointWires};
+
+use crate::adding::connect;
+use card_code::Column;
+use hubs::Hub;
+use setups::Setup;
+use std::alloc::AllocError;
+
+// Whether a row is in a set of rows.
+fn has_row(set: u16, row: u8) -> bool
+    requires { row < 13 }
+    ensures { result ≡ has_row set row }
+{
+    set >> row & 1 == 1
+}
+
+// Wires a row of an emitter to an entry, where the row is in a set of rows.
+fn wire_row(setup: &mut Setup, emitter: u8, entry: Hub, set: u16, row: u8) -> Result<(), AllocError>
+    requires emitter { (1 ≤ emitter) × (emitter ≤ 8) }
+    requires entry { is_entry_hub entry ≡ true }
+    requires ring { carry_into entry ≡ None }
+    requires set { is_row_set set ≡ true }
+    requires row { row < 13 }
+    ensures { OnOk result (Adds (RowWire emitter entry set row) setup.old setup.new) }
+{
+    if has_row(set, row) {
+        connect(setup, Hub::EM(emitter, row), entry)?;
+    }
+    Ok(())
+}
+
+// Wires the rows of a set from an emitter to an entry.
+fn wire_rows(setup: &mut Setup, emitter: u8, entry: Hub, set: u16) -> Result<(), AllocError>
+    requires emitter { (1 ≤ emitter) × (emitter ≤ 8) }
+    requires entry { is_entry_hub entry ≡ true }
+    requires ring { carry_into entry ≡ None }
+    requires set { is_row_set set ≡ true }
+    ensures { OnOk result (Adds (Upto 13 (RowWire emitter entry set)) setup.old setup.new) }
+{
+    for row in 0..13 {
+        wire_row(setup, emitter, entry, set, row)?;
+    }
+    Ok(())
+}
+
+/// Wires the rows of a character from an emitter to an entry; a blank has none.
+pub fn wire_character(
+    setup: &mut Setup,
+    emitter: u8,
+    entry: Hub,
+    character: u8,
+) -> Result<(), AllocError>
+    requires emitter { (1 ≤ emitter) × (emitter ≤ 8) }
+    requires entry { is_entry_hub entry ≡ true }
+    requires ring { carry_into entry ≡ None }
+    ensures { OnOk result (Adds (CharacterWires emitter entry character) setup.old setup.new) }
+{
+    if let Some(column) = Column::of_char(character as char) {
+        wire_rows(setup, emitter, entry, column.rows())?;
+    }
+    Ok(())
+}
+
+/// Wires the characters of a literal from an emitter to as many wheels.
+pub fn wire_literal(
+    setup: &mut Setup,
+    emitter: u8,
+    wheel: u16,
+    text: &[u8],
+) -> Result<(), AllocError>
+    requires emitter { (1 ≤ emitter) × (emitter ≤ 8) }
+    requires wheels { (1 ≤ wheel) × (wheel + length text.now ≤ 121) }
+    ensures { OnOk result (Adds (LiteralWires emitter wheel text.now) setup.old setup.new) }
+{
+    for (j, character) in text.iter().enumerate() {
+        let entry = Hub::W((wheel as usize + j) as u8);
+        wire_character(setup, emitter, entry, *character)?;
+    }
+    Ok(())
+}
+
+/// Wires the point of an amount with decimals from an emitter to its wheel.
+pub fn wire_point(
+    setup: &mut Setup,
+    emitter: u8,
+    wheel: u16,
+    digits: u16,
+    decimals: u16,
+) -> Result<(), AllocError>
+    requires emitter { (1 ≤ emitter) × (emitter ≤ 8) }
+    requires decimals { decimals ≤ digits }
+    requires first { 1 ≤ wheel }
+    requires last { mark_wheel wheel digits decimals ≤ 121 }
+    ensures { OnOk result (Adds (PointWires emitter wheel digits decimals) setup.old setup.new) }
+{
+    if decimals > 0 {
+        let entry = Hub::W((wheel + digits - decimals) as u8);
+        wire_character(setup, emitter, entry, b'.')?;
+    }
+    Ok(())
+}

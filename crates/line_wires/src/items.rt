@@ -1,0 +1,128 @@
+//! The items of the line of a card.
+
+ghost use Rattle.std.specs.Prelude.{◌≡◌, ◌+◌, ◌≤◌, OnOk};
+ghost use Rattle.print_rules.specs.Items.{mark_shown};
+ghost use Rattle.charts.specs.Field.{columns_of, decimals_of};
+ghost use Rattle.wiring_table.specs.Figures as figures;
+ghost use Rattle.line_wires.specs.HelperAdds.{Adds};
+ghost use Rattle.line_wires.specs.HelperItems.{DetailAmount, DetailMarks, DetailRanges, DetailText, DetailWires, HasFigureWheels, HasWheels, IsGoodDetail};
+ghost use Rattle.line_wires.specs.HelperRanges.{HasWheelsForMark};
+ghost use Rattle.chart_rules.specs.HelperOnCard.{IsOnCard};
+
+use crate::character::wire_point;
+use crate::detail::{wire_digits, wire_indicated, wire_text};
+use crate::pilot::{rule_of, wire_detail_mark};
+use charts::{DetailOption, Field, FieldKind, Mark, Name, SignRule};
+use plans::Plan;
+use setups::Setup;
+use std::alloc::AllocError;
+
+// The mark that an option of a field on the line of a card gives it.
+fn mark_shown(shown: DetailOption) -> Option<Mark>
+    ensures { result ≡ mark_shown shown }
+{
+    match shown {
+        DetailOption::Marked(mark) => Some(mark),
+        DetailOption::Plain | DetailOption::Indicated(_) => None,
+    }
+}
+
+/// The wheel behind the units of an amount, where its mark begins.
+pub fn mark_wheel(wheel: u16, digits: u16, decimals: u16) -> u16
+    requires { figures.mark_wheel wheel digits decimals ≤ 121 }
+    ensures { result ≡ figures.mark_wheel wheel digits decimals }
+{
+    if decimals > 0 {
+        wheel + digits + 1
+    } else {
+        wheel + digits
+    }
+}
+
+// Wires a text on the line of a card.
+fn wire_detail_text(
+    setup: &mut Setup,
+    plan: &Plan,
+    line: u16,
+    wheel: u16,
+    field: Field,
+    shown: DetailOption,
+) -> Result<(), AllocError>
+    requires card { IsOnCard field }
+    requires wheels { HasWheels wheel (columns_of field) }
+    ensures { OnOk result (Adds (DetailText plan.now line wheel field shown) setup.old setup.new) }
+{
+    match shown {
+        DetailOption::Plain => wire_text(setup, wheel, field),
+        DetailOption::Indicated(level) => wire_indicated(setup, plan, level, line, wheel, field),
+        DetailOption::Marked(_) => Ok(()),
+    }
+}
+
+// Wires the mark of an amount on the line of a card, if it has one.
+fn wire_detail_marks(
+    setup: &mut Setup,
+    plan: &Plan,
+    name: Name,
+    wheel: u16,
+    rule: Option<SignRule>,
+    mark: Option<Mark>,
+) -> Result<(), AllocError>
+    requires { HasWheelsForMark wheel mark }
+    ensures { OnOk result (Adds (DetailMarks plan.now name wheel rule mark) setup.old setup.new) }
+{
+    if let Some(mark) = mark {
+        if let Some(rule) = rule {
+            if let Some(pilot) = plan.pilot_of(name) {
+                wire_detail_mark(setup, rule, pilot, wheel, mark)?;
+            }
+        }
+    }
+    Ok(())
+}
+
+// Wires an amount on the line of a card.
+fn wire_detail_amount(
+    setup: &mut Setup,
+    plan: &Plan,
+    line: u16,
+    wheel: u16,
+    name: Name,
+    field: Field,
+    mark: Option<Mark>,
+) -> Result<(), AllocError>
+    requires card { IsOnCard field }
+    requires wheels { HasFigureWheels wheel (columns_of field) (decimals_of field.kind) mark }
+    ensures { OnOk result (Adds (DetailAmount plan.now line wheel name field mark) setup.old setup.new) }
+{
+    let kind = field.kind;
+    let digits = field.last + 1 - field.first;
+    let (decimals, rule) = (kind.decimals(), rule_of(kind));
+    let behind = mark_wheel(wheel, digits, decimals);
+    wire_digits(setup, plan, line, wheel, field)?;
+    wire_point(setup, 4, wheel, digits, decimals)?;
+    wire_detail_marks(setup, plan, name, behind, rule, mark)?;
+    Ok(())
+}
+
+/// Wires a field on the line of a card.
+pub fn wire_detail(
+    setup: &mut Setup,
+    plan: &Plan,
+    line: u16,
+    wheel: u16,
+    name: Name,
+    field: Field,
+    shown: DetailOption,
+) -> Result<(), AllocError>
+    requires { IsGoodDetail wheel shown field }
+    ensures { OnOk result (Adds
+        (DetailWires plan.now line wheel name field shown field.kind) setup.old setup.new) }
+{
+    match field.kind {
+        FieldKind::Text => wire_detail_text(setup, plan, line, wheel, field, shown),
+        FieldKind::Amount { .. } => {
+            wire_detail_amount(setup, plan, line, wheel, name, field, mark_shown(shown))
+        }
+    }
+}

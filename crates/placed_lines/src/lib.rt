@@ -1,0 +1,11 @@
+//! Printed lines with their places: what a machine prints, and what a report is made of.
+//!
+//! [`PlacedLine`] is a line of print with its page and its line on the page, and [`in_order`] tells whether the places of lines rise
+//! and stand on the form. The crate stands on no other: charts and their reports speak of its lines, and so do machines.
+#![tactic(auto)]
+
+mod order;
+mod placed_line;
+
+pub use order::in_order;
+pub use placed_line::{LINE_WHEELS, PlacedLine};

@@ -1,0 +1,4 @@
+pub mod CounterGroups
+pub mod Enough
+pub mod Plans
+pub mod Single

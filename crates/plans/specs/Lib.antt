@@ -1,0 +1,4 @@
+pub mod Assignments
+pub mod Excess
+pub mod Plans
+pub mod HelperEnough

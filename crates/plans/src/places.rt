@@ -1,0 +1,43 @@
+//! Where something stands in a list, and the number that it has there.
+
+ghost use Rattle.std.specs.Prelude.{◌≡◌, ◌==◌, ◌+◌, ◌<◌, IfSome, length, position, option_map};
+ghost use Rattle.charts.specs.Name.{is_same_name};
+ghost use Rattle.wanted.specs.Positions.{is_same_position};
+
+use charts::Name;
+use wanted::Position;
+
+/// Where a name stands first in a list, from 0.
+pub(crate) fn place_of_name(list: &[Name], name: Name) -> Option<usize>
+    ensures value { result ≡ position (λ each. is_same_name each name) list.now }
+    ensures within { IfSome result (λ place. place < length list.now) }
+{
+    list.iter().position(|each| each.is(name))
+}
+
+/// Where a line's number stands first in a list, from 0.
+pub(crate) fn place_of_line(list: &[u16], line: u16) -> Option<usize>
+    ensures value { result ≡ position (λ each. each == line) list.now }
+    ensures within { IfSome result (λ place. place < length list.now) }
+{
+    list.iter().position(|each| *each == line)
+}
+
+/// Where a position stands first in a list, from 0.
+pub(crate) fn place_of_position(list: &[Position], at: Position) -> Option<usize>
+    ensures value { result ≡ position (λ each. is_same_position each at) list.now }
+    ensures within { IfSome result (λ place. place < length list.now) }
+{
+    list.iter().position(|each| each.is(at))
+}
+
+/// The number of what stands at a place, from 1.
+pub(crate) fn number_at(place: Option<usize>) -> Option<u8>
+    requires { IfSome place (λ at. at < 255) }
+    ensures { result ≡ option_map (λ at. at + 1) place }
+{
+    match place {
+        Some(at) => Some(at as u8 + 1),
+        None => None,
+    }
+}

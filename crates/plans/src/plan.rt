@@ -1,0 +1,156 @@
+//! Plans.
+
+use crate::assignment::has_assignment;
+use crate::places::{number_at, place_of_line, place_of_name, place_of_position};
+use capacity::CounterGroup;
+use chart_rules::Chart;
+use charts::{ControlLevel, Name};
+use std::marker::Model;
+use wanted::{Parts, Position, has_narrow_texts, total_place};
+
+/// Which counter group, pilot, comparing position, storage unit, column split and indicate position serves what of a chart.
+///
+/// Contracts see a counter group for each TOTAL amount, in the order of their lines, and what the other parts serve, in
+/// the order of their numbers, from 1. No list of these is longer than the standard machine has parts.
+#[derive(Drop)]
+pub struct Plan {
+    groups: Vec<CounterGroup>,
+    parts: Parts,
+}
+
+impl Model for Plan {
+    ghost use Rattle.plans.specs.Plans.{Lists, IsWithinMachine};
+
+    ghost Value = { Lists };
+
+    ghost view = { λ plan. record { groups = plan.groups.items; parts = plan.parts } };
+
+    ghost invariant = { λ plan. IsWithinMachine plan.parts };
+}
+
+impl Plan {
+    ghost use Rattle.std.specs.Prelude.{◌≡◌, ◌↔◌, ◌≤◌, ◌==◌, IsTrue, IfSome};
+    ghost use Rattle.charts.specs.Name.{is_same_name};
+    ghost use Rattle.wanted.specs.ChartTotals.{totals_of};
+    ghost use Rattle.wanted.specs.Wanted.{indicate_at};
+    ghost use Rattle.plans.specs.Plans.{IsFor, IsWithinMachine, number_where, group_on};
+    ghost use Rattle.wanted.specs.Positions.{is_same_position};
+
+    /// The plan of these counter groups and other parts.
+    pub fn of(groups: Vec<CounterGroup>, parts: Parts) -> Plan
+        requires { IsWithinMachine parts }
+        ensures groups { result.groups ≡ groups.items }
+        ensures parts { result.parts ≡ parts }
+    {
+        Plan { groups, parts }
+    }
+
+    /// Whether this is a plan of the chart: each total has a counter group of its own of the standard machine with at
+    /// least its need, and there are no more groups; the other parts serve what the chart asks for, by their numbers; and
+    /// it asks for no more of them than the standard machine has.
+    pub fn is_for(&self, chart: &Chart) -> bool
+        ensures { IsTrue result ↔ IsFor chart.now.lines self.now }
+    {
+        let has_groups = has_assignment(self.groups(), chart);
+        let has_parts = self.parts.are_for(chart);
+        let has_width = has_narrow_texts(chart);
+        has_groups && has_parts && has_width
+    }
+
+    /// The counter groups, one for each TOTAL amount of the chart, in the order of their lines.
+    pub fn groups(&self) -> &[CounterGroup]
+        ensures { result.now ≡ self.now.groups }
+    {
+        self.groups.as_slice()
+    }
+
+    /// The names of the amounts that the pilots serve, in the order of their numbers.
+    pub fn pilots(&self) -> &[Name]
+        ensures value { result.now ≡ self.now.parts.pilots }
+        ensures within { IsWithinMachine self.now.parts }
+    {
+        self.parts.pilots()
+    }
+
+    /// What the comparing positions serve, in the order of their numbers.
+    pub fn comparing(&self) -> &[Position]
+        ensures value { result.now ≡ self.now.parts.comparing }
+        ensures within { IsWithinMachine self.now.parts }
+    {
+        self.parts.comparing()
+    }
+
+    /// The lines of the total texts that the storage units serve, in the order of their numbers.
+    pub fn storage(&self) -> &[u16]
+        ensures value { result.now ≡ self.now.parts.storage }
+        ensures within { IsWithinMachine self.now.parts }
+    {
+        self.parts.storage()
+    }
+
+    /// The lines of the DETAIL amounts that the column splits serve, in the order of their numbers.
+    pub fn splits(&self) -> &[u16]
+        ensures value { result.now ≡ self.now.parts.splits }
+        ensures within { IsWithinMachine self.now.parts }
+    {
+        self.parts.splits()
+    }
+
+    /// What the indicate positions of a level serve, in the order of their numbers.
+    pub fn indicate(&self, level: ControlLevel) -> &[Position]
+        ensures value { result.now ≡ indicate_at self.now.parts level }
+        ensures within { IsWithinMachine self.now.parts }
+    {
+        self.parts.indicate(level)
+    }
+
+    /// The counter group of the total on a line of the chart, if a total stands there.
+    pub fn group_on(&self, chart: &Chart, line: u16) -> Option<CounterGroup>
+        ensures { result ≡ group_on (totals_of chart.now.lines) self.now.groups line }
+    {
+        let place = total_place(chart, line)?;
+        self.groups().get(place).copied()
+    }
+
+    /// The number of the pilot that serves the amount of a name, from 1.
+    pub fn pilot_of(&self, name: Name) -> Option<u8>
+        ensures value { result ≡ number_where (λ served. is_same_name served name) self.now.parts.pilots }
+        ensures few { IfSome result (λ number. (1 ≤ number) × (number ≤ 16)) }
+    {
+        number_at(place_of_name(self.pilots(), name))
+    }
+
+    /// The number of the comparing position that serves a column of the field of a CONTROL line, from 1. The columns of a
+    /// line have numbers that follow one another, from left to right.
+    pub fn comparing_position(&self, at: Position) -> Option<u8>
+        ensures value { result ≡ number_where (λ served. is_same_position served at) self.now.parts.comparing }
+        ensures few { IfSome result (λ number. (1 ≤ number) × (number ≤ 30)) }
+    {
+        number_at(place_of_position(self.comparing(), at))
+    }
+
+    /// The number of the storage unit that serves the text on a total line of the chart, from 1.
+    pub fn storage_unit(&self, line: u16) -> Option<u8>
+        ensures value { result ≡ number_where (λ served. served == line) self.now.parts.storage }
+        ensures few { IfSome result (λ number. (1 ≤ number) × (number ≤ 4)) }
+    {
+        number_at(place_of_line(self.storage(), line))
+    }
+
+    /// The number of the column split that serves the amount on a DETAIL line of the chart, from 1.
+    pub fn split_on(&self, line: u16) -> Option<u8>
+        ensures value { result ≡ number_where (λ served. served == line) self.now.parts.splits }
+        ensures few { IfSome result (λ number. (1 ≤ number) × (number ≤ 16)) }
+    {
+        number_at(place_of_line(self.splits(), line))
+    }
+
+    /// The number of the indicate position of a level that serves a column of the field of an INDICATE item, from 1.
+    /// The columns of an item have numbers that follow one another, from left to right.
+    pub fn indicate_position(&self, level: ControlLevel, at: Position) -> Option<u8>
+        ensures value { result ≡ number_where (λ served. is_same_position served at) (indicate_at self.now.parts level) }
+        ensures few { IfSome result (λ number. (1 ≤ number) × (number ≤ 30)) }
+    {
+        number_at(place_of_position(self.indicate(level), at))
+    }
+}

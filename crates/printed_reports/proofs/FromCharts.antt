@@ -1,0 +1,81 @@
+-- What the rules of a chart say of its amounts, and what the totals hold before the first card.
+use Rattle.std.proofs.Common.{◌≡◌, ◌∙◌, refl, sym, ap, subst, ℕ, zero, suc, ◌-◌, ◌<◌, ◌^◌, nat_lt, true, false, List, [], ◌∷◌, Option, Some, None, map, replicate, slice_index_or, is_some, arith}
+use Rattle.std.proofs.lemmas.Bool.Decides.{nat_tests}
+use Rattle.wanted.specs.ChartTotals.{names_signed}
+use Rattle.plans.specs.Plans.{Lists}
+use Rattle.field_rules.proofs.Places.{is_same_name-equal}
+use Rattle.field_rules.specs.Fields.{field_named}
+use Rattle.chart_rules.specs.Rules.{IsLawful}
+use Rattle.charts.specs.Chart.{Chart}
+use Rattle.charts.specs.Field.{sign_column}
+use Rattle.charts.specs.Levels.{level_number}
+use Rattle.charts.specs.declared.statement.Field.{Field}
+use Rattle.charts.specs.declared.statement.FieldKind.{FieldKind}
+use Rattle.charts.specs.declared.statement.FieldKind.TheVariants as holds
+use Rattle.counters.specs.Counters.{Counter, counter_at_start}
+use Rattle.counters.specs.Numbers.{number}
+use Rattle.decks.proofs.Fitting.{totals_room}
+use Rattle.decks.specs.CardMisfits.{GroupFits}
+use Rattle.setups.specs.Wiring.{Wiring}
+use Rattle.hubs.specs.declared.hub.Group.{Group}
+use Rattle.wired_panels.proofs.AmountFacts.{digits_are, has_from}
+use Rattle.wired_panels.specs.ChartAmounts.{amount_of, total_group}
+use Rattle.wired_panels.specs.CounterStates.{held_in}
+use Rattle.machine.specs.Machine.{group_units, machine_at_start}
+use Rattle.net.specs.Panel.{unit_of}
+use Rattle.report.specs.Amounts.{is_negated}
+use Rattle.report.specs.Edits.{size}
+use Rattle.report.specs.Totals.{total_of}
+use Rattle.wiring_table.specs.Figures.{IsAmount}
+use Rattle.printed_reports.specs.Content.{held}
+
+-- an amount without a sign rule is never negated
+pub never_negated :
+    (chart : Chart) (plan : Lists) (name : List ℕ) (field : Field) → IsAmount chart.lines name field
+    → (amount_of chart.lines plan name).is_signed ≡ false → (card : List ℕ) → is_negated field.kind card ≡ false
+never_negated chart plan name field amount none card = by field.kind (sym (ap (λ (o : Option Field). names_signed o) amount.named) ∙ none)
+  where
+    by : (kind : FieldKind) → is_some (sign_column kind) ≡ false → is_negated kind card ≡ false
+    by holds.Text is = refl
+    by (holds.Amount decimals None) is = refl
+    by (holds.Amount decimals (Some rule)) is = cc
+
+-- where a group fits, its totals have no more digits than they may
+pub fits :
+    (chart : Chart) (plan : Lists) → IsLawful chart → (name : List ℕ) (field : Field) (k : ℕ) (group : List (List ℕ))
+    → IsAmount chart.lines name field → (amount_of chart.lines plan name).has (suc k) ≡ true → GroupFits chart.lines (suc k) group
+    → size (total_of field group) < 10 ^ (amount_of chart.lines plan name).digits (suc k)
+fits chart plan lawful name field k group amount has fit =
+    let (n, total) = has_from chart.lines plan name (suc k) has in
+    let same = is_same_name-equal total.its_name name total.same_name in
+    let named : field_named chart.lines total.its_name ≡ Some field = ap (field_named chart.lines) same ∙ amount.named in
+    let fit_here : GroupFits chart.lines (level_number total.its_level) group
+    = subst (λ l. GroupFits chart.lines l group) (sym total.same_level) fit in
+    let room = totals_room chart.lines total.its_level group total.line total.wheel total.its_name total.digits total.mark field fit_here
+    total.listed total.says_total named in
+    let digits = digits_are chart plan name (suc k) n lawful total in
+    subst (λ d. size (total_of field group) < 10 ^ d) (sym digits) (less_from (size (total_of field group)) (10 ^ total.digits) room)
+  where
+    less_from : (a b : ℕ) → nat_lt a b ≡ true → a < b
+    less_from a b is = grind (arith, nat_tests, is)
+
+-- zeros spell zero
+zeros_spell : (count : ℕ) → number (replicate count 0) ≡ 0
+zeros_spell zero = refl
+zeros_spell (suc count) = let rest = zeros_spell count in omega (arith, rest)
+
+-- groups at the start hold zero
+start_number : (wiring : Wiring) (units : List ℕ) (place : ℕ)
+    → slice_index_or (map (λ (c : Counter). number c.digits) (map (counter_at_start wiring) units)) place 0 ≡ 0
+start_number wiring [] place = refl
+start_number wiring (unit ∷ units) zero = zeros_spell _
+start_number wiring (unit ∷ units) (suc place) = start_number wiring units place
+
+-- before the first card all totals are zero
+pub start_zero : (chart : Chart) (plan : Lists) (wiring : Wiring) (name : List ℕ) (level : ℕ)
+    → (held chart plan (machine_at_start wiring) name level).number ≡ 0
+start_zero chart plan wiring name level = by (total_group chart.lines plan name level)
+  where
+    by : (o : Option Group) → (held_in (machine_at_start wiring) o).number ≡ 0
+    by None = refl
+    by (Some group) = start_number wiring group_units (unit_of group - 3)

@@ -1,0 +1,51 @@
+-- What whole cycles leave of the units that know no chart.
+use Rattle.std.proofs.Common.{◌≡◌, ◌≢◌, ◌∙◌, refl, ap, Bool}
+use Rattle.setups.specs.Wiring.{Wiring}
+use Rattle.machine.specs.Cycles.{CycleRun}
+use Rattle.machine.specs.Machine.{MachineState}
+use Rattle.net.specs.declared.cycle.Cycle.{Cycle}
+use Rattle.net.specs.declared.cycle.Cycle.TheVariants.{RunIn, Card, Prog, Head}
+use Rattle.net.specs.declared.cycle.Point.TheVariants.{K}
+use Rattle.hubs.specs.declared.hub.Hub.{Hub}
+use Rattle.program_unit.specs.Program.{ProgramState, program_ended, program_sensed}
+use Rattle.program_unit.specs.declared.stage.Stage.TheVariants.{RanCard}
+use Rattle.whole_cycles.proofs.Wholes.{cycles-whole}
+use Rattle.whole_cycles.specs.Between.{IsReady}
+use Rattle.whole_cycles.specs.WholeCycles.{WholeCycle}
+
+-- a cycle of a machine that is ready, as a whole
+pub whole : (wiring : Wiring) (cycle : Cycle) (old new : MachineState) → IsReady wiring old → CycleRun wiring cycle old new
+    → WholeCycle wiring cycle old new
+whole wiring cycle old new is run = cycles-whole wiring cycle old new is.between run
+
+-- the jacks that print stay
+same_printing : (program : ProgramState) (cycle : Cycle) (picture : Hub → Bool)
+    → (program_ended (program_sensed program cycle K picture) cycle).printing ≡ program.printing
+same_printing program RunIn picture = refl
+same_printing program Card picture = refl
+same_printing program (Prog level ordinal) picture = refl
+same_printing program (Head heading) picture = refl
+
+pub printing_stays : (wiring : Wiring) (cycle : Cycle) (old new : MachineState) → IsReady wiring old → CycleRun wiring cycle old new
+    → new.program.printing ≡ old.program.printing
+printing_stays wiring cycle old new is run =
+    let all = whole wiring cycle old new is run in
+    ap (λ p. p.printing) all.program ∙ same_printing old.program cycle (all.pictures K)
+
+-- the program unit senses nothing in cycles that are no card cycles
+unsensed : (program : ProgramState) (cycle : Cycle) (picture : Hub → Bool) → cycle ≢ Card
+    → program_ended (program_sensed program cycle K picture) cycle ≡ program_ended program cycle
+unsensed program RunIn picture differs = refl
+unsensed program Card picture differs = absurd (differs refl)
+unsensed program (Prog level ordinal) picture differs = refl
+unsensed program (Head heading) picture differs = refl
+
+pub program_goes : (wiring : Wiring) (cycle : Cycle) (old new : MachineState) → IsReady wiring old → CycleRun wiring cycle old new
+    → cycle ≢ Card → new.program ≡ program_ended old.program cycle
+program_goes wiring cycle old new is run differs =
+    let all = whole wiring cycle old new is run in
+    all.program ∙ unsensed old.program cycle (all.pictures K) differs
+
+pub card_stage : (wiring : Wiring) (old new : MachineState) → IsReady wiring old → CycleRun wiring Card old new
+    → new.program.stage ≡ RanCard
+card_stage wiring old new is run = ap (λ p. p.stage) (whole wiring Card old new is run).program

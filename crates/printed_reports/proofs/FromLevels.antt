@@ -1,0 +1,260 @@
+-- The third program cycle of a level, put together: what the groups and units hold, and the line that they print.
+use Rattle.std.proofs.Common.{◌≡◌, ◌∙◌, refl, sym, ap, subst, ℕ, ◌+◌, ◌≤◌, ◌<◌, ◌^◌, ◌==◌, nat_lt, Bool, true, false, List, Contains, Option, Some, None, length, is_some, arith}
+use Rattle.std.proofs.lemmas.Bool.Decides.{nat_tests}
+use Rattle.wanted.specs.ChartTotals.{names_signed}
+use Rattle.plans.specs.Plans.{Lists}
+use Rattle.card_code.specs.declared.row.Row.{Row as CardRow}
+use Rattle.field_rules.specs.Fields.{field_named, fields_of}
+use Rattle.print_rules.specs.Marks.{breaks_mark_mismatch, is_mismatched, is_mismatched_kind}
+use Rattle.field_rules.specs.Names.{breaks_wrong_kind, names_amount}
+use Rattle.chart_rules.specs.ValidCard.{IsValidCard, column_of, is_printed}
+use Rattle.card_code.specs.CardCode.{deck_character, has_row}
+use Rattle.card_code.specs.Rows.{row_number}
+use Rattle.storage_units.specs.Storage.{holds as holds_column}
+use Rattle.chart_rules.specs.declared.rule.Rule.TheVariants as rule
+use Rattle.charts.specs.Chart.{Chart, NumbersRise}
+use Rattle.charts.specs.Field.{columns_of, is_amount, sign_column}
+use Rattle.charts.specs.Levels as levels
+use Rattle.charts.specs.Literals.{HaveLiteralTexts}
+use Rattle.charts.specs.declared.chart.Line.{Line}
+use Rattle.charts.specs.declared.level.Level.{Level as ChartLevel}
+use Rattle.charts.specs.declared.statement.Field.{Field}
+use Rattle.charts.specs.declared.statement.FieldKind.{FieldKind}
+use Rattle.charts.specs.declared.statement.FieldKind.TheVariants as holds
+use Rattle.charts.specs.declared.statement.Mark.{Mark}
+use Rattle.charts.specs.declared.statement.Statement.TheVariants as says
+use Rattle.decks.specs.Alike.{AlikeWith}
+use Rattle.setups.specs.Wiring.{Wiring}
+use Rattle.hubs.specs.declared.hub.Group.{Group}
+use Rattle.wired_panels.proofs.AmountFacts.{digits_are, group_is, has_it, kept, total_field}
+use Rattle.wired_panels.proofs.JacksAndTape.{wheel_jacks-are}
+use Rattle.wired_panels.proofs.SpeakersServed.{number-range}
+use Rattle.wired_panels.proofs.PlanOwners.{own_name}
+use Rattle.wired_panels.proofs.ToCounters.{IsLine, with_group}
+use Rattle.wired_panels.proofs.WheelRowsLaws.{wheels-totals}
+use Rattle.wired_panels.proofs.WheelRowsUnits.{group-listed, group-named, unit-listed, unit-place}
+use Rattle.wired_panels.specs.ChartAmounts.{IsGroupOf, amount_of}
+use Rattle.wired_panels.specs.CounterStates.{held_in}
+use Rattle.wired_panels.specs.Panel.{IsPanel}
+use Rattle.wired_panels.specs.Sensed.{UnitsHold}
+use Rattle.wired_panels.specs.Spoken as spoken
+use Rattle.wired_panels.specs.Spoken.{IsTotalRow}
+use Rattle.machine.specs.Cycles.{CycleRun}
+use Rattle.machine.specs.Machine.{MachineState}
+use Rattle.net.specs.Cycles.{level_number}
+use Rattle.net.specs.declared.cycle.Cycle.TheVariants.{Prog}
+use Rattle.net.specs.declared.cycle.Level.{Level}
+use Rattle.net.specs.declared.cycle.Ordinal.TheVariants.{Third}
+use Rattle.printed_lines.proofs.Premises.{total_texts}
+use Rattle.printed_lines.proofs.TotalLines.{total_lines}
+use Rattle.printed_lines.specs.Held as printed
+use Rattle.printed_lines.specs.Held.{HoldsLine, HoldsText}
+use Rattle.printed_lines.specs.Shown.{Printed, sent_to_total, set_on}
+use Rattle.report.specs.BodyLines.{total_line}
+use Rattle.report.specs.Breaks.{taking}
+use Rattle.report.specs.Edits as edit
+use Rattle.report.specs.Totals.{total_of}
+use Rattle.whole_cycles.proofs.Units.{units-by_name}
+use Rattle.whole_cycles.specs.Between.{IsReady}
+use Rattle.whole_cycles.specs.Units.{group_at, storage_at}
+use Rattle.whole_cycles.specs.WholeCycles.{WholeCycle}
+use Rattle.wiring_table.specs.Figures.{IsAmount, IsText}
+use Rattle.wiring_table.specs.Parts.{HasTotal, group_for, unit_for}
+use Rattle.printed_reports.specs.Content.{held}
+use Rattle.printed_reports.proofs.Facts.{ShowsTotal}
+use Rattle.printed_reports.proofs.FromCounters.{held_there}
+use Rattle.printed_reports.proofs.FromCycles.{whole}
+use Rattle.printed_reports.proofs.FromTotals.{controlled, first_same}
+use Rattle.printed_reports.proofs.FromWheels.{is_moment, row_of}
+use Rattle.printed_reports.proofs.Lines.{has_link, has_suppress, has_symbol, line_of_cycle}
+
+-- an amount with a mark has a sign rule
+marked_signed : (kind : FieldKind) (mark : Option Mark) → is_amount kind ≡ true → is_mismatched_kind kind mark ≡ false
+    → is_some mark ≡ true → is_some (sign_column kind) ≡ true
+marked_signed holds.Text mark amount good marked = cc
+marked_signed (holds.Amount decimals None) (Some mark) amount good marked = cc
+marked_signed (holds.Amount decimals None) None amount good marked = cc
+marked_signed (holds.Amount decimals (Some rule)) mark amount good marked = refl
+
+-- what the totals of a level hold, by the names of their amounts
+abbrev pub printed_held : Chart → Lists → MachineState → ℕ → List ℕ → Printed
+printed_held chart plan machine level name = record {
+  figure = (held chart plan machine name level).number;
+  latch = (held chart plan machine name level).latch;
+}
+
+module _ (chart : Chart) (plan : Lists) (wiring : Wiring) (panel : IsPanel chart plan wiring) (rise : NumbersRise chart.lines chart.end)
+    (literals : HaveLiteralTexts chart.lines) where
+  -- the line of a total, as one of the chart's
+  line_is : (line : Line) (its : ChartLevel) (wheel : ℕ) (name : List ℕ) (digits : ℕ) (mark : Option Mark) → Contains chart.lines line
+      → line.statement ≡ says.TotalAmount its wheel name digits mark
+      → IsLine chart.lines line.number (says.TotalAmount its wheel name digits mark)
+  line_is line its wheel name digits mark there is = record { line = line; listed = there; numbered = refl; says_it = is }
+
+  -- the group on the line of a total is that of the amount's total
+  own_group : (line : Line) (its : ChartLevel) (wheel : ℕ) (name : List ℕ) (digits : ℕ) (mark : Option Mark) (group : Group) (level : ℕ)
+      → Contains chart.lines line → line.statement ≡ says.TotalAmount its wheel name digits mark → levels.level_number its ≡ level
+      → group_for chart.lines plan line.number ≡ Some group → IsGroupOf chart.lines plan name level group
+  own_group line its wheel name digits mark group level there is same served =
+      subst (λ n. IsGroupOf chart.lines plan name n group) same
+      (with_group chart.lines plan its wheel name digits mark line.number group (line_is line its wheel name digits mark there is) served)
+
+  module _ (old new : MachineState) (level : Level) (card : List ℕ) (so_far : ℕ → List (List ℕ)) (is : IsReady wiring old)
+      (all : WholeCycle wiring (Prog level Third) old new) (row : CardRow) where
+    -- what the groups hold
+    groups_hold :
+        (line : Line) (its : ChartLevel) (wheel : ℕ) (name : List ℕ) (digits : ℕ) (mark : Option Mark) (group : Group)
+        → Contains chart.lines line → line.statement ≡ says.TotalAmount its wheel name digits mark
+        → levels.level_number its ≡ level_number level → group_for chart.lines plan line.number ≡ Some group
+        → spoken.HoldsTotal (row_of chart plan wiring panel rise literals (Prog level Third) old new all row) group
+        (printed_held chart plan old (level_number level) name)
+    groups_hold line its wheel name digits mark group there says same served =
+        let own = own_group line its wheel name digits mark group (level_number level) there says same served in
+        let is_group = group-named chart.lines plan line.number group panel.planned served in
+        let listed = group-listed old is.between group is_group in
+        let named = (units-by_name.groups old group is.between is_group).named in
+        let holds = ap (held_in old) (group_is chart plan name (level_number level) group panel.lawful own)
+        ∙ held_there old (group_at old group) group is.between listed named in
+        record { figure = sym (ap (λ h. h.number) holds); latch = sym (ap (λ h. h.latch) holds) }
+
+    -- a text on a total line is a text
+    is_text_field : (line : Line) (its : ChartLevel) (wheel : ℕ) (name : List ℕ) (field : Field) → Contains chart.lines line
+        → line.statement ≡ says.TotalText its wheel name → field_named chart.lines name ≡ Some field → IsText chart.lines name field
+    is_text_field line its wheel name field there says named =
+        let (earlier, right) = kept chart rule.WrongKind line panel.lawful there in
+        record {
+          named = named;
+          holds_text = sym (ap names_amount named) ∙ sym (ap (breaks_wrong_kind (fields_of chart.lines)) says) ∙ right;
+        }
+
+    -- the plan has at most four storage units
+    few_units : length plan.parts.storage ≤ 4
+    few_units =
+        let not_over = panel.planned.storage_units in
+        let same = ap (λ p. length p.storage) panel.planned.parts in
+        by (nat_lt 4 (length plan.parts.storage)) refl not_over same
+      where
+        by : {wanted : ℕ} (b : Bool) → nat_lt 4 (length plan.parts.storage) ≡ b → (4 < wanted → ⊥)
+            → length plan.parts.storage ≡ wanted → length plan.parts.storage ≤ 4
+        by true over none same = absurd (none (grind (arith, nat_tests, over, same)))
+        by false over none same = grind (arith, nat_tests, over)
+
+    -- what the units hold
+    units_hold :
+        UnitsHold chart.lines plan card old.storage
+        → (line : Line) (its : ChartLevel) (wheel : ℕ) (name : List ℕ) (field : Field) (unit j : ℕ)
+        → Contains chart.lines line → line.statement ≡ says.TotalText its wheel name
+        → levels.level_number its ≡ level_number level → unit_for plan line.number ≡ Some unit
+        → field_named chart.lines name ≡ Some field → j < columns_of field
+        → holds_column (storage_at old unit) row (j + 1) ≡ has_row (column_of card (field.first + j)) (row_number row)
+    units_hold stored line its wheel name field unit j there says same served named less =
+        let within = number-range (λ (served : ℕ). served == line.number) plan.parts.storage unit 4 served few_units in
+        let low : 1 ≤ unit = grind (arith, nat_tests, within) in
+        let high : unit ≤ 4 = grind (arith, nat_tests, within) in
+        stored line its wheel name field unit (storage_at old unit) row j there says
+        (is_text_field line its wheel name field there says named) served (unit-listed old is.between unit low high)
+        (unit-place old is.between unit low high) less
+
+    -- the row of the third cycle
+    pub total_row : UnitsHold chart.lines plan card old.storage
+        → IsTotalRow wiring level (printed_held chart plan old (level_number level)) card
+        (row_of chart plan wiring panel rise literals (Prog level Third) old new all row)
+    total_row stored = record {
+      moment = is_moment chart plan wiring panel rise literals (Prog level Third) old new is all row;
+      cycle = refl;
+      totals = groups_hold;
+      texts = units_hold stored;
+    }
+
+  -- the totals and the texts of a level, as the printed line wants them
+  holds_line :
+      (old : MachineState) (level : ℕ) (card : List ℕ) (so_far : ℕ → List (List ℕ)) → IsValidCard chart card
+      → AlikeWith chart.lines so_far card
+      → ((name : List ℕ) (field : Field) → IsAmount chart.lines name field → (amount_of chart.lines plan name).has level ≡ true
+      → ShowsTotal chart plan level (taking card so_far level) name field (held chart plan old name level))
+      → HoldsLine chart.lines level (taking card so_far level) (printed_held chart plan old level) card
+  holds_line old level card so_far valid alike shows = record {
+    amounts = λ line its wheel name digits mark field there says same named.
+        by_level line its wheel name digits mark field there says named level same shows;
+    texts = λ line its wheel name field there says same named.
+        let by = controlled chart line its wheel name field panel.lawful there says named in
+        let low : level ≤ by.above = subst (λ n. n ≤ by.above) same by.low in
+        let alike_columns = first_same chart.lines so_far card level by.above field alike low by.high by.controls in
+        let is_text = total_texts chart card line its wheel name field panel.lawful valid there says named in
+        record {
+          same = alike_columns;
+          is_text = λ column from to.
+              ap (λ c. is_printed (deck_character c)) (sym (alike_columns column from to)) ∙ is_text column from to;
+        };
+  }
+    where
+      by_level :
+          (line : Line) (its : ChartLevel) (wheel : ℕ) (name : List ℕ) (digits : ℕ) (mark : Option Mark) (field : Field)
+          → Contains chart.lines line → line.statement ≡ says.TotalAmount its wheel name digits mark
+          → field_named chart.lines name ≡ Some field → (n : ℕ) → levels.level_number its ≡ n
+          → ((name : List ℕ) (field : Field) → IsAmount chart.lines name field → (amount_of chart.lines plan name).has n ≡ true
+          → ShowsTotal chart plan n (taking card so_far n) name field (held chart plan old name n))
+          → printed.HoldsTotal digits mark (total_of field (taking card so_far n)) (printed_held chart plan old n name)
+      by_level line its wheel name digits mark field there says named n same shows =
+          let total_at : HasTotal chart.lines name (levels.level_number its) line.number
+          = record {
+            line = line;
+            listed = there;
+            is_number = refl;
+            its_level = its;
+            wheel = wheel;
+            its_name = name;
+            digits = digits;
+            mark = mark;
+            says_total = says;
+            same_level = refl;
+            same_name = own_name name;
+          } in
+          let total = subst (λ k. HasTotal chart.lines name k line.number) same total_at in
+          let found_amount = total_field chart name n line.number panel.lawful total in
+          let same_field : found_amount.0 ≡ field = one_field found_amount.1.named named in
+          let amount : IsAmount chart.lines name field = subst (λ f. IsAmount chart.lines name f) same_field found_amount.1 in
+          let has = has_it chart.lines plan name n line.number total in
+          let shown = shows name field amount has in
+          let many : (amount_of chart.lines plan name).digits (levels.level_number its) ≡ digits
+          = digits_are chart plan name (levels.level_number its) line.number panel.lawful total_at in
+          let many_here : (amount_of chart.lines plan name).digits n ≡ digits
+          = ap (amount_of chart.lines plan name).digits (sym same) ∙ many in
+          let (earlier, right) = kept chart rule.MarkMismatch line panel.lawful there in
+          let good : is_mismatched (field_named chart.lines name) mark ≡ false
+          = sym (ap (breaks_mark_mismatch (fields_of chart.lines)) says) ∙ right in
+          let good_kind : is_mismatched_kind field.kind mark ≡ false
+          = sym (ap (λ (o : Option Field). is_mismatched o mark) named) ∙ good in
+          record {
+            fits = subst (λ d. edit.size (total_of field (taking card so_far n)) < 10 ^ d) many_here shown.fits;
+            figure = shown.figure;
+            below = λ marked less. shown.below less;
+            above = λ marked less some.
+                shown.above (ap (λ (o : Option Field). names_signed o) named
+                ∙ marked_signed field.kind mark amount.holds_amount good_kind marked) less some;
+          }
+        where
+          one_field : {a b : Field} {o : Option Field} → o ≡ Some a → o ≡ Some b → a ≡ b
+          one_field one other = let e = sym one ∙ other in cc
+
+  -- The third program cycle of a level prints the total line of its group.
+  pub total_prints :
+      (old new : MachineState) (level : Level) (card : List ℕ) (so_far : ℕ → List (List ℕ)) → IsReady wiring old
+      → CycleRun wiring (Prog level Third) old new → UnitsHold chart.lines plan card old.storage → IsValidCard chart card
+      → AlikeWith chart.lines so_far card
+      → ((name : List ℕ) (field : Field) → IsAmount chart.lines name field
+      → (amount_of chart.lines plan name).has (level_number level) ≡ true
+      → ShowsTotal chart plan (level_number level) (taking card so_far (level_number level)) name field
+      (held chart plan old name (level_number level)))
+      → new.wheels.line ≡ total_line chart.lines (level_number level) (taking card so_far (level_number level))
+  total_prints old new level card so_far is run stored valid alike shows =
+      let all = whole wiring (Prog level Third) old new is run in
+      let heldp = printed_held chart plan old (level_number level) in
+      let set_of = set_on (sent_to_total chart.lines (level_number level) heldp card) in
+      line_of_cycle wiring (Prog level Third) old new set_of is all
+      (λ row v low high. wheels-totals wiring level heldp card
+      (row_of chart plan wiring panel rise literals (Prog level Third) old new all row) v
+      (total_row old new level card so_far is all row stored))
+      ∙ total_lines chart (has_link wiring) (has_suppress wiring) (has_symbol wiring) (level_number level)
+      (taking card so_far (level_number level)) heldp card panel.lawful literals (wheel_jacks-are chart plan wiring panel)
+      (holds_line old (level_number level) card so_far valid alike shows)

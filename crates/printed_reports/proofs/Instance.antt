@@ -1,0 +1,417 @@
+-- The cycles of a machine that is wired for a chart, put together: what it holds between cycles is kept, and each line is printed as the
+-- report has it.
+use Rattle.std.proofs.Common.{◌≡◌, ◌≢◌, inl, inr, ◌∙◌, refl, sym, ap, subst, ℕ, suc, ◌+◌, nat_le, ◌≤◌, ◌<◌, ◌^◌, ℤ, Bool, true, false, List, [], Option, Some, None, if◌then◌else◌, arith}
+use Rattle.std.proofs.lemmas.Bool.Decides.{nat_tests}
+use Rattle.counter_cycles.specs.Acts.{Held}
+use Rattle.plans.specs.Plans.{Lists}
+use Rattle.carriage.specs.Asked.{nothing_asked}
+use Rattle.chart_rules.specs.ValidCard.{IsValidCard}
+use Rattle.charts.specs.Chart.{Chart}
+use Rattle.charts.specs.declared.statement.Field.{Field}
+use Rattle.decks.specs.Runner.{ReadsNext}
+use Rattle.decks.specs.Stands.{Stand, at_first}
+use Rattle.setups.specs.Wiring.{Wiring}
+use Rattle.wired_panels.specs.ChartAmounts.{amount_of}
+use Rattle.wired_panels.specs.CounterStates.{IsCardRead}
+use Rattle.wired_panels.specs.Sensed.{AreSetTo}
+use Rattle.wired_panels.proofs.IndicateLatches.{latches-card, latches-third, latches-left, latches-heading, latches-run_in}
+use Rattle.machine.specs.Cycles.{CycleRun}
+use Rattle.machine.specs.Feeds.{moved_on}
+use Rattle.machine.specs.Machine.{MachineState, machine_at_start}
+use Rattle.net.specs.Cycles.{level_number}
+use Rattle.net.specs.declared.cycle.Cycle.TheVariants.{RunIn, Card, Prog, Head}
+use Rattle.net.specs.declared.cycle.Level.{Level}
+use Rattle.net.specs.declared.cycle.Ordinal.{Ordinal}
+use Rattle.net.specs.declared.cycle.Ordinal.TheVariants.{First, Second, Third}
+use Rattle.report.specs.Breaks.{cleared, ended_behind, taking}
+use Rattle.report.specs.Edits as edit
+use Rattle.report.specs.Totals.{total_of}
+use Rattle.selectors.specs.Indicate.{Latches, indicate_ended}
+use Rattle.totals.proofs.Cards.{zeros}
+use Rattle.totals.proofs.GroupEnds.{total_shows}
+use Rattle.totals.proofs.Passing.{other_passes}
+use Rattle.totals.specs.Amounts.{IsSmall, state_after}
+use Rattle.totals.specs.Amounts.Kind.{Prog as Ends}
+use Rattle.totals.specs.Laws.{IsGroupEnd, ready}
+use Rattle.totals.specs.Standing.{StandsAll}
+use Rattle.whole_cycles.specs.Between.{IsReady}
+use Rattle.whole_cycles.proofs.Ready.{ready-moved}
+use Rattle.wiring_table.specs.Figures.{IsAmount}
+use Rattle.printed_reports.specs.Content.{AllStand, Behind, Holds, Waits, Within, by_first, by_second, held, sums_of}
+use Rattle.printed_reports.proofs.Facts.{CycleFacts, ShowsTotal}
+use Rattle.printed_reports.proofs.Sums.{card_sums, group_end, level_sums, unsigned_total}
+use Rattle.printed_reports.specs.Goes.{CardGoes, HeadsKeep, IsDue, MachineGoes}
+use Rattle.printed_reports.specs.Steps.{GoesOn, Heads, RunsCard, Totals}
+
+module _ (chart : Chart) (plan : Lists) (wiring : Wiring) (Stored : List ℕ → MachineState → Type 0)
+    (facts : CycleFacts chart plan wiring Stored) where
+  -- cycles that are no card cycles
+  run_in_differs : RunIn ≢ Card
+  run_in_differs e = cc
+
+  prog_differs : (level : Level) (ordinal : Ordinal) → Prog level ordinal ≢ Card
+  prog_differs level ordinal e = cc
+
+  prog_no_run_in : (level : Level) (ordinal : Ordinal) → Prog level ordinal ≢ RunIn
+  prog_no_run_in level ordinal e = cc
+
+  head_differs : (heading : Ordinal) → Head heading ≢ Card
+  head_differs heading e = cc
+
+  head_no_run_in : (heading : Ordinal) → Head heading ≢ RunIn
+  head_no_run_in heading e = cc
+
+  -- a heading cycle goes on and prints its line
+  heads : (heading : Ordinal) (old new : MachineState) → IsReady wiring old → CycleRun wiring (Head heading) old new
+      → Heads chart heading old new
+  heads heading old new is run =
+      let done = facts.cycled (Head heading) old new is run in
+      record {
+        goes = record {
+          stations = done.stations;
+          carriage = done.carriage;
+          program = facts.program (Head heading) old new is run (head_differs heading);
+        };
+        line = λ there. facts.heading_prints old new heading is run;
+      }
+
+  -- a heading cycle keeps latches, pilots and units
+  heads_hold : (heading : Ordinal) (old new : MachineState) (latches : ℕ) (signs : Option (List ℕ))
+      → Holds chart plan wiring latches signs old → CycleRun wiring (Head heading) old new → Holds chart plan wiring latches signs new
+  heads_hold heading old new latches signs holds run =
+      let done = facts.cycled (Head heading) old new holds.is_ready run in
+      record {
+        is_ready = done.is_ready;
+        are_set = subst (λ (l : Latches). AreSetTo l latches) (sym done.indicate)
+            (latches-heading old.indicate heading latches holds.are_set);
+        pilots = facts.kept old new (Head heading) signs (head_no_run_in heading) (head_differs heading) holds.is_ready run holds.pilots;
+      }
+
+  -- and the totals
+  heads_same : (heading : Ordinal) (card : List ℕ) (old new : MachineState) → IsReady wiring old → CycleRun wiring (Head heading) old new
+      → (name : List ℕ) (field : Field) → IsAmount chart.lines name field → held chart plan new name ≡ held chart plan old name
+  heads_same heading card old new is run name field amount =
+      facts.totals (Head heading) card old new is run tt name field amount tt
+      ∙ other_passes (amount_of chart.lines plan name) (held chart plan old name)
+
+  -- the totals stand for the same sums where they hold the same
+  stand_same : (groups : ℕ → List (List ℕ)) (one other : List ℕ → ℕ → Held) → AllStand chart plan groups one
+      → ((name : List ℕ) (field : Field) → IsAmount chart.lines name field → other name ≡ one name) → AllStand chart plan groups other
+  stand_same groups one other stand same name field amount =
+      subst (λ s. StandsAll (amount_of chart.lines plan name) (sums_of field groups) s) (sym (same name field amount)) (stand name field amount)
+
+  -- the run-in of the first card
+  pub starts :
+      (card : List ℕ) (new : MachineState) → IsValidCard chart card
+      → CycleRun wiring RunIn (moved_on (Some card) (machine_at_start wiring)) new
+      → Waits chart plan wiring at_first card new × GoesOn RunIn nothing_asked (moved_on (Some card) (machine_at_start wiring)) new
+  starts card new valid run =
+      let start : MachineState = moved_on (Some card) (machine_at_start wiring) in
+      let is = ready-moved wiring (Some card) (machine_at_start wiring) facts.starts_ready in
+      let done = facts.cycled RunIn start new is run in
+      let same : (name : List ℕ) (field : Field) → IsAmount chart.lines name field
+      → held chart plan new name ≡ held chart plan (machine_at_start wiring) name
+      = λ name field amount. facts.totals RunIn card start new is run tt name field amount tt
+      ∙ other_passes (amount_of chart.lines plan name) (held chart plan start name) in
+      let zero_sums : AllStand chart plan at_first.so_far (held chart plan (machine_at_start wiring))
+      = λ name field amount. zeros (amount_of chart.lines plan name) (held chart plan (machine_at_start wiring) name)
+      (λ level. facts.start name level) in (
+        record {
+          holds = record {
+            is_ready = done.is_ready;
+            are_set = subst (λ (l : Latches). AreSetTo l 4) (sym done.indicate)
+                (latches-run_in (machine_at_start wiring).indicate 4 facts.starts_set);
+            pilots = facts.picked_up start new RunIn (inl refl) is run;
+          };
+          totals = stand_same at_first.so_far (held chart plan (machine_at_start wiring)) (held chart plan new) zero_sums same;
+        },
+        record {
+          stations = done.stations;
+          carriage = done.carriage;
+          program = facts.program RunIn start new is run run_in_differs;
+        },
+      )
+
+  -- a card that comes next is valid
+  next_valid : (next : Option (List ℕ)) → ReadsNext (IsValidCard chart) next → (d : List ℕ) → next ≡ Some d → IsValidCard chart d
+  next_valid None reads d is = cc
+  next_valid (Some other) reads d is = let same : other ≡ d = cc in subst (λ c. IsValidCard chart c) same reads
+
+  -- the card cycle of a card that waits
+  card_runs :
+      (stand : Stand) (card : List ℕ) (next : Option (List ℕ)) → IsDue chart (IsValidCard chart) stand card next
+      → (old new : MachineState) → Waits chart plan wiring stand card old → old.stations.first ≡ Some card
+      → CycleRun wiring Card (moved_on next old) new
+      → Behind chart plan wiring (Stored card) stand card next 0 new × RunsCard chart stand card next (moved_on next old) new
+  card_runs stand card next due old new waits first run =
+      let start : MachineState = moved_on next old in
+      let is = ready-moved wiring next old waits.holds.is_ready in
+      let done = facts.cycled Card start new is run in
+      let read : IsCardRead chart plan start card
+      = record { second = first; valid = due.reads; pilots = waits.holds.pilots } in (
+        record {
+          holds = record {
+            is_ready = done.is_ready;
+            are_set = subst (λ (l : Latches). AreSetTo l 0) (sym done.indicate) (latches-card old.indicate);
+            pilots = facts.picked_up start new Card (inr refl) is run;
+          };
+          totals = λ name field amount.
+              let on_card = facts.on_card name field card amount due.reads in
+              let after = card_sums (amount_of chart.lines plan name) field card stand.so_far (held chart plan old name)
+              (facts.lawful name field amount) on_card (waits.totals name field amount) in
+              subst
+              (λ s. StandsAll (amount_of chart.lines plan name) (sums_of field (cleared 0 (taking card stand.so_far))) s)
+              (sym (facts.totals Card card start new is run read name field amount on_card)) after;
+          stored = facts.stores start new card is run first due.reads;
+        },
+        record {
+          first = ap (λ s. s.first) done.stations;
+          carriage = done.carriage;
+          stage = facts.stage start new is run;
+          printing = done.printing;
+          levels = facts.levels start new card next is run first refl due.reads (next_valid next due.reads_next);
+          line = λ printed. facts.card_prints start new card stand.opens is run read waits.holds.are_set;
+        },
+      )
+
+  pub cards :
+      (stand : Stand) (card : List ℕ) (next : Option (List ℕ)) → IsDue chart (IsValidCard chart) stand card next
+      → CardGoes chart wiring stand card next (Waits chart plan wiring stand card) (Behind chart plan wiring (Stored card) stand card next)
+  cards stand card next due = record {
+    heads = λ heading old new waits run. (
+      record {
+        holds = heads_hold heading old new stand.opens (Some card) waits.holds run;
+        totals = stand_same stand.so_far (held chart plan old) (held chart plan new) waits.totals
+            (heads_same heading card old new waits.holds.is_ready run);
+      },
+      heads heading old new waits.holds.is_ready run,
+    );
+    runs = card_runs stand card next due;
+  }
+
+  -- the first cycle of a level
+  first_runs :
+      (stand : Stand) (card : List ℕ) (next : Option (List ℕ)) (k : ℕ) (level : Level) (old new : MachineState)
+      → level_number level ≡ suc k → suc k ≤ ended_behind chart.lines card next
+      → Behind chart plan wiring (Stored card) stand card next k old → CycleRun wiring (Prog level First) old new
+      → Within chart plan wiring (Stored card) stand card next (by_first chart plan level) level new
+      × GoesOn (Prog level First) nothing_asked old new
+  first_runs stand card next k level old new number within behind run =
+      let done = facts.cycled (Prog level First) old new behind.holds.is_ready run in (
+        record {
+          k = k;
+          is_level = number;
+          within = within;
+          holds = record {
+            is_ready = done.is_ready;
+            are_set = subst (λ (l : Latches). AreSetTo l k) (sym done.indicate) (latches-left old.indicate level k behind.holds.are_set).0;
+            pilots = facts.kept old new (Prog level First) next (prog_no_run_in level First) (prog_differs level First)
+                behind.holds.is_ready run behind.holds.pilots;
+          };
+          stored = facts.keeps_stored old new (Prog level First) card (prog_differs level First) behind.holds.is_ready run behind.stored;
+          before = held chart plan old;
+          totals = behind.totals;
+          is = λ name field amount. facts.totals (Prog level First) card old new behind.holds.is_ready run tt name field amount tt;
+        },
+        record {
+          stations = done.stations;
+          carriage = done.carriage;
+          program = facts.program (Prog level First) old new behind.holds.is_ready run (prog_differs level First);
+        },
+      )
+
+  -- the second
+  second_runs :
+      (stand : Stand) (card : List ℕ) (next : Option (List ℕ)) (level : Level) (old new : MachineState)
+      → Within chart plan wiring (Stored card) stand card next (by_first chart plan level) level old
+      → CycleRun wiring (Prog level Second) old new
+      → Within chart plan wiring (Stored card) stand card next (by_second chart plan level) level new
+      × GoesOn (Prog level Second) nothing_asked old new
+  second_runs stand card next level old new was run =
+      let done = facts.cycled (Prog level Second) old new was.holds.is_ready run in (
+        record {
+          k = was.k;
+          is_level = was.is_level;
+          within = was.within;
+          holds = record {
+            is_ready = done.is_ready;
+            are_set = subst (λ (l : Latches). AreSetTo l was.k) (sym done.indicate)
+                (latches-left old.indicate level was.k was.holds.are_set).1;
+            pilots = facts.kept old new (Prog level Second) next (prog_no_run_in level Second) (prog_differs level Second)
+                was.holds.is_ready run was.holds.pilots;
+          };
+          stored = facts.keeps_stored old new (Prog level Second) card (prog_differs level Second) was.holds.is_ready run was.stored;
+          before = was.before;
+          totals = was.totals;
+          is = λ name field amount. facts.totals (Prog level Second) card old new was.holds.is_ready run tt name field amount tt
+              ∙ ap (λ s. state_after (amount_of chart.lines plan name) (Ends (level_number level) Second) s) (was.is name field amount);
+        },
+        record {
+          stations = done.stations;
+          carriage = done.carriage;
+          program = facts.program (Prog level Second) old new was.holds.is_ready run (prog_differs level Second);
+        },
+      )
+
+  -- heading cycles between the second and the third
+  within_heads :
+      (stand : Stand) (card : List ℕ) (next : Option (List ℕ)) (level : Level)
+      → HeadsKeep chart wiring (Within chart plan wiring (Stored card) stand card next (by_second chart plan level) level)
+  within_heads stand card next level heading old new was run = (
+    record {
+      k = was.k;
+      is_level = was.is_level;
+      within = was.within;
+      holds = heads_hold heading old new was.k next was.holds run;
+      stored = facts.keeps_stored old new (Head heading) card (head_differs heading) was.holds.is_ready run was.stored;
+      before = was.before;
+      totals = was.totals;
+      is = λ name field amount. heads_same heading card old new was.holds.is_ready run name field amount ∙ was.is name field amount;
+    },
+    heads heading old new was.holds.is_ready run,
+  )
+
+  -- a group ends with what its total may show
+  ends_so :
+      (stand : Stand) (card : List ℕ) (next : Option (List ℕ)) → IsDue chart (IsValidCard chart) stand card next
+      → (k : ℕ) → suc k ≤ ended_behind chart.lines card next → (name : List ℕ) (field : Field) → IsAmount chart.lines name field
+      → (amount_of chart.lines plan name).has (suc k) ≡ true
+      → IsGroupEnd (amount_of chart.lines plan name) (suc k) (sums_of field (cleared k (taking card stand.so_far)))
+  ends_so stand card next due k within name field amount has =
+      group_end (amount_of chart.lines plan name) field (taking card stand.so_far) k
+      (facts.fits name field k (taking card stand.so_far (suc k)) amount has (due.fit (suc k) (omega arith) within))
+      (λ none. unsigned_total field (taking card stand.so_far (suc k)) (facts.unsigned name field amount none))
+
+  -- the total of a level that has one, as it is shown
+  shows_so :
+      (stand : Stand) (card : List ℕ) (next : Option (List ℕ)) → IsDue chart (IsValidCard chart) stand card next
+      → (k : ℕ) → suc k ≤ ended_behind chart.lines card next → (name : List ℕ) (field : Field) → IsAmount chart.lines name field
+      → (state : ℕ → Held)
+      → StandsAll (amount_of chart.lines plan name) (sums_of field (cleared k (taking card stand.so_far))) state
+      → (amount_of chart.lines plan name).has (suc k) ≡ true
+      → ShowsTotal chart plan (suc k) (taking card stand.so_far (suc k)) name field
+      (ready (amount_of chart.lines plan name) (suc k) state (suc k))
+  shows_so stand card next due k within name field amount state stands has =
+      let groups = taking card stand.so_far in
+      let end = ends_so stand card next due k within name field amount has in
+      let shown = total_shows (amount_of chart.lines plan name) (suc k) (sums_of field (cleared k groups)) state
+      (facts.lawful name field amount) has end stands in
+      let here : total_of field (cleared k groups (suc k)) ≡ total_of field (groups (suc k)) = not_yet field (groups (suc k)) in
+      record {
+        figure = shown.number ∙ ap same_size here;
+        below = λ less. shown.below_zero (ap same_sign here ∙ less);
+        above = λ signed less some. shown.above_zero signed (ap same_sign here ∙ less) (subst (λ n. 1 ≤ edit.size n) (sym here) some);
+        fits = facts.fits name field k (groups (suc k)) amount has (due.fit (suc k) (omega arith) within);
+        unsigned = λ none. (unsigned_total field (groups (suc k)) (facts.unsigned name field amount none));
+      }
+    where
+      not_yet : (f : Field) (group : List (List ℕ)) → total_of f (if nat_le (suc k) k then [] else group) ≡ total_of f group
+      not_yet f group =
+          let above : nat_le (suc k) k ≡ false = grind (arith, nat_tests) in
+          ap (λ (b : Bool). total_of f (if b then [] else group)) above
+
+      same_size : ℤ → ℕ
+      same_size n = edit.size n
+
+      same_sign : ℤ → Bool
+      same_sign n = edit.is_below_zero n
+
+  -- what goes up from a level with a total has room
+  room_of :
+      (stand : Stand) (card : List ℕ) (next : Option (List ℕ)) → IsDue chart (IsValidCard chart) stand card next
+      → (k : ℕ) → suc k ≤ ended_behind chart.lines card next → (name : List ℕ) (field : Field) → IsAmount chart.lines name field
+      → (state : ℕ → Held)
+      → StandsAll (amount_of chart.lines plan name) (sums_of field (cleared k (taking card stand.so_far))) state
+      → (amount_of chart.lines plan name).has (suc k) ≡ true
+      → (ready (amount_of chart.lines plan name) (suc k) state (suc k)).number < 10 ^ (amount_of chart.lines plan name).digits (suc k)
+  room_of stand card next due k within name field amount state stands has =
+      (total_shows (amount_of chart.lines plan name) (suc k) (sums_of field (cleared k (taking card stand.so_far))) state
+      (facts.lawful name field amount) has (ends_so stand card next due k within name field amount has) stands).room.1 has
+
+  -- the third cycle of a level
+  third_runs :
+      (stand : Stand) (card : List ℕ) (next : Option (List ℕ)) → IsDue chart (IsValidCard chart) stand card next
+      → (k : ℕ) (level : Level) (old new : MachineState) → level_number level ≡ suc k → suc k ≤ ended_behind chart.lines card next
+      → Within chart plan wiring (Stored card) stand card next (by_second chart plan level) level old
+      → CycleRun wiring (Prog level Third) old new
+      → Behind chart plan wiring (Stored card) stand card next (suc k) new × Totals chart stand card level old new
+  third_runs stand card next due k level old new number within was run =
+      let groups = taking card stand.so_far in
+      let same_k : was.k ≡ k = let its = was.is_level in omega (arith, its, number) in
+      let stands : AllStand chart plan (cleared k groups) was.before
+      = subst (λ n. AllStand chart plan (cleared n groups) was.before) same_k was.totals in
+      let done = facts.cycled (Prog level Third) old new was.holds.is_ready run in
+      let is_held : (name : List ℕ) (field : Field) → IsAmount chart.lines name field
+      → held chart plan old name ≡ ready (amount_of chart.lines plan name) (suc k) (was.before name)
+      = λ name field amount. was.is name field amount
+      ∙ ap (λ n. ready (amount_of chart.lines plan name) n (was.before name)) number in
+      let small : (name : List ℕ) (field : Field) → IsAmount chart.lines name field
+      → IsSmall (amount_of chart.lines plan name) (Ends (level_number level) Third) (held chart plan old name)
+      = λ name field amount. subst (λ n. IsSmall (amount_of chart.lines plan name) (Ends n Third) (held chart plan old name)) (sym number) (
+        omega arith,
+        λ has. subst (λ (s : ℕ → Held). (s (suc k)).number < 10 ^ (amount_of chart.lines plan name).digits (suc k))
+            (sym (is_held name field amount))
+            ((room_of stand card next due k within name field amount (was.before name) (stands name field amount) has)),
+      ) in (
+        record {
+          holds = record {
+            is_ready = done.is_ready;
+            are_set = subst (λ (l : Latches). AreSetTo l (suc k)) (sym done.indicate) (one_more old.indicate (subst (λ n. AreSetTo old.indicate n) same_k was.holds.are_set));
+            pilots = facts.kept old new (Prog level Third) next (prog_no_run_in level Third) (prog_differs level Third)
+                was.holds.is_ready run was.holds.pilots;
+          };
+          totals = λ name field amount.
+              let after = level_sums (amount_of chart.lines plan name) field groups k (was.before name) (facts.lawful name field amount)
+              (ends_so stand card next due k within name field amount) (stands name field amount) in
+              let comes : held chart plan new name
+              ≡ state_after (amount_of chart.lines plan name) (Ends (suc k) Third)
+              (ready (amount_of chart.lines plan name) (suc k) (was.before name))
+              = facts.totals (Prog level Third) card old new was.holds.is_ready run tt name field amount (small name field amount)
+              ∙ ap (λ n. state_after (amount_of chart.lines plan name) (Ends n Third) (held chart plan old name)) number
+              ∙ ap (λ s. state_after (amount_of chart.lines plan name) (Ends (suc k) Third) s) (is_held name field amount) in
+              subst (λ s. StandsAll (amount_of chart.lines plan name) (sums_of field (cleared (suc k) groups)) s) (sym comes) after;
+          stored = facts.keeps_stored old new (Prog level Third) card (prog_differs level Third) was.holds.is_ready run was.stored;
+        },
+        record {
+          goes = record {
+            stations = done.stations;
+            carriage = done.carriage;
+            program = facts.program (Prog level Third) old new was.holds.is_ready run (prog_differs level Third);
+          };
+          line = λ printed.
+              facts.total_prints old new level card stand.so_far was.holds.is_ready run was.stored due.reads due.alike
+              (λ name field amount has.
+              let P : ℕ → Type 0 = λ n. (amount_of chart.lines plan name).has n ≡ true
+              → ShowsTotal chart plan n (groups n) name field (held chart plan old name n) in
+              subst P (sym number)
+              (λ has_here. subst (λ s. ShowsTotal chart plan (suc k) (groups (suc k)) name field (s (suc k)))
+              (sym (is_held name field amount))
+              (shows_so stand card next due k within name field amount (was.before name) (stands name field amount) has_here)) has);
+        },
+      )
+    where
+      one_more : (l : Latches) → AreSetTo l k → AreSetTo (indicate_ended l (Prog level Third)) (suc k)
+      one_more l set =
+          let plus : level_number level ≡ k + 1 = omega (arith, number) in
+          let same : k + 1 ≡ suc k = omega arith in
+          subst (λ n. AreSetTo (indicate_ended l (Prog level Third)) n) same (latches-third l level k set plus)
+
+  -- all cycles
+  pub machine_goes :
+      MachineGoes chart wiring (IsValidCard chart) (Waits chart plan wiring)
+      (λ stand card next k machine. Behind chart plan wiring (Stored card) stand card next k machine)
+      (λ stand card next level machine. Within chart plan wiring (Stored card) stand card next (by_first chart plan level) level machine)
+      (λ stand card next level machine. Within chart plan wiring (Stored card) stand card next (by_second chart plan level) level machine)
+  machine_goes = record {
+    printing = facts.printing;
+    form = facts.form;
+    starts = λ card new valid run. starts card new valid run;
+    cards = λ stand card next due. cards stand card next due;
+    levels = λ stand card next due. record {
+      first = λ k level old new number within behind run. first_runs stand card next k level old new number within behind run;
+      second = λ level old new was run. second_runs stand card next level old new was run;
+      heads = λ level. within_heads stand card next level;
+      third = λ k level old new number within was run. third_runs stand card next due k level old new number within was run;
+    };
+    arrives = λ stand card next machine due behind. record { holds = behind.holds; totals = behind.totals };
+  }

@@ -1,0 +1,22 @@
+-- The law of machines that are wired for charts.
+use Rattle.std.specs.Prelude.{◌≡◌, ℕ, ◌≤◌, List, All, length}
+use Rattle.plans.specs.Plans.{Lists}
+use Rattle.placed_lines.specs.declared.placed_line.PlacedLine.{PlacedLine}
+use Rattle.chart_rules.specs.ValidCard.{IsValidCard}
+use Rattle.charts.specs.Chart.{Chart, NumbersRise}
+use Rattle.charts.specs.Literals.{HaveLiteralTexts}
+use Rattle.setups.specs.Wiring.{Wiring}
+use Rattle.wired_panels.specs.Panel.{IsPanel}
+use Rattle.machine.specs.Feeds.{MachineLines}
+use Rattle.report.specs.Report.{report_lines}
+use Rattle.report.specs.Totals.{Fits}
+
+-- For every chart that breaks no rule, whose line numbers rise and whose literals can be printed, as in every chart that is read, every
+-- setup that is wired for it by a plan of it, and every deck of at most 999,999 valid cards whose totals fit, the lines that the machine
+-- places are those of the chart's report of the deck.
+abbrev pub MachinesPrintReports : Type 0
+MachinesPrintReports =
+    (chart : Chart) (plan : Lists) (wiring : Wiring) (cards : List (List ℕ)) (lines : List PlacedLine)
+    → IsPanel chart plan wiring → NumbersRise chart.lines chart.end → HaveLiteralTexts chart.lines
+    → All (IsValidCard chart) cards → length cards ≤ 999999 → Fits chart.lines cards → MachineLines wiring cards lines
+    → lines ≡ report_lines chart cards

@@ -1,0 +1,5 @@
+pub mod RowLemmas
+pub mod SameTapes
+pub mod StopLemmas
+pub mod WiredLemmas
+pub mod WiringLemmas

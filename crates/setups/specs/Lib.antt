@@ -1,0 +1,5 @@
+pub mod Fields
+pub mod Rows
+pub mod SetupFaults
+pub mod Tapes
+pub mod Wiring

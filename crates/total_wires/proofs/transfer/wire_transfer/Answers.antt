@@ -1,0 +1,13 @@
+use Rattle.std.proofs.Common.{sym}
+use Rattle.line_wires.proofs.Steps.{adds-both, adds-some}
+use Rattle.total_wires.proofs.TotalLevels.{adds-next, adds-no_next}
+use Rattle.total_wires.proofs.transfer.wire_transfer.Goals as goal
+
+pub returns-in_default : goal.returns-in_default
+returns-in_default c = adds-no_next c.in_default.ensures
+
+pub returns : goal.returns
+returns c =
+    adds-next c.requires.alone c.in-Some.ensures
+    (adds-some (sym c.in-Some-group_for.ensures)
+    (adds-both c.in_ok-wire_transfer_digits.ensures c.in_ok-wire_transfer_sense.ensures))

@@ -1,0 +1,3 @@
+pub mod HelperTotalRows
+pub mod HelperLevels
+pub mod HelperTotals

@@ -1,0 +1,14 @@
+//! The wires of total lines: totals of amounts, and texts.
+//!
+//! [`wire_total`] adds what the table has for a total: its entry from cards or from the total below it, its read-out, its sign
+//! conversion and its transfer to the next higher one; [`wire_total_text`] adds the way of a text through its storage unit.
+#![tactic(auto)]
+
+mod amount;
+mod entry;
+mod total;
+mod total_text;
+mod transfer;
+
+pub use amount::wire_total;
+pub use total_text::wire_total_text;

@@ -1,0 +1,4 @@
+pub mod Columns
+pub mod Needs
+pub mod Reading
+pub mod WideTexts

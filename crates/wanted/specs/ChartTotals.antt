@@ -1,0 +1,28 @@
+-- The totals of a chart. A total needs a position for each of its digits, and one more if its amount has a sign rule.
+use Rattle.std.specs.Prelude.{ℕ, ◌+◌, Bool, false, List, Option, Some, None, filter_map, is_some, if◌then◌else◌}
+use Rattle.charts.specs.declared.chart.Line.{Line}
+use Rattle.charts.specs.declared.statement.Field.{Field}
+use Rattle.charts.specs.declared.statement.Statement.{Statement}
+use Rattle.charts.specs.declared.statement.Statement.TheVariants as says
+use Rattle.field_rules.specs.Fields.{field_named}
+use Rattle.charts.specs.Field.{sign_column}
+use Rattle.wanted.specs.declared.total.Total.{Total}
+
+-- whether a name stands for an amount with a sign rule
+abbrev pub names_signed : Option Field → Bool
+names_signed (Some field) = is_some (sign_column field.kind)
+names_signed None = false
+
+-- the positions that a total of so many digits needs
+abbrev pub need_of : Option Field → ℕ → ℕ
+need_of field digits = digits + (if names_signed field then 1 else 0)
+
+-- the total that a line is, if it is a TOTAL amount
+abbrev pub total_of : List Line → ℕ → Statement → Option Total
+total_of lines number (says.TotalAmount level wheel name digits mark) =
+    Some (record { level = level; line = number; need = need_of (field_named lines name) digits })
+total_of lines number other = None
+
+-- the totals of a chart, in the order of their lines
+abbrev pub totals_of : List Line → List Total
+totals_of lines = filter_map (λ line. total_of lines line.number line.statement) lines

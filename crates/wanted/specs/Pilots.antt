@@ -1,0 +1,29 @@
+-- Pilots: one for each amount with a sign rule that stands on a DETAIL or TOTAL line, on however many lines it stands.
+use Rattle.std.specs.Prelude.{ℕ, ◌&&◌, Bool, false, List, map, filter, is_some}
+use Rattle.std.specs.List.{list_any}
+use Rattle.charts.specs.declared.chart.Line.{Line}
+use Rattle.charts.specs.declared.statement.Field.{Field}
+use Rattle.charts.specs.declared.statement.Statement.{Statement}
+use Rattle.charts.specs.declared.statement.Statement.TheVariants as says
+use Rattle.field_rules.specs.Fields.{fields_of}
+use Rattle.charts.specs.Field.{sign_column}
+use Rattle.charts.specs.Name.{is_same_name}
+
+-- whether a line puts the amount of a name on a DETAIL or TOTAL line
+abbrev pub shows : List ℕ → Statement → Bool
+shows wanted (says.DetailField wheel name option) = is_same_name name wanted
+shows wanted (says.TotalAmount level wheel name digits mark) = is_same_name name wanted
+shows wanted other = false
+
+-- whether a name stands on a DETAIL or TOTAL line of a chart
+abbrev pub is_shown : List Line → List ℕ → Bool
+is_shown lines name = list_any (λ line. shows name line.statement) lines
+
+-- whether a field wants a pilot: it has a sign rule, and it stands on a DETAIL or TOTAL line
+unfoldable pub wants_pilot : List Line → Field → Bool
+wants_pilot lines field = is_some (sign_column field.kind) && is_shown lines field.name
+
+-- The pilots of a chart: the names of the amounts that want one, in the order of their FIELD lines. A pilot's number is
+-- its place in this list, from 1.
+abbrev pub pilots_of : List Line → List (List ℕ)
+pilots_of lines = map (λ field. field.name) (filter (wants_pilot lines) (fields_of lines))

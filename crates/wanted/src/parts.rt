@@ -1,0 +1,137 @@
+//! What the parts of the machine other than the counter groups serve.
+
+use crate::pilot::{are_pilots, pilots_of};
+use crate::position::{ColumnUse, Position, are_positions_of, positions_of};
+use crate::unit::{LineKind, are_lines_of_kind, lines_of_kind};
+use chart_rules::Chart;
+use charts::{ControlLevel, Name};
+use std::alloc::{AllocError, Global};
+use std::marker::Model;
+
+/// What each pilot, comparing position, storage unit, column split and indicate position serves, in the order of their
+/// numbers.
+#[derive(Drop)]
+pub struct Parts {
+    // The names of the amounts.
+    pilots: Vec<Name>,
+    comparing: Vec<Position>,
+    // The lines of the total texts.
+    storage: Vec<u16>,
+    // The lines of the amounts.
+    splits: Vec<u16>,
+    // The indicate positions by level.
+    minor: Vec<Position>,
+    intermediate: Vec<Position>,
+    major: Vec<Position>,
+}
+
+impl Model for Parts {
+    ghost use Rattle.wanted.specs.Wanted.{Parts as Lists};
+
+    ghost Value = { Lists };
+
+    ghost view = { λ parts. record {
+      pilots = parts.pilots.items;
+      comparing = parts.comparing.items;
+      storage = parts.storage.items;
+      splits = parts.splits.items;
+      minor = parts.minor.items;
+      intermediate = parts.intermediate.items;
+      major = parts.major.items;
+    } };
+}
+
+impl Parts {
+    ghost use Rattle.std.specs.Prelude.{◌≡◌, ◌↔◌, IfOk, IsTrue};
+    ghost use Rattle.wanted.specs.Wanted.{parts_of, indicate_at};
+
+    /// What they serve for a chart.
+    pub(crate) fn of(alloc: Global, chart: &Chart) -> Result<Parts, AllocError>
+        ensures { IfOk result (λ parts. parts ≡ parts_of chart.now.lines) }
+    {
+        let pilots = pilots_of(alloc, chart)?;
+        let comparing = positions_of(alloc, chart, ColumnUse::Comparing)?;
+        let storage = lines_of_kind(alloc, chart, LineKind::TotalText)?;
+        let splits = lines_of_kind(alloc, chart, LineKind::SplitAmount)?;
+        let minor = positions_of(alloc, chart, ColumnUse::Indicate(ControlLevel::Minor))?;
+        let intermediate = positions_of(
+            alloc,
+            chart,
+            ColumnUse::Indicate(ControlLevel::Intermediate),
+        )?;
+        let major = positions_of(alloc, chart, ColumnUse::Indicate(ControlLevel::Major))?;
+        Ok(Parts {
+            pilots,
+            comparing,
+            storage,
+            splits,
+            minor,
+            intermediate,
+            major,
+        })
+    }
+
+    /// Whether they serve what a chart asks for.
+    pub fn are_for(&self, chart: &Chart) -> bool
+        ensures { IsTrue result ↔ (self.now ≡ parts_of chart.now.lines) }
+    {
+        are_pilots(self.pilots(), chart)
+            && are_positions_of(self.comparing(), chart, ColumnUse::Comparing)
+            && are_lines_of_kind(self.storage(), chart, LineKind::TotalText)
+            && are_lines_of_kind(self.splits(), chart, LineKind::SplitAmount)
+            && are_positions_of(
+                self.indicate(ControlLevel::Minor),
+                chart,
+                ColumnUse::Indicate(ControlLevel::Minor),
+            )
+            && are_positions_of(
+                self.indicate(ControlLevel::Intermediate),
+                chart,
+                ColumnUse::Indicate(ControlLevel::Intermediate),
+            )
+            && are_positions_of(
+                self.indicate(ControlLevel::Major),
+                chart,
+                ColumnUse::Indicate(ControlLevel::Major),
+            )
+    }
+
+    /// The names of the amounts that the pilots serve.
+    pub fn pilots(&self) -> &[Name]
+        ensures { result.now ≡ self.now.pilots }
+    {
+        self.pilots.as_slice()
+    }
+
+    /// What the comparing positions serve.
+    pub fn comparing(&self) -> &[Position]
+        ensures { result.now ≡ self.now.comparing }
+    {
+        self.comparing.as_slice()
+    }
+
+    /// The lines of the total texts that the storage units serve.
+    pub fn storage(&self) -> &[u16]
+        ensures { result.now ≡ self.now.storage }
+    {
+        self.storage.as_slice()
+    }
+
+    /// The lines of the amounts that the column splits serve.
+    pub fn splits(&self) -> &[u16]
+        ensures { result.now ≡ self.now.splits }
+    {
+        self.splits.as_slice()
+    }
+
+    /// What the indicate positions of a level serve.
+    pub fn indicate(&self, level: ControlLevel) -> &[Position]
+        ensures { result.now ≡ indicate_at self.now level }
+    {
+        match level {
+            ControlLevel::Minor => self.minor.as_slice(),
+            ControlLevel::Intermediate => self.intermediate.as_slice(),
+            ControlLevel::Major => self.major.as_slice(),
+        }
+    }
+}

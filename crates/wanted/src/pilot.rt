@@ -1,0 +1,75 @@
+//! Pilots.
+
+ghost use Rattle.std.specs.Prelude.{◌≡◌, ◌↔◌, [], ◌∷◌, IsTrue, IfOk, option_map};
+ghost use Rattle.wanted.specs.HelperBehind.{IsBehind};
+ghost use Rattle.wanted.specs.Pilots as pilots;
+
+use chart_rules::Chart;
+use charts::{Field, Line, Name, Statement};
+use std::alloc::{AllocError, Global};
+
+/// Whether a line puts the amount of a name on a DETAIL or TOTAL line.
+fn shows(wanted: Name, statement: &Statement) -> bool
+    ensures { result ≡ pilots.shows wanted statement.now }
+{
+    match statement {
+        Statement::DetailField { name, .. } | Statement::TotalAmount { name, .. } => {
+            name.is(wanted)
+        }
+        _ => false,
+    }
+}
+
+/// Whether a name stands on a DETAIL or TOTAL line.
+fn is_shown(lines: &[Line], name: Name) -> bool
+    ensures { result ≡ pilots.is_shown lines.now name }
+{
+    lines.iter().any(|line| shows(name, &line.statement))
+}
+
+/// Whether a field wants a pilot: it has a sign rule, and it stands on a DETAIL or TOTAL line.
+#[tactic(auto, unfolding(crate::specs::Pilots::wants_pilot))]
+fn wants_pilot(chart: &Chart, field: Field) -> bool
+    ensures { result ≡ pilots.wants_pilot chart.now.lines field }
+{
+    field.kind.sign_column().is_some() && is_shown(chart.lines(), field.name)
+}
+
+/// The names of the amounts that want a pilot, in the order of their FIELD lines.
+pub(crate) fn pilots_of(alloc: Global, chart: &Chart) -> Result<Vec<Name>, AllocError>
+    ensures { IfOk result (λ list. list.items ≡ pilots.pilots_of chart.now.lines) }
+{
+    chart
+        .fields()
+        .iter()
+        .filter(|field| wants_pilot(chart, **field))
+        .map(|field| field.name)
+        .collect(alloc)
+}
+
+/// Whether a list has the names of the amounts that want a pilot, in the order of their FIELD lines.
+pub(crate) fn are_pilots(list: &[Name], chart: &Chart) -> bool
+    ensures { IsTrue result ↔ (list.now ≡ pilots.pilots_of chart.now.lines) }
+{
+    let fields = chart.fields();
+    let mut rest = list;
+    for field in fields {
+        if wants_pilot(chart, *field) {
+            match behind_name(rest, field.name) {
+                Some(behind) => rest = behind,
+                None => return false,
+            }
+        }
+    }
+    rest.is_empty()
+}
+
+/// What stands behind a name in a list, if it is the first.
+fn behind_name(list: &[Name], name: Name) -> Option<&[Name]>
+    ensures { IsBehind (name ∷ []) list.now (option_map (λ behind. behind.now) result) }
+{
+    match list.split_first() {
+        Some((first, behind)) if *first == name => Some(behind),
+        _ => None,
+    }
+}

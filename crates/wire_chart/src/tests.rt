@@ -1,4 +1,0 @@
-//! Wiring charts with ample memory.
-
-mod reading;
-mod writing;

@@ -1,6 +1,0 @@
-use Rattle.report.specs.ChartForm.{form_of}
-use Rattle.std.proofs.Common.{drop, ◌≡◌}
-use Rattle.wire_gen.proofs.chart_tape.form_of.Given as goal
-
-abbrev pub invariant-loop-line : goal.invariant-loop-line
-invariant-loop-line l = form_of (drop l.line-index l.lines) ≡ form_of l.lines

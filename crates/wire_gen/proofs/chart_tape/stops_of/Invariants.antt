@@ -1,6 +1,0 @@
-use Rattle.report.specs.ChartForm.{stops_of}
-use Rattle.std.proofs.Common.{drop, ◌≡◌}
-use Rattle.wire_gen.proofs.chart_tape.stops_of.Given as goal
-
-abbrev pub invariant-loop-line : goal.invariant-loop-line
-invariant-loop-line l = stops_of (drop l.line-index l.lines) l.wanted ≡ stops_of l.lines l.wanted

@@ -1,7 +1,0 @@
-use Rattle.std.proofs.Common.{rules}
-use Rattle.wire_gen.proofs.Steps.{adds-where}
-use Rattle.wire_gen.proofs.items.wire_lowest.Goals as goal
-
-pub returns-in_ok-wire_entry : goal.returns-in_ok-wire_entry
-returns-in_ok-wire_entry c =
-    adds-where (c.if-is_lowest.ensures.0 (search rules)) c.in_ok-wire_entry.ensures

@@ -1,5 +1,0 @@
-use Rattle.wire_gen.specs.HelperJacks.{JacksBefore, Plugs}
-use Rattle.wire_gen.proofs.panel_jacks.plug_lines.Given as goal
-
-abbrev pub invariant-loop-line : goal.invariant-loop-line
-invariant-loop-line l = Plugs (JacksBefore l.chart.lines l.line-index) l.initial.setup l.setup

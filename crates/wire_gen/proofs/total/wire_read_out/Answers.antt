@@ -1,8 +1,0 @@
-use Rattle.hubs.specs.declared.hub.Hub.TheVariants.{PX}
-use Rattle.std.proofs.Common.{ap, refl}
-use Rattle.wire_gen.proofs.Steps.{adds-both, one-as}
-use Rattle.wire_gen.proofs.total.wire_read_out.Goals as goal
-
-pub returns : goal.returns
-returns c =
-    adds-both (one-as c.in_ok-connect.ensures (ap (λ n. PX n 3) c.number.ensures) refl) c.in_ok-wire_total_digits.ensures

@@ -1,9 +1,0 @@
-use Rattle.hubs.specs.declared.hub.Hub.TheVariants.{GX, W}
-use Rattle.std.proofs.Common.{◌+◌}
-use Rattle.wire_gen.specs.Figures.{digit_wheel}
-use Rattle.wire_gen.specs.HelperAdds.{Adds, One, Upto}
-use Rattle.wire_gen.proofs.total.wire_total_digits.Given as goal
-
-abbrev pub invariant-loop-place : goal.invariant-loop-place
-invariant-loop-place l =
-    Adds (Upto l.place (λ place. One (GX l.group (place + 1)) (W (digit_wheel l.wheel l.digits l.decimals (place + 1))))) l.initial.setup l.setup

@@ -1,5 +1,0 @@
-use Rattle.wire_gen.proofs.Steps.{adds-both}
-use Rattle.wire_gen.proofs.transfer.wire_signed_transfer.Goals as goal
-
-pub returns : goal.returns
-returns c = adds-both c.in_ok-connect.ensures (adds-both c.in_ok-connect-2.ensures c.in_ok-connect-3.ensures)

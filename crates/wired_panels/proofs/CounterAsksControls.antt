@@ -1,0 +1,310 @@
+-- What impulses the control hubs of the counter group of a total.
+use Rattle.std.proofs.Common.{◌≡◌, ◌∙◌, refl, sym, subst, ℕ, Bool, true, false, List, Some, None, ◌↔◌, ◌⊎◌, inl, inr, arith}
+use Rattle.plans.specs.Plans.{Lists}
+use Rattle.charts.specs.Chart.{Chart, NumbersRise}
+use Rattle.charts.specs.declared.chart.Line.{Line}
+use Rattle.charts.specs.declared.statement.SignRule.{SignRule}
+use Rattle.charts.specs.declared.statement.SignRule.TheVariants as sign
+use Rattle.setups.specs.Wiring.{Wiring, HasWire}
+use Rattle.hubs.specs.declared.hub.Group.{Group}
+use Rattle.hubs.specs.declared.hub.Hub.{Hub}
+use Rattle.hubs.specs.declared.hub.Hub.TheVariants.{BAN, BAT, PL, MI, RO, BT, BAC, PIC}
+use Rattle.machine.specs.Machine.{MachineState, closes}
+use Rattle.net.specs.Impulsed.{IsPicture}
+use Rattle.net.specs.Panel.{contact_of}
+use Rattle.net.specs.declared.cycle.Cycle.{Cycle}
+use Rattle.net.specs.declared.cycle.Point.{Point}
+use Rattle.net.specs.declared.cycle.Point.TheVariants.{C}
+use Rattle.whole_cycles.proofs.Contacts.{contacts-one_deep}
+use Rattle.whole_cycles.proofs.Sources.{emit_at_sources}
+use Rattle.whole_cycles.specs.Between.{IsBetween}
+use Rattle.whole_cycles.specs.OneContactDeep.{is_source}
+use Rattle.whole_cycles.specs.WholeCycles.{control_emits}
+use Rattle.wiring_table.specs.Figures.{IsSigned, IsUnsigned}
+use Rattle.wiring_table.specs.Parts.{IsLowest, pilot_for, negative_side, positive_side}
+use Rattle.wiring_table.specs.Wires.{ChartWire}
+use Rattle.wired_panels.proofs.CounterAsksTold.{IsCardCycle, IsStep, told_card, told_step, untold, moved, IsUnder, goes_under}
+use Rattle.wired_panels.proofs.PlanOwners.{IsSameTotal, one_owner}
+use Rattle.wired_panels.proofs.Sources.{told}
+use Rattle.wired_panels.proofs.ToCounters.{itself, ToPlus, ToMinus, ToReadOut, ToTest, ToBalance, ToPilot, to_plus, to_minus, to_read_out, to_test, to_balance, to_pilot}
+use Rattle.wired_panels.proofs.ToCounters.ToPlus.{from_card as plus_from_card, up_by_latch as plus_up_by_latch, by_sign as plus_by_sign, up as plus_up}
+use Rattle.wired_panels.proofs.ToCounters.ToMinus.{by_sign as minus_by_sign, turned as minus_turned, up_by_latch as minus_up_by_latch}
+use Rattle.wired_panels.proofs.ToCounters.ToReadOut.{shown as read_shown, turned as read_turned}
+use Rattle.wired_panels.proofs.ToCounters.ToTest.{tested as test_tested}
+use Rattle.wired_panels.proofs.ToCounters.ToBalance.{turned as balance_turned, up as balance_up, marks as balance_marks}
+use Rattle.wired_panels.proofs.ToCounters.ToPilot.{signs as pilots_signs, marks as pilots_marks}
+use Rattle.wired_panels.proofs.Ways.{comes}
+use Rattle.wired_panels.specs.ChartAmounts.{IsGroupOf}
+use Rattle.wired_panels.specs.CounterStates.{IsPanelCycle}
+use Rattle.wired_panels.specs.Panel.{Comes, IsPanel}
+use Rattle.wired_panels.specs.Panel.Comes.{straight, through}
+use Rattle.wired_panels.specs.Sources.{Tells}
+
+-- what is closed at the control point
+abbrev pub shut : MachineState → Cycle → Hub → Bool
+shut old cycle contact = closes old cycle C contact
+
+-- the balance position 1 serves the second program cycle, and position 2 the third
+abbrev pub IsPositionOf : ℕ → ℕ → Type 0
+IsPositionOf position step = ((position ≡ 1) × (step ≡ 2)) ⊎ ((position ≡ 2) × (step ≡ 3))
+
+-- What adds: a card enters the lowest total, straight or by the sign; or the next lower total goes up, straight or by its latch.
+pub data Pluses (lines : List Line) (plan : Lists) (closed : Hub → Bool) (cycle : Cycle) (name : List ℕ) (level : ℕ) : Type 0 where
+  card : IsCardCycle cycle → IsLowest lines name level → IsUnsigned lines name → Pluses lines plan closed cycle name level
+  by_sign : (rule : SignRule) (pilot : ℕ) → IsCardCycle cycle → IsLowest lines name level → IsSigned lines name rule
+      → pilot_for plan name ≡ Some pilot → closed (positive_side rule pilot 1) ≡ true → Pluses lines plan closed cycle name level
+  up : (low : ℕ) → IsStep cycle low 3 → IsUnder lines name low level → IsUnsigned lines name
+      → Pluses lines plan closed cycle name level
+  by_latch : (low : ℕ) (rule : SignRule) (lower : Group) → IsStep cycle low 3 → IsUnder lines name low level → IsSigned lines name rule
+      → IsGroupOf lines plan name low lower → closed (BAN lower 2) ≡ true → Pluses lines plan closed cycle name level
+
+-- What subtracts: a card by its sign, the turn of a negative balance, or the next lower total by its latch.
+pub data Minuses (lines : List Line) (plan : Lists) (closed : Hub → Bool) (cycle : Cycle) (name : List ℕ) (level : ℕ) (group : Group)
+    : Type 0 where
+  less_by_sign : (rule : SignRule) (pilot : ℕ) → IsCardCycle cycle → IsLowest lines name level → IsSigned lines name rule
+      → pilot_for plan name ≡ Some pilot → closed (negative_side rule pilot 1) ≡ true → Minuses lines plan closed cycle name level group
+  less_turned : (rule : SignRule) → IsStep cycle level 2 → IsSigned lines name rule → closed (BAT group 1) ≡ true
+      → Minuses lines plan closed cycle name level group
+  less_by_latch : (low : ℕ) (rule : SignRule) (lower : Group) → IsStep cycle low 3 → IsUnder lines name low level → IsSigned lines name rule
+      → IsGroupOf lines plan name low lower → closed (BAT lower 2) ≡ true → Minuses lines plan closed cycle name level group
+
+-- What reads out: the total is shown, or a negative balance is turned.
+pub data ReadsOut (lines : List Line) (closed : Hub → Bool) (cycle : Cycle) (name : List ℕ) (level : ℕ) (group : Group) : Type 0 where
+  shows_it : IsStep cycle level 3 → ReadsOut lines closed cycle name level group
+  turns_it : (rule : SignRule) → IsStep cycle level 2 → IsSigned lines name rule → closed (BAT group 1) ≡ true
+      → ReadsOut lines closed cycle name level group
+
+-- What tests the balance.
+pub data Tests (lines : List Line) (cycle : Cycle) (name : List ℕ) (level : ℕ) : Type 0 where
+  tests_it : (rule : SignRule) → IsStep cycle level 1 → IsSigned lines name rule → Tests lines cycle name level
+
+-- The control point of a cycle of a panel that is wired for a chart: its picture is that of the exits that emit there.
+pub record IsControlPoint (chart : Chart) (plan : Lists) (wiring : Wiring) (old : MachineState) (cycle : Cycle)
+    (pictures : Point → Hub → Bool) : Type 0 where
+  pub panel : IsPanel chart plan wiring
+  pub rise : NumbersRise chart.lines chart.end
+  pub between : IsBetween old
+  pub control : IsPicture wiring (control_emits cycle) (closes old cycle C) (pictures C)
+
+-- the control point of a cycle
+pub control_point :
+    {chart : Chart} {plan : Lists} {wiring : Wiring} {old : MachineState} {cycle : Cycle} {pictures : Point → Hub → Bool}
+    → IsPanelCycle chart plan wiring old cycle pictures → IsControlPoint chart plan wiring old cycle pictures
+control_point at = record { panel = at.panel; rise = at.rise; between = at.between; control = at.control }
+
+module _ (chart : Chart) (plan : Lists) (wiring : Wiring) (old : MachineState) (cycle : Cycle) (pictures : Point → Hub → Bool)
+    (at : IsControlPoint chart plan wiring old cycle pictures) where
+  -- a wire's numbers
+  pub numbered : (exit entry : Hub) → ChartWire chart.lines plan exit entry → HasWire wiring exit entry
+  numbered exit entry given = (at.panel.wired.wires exit entry).1 given
+
+  -- what comes to an entry at the control point
+  pub at_control : (entry : Hub) → contact_of entry ≡ None → control_emits cycle entry ≡ false
+      → (pictures C entry ≡ true) ↔ Comes chart.lines plan (control_emits cycle) (shut old cycle) entry
+  at_control entry no_contact silent =
+      comes chart plan wiring (control_emits cycle) (shut old cycle) (pictures C) entry contacts-one_deep at.panel
+      (emit_at_sources.no_common (control_emits cycle) (emit_at_sources.control cycle)) at.control no_contact silent
+
+  -- no entry emits at the control point
+  pub silent : (entry : Hub) → is_source entry ≡ false → control_emits cycle entry ≡ false
+  silent entry none = emit_at_sources.control cycle entry none
+
+  -- the positions of a balance, where they are not the mark's
+  in_balance :
+      {exit : Hub} {position : ℕ} (name : List ℕ) (level step : ℕ) (group : Group) → IsGroupOf chart.lines plan name level group
+      → IsPositionOf position step
+      → ToBalance chart.lines plan group position exit → Tells cycle exit → IsStep cycle level step
+  in_balance name level step group own which (balance_turned its its_level rule its_own signed) tells =
+      let same = one_owner chart plan its name its_level level group at.rise at.panel.planned its_own own in
+      by which (subst (λ l. IsStep cycle l 2) same.level (told_step tells))
+    where
+      by : IsPositionOf 1 step → IsStep cycle level 2 → IsStep cycle level step
+      by (inl (a, b)) stepped = subst (λ k. IsStep cycle level k) (sym b) stepped
+      by (inr (a, b)) stepped = absurd (omega (arith, a))
+  in_balance name level step group own which (balance_up its its_level rule its_own signed) tells =
+      let same = one_owner chart plan its name its_level level group at.rise at.panel.planned its_own own in
+      by which (subst (λ l. IsStep cycle l 3) same.level (told_step tells))
+    where
+      by : IsPositionOf 2 step → IsStep cycle level 3 → IsStep cycle level step
+      by (inl (a, b)) stepped = absurd (omega (arith, a))
+      by (inr (a, b)) stepped = subst (λ k. IsStep cycle level k) (sym b) stepped
+  in_balance name level step group own which (balance_marks emitter row position) tells = untold tells refl
+
+  -- behind a contact of a balance
+  behind_balance :
+      (exit common : Hub) (name : List ℕ) (level position step : ℕ) (group : Group) → IsGroupOf chart.lines plan name level group
+      → IsPositionOf position step → Some (BAC group position) ≡ Some common
+      → control_emits cycle exit ≡ true → ChartWire chart.lines plan exit common → IsStep cycle level step
+  behind_balance exit common name level position step group own which leads on given =
+      let same : common ≡ BAC group position = cc in
+      let moved_wire : ChartWire chart.lines plan exit (BAC group position) = subst (λ h. ChartWire chart.lines plan exit h) same given in
+      in_balance name level step group own which
+      (to_balance chart.lines plan moved_wire.line.number (itself chart.lines moved_wire.line moved_wire.listed) moved_wire.wire)
+      (told cycle exit on)
+
+  -- behind a contact of a pilot
+  in_pilot : {exit : Hub} {pilot position : ℕ} → ToPilot chart.lines plan pilot position exit → Tells cycle exit → IsCardCycle cycle
+  in_pilot (pilots_signs pilot) tells = told_card tells
+  in_pilot (pilots_marks emitter row pilot position) tells = untold tells refl
+
+  behind_pilot :
+      (exit common : Hub) (pilot : ℕ) → Some (PIC pilot 1) ≡ Some common
+      → control_emits cycle exit ≡ true → ChartWire chart.lines plan exit common → IsCardCycle cycle
+  behind_pilot exit common pilot leads on given =
+      let same : common ≡ PIC pilot 1 = cc in
+      let moved_wire : ChartWire chart.lines plan exit (PIC pilot 1) = subst (λ h. ChartWire chart.lines plan exit h) same given in
+      in_pilot
+      (to_pilot chart.lines plan moved_wire.line.number (itself chart.lines moved_wire.line moved_wire.listed) moved_wire.wire)
+      (told cycle exit on)
+
+  -- the common hub of either side of a pilot
+  pub positive_common : (rule : SignRule) (pilot : ℕ) → contact_of (positive_side rule pilot 1) ≡ Some (PIC pilot 1)
+  positive_common (sign.X column) pilot = refl
+  positive_common (sign.NX column) pilot = refl
+
+  pub negative_common : (rule : SignRule) (pilot : ℕ) → contact_of (negative_side rule pilot 1) ≡ Some (PIC pilot 1)
+  negative_common (sign.X column) pilot = refl
+  negative_common (sign.NX column) pilot = refl
+
+  positive_untold : {A : Type 0} (rule : SignRule) (pilot : ℕ) → Tells cycle (positive_side rule pilot 1) → A
+  positive_untold (sign.X column) pilot tells = untold tells refl
+  positive_untold (sign.NX column) pilot tells = untold tells refl
+
+  negative_untold : {A : Type 0} (rule : SignRule) (pilot : ℕ) → Tells cycle (negative_side rule pilot 1) → A
+  negative_untold (sign.X column) pilot tells = untold tells refl
+  negative_untold (sign.NX column) pilot tells = untold tells refl
+
+  module _ (name : List ℕ) (level : ℕ) (group : Group) (own : IsGroupOf chart.lines plan name level group) where
+    same_as : (its : List ℕ) (its_level : ℕ) → IsGroupOf chart.lines plan its its_level group → IsSameTotal its name its_level level
+    same_as its its_level given = one_owner chart plan its name its_level level group at.rise at.panel.planned given own
+
+    -- straight to the plus hub
+    plus_straight : {exit : Hub} → ToPlus chart.lines plan group exit → Tells cycle exit
+        → Pluses chart.lines plan (shut old cycle) cycle name level
+    plus_straight (plus_from_card its its_level given low unsigned) tells =
+        let same = same_as its its_level given in
+        card (told_card tells) (moved (λ n l. IsLowest chart.lines n l) same low) (moved (λ n l. IsUnsigned chart.lines n) same unsigned)
+    plus_straight (plus_by_sign its its_level rule pilot given low signed served) tells = positive_untold rule pilot tells
+    plus_straight (plus_up its low goes unsigned) tells =
+        let (same, under, digits) = goes_under chart plan name its low level group at.rise at.panel.planned own goes in
+        up low (told_step tells) under (moved (λ n l. IsUnsigned chart.lines n) same unsigned)
+    plus_straight (plus_up_by_latch its low rule lower goes signed given) tells = untold tells refl
+
+    -- through a contact to the plus hub
+    plus_through : (exit common : Hub) {contact : Hub} → ToPlus chart.lines plan group contact → contact_of contact ≡ Some common
+        → shut old cycle contact ≡ true → control_emits cycle exit ≡ true → ChartWire chart.lines plan exit common
+        → Pluses chart.lines plan (shut old cycle) cycle name level
+    plus_through exit common (plus_from_card its its_level given low unsigned) leads closed on given_wire = cc
+    plus_through exit common (plus_by_sign its its_level rule pilot given low signed served) leads closed on given_wire =
+        let same = same_as its its_level given in
+        by_sign rule pilot (behind_pilot exit common pilot (sym (positive_common rule pilot) ∙ leads) on given_wire)
+        (moved (λ n l. IsLowest chart.lines n l) same low) (moved (λ n l. IsSigned chart.lines n rule) same signed)
+        (moved (λ n l. pilot_for plan n ≡ Some pilot) same served) closed
+    plus_through exit common (plus_up its low goes unsigned) leads closed on given_wire = cc
+    plus_through exit common (plus_up_by_latch its low rule lower goes signed given) leads closed on given_wire =
+        let (same, under, digits) = goes_under chart plan name its low level group at.rise at.panel.planned own goes in
+        by_latch low rule lower
+        (behind_balance exit common its low 2 3 lower given (inr (refl, refl)) leads on given_wire) under
+        (moved (λ n l. IsSigned chart.lines n rule) same signed) (subst (λ n. IsGroupOf chart.lines plan n low lower) same.name given) closed
+
+    plus_from : {hub : Hub} → Comes chart.lines plan (control_emits cycle) (shut old cycle) hub → hub ≡ PL group
+        → Pluses chart.lines plan (shut old cycle) cycle name level
+    plus_from (straight exit entry on given) is =
+        let w : ChartWire chart.lines plan exit (PL group) = subst (λ h. ChartWire chart.lines plan exit h) is given in
+        plus_straight (to_plus chart.lines plan w.line.number (itself chart.lines w.line w.listed) w.wire) (told cycle exit on)
+    plus_from (through exit common contact entry on given leads closed last) is =
+        let w : ChartWire chart.lines plan contact (PL group) = subst (λ h. ChartWire chart.lines plan contact h) is last in
+        plus_through exit common (to_plus chart.lines plan w.line.number (itself chart.lines w.line w.listed) w.wire) leads closed on given
+
+    -- straight to the minus hub comes nothing
+    minus_straight : {exit : Hub} → ToMinus chart.lines plan group exit → Tells cycle exit
+        → Minuses chart.lines plan (shut old cycle) cycle name level group
+    minus_straight (minus_by_sign its its_level rule pilot given low signed served) tells = negative_untold rule pilot tells
+    minus_straight (minus_turned its its_level rule given signed) tells = untold tells refl
+    minus_straight (minus_up_by_latch its low rule lower goes signed given) tells = untold tells refl
+
+    -- through a contact to the minus hub
+    minus_through : (exit common : Hub) {contact : Hub} → ToMinus chart.lines plan group contact → contact_of contact ≡ Some common
+        → shut old cycle contact ≡ true → control_emits cycle exit ≡ true → ChartWire chart.lines plan exit common
+        → Minuses chart.lines plan (shut old cycle) cycle name level group
+    minus_through exit common (minus_by_sign its its_level rule pilot given low signed served) leads closed on given_wire =
+        let same = same_as its its_level given in
+        less_by_sign rule pilot (behind_pilot exit common pilot (sym (negative_common rule pilot) ∙ leads) on given_wire)
+        (moved (λ n l. IsLowest chart.lines n l) same low) (moved (λ n l. IsSigned chart.lines n rule) same signed)
+        (moved (λ n l. pilot_for plan n ≡ Some pilot) same served) closed
+    minus_through exit common (minus_turned its its_level rule given signed) leads closed on given_wire =
+        let same = same_as its its_level given in
+        less_turned rule (behind_balance exit common name level 1 2 group own (inl (refl, refl)) leads on given_wire)
+        (moved (λ n l. IsSigned chart.lines n rule) same signed) closed
+    minus_through exit common (minus_up_by_latch its low rule lower goes signed given) leads closed on given_wire =
+        let (same, under, digits) = goes_under chart plan name its low level group at.rise at.panel.planned own goes in
+        less_by_latch low rule lower
+        (behind_balance exit common its low 2 3 lower given (inr (refl, refl)) leads on given_wire) under
+        (moved (λ n l. IsSigned chart.lines n rule) same signed) (subst (λ n. IsGroupOf chart.lines plan n low lower) same.name given) closed
+
+    minus_from : {hub : Hub} → Comes chart.lines plan (control_emits cycle) (shut old cycle) hub → hub ≡ MI group
+        → Minuses chart.lines plan (shut old cycle) cycle name level group
+    minus_from (straight exit entry on given) is =
+        let w : ChartWire chart.lines plan exit (MI group) = subst (λ h. ChartWire chart.lines plan exit h) is given in
+        minus_straight (to_minus chart.lines plan w.line.number (itself chart.lines w.line w.listed) w.wire) (told cycle exit on)
+    minus_from (through exit common contact entry on given leads closed last) is =
+        let w : ChartWire chart.lines plan contact (MI group) = subst (λ h. ChartWire chart.lines plan contact h) is last in
+        minus_through exit common (to_minus chart.lines plan w.line.number (itself chart.lines w.line w.listed) w.wire) leads closed on given
+
+    -- to the read-out hub
+    read_straight : {exit : Hub} → ToReadOut chart.lines plan group exit → Tells cycle exit
+        → ReadsOut chart.lines (shut old cycle) cycle name level group
+    read_straight (read_shown its its_level given) tells =
+        shows_it (subst (λ l. IsStep cycle l 3) (same_as its its_level given).level (told_step tells))
+    read_straight (read_turned its its_level rule given signed) tells = untold tells refl
+
+    read_through : (exit common : Hub) {contact : Hub} → ToReadOut chart.lines plan group contact → contact_of contact ≡ Some common
+        → shut old cycle contact ≡ true → control_emits cycle exit ≡ true → ChartWire chart.lines plan exit common
+        → ReadsOut chart.lines (shut old cycle) cycle name level group
+    read_through exit common (read_shown its its_level given) leads closed on given_wire = cc
+    read_through exit common (read_turned its its_level rule given signed) leads closed on given_wire =
+        let same = same_as its its_level given in
+        turns_it rule (behind_balance exit common name level 1 2 group own (inl (refl, refl)) leads on given_wire)
+        (moved (λ n l. IsSigned chart.lines n rule) same signed) closed
+
+    read_from : {hub : Hub} → Comes chart.lines plan (control_emits cycle) (shut old cycle) hub → hub ≡ RO group
+        → ReadsOut chart.lines (shut old cycle) cycle name level group
+    read_from (straight exit entry on given) is =
+        let w : ChartWire chart.lines plan exit (RO group) = subst (λ h. ChartWire chart.lines plan exit h) is given in
+        read_straight (to_read_out chart.lines plan w.line.number (itself chart.lines w.line w.listed) w.wire) (told cycle exit on)
+    read_from (through exit common contact entry on given leads closed last) is =
+        let w : ChartWire chart.lines plan contact (RO group) = subst (λ h. ChartWire chart.lines plan contact h) is last in
+        read_through exit common (to_read_out chart.lines plan w.line.number (itself chart.lines w.line w.listed) w.wire) leads closed on given
+
+    -- to the balance test
+    test_straight : {exit : Hub} → ToTest chart.lines plan group exit → Tells cycle exit → Tests chart.lines cycle name level
+    test_straight (test_tested its its_level rule given signed) tells =
+        let same = same_as its its_level given in
+        tests_it rule (subst (λ l. IsStep cycle l 1) same.level (told_step tells))
+        (moved (λ n l. IsSigned chart.lines n rule) same signed)
+
+    test_through : (common : Hub) {contact : Hub} → ToTest chart.lines plan group contact → contact_of contact ≡ Some common
+        → Tests chart.lines cycle name level
+    test_through common (test_tested its its_level rule given signed) leads = cc
+
+    test_from : {hub : Hub} → Comes chart.lines plan (control_emits cycle) (shut old cycle) hub → hub ≡ BT group
+        → Tests chart.lines cycle name level
+    test_from (straight exit entry on given) is =
+        let w : ChartWire chart.lines plan exit (BT group) = subst (λ h. ChartWire chart.lines plan exit h) is given in
+        test_straight (to_test chart.lines plan w.line.number (itself chart.lines w.line w.listed) w.wire) (told cycle exit on)
+    test_from (through exit common contact entry on given leads closed last) is =
+        let w : ChartWire chart.lines plan contact (BT group) = subst (λ h. ChartWire chart.lines plan contact h) is last in
+        test_through common (to_test chart.lines plan w.line.number (itself chart.lines w.line w.listed) w.wire) leads
+
+    -- what impulses the control hubs
+    pub plus_is : pictures C (PL group) ≡ true → Pluses chart.lines plan (shut old cycle) cycle name level
+    plus_is on = plus_from ((at_control (PL group) refl (silent (PL group) refl)).0 on) refl
+
+    pub minus_is : pictures C (MI group) ≡ true → Minuses chart.lines plan (shut old cycle) cycle name level group
+    minus_is on = minus_from ((at_control (MI group) refl (silent (MI group) refl)).0 on) refl
+
+    pub read_is : pictures C (RO group) ≡ true → ReadsOut chart.lines (shut old cycle) cycle name level group
+    read_is on = read_from ((at_control (RO group) refl (silent (RO group) refl)).0 on) refl
+
+    pub test_is : pictures C (BT group) ≡ true → Tests chart.lines cycle name level
+    test_is on = test_from ((at_control (BT group) refl (silent (BT group) refl)).0 on) refl

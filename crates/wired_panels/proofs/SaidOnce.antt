@@ -1,0 +1,247 @@
+-- What a lawful chart says once: no line says again what an earlier one said.
+use Rattle.std.proofs.Common.{◌≡◌, ◌∙◌, refl, sym, ap, ℕ, zero, suc, ◌==◌, ◌≤◌, ◌||◌, Bool, true, false, List, [], ◌∷◌, ◌++◌, Contains, Some, arith, append_assoc, if◌then◌else◌}
+use Rattle.std.proofs.lemmas.Bool.Decides.{nat_tests}
+use Rattle.std.specs.List.{list_any}
+use Rattle.chart_rules.proofs.Laws.{breaks-lawful}
+use Rattle.field_rules.specs.Repeats.{repeats, is_same_body}
+use Rattle.chart_rules.specs.Rules.{IsLawful}
+use Rattle.chart_rules.specs.declared.rule.Rule.TheVariants as rule
+use Rattle.charts.specs.Chart.{Chart}
+use Rattle.charts.specs.Levels.{level_number}
+use Rattle.charts.specs.Spacings.{spacing_number}
+use Rattle.charts.specs.declared.chart.Line.{Line}
+use Rattle.charts.specs.declared.level.Level.{Level}
+use Rattle.charts.specs.declared.level.Level.TheVariants as level
+use Rattle.charts.specs.declared.spacing.Spacing.{Spacing}
+use Rattle.charts.specs.declared.statement.After.{After}
+use Rattle.charts.specs.declared.statement.BodyLine.{BodyLine}
+use Rattle.charts.specs.declared.statement.BodyLine.TheVariants as body
+use Rattle.charts.specs.declared.statement.Statement.{Statement}
+use Rattle.charts.specs.declared.statement.Statement.TheVariants as says
+use Rattle.report.specs.ChartForm.{kind_number, spacing_of, spacing_from, after_of, after_from}
+
+-- no line of a list says again what another before it says
+abbrev pub IsSaidOnce : List Line → Type 0
+IsSaidOnce [] = Unit {0}
+IsSaidOnce (line ∷ lines) = (list_any (λ other. repeats line.statement other.statement) lines ≡ false) × IsSaidOnce lines
+
+-- a test that none of a list passes, one in its middle doesn't pass
+any-middle : (test : Line → Bool) (before : List Line) (line : Line) (behind : List Line)
+    → list_any test (before ++ line ∷ behind) ≡ false → test line ≡ false
+any-middle test [] line behind none = by (test line) refl none
+  where
+    by : (b : Bool) → test line ≡ b → (b || list_any test behind) ≡ false → test line ≡ false
+    by true is left = cc
+    by false is left = is
+any-middle test (first ∷ before) line behind none =
+    by (test first) none (any-middle test before line behind)
+  where
+    by : (b : Bool) → (b || list_any test (before ++ line ∷ behind)) ≡ false
+        → (list_any test (before ++ line ∷ behind) ≡ false → test line ≡ false) → test line ≡ false
+    by true left below = cc
+    by false left below = below left
+
+-- what a line of a lawful chart says, none of those behind it says again
+behind-once : (chart : Chart) → IsLawful chart → (before : List Line) (line : Line) (middle rest : List Line)
+    → chart.lines ≡ (before ++ line ∷ middle) ++ rest → list_any (λ other. repeats line.statement other.statement) rest ≡ false
+behind-once chart lawful before line middle [] split = refl
+behind-once chart lawful before line middle (other ∷ rest) split =
+    let kept : list_any (λ each. repeats each.statement other.statement) (before ++ line ∷ middle) ≡ false =
+    breaks-lawful rule.LineTwice chart (before ++ line ∷ middle) other rest lawful split in
+    let here : repeats line.statement other.statement ≡ false =
+    any-middle (λ each. repeats each.statement other.statement) before line middle kept in
+    rw here (behind-once chart lawful before line (middle ++ other ∷ []) rest
+    (split ∙ append_assoc before (line ∷ middle) (other ∷ rest)
+    ∙ ap (λ l. before ++ line ∷ l) (sym (append_assoc middle (other ∷ []) rest))
+    ∙ sym (append_assoc before (line ∷ (middle ++ other ∷ [])) rest)))
+
+rest-once : (chart : Chart) → IsLawful chart → (before rest : List Line) → chart.lines ≡ before ++ rest → IsSaidOnce rest
+rest-once chart lawful before [] split = tt
+rest-once chart lawful before (line ∷ rest) split =
+    let further : chart.lines ≡ (before ++ line ∷ []) ++ rest = split ∙ sym (append_assoc before (line ∷ []) rest) in
+    (behind-once chart lawful before line [] rest further, rest-once chart lawful (before ++ line ∷ []) rest further)
+
+-- a lawful chart says things once
+pub said-once : (chart : Chart) → IsLawful chart → IsSaidOnce chart.lines
+said-once chart lawful = rest-once chart lawful [] chart.lines refl
+
+-- a test that none of a list passes, each of its lines doesn't pass
+pub any-none : {X : Type 0} (test : X → Bool) (list : List X) (x : X) → list_any test list ≡ false → Contains list x → test x ≡ false
+any-none test [] x none (k, within, is) = absurd (omega (arith, within))
+any-none test (y ∷ ys) x none (zero, within, is) = by (test y) refl none
+  where
+    by : (b : Bool) → test y ≡ b → (b || list_any test ys) ≡ false → test x ≡ false
+    by true there left = cc
+    by false there left = ap test (sym is) ∙ there
+any-none test (y ∷ ys) x none (suc k, within, is) =
+    by (test y) none (λ no. any-none test ys x no (k, omega (arith, within), is))
+  where
+    by : (b : Bool) → (b || list_any test ys) ≡ false → (list_any test ys ≡ false → test x ≡ false) → test x ≡ false
+    by true left below = cc
+    by false left below = below left
+
+-- kinds of body lines with one number are the same
+pub same-body : (one other : BodyLine) → kind_number one ≡ kind_number other → is_same_body one other ≡ true
+same-body body.Detail body.Detail is = refl
+same-body (body.Total one) (body.Total other) is = grind (arith, nat_tests, is)
+same-body body.Detail (body.Total other) is = absurd (by other is)
+  where
+    by : (its : Level) → 0 ≡ level_number its → ⊥
+    by level.Minor e = omega (arith, e)
+    by level.Intermediate e = omega (arith, e)
+    by level.Major e = omega (arith, e)
+    by level.Final e = omega (arith, e)
+same-body (body.Total one) body.Detail is = absurd (by one is)
+  where
+    by : (its : Level) → level_number its ≡ 0 → ⊥
+    by level.Minor e = omega (arith, e)
+    by level.Intermediate e = omega (arith, e)
+    by level.Major e = omega (arith, e)
+    by level.Final e = omega (arith, e)
+
+-- A line of a chart gives the kind of body line with a number a spacing of so many lines.
+pub record SaysSpace (lines : List Line) (kind many : ℕ) : Type 0 where
+  pub line : Line
+  pub listed : Contains lines line
+  pub its_kind : BodyLine
+  pub its_spacing : Spacing
+  pub is_space : line.statement ≡ says.Space its_kind its_spacing
+  pub same_kind : kind_number its_kind ≡ kind
+  pub same_spacing : spacing_number its_spacing ≡ many
+
+-- A line of a chart says what follows the kind of body line with a number.
+pub record SaysAfter (lines : List Line) (kind : ℕ) (follows : After) : Type 0 where
+  pub line : Line
+  pub listed : Contains lines line
+  pub its_kind : BodyLine
+  pub is_after : line.statement ≡ says.After its_kind follows
+  pub same_kind : kind_number its_kind ≡ kind
+
+-- behind one line more
+pub further : {X : Type 0} (list : List X) (x first : X) → Contains list x → Contains (first ∷ list) x
+further list x first (k, within, is) = (suc k, omega (arith, within), is)
+
+-- a spacing that isn't single is said
+pub space-said : (lines : List Line) (kind many : ℕ) → 2 ≤ many → spacing_of lines kind ≡ many → SaysSpace lines kind many
+space-said [] kind many more is = absurd (omega (arith, more, is))
+space-said (line ∷ lines) kind many more is = by line.statement refl is (λ found. behind (space-said lines kind many more found))
+  where
+    behind : SaysSpace lines kind many → SaysSpace (line ∷ lines) kind many
+    behind s = record {
+      line = s.line;
+      listed = further lines s.line line s.listed;
+      its_kind = s.its_kind;
+      its_spacing = s.its_spacing;
+      is_space = s.is_space;
+      same_kind = s.same_kind;
+      same_spacing = s.same_spacing;
+    }
+
+    either : (its : BodyLine) (spacing : Spacing) → line.statement ≡ says.Space its spacing → (b : Bool) → (kind_number its == kind) ≡ b
+        → (if b then spacing_number spacing else spacing_of lines kind) ≡ many
+        → (spacing_of lines kind ≡ many → SaysSpace (line ∷ lines) kind many) → SaysSpace (line ∷ lines) kind many
+    either its spacing says_it true same found below = record {
+      line = line;
+      listed = (0, omega arith, refl);
+      its_kind = its;
+      its_spacing = spacing;
+      is_space = says_it;
+      same_kind = grind (arith, nat_tests, same);
+      same_spacing = found;
+    }
+    either its spacing says_it false same found below = below found
+
+    by : (statement : Statement) → line.statement ≡ statement → spacing_from kind statement (spacing_of lines kind) ≡ many
+        → (spacing_of lines kind ≡ many → SaysSpace (line ∷ lines) kind many) → SaysSpace (line ∷ lines) kind many
+    by (says.Space its spacing) says_it found below = either its spacing says_it (kind_number its == kind) refl found below
+    by other says_it found below = below found
+
+-- what follows a kind is said
+pub after-said : (lines : List Line) (kind : ℕ) (follows : After) → after_of lines kind ≡ Some follows → SaysAfter lines kind follows
+after-said [] kind follows is = cc
+after-said (line ∷ lines) kind follows is = by line.statement refl is (λ found. behind (after-said lines kind follows found))
+  where
+    behind : SaysAfter lines kind follows → SaysAfter (line ∷ lines) kind follows
+    behind s = record {
+      line = s.line;
+      listed = further lines s.line line s.listed;
+      its_kind = s.its_kind;
+      is_after = s.is_after;
+      same_kind = s.same_kind;
+    }
+
+    either : (its : BodyLine) (action : After) → line.statement ≡ says.After its action → (b : Bool) → (kind_number its == kind) ≡ b
+        → (if b then Some action else after_of lines kind) ≡ Some follows
+        → (after_of lines kind ≡ Some follows → SaysAfter (line ∷ lines) kind follows) → SaysAfter (line ∷ lines) kind follows
+    either its action says_it true same found below = record {
+      line = line;
+      listed = (0, omega arith, refl);
+      its_kind = its;
+      is_after = let one : action ≡ follows = cc in says_it ∙ ap (λ a. says.After its a) one;
+      same_kind = grind (arith, nat_tests, same);
+    }
+    either its action says_it false same found below = below found
+
+    by : (statement : Statement) → line.statement ≡ statement → after_from kind statement (after_of lines kind) ≡ Some follows
+        → (after_of lines kind ≡ Some follows → SaysAfter (line ∷ lines) kind follows) → SaysAfter (line ∷ lines) kind follows
+    by (says.After its action) says_it found below = either its action says_it (kind_number its == kind) refl found below
+    by other says_it found below = below found
+
+-- a line that speaks of the spacing of a kind is the only one that does
+module _ (kind : ℕ) (rest : List Line) (its_kind : BodyLine) (same_kind : kind_number its_kind ≡ kind) where
+  other-kind : (its : BodyLine) → is_same_body its its_kind ≡ false → (kind_number its == kind) ≡ false
+  other-kind its apart = by (kind_number its == kind) refl
+    where
+      by : (b : Bool) → (kind_number its == kind) ≡ b → b ≡ false
+      by false same = refl
+      by true same =
+          let one : kind_number its ≡ kind_number its_kind = grind (arith, nat_tests, same, same_kind) in
+          let is_same = same-body its its_kind one in cc
+
+  space-other : (spacing : Spacing) (statement : Statement) → repeats statement (says.Space its_kind spacing) ≡ false
+      → spacing_from kind statement (spacing_of rest kind) ≡ spacing_of rest kind
+  space-other spacing (says.Space its other) apart = rw (other-kind its apart) refl
+  space-other spacing other apart = refl
+
+  after-other : (follows : After) (statement : Statement) → repeats statement (says.After its_kind follows) ≡ false
+      → after_from kind statement (after_of rest kind) ≡ after_of rest kind
+  after-other follows (says.After its other) apart = rw (other-kind its apart) refl
+  after-other follows other apart = refl
+
+-- what is said of a spacing is the spacing, where things are said once
+space-at : (lines : List Line) (line : Line) (kind : ℕ) (its : BodyLine) (spacing : Spacing) → IsSaidOnce lines → Contains lines line
+    → line.statement ≡ says.Space its spacing → kind_number its ≡ kind → spacing_of lines kind ≡ spacing_number spacing
+space-at [] line kind its spacing once (k, within, is) says_it same = absurd (omega (arith, within))
+space-at (first ∷ rest) line kind its spacing once (zero, within, is) says_it same =
+    let own : (kind_number its == kind) ≡ true = grind (arith, nat_tests, same) in
+    let here : first.statement ≡ says.Space its spacing = ap (λ (l : Line). l.statement) is ∙ says_it in
+    ap (λ statement. spacing_from kind statement (spacing_of rest kind)) here ∙ rw own refl
+space-at (first ∷ rest) line kind its spacing once (suc k, within, is) says_it same =
+    let listed : Contains rest line = (k, omega (arith, within), is) in
+    let apart : repeats first.statement (says.Space its spacing) ≡ false =
+    ap (λ statement. repeats first.statement statement) (sym says_it)
+    ∙ any-none (λ other. repeats first.statement other.statement) rest line (once.0) listed in
+    space-other kind rest its same spacing first.statement apart ∙ space-at rest line kind its spacing (once.1) listed says_it same
+
+pub space-is : (lines : List Line) (kind many : ℕ) → IsSaidOnce lines → SaysSpace lines kind many → spacing_of lines kind ≡ many
+space-is lines kind many once s =
+    space-at lines s.line kind s.its_kind s.its_spacing once s.listed s.is_space s.same_kind ∙ s.same_spacing
+
+-- what is said to follow a kind follows it, where things are said once
+after-at : (lines : List Line) (line : Line) (kind : ℕ) (its : BodyLine) (follows : After) → IsSaidOnce lines → Contains lines line
+    → line.statement ≡ says.After its follows → kind_number its ≡ kind → after_of lines kind ≡ Some follows
+after-at [] line kind its follows once (k, within, is) says_it same = absurd (omega (arith, within))
+after-at (first ∷ rest) line kind its follows once (zero, within, is) says_it same =
+    let own : (kind_number its == kind) ≡ true = grind (arith, nat_tests, same) in
+    let here : first.statement ≡ says.After its follows = ap (λ (l : Line). l.statement) is ∙ says_it in
+    ap (λ statement. after_from kind statement (after_of rest kind)) here ∙ rw own refl
+after-at (first ∷ rest) line kind its follows once (suc k, within, is) says_it same =
+    let listed : Contains rest line = (k, omega (arith, within), is) in
+    let apart : repeats first.statement (says.After its follows) ≡ false =
+    ap (λ statement. repeats first.statement statement) (sym says_it)
+    ∙ any-none (λ other. repeats first.statement other.statement) rest line (once.0) listed in
+    after-other kind rest its same follows first.statement apart ∙ after-at rest line kind its follows (once.1) listed says_it same
+
+pub after-is : (lines : List Line) (kind : ℕ) (follows : After) → IsSaidOnce lines → SaysAfter lines kind follows
+    → after_of lines kind ≡ Some follows
+after-is lines kind follows once s = after-at lines s.line kind s.its_kind follows once s.listed s.is_after s.same_kind

@@ -1,0 +1,143 @@
+-- What sends at a point emits there: the other way from exits to sources.
+use Rattle.std.proofs.Common.{◌≡◌, ◌∙◌, refl, sym, ap, ℕ, zero, suc, ◌+◌, ◌-◌, ◌≤◌, ◌==◌, ◌&&◌, ◌||◌, Bool, true, false, List, [], ◌∷◌, Contains, Some, length, slice_index, arith}
+use Rattle.std.proofs.lemmas.Bool.Decides.{nat_tests}
+use Rattle.std.specs.List.{list_any}
+use Rattle.card_code.specs.Rows.{row_number}
+use Rattle.card_code.specs.declared.row.Row.{Row as CardRow}
+use Rattle.counters.specs.Counters.{shows}
+use Rattle.hubs.specs.Hubs.{number_of}
+use Rattle.hubs.specs.declared.hub.Group.{Group}
+use Rattle.hubs.specs.declared.hub.Hub.{Hub}
+use Rattle.hubs.specs.declared.hub.Hub.TheVariants.{FR, SR, GX, SX, EM, PX, HX, RO, SO}
+use Rattle.machine.specs.Machine.{MachineState}
+use Rattle.net.proofs.Rows.{is_hub-own}
+use Rattle.net.specs.Cycles.{level_number, ordinal_number}
+use Rattle.net.specs.HubSets.{is_hub}
+use Rattle.net.specs.declared.cycle.Cycle.{Cycle}
+use Rattle.net.specs.declared.cycle.Cycle.TheVariants.{Card}
+use Rattle.net.specs.declared.cycle.Point.{Point}
+use Rattle.net.specs.declared.cycle.Point.TheVariants.{C, Row}
+use Rattle.print_unit.specs.Emitters.{emits_row}
+use Rattle.stations.specs.Punches.{is_punched_at}
+use Rattle.stations.specs.Stations.{stations_emits}
+use Rattle.storage_units.specs.Storage.{holds, storage_place}
+use Rattle.whole_cycles.specs.WholeCycles.{control_emits, row_emits, group_reads_out, storage_reads_out}
+use Rattle.wired_panels.specs.Sources.{Tells, Sends, ReadsFirst, digit_at}
+use Rattle.wired_panels.specs.Sources.ReadsFirst.{run_in, card as card_reads}
+use Rattle.wired_panels.specs.Sources.Tells.{card as tells_card, prog as tells_prog, head as tells_head}
+use Rattle.wired_panels.specs.Sources.Sends.{first, second, digit, column, emitter}
+
+-- a hub of the panel is itself
+pub own : (hub : Hub) (n : ℕ) → number_of hub ≡ Some n → is_hub hub hub ≡ true
+own hub n is = is_hub-own hub n is
+
+-- the exit that tells of a cycle emits, if it is a hub of the panel
+pub telling : {cycle : Cycle} {hub : Hub} (n : ℕ) → Tells cycle hub → number_of hub ≡ Some n → control_emits cycle hub ≡ true
+telling n tells_card is = refl
+telling n (tells_prog level ordinal) is = own (PX (level_number level) (ordinal_number ordinal)) n is
+telling n (tells_head heading) is = own (HX (ordinal_number heading)) n is
+
+-- one of a list for which a test holds
+pub any_from : {X : Type 0} (test : X → Bool) (list : List X) (x : X) → Contains list x → test x ≡ true → list_any test list ≡ true
+any_from test [] x (k, within, is) on = absurd (omega (arith, within))
+any_from test (y ∷ ys) x (zero, within, is) on = rw (ap test is ∙ on) refl
+any_from test (y ∷ ys) x (suc k, within, is) on =
+    rw (any_from test ys x (k, omega (arith, within), is) on) (any-true (test y))
+  where
+    any-true : (b : Bool) → (b || true) ≡ true
+    any-true true = refl
+    any-true false = refl
+
+-- a group shows the digit of each of its positions
+showing :
+    (name : Group) (given : ℕ) (digits : List ℕ) (position n : ℕ) → 1 ≤ position → position ≤ length digits
+    → digit_at digits position ≡ given → number_of (GX name position) ≡ Some n → shows name given digits (GX name position) ≡ true
+showing name given [] position n low high is there = absurd (omega (arith, low, high))
+showing name given (d ∷ below) position n low high is there =
+    by (position == length below + 1) refl (λ less. showing name given below position n low less)
+  where
+    or-true : (a b : Bool) → b ≡ true → (a || b) ≡ true
+    or-true true b on = refl
+    or-true false b on = on
+
+    here : position ≡ length below + 1 → shows name given (d ∷ below) (GX name position) ≡ true
+    here same =
+        let none : suc (length below) - position ≡ 0 = omega (arith, same) in
+        let top : d ≡ given = sym (ap (λ k. slice_index (d ∷ below) k) none) ∙ is in
+        let test : (d == given) ≡ true = grind (arith, nat_tests, top) in
+        let hub : is_hub (GX name (length below + 1)) (GX name position) ≡ true =
+        ap (λ p. is_hub (GX name p) (GX name position)) (sym same) ∙ own (GX name position) n there in
+        rw (test, hub) refl
+
+    by : (b : Bool) → (position == length below + 1) ≡ b
+        → (position ≤ length below → digit_at below position ≡ given → number_of (GX name position) ≡ Some n
+        → shows name given below (GX name position) ≡ true)
+        → shows name given (d ∷ below) (GX name position) ≡ true
+    by true same others = here (grind (arith, nat_tests, same))
+    by false differs others =
+        let apart : (position == length below + 1) ≡ false = differs in
+        let not_top : position ≤ length below = grind (arith, nat_tests, apart, high) in
+        let k : suc (length below) - position ≡ suc (length below - position) = omega (arith, low, not_top) in
+        or-true ((d == given) && is_hub (GX name (length below + 1)) (GX name position)) _
+        (others not_top (sym (ap (λ m. slice_index (d ∷ below) m) k) ∙ is) there)
+
+-- any of four
+first_of : (a b c d : Bool) → a ≡ true → (a || b || c || d) ≡ true
+first_of true b c d on = refl
+first_of false b c d on = cc
+
+second_of : (a b c d : Bool) → b ≡ true → (a || b || c || d) ≡ true
+second_of true b c d on = refl
+second_of false true c d on = refl
+second_of false false c d on = cc
+
+third_of : (a b c d : Bool) → c ≡ true → (a || b || c || d) ≡ true
+third_of true b c d on = refl
+third_of false true c d on = refl
+third_of false false true d on = refl
+third_of false false false d on = cc
+
+fourth_of : (a b c d : Bool) → d ≡ true → (a || b || c || d) ≡ true
+fourth_of true b c d on = refl
+fourth_of false true c d on = refl
+fourth_of false false true d on = refl
+fourth_of false false false d on = on
+
+both : (a b : Bool) → a ≡ true → b ≡ true → (a && b) ≡ true
+both true true one other = refl
+both true false one other = cc
+both false b one other = cc
+
+-- the stations emit what they send
+reading : (old : MachineState) {cycle : Cycle} (row : CardRow) (c : ℕ) → ReadsFirst cycle → is_punched_at old.stations.first row c ≡ true
+    → stations_emits old.stations cycle (Row row) (FR c) ≡ true
+reading old row c run_in punched = punched
+reading old row c card_reads punched = rw punched refl
+
+reading_second : (old : MachineState) (cycle : Cycle) (row : CardRow) (c : ℕ) → cycle ≡ Card
+    → is_punched_at old.stations.second row c ≡ true → stations_emits old.stations cycle (Row row) (SR c) ≡ true
+reading_second old cycle row c is punched =
+    ap (λ k. stations_emits old.stations k (Row row) (SR c)) is ∙ punched
+
+-- What sends at a row emits there, if it is a hub of the panel.
+pub sending :
+    (old : MachineState) (pictures : Point → Hub → Bool) (cycle : Cycle) (row : CardRow) {hub : Hub} (n : ℕ)
+    → Sends old pictures cycle row hub → number_of hub ≡ Some n → row_emits old pictures cycle row hub ≡ true
+sending old pictures cycle row n (first c reads punched) there =
+    first_of _ _ _ _ (reading old row c reads punched)
+sending old pictures cycle row n (second c is punched) there =
+    first_of _ _ _ _ (reading_second old cycle row c is punched)
+sending old pictures cycle row n (digit group position listed out low high is) there =
+    second_of (stations_emits old.stations cycle (Row row) (GX group.name position)) _ _ _
+    (any_from (λ g. group_reads_out pictures row g (GX group.name position)) old.groups group listed
+    (both (pictures C (RO group.name)) (shows group.name (row_number row) group.digits (GX group.name position)) out
+    (showing group.name (row_number row) group.digits position n low high is there)))
+sending old pictures cycle row n (column storage c listed out held) there =
+    let same : (storage_place storage == storage_place storage) ≡ true = grind (arith, nat_tests) in
+    third_of (stations_emits old.stations cycle (Row row) (SX (storage_place storage) c)) _ _ _
+    (any_from (λ s. storage_reads_out pictures row s (SX (storage_place storage) c)) old.storage storage listed
+    (both (pictures C (SO (storage_place storage)) && (storage_place storage == storage_place storage)) (holds storage row c)
+    (both (pictures C (SO (storage_place storage))) _ out same) held))
+sending old pictures cycle row n (emitter e is) there =
+    fourth_of (stations_emits old.stations cycle (Row row) (EM e (row_number row))) _ _ _
+    (ap (λ o. emits_row o row (EM e (row_number row))) is ∙ own (EM e (row_number row)) n there)

@@ -1,0 +1,208 @@
+-- The wires to the entries of counter groups, each with the total that it serves, and what tells of a cycle at their other ends.
+use Rattle.std.proofs.Common.{◌≡◌, refl, ℕ, ◌+◌, ◌-◌, ◌≤◌, List, Contains, Option, Some}
+use Rattle.plans.specs.Plans.{Lists}
+use Rattle.charts.specs.Field.{columns_of}
+use Rattle.charts.specs.Levels.{level_number}
+use Rattle.charts.specs.declared.chart.Line.{Line}
+use Rattle.charts.specs.declared.level.Level.{Level as ChartLevel}
+use Rattle.charts.specs.declared.statement.Field.{Field}
+use Rattle.charts.specs.declared.statement.Mark.{Mark}
+use Rattle.charts.specs.declared.statement.SignRule.{SignRule}
+use Rattle.charts.specs.declared.statement.Statement.{Statement}
+use Rattle.charts.specs.declared.statement.Statement.TheVariants as says
+use Rattle.hubs.specs.declared.hub.Group.{Group}
+use Rattle.hubs.specs.declared.hub.Hub.{Hub}
+use Rattle.hubs.specs.declared.hub.Hub.TheVariants.{SR, GX, BAN, BAT, CC, PX, EM, GE, PL, MI, RO, BT, BAC, PIC}
+use Rattle.wiring_table.specs.Figures.{IsAmount, IsSigned, IsUnsigned}
+use Rattle.wiring_table.specs.Parts.{HasTotal, IsLowest, IsNextHigher, group_for, pilot_for, negative_side, positive_side}
+use Rattle.wiring_table.specs.Wires.{LineWire}
+use Rattle.wiring_table.specs.Wires.LineWire.{detail_mark_in, entry, entry_adds, entry_sign, entry_plus, entry_minus, read_out, balance_test, conversion, conversion_read_out, conversion_minus, feedback, total_mark_in, transfer, transfer_adds, transfer_sign, transfer_plus, transfer_minus}
+use Rattle.wired_panels.proofs.PlanOwners.{own_name}
+use Rattle.wired_panels.specs.ChartAmounts.{IsGroupOf}
+
+-- the total that a line says
+pub the_total :
+    (lines : List Line) (line : Line) (level : ChartLevel) (wheel : ℕ) (name : List ℕ) (digits : ℕ) (mark : Option Mark) (number : ℕ)
+    → Contains lines line → line.number ≡ number → line.statement ≡ says.TotalAmount level wheel name digits mark
+    → HasTotal lines name (level_number level) number
+the_total lines line level wheel name digits mark number listed numbered says_it = record {
+  line = line;
+  listed = listed;
+  is_number = numbered;
+  its_level = level;
+  wheel = wheel;
+  its_name = name;
+  digits = digits;
+  mark = mark;
+  says_total = says_it;
+  same_level = refl;
+  same_name = own_name name;
+}
+
+-- a line of the chart with a number and what it says
+pub record IsLine (lines : List Line) (number : ℕ) (statement : Statement) : Type 0 where
+  pub line : Line
+  pub listed : Contains lines line
+  pub numbered : line.number ≡ number
+  pub says_it : line.statement ≡ statement
+
+-- a line as itself
+pub itself : (lines : List Line) (line : Line) → Contains lines line → IsLine lines line.number line.statement
+itself lines line listed = record { line = line; listed = listed; numbered = refl; says_it = refl }
+
+module _ (lines : List Line) (plan : Lists) where
+  -- the total on a line, and its group
+  pub on_line :
+      (level : ChartLevel) (wheel : ℕ) (name : List ℕ) (digits : ℕ) (mark : Option Mark) (number : ℕ)
+      → IsLine lines number (says.TotalAmount level wheel name digits mark) → HasTotal lines name (level_number level) number
+  on_line level wheel name digits mark number at =
+      the_total lines at.line level wheel name digits mark number at.listed at.numbered at.says_it
+
+  pub with_group :
+      (level : ChartLevel) (wheel : ℕ) (name : List ℕ) (digits : ℕ) (mark : Option Mark) (number : ℕ) (group : Group)
+      → IsLine lines number (says.TotalAmount level wheel name digits mark) → group_for lines plan number ≡ Some group
+      → IsGroupOf lines plan name (level_number level) group
+  with_group level wheel name digits mark number group at served =
+      record { number = number; total = on_line level wheel name digits mark number at; served = served }
+
+  -- The next higher total of an amount above a level is that of a group.
+  pub record GoesUp (name : List ℕ) (low : ℕ) (upper : Group) : Type 0 where
+    pub lower_number : ℕ
+    pub lower_total : HasTotal lines name low lower_number
+    pub number : ℕ
+    pub next : IsNextHigher lines name low number
+    pub served : group_for lines plan number ≡ Some upper
+
+  -- the exits that are wired to the plus entry of a group
+  pub data ToPlus (group : Group) : Hub → Type 0 where
+    from_card : (name : List ℕ) (level : ℕ) → IsGroupOf lines plan name level group → IsLowest lines name level → IsUnsigned lines name
+        → ToPlus group CC
+    by_sign : (name : List ℕ) (level : ℕ) (rule : SignRule) (pilot : ℕ) → IsGroupOf lines plan name level group
+        → IsLowest lines name level → IsSigned lines name rule → pilot_for plan name ≡ Some pilot
+        → ToPlus group (positive_side rule pilot 1)
+    up : (name : List ℕ) (low : ℕ) → GoesUp name low group → IsUnsigned lines name → ToPlus group (PX low 3)
+    up_by_latch : (name : List ℕ) (low : ℕ) (rule : SignRule) (lower : Group) → GoesUp name low group → IsSigned lines name rule
+        → IsGroupOf lines plan name low lower → ToPlus group (BAN lower 2)
+
+  -- and those wired to its minus entry
+  pub data ToMinus (group : Group) : Hub → Type 0 where
+    by_sign : (name : List ℕ) (level : ℕ) (rule : SignRule) (pilot : ℕ) → IsGroupOf lines plan name level group
+        → IsLowest lines name level → IsSigned lines name rule → pilot_for plan name ≡ Some pilot
+        → ToMinus group (negative_side rule pilot 1)
+    turned : (name : List ℕ) (level : ℕ) (rule : SignRule) → IsGroupOf lines plan name level group → IsSigned lines name rule
+        → ToMinus group (BAT group 1)
+    up_by_latch : (name : List ℕ) (low : ℕ) (rule : SignRule) (lower : Group) → GoesUp name low group → IsSigned lines name rule
+        → IsGroupOf lines plan name low lower → ToMinus group (BAT lower 2)
+
+  -- to its read-out entry
+  pub data ToReadOut (group : Group) : Hub → Type 0 where
+    shown : (name : List ℕ) (level : ℕ) → IsGroupOf lines plan name level group → ToReadOut group (PX level 3)
+    turned : (name : List ℕ) (level : ℕ) (rule : SignRule) → IsGroupOf lines plan name level group → IsSigned lines name rule
+        → ToReadOut group (BAT group 1)
+
+  -- to its balance test
+  pub data ToTest (group : Group) : Hub → Type 0 where
+    tested : (name : List ℕ) (level : ℕ) (rule : SignRule) → IsGroupOf lines plan name level group → IsSigned lines name rule
+        → ToTest group (PX level 1)
+
+  -- to the common hubs of its balance positions, but for those of its mark
+  pub data ToBalance (group : Group) : ℕ → Hub → Type 0 where
+    turned : (name : List ℕ) (level : ℕ) (rule : SignRule) → IsGroupOf lines plan name level group → IsSigned lines name rule
+        → ToBalance group 1 (PX level 2)
+    up : (name : List ℕ) (level : ℕ) (rule : SignRule) → IsGroupOf lines plan name level group → IsSigned lines name rule
+        → ToBalance group 2 (PX level 3)
+    marks : (emitter row position : ℕ) → ToBalance group position (EM emitter row)
+
+  -- to the common hubs of a pilot
+  pub data ToPilot : ℕ → ℕ → Hub → Type 0 where
+    signs : (pilot : ℕ) → ToPilot pilot 1 CC
+    marks : (emitter row pilot position : ℕ) → ToPilot pilot position (EM emitter row)
+
+  -- to the entry of a position
+  pub data ToEntry (group : Group) (position : ℕ) : Hub → Type 0 where
+    card : (name : List ℕ) (level : ℕ) (field : Field) → IsGroupOf lines plan name level group → IsLowest lines name level
+        → IsAmount lines name field → 1 ≤ position → position ≤ columns_of field
+        → ToEntry group position (SR (field.last + 1 - position))
+    from_itself : (name : List ℕ) (level : ℕ) (rule : SignRule) → IsGroupOf lines plan name level group → IsSigned lines name rule
+        → 1 ≤ position → position ≤ group.width → ToEntry group position (GX group position)
+    lower : (name : List ℕ) (low : ℕ) (lower : Group) → (up : GoesUp name low group) → group_for lines plan up.lower_number ≡ Some lower
+        → 1 ≤ position → position ≤ up.lower_total.digits → ToEntry group position (GX lower position)
+
+  pub to_plus : (number : ℕ) {statement : Statement} {x : Hub} {group : Group} → IsLine lines number statement
+      → LineWire lines plan number statement x (PL group) → ToPlus group x
+  to_plus number at (entry_adds level wheel name digits mark group low is unsigned) =
+      from_card name (level_number level) (with_group level wheel name digits mark number group at is) low unsigned
+  to_plus number at (entry_plus level wheel name digits mark rule pilot group low is signed served) =
+      by_sign name (level_number level) rule pilot (with_group level wheel name digits mark number group at is) low signed served
+  to_plus number at (transfer_adds level wheel name digits mark upper other unsigned next served) =
+      up name (level_number level) (record {
+        lower_number = number;
+        lower_total = on_line level wheel name digits mark number at;
+        number = other;
+        next = next;
+        served = served;
+      }) unsigned
+  to_plus number at (transfer_plus level wheel name digits mark rule group upper other is signed next served) =
+      up_by_latch name (level_number level) rule group (record {
+        lower_number = number;
+        lower_total = on_line level wheel name digits mark number at;
+        number = other;
+        next = next;
+        served = served;
+      }) signed (with_group level wheel name digits mark number group at is)
+
+  pub to_minus : (number : ℕ) {statement : Statement} {x : Hub} {group : Group} → IsLine lines number statement
+      → LineWire lines plan number statement x (MI group) → ToMinus group x
+  to_minus number at (entry_minus level wheel name digits mark rule pilot group low is signed served) =
+      by_sign name (level_number level) rule pilot (with_group level wheel name digits mark number group at is) low signed served
+  to_minus number at (conversion_minus level wheel name digits mark rule group is signed) =
+      turned name (level_number level) rule (with_group level wheel name digits mark number group at is) signed
+  to_minus number at (transfer_minus level wheel name digits mark rule group upper other is signed next served) =
+      up_by_latch name (level_number level) rule group (record {
+        lower_number = number;
+        lower_total = on_line level wheel name digits mark number at;
+        number = other;
+        next = next;
+        served = served;
+      }) signed (with_group level wheel name digits mark number group at is)
+
+  pub to_read_out : (number : ℕ) {statement : Statement} {x : Hub} {group : Group} → IsLine lines number statement
+      → LineWire lines plan number statement x (RO group) → ToReadOut group x
+  to_read_out number at (read_out level wheel name digits mark group is) =
+      shown name (level_number level) (with_group level wheel name digits mark number group at is)
+  to_read_out number at (conversion_read_out level wheel name digits mark rule group is signed) =
+      turned name (level_number level) rule (with_group level wheel name digits mark number group at is) signed
+
+  pub to_test : (number : ℕ) {statement : Statement} {x : Hub} {group : Group} → IsLine lines number statement
+      → LineWire lines plan number statement x (BT group) → ToTest group x
+  to_test number at (balance_test level wheel name digits mark rule group is signed) =
+      tested name (level_number level) rule (with_group level wheel name digits mark number group at is) signed
+
+  pub to_balance : (number : ℕ) {statement : Statement} {x : Hub} {group : Group} {position : ℕ} → IsLine lines number statement
+      → LineWire lines plan number statement x (BAC group position) → ToBalance group position x
+  to_balance number at (conversion level wheel name digits mark rule group is signed) =
+      turned name (level_number level) rule (with_group level wheel name digits mark number group at is) signed
+  to_balance number at (transfer_sign level wheel name digits mark rule group other is signed next) =
+      up name (level_number level) rule (with_group level wheel name digits mark number group at is) signed
+  to_balance number at (total_mark_in level wheel name digits mark rule group k row is signed punched) = marks _ row _
+
+  pub to_pilot : (number : ℕ) {statement : Statement} {x : Hub} {pilot position : ℕ} → IsLine lines number statement
+      → LineWire lines plan number statement x (PIC pilot position) → ToPilot pilot position x
+  to_pilot number at (entry_sign level wheel name digits mark rule pilot low signed served) = signs pilot
+  to_pilot number at (detail_mark_in wheel name mark rule pilot k row signed served punched) = marks _ row pilot _
+
+  pub to_entry : (number : ℕ) {statement : Statement} {x : Hub} {group : Group} {position : ℕ} → IsLine lines number statement
+      → LineWire lines plan number statement x (GE group position) → ToEntry group position x
+  unfolding on_line the_total
+  to_entry number at (entry level wheel name digits mark field group position low is amount from to) =
+      card name (level_number level) field (with_group level wheel name digits mark number group at is) low amount from to
+  to_entry number at (feedback level wheel name digits mark rule group position is signed from to) =
+      from_itself name (level_number level) rule (with_group level wheel name digits mark number group at is) signed from to
+  to_entry number at (transfer level wheel name digits mark group upper other position is next served from to) =
+      lower name (level_number level) group (record {
+        lower_number = number;
+        lower_total = on_line level wheel name digits mark number at;
+        number = other;
+        next = next;
+        served = served;
+      }) is from to

@@ -1,0 +1,173 @@
+-- How the pilots of a panel stand behind a cycle that reads the card at first reading: by the sign columns of that card.
+use Rattle.std.proofs.Common.{◌≡◌, ◌∙◌, refl, sym, ap, subst, ℕ, ◌-◌, ◌&&◌, Bool, true, false, List, Contains, Option, Some, None, option_map, ◌↔◌, if◌then◌else◌, slice_index, ◌+◌}
+use Rattle.plans.specs.Plans.{Lists}
+use Rattle.card_code.specs.CardCode.{has_row}
+use Rattle.card_code.specs.declared.row.Row.{Row as CardRow}
+use Rattle.card_code.specs.declared.row.Row.TheVariants.{Eleven}
+use Rattle.field_rules.specs.Fields.{field_named}
+use Rattle.chart_rules.specs.ValidCard.{column_of}
+use Rattle.charts.specs.Chart.{Chart}
+use Rattle.charts.specs.Field.{column_of_rule}
+use Rattle.charts.specs.declared.chart.Line.{Line}
+use Rattle.charts.specs.declared.statement.Field.{Field}
+use Rattle.charts.specs.declared.statement.SignRule.{SignRule}
+use Rattle.charts.specs.declared.statement.Statement.{Statement}
+use Rattle.charts.specs.declared.statement.Statement.TheVariants as says
+use Rattle.hub_table.specs.Ranges.{is_within}
+use Rattle.setups.specs.Wiring.{Wiring}
+use Rattle.hubs.specs.declared.hub.Hub.{Hub}
+use Rattle.hubs.specs.declared.hub.Hub.TheVariants.{FR, SR, PIX}
+use Rattle.machine.specs.Machine.{MachineState}
+use Rattle.net.specs.Panel.{contact_of}
+use Rattle.net.specs.declared.cycle.Cycle.{Cycle}
+use Rattle.net.specs.declared.cycle.Cycle.TheVariants.{RunIn, Card, Prog, Head}
+use Rattle.net.specs.declared.cycle.Point.{Point}
+use Rattle.net.specs.declared.cycle.Point.TheVariants.{Row}
+use Rattle.selectors.proofs.LawLemmas.{pilots_moved, pilots_left}
+use Rattle.selectors.specs.Pilots.{is_transferred, moves_pilots}
+use Rattle.selectors.specs.WholeCycles.{after_cycle}
+use Rattle.stations.specs.Punches.{is_punched_at}
+use Rattle.wiring_table.specs.Figures.{rule_of}
+use Rattle.wiring_table.specs.Parts.{pilot_for}
+use Rattle.wiring_table.specs.Wires.{LineWire, ChartWire}
+use Rattle.wiring_table.specs.Wires.LineWire.{pickup}
+use Rattle.wired_panels.proofs.ChartLines.{field-own, field-line}
+use Rattle.wired_panels.proofs.JacksAndTape.{same_tests}
+use Rattle.wired_panels.proofs.PlanPlaces.{pilot-own}
+use Rattle.wired_panels.proofs.Straight.{at_row}
+use Rattle.wired_panels.specs.Sensed.{AreOrderly, IsCycleOf, SendsTo, PilotsTellSigns, has_sign}
+use Rattle.wired_panels.specs.Sources.{Sends, ReadsFirst}
+use Rattle.wired_panels.specs.Sources.ReadsFirst.{run_in, card as card_reads}
+use Rattle.wired_panels.specs.Sources.Sends.{first, second, digit, column, emitter}
+
+-- a wire to a pickup
+pub data ToPickup (plan : Lists) : Statement → Hub → ℕ → Type 0 where
+  picked : (field : Field) (rule : SignRule) (pilot : ℕ) → rule_of field.kind ≡ Some rule → pilot_for plan field.name ≡ Some pilot
+      → ToPickup plan (says.Field field) (FR (column_of_rule rule)) pilot
+
+pub to_pickup :
+    (lines : List Line) (plan : Lists) (number : ℕ) {statement : Statement} {x : Hub} {n : ℕ}
+    → LineWire lines plan number statement x (PIX n) → ToPickup plan statement x n
+to_pickup lines plan number (pickup field rule pilot ruled served) = picked field rule pilot ruled served
+
+pickup-plain : (lines : List Line) (plan : Lists) (n : ℕ) (exit : Hub) → ChartWire lines plan exit (PIX n) → contact_of exit ≡ None
+pickup-plain lines plan n exit wire = by (to_pickup lines plan wire.line.number wire.wire)
+  where
+    by : {statement : Statement} {x : Hub} {n : ℕ} → ToPickup plan statement x n → contact_of x ≡ None
+    by (picked field rule pilot ruled served) = refl
+
+-- a column that first reading sends is punched there, and a column at second reading likewise
+pub sends-first : {old : MachineState} {pictures : Point → Hub → Bool} {cycle : Cycle} {row : CardRow} {hub : Hub} (c : ℕ)
+    → Sends old pictures cycle row hub → hub ≡ FR c → is_punched_at old.stations.first row c ≡ true
+sends-first {old} {pictures} {cycle} {row} c (first its reads punched) is =
+    let same : its ≡ c = cc in subst (λ n. is_punched_at old.stations.first row n ≡ true) same punched
+sends-first c (second its reads punched) is = cc
+sends-first c (digit group position listed out low high shown) is = cc
+sends-first c (column storage its listed out held) is = cc
+sends-first c (emitter its on) is = cc
+
+pub sends-second : {old : MachineState} {pictures : Point → Hub → Bool} {cycle : Cycle} {row : CardRow} {hub : Hub} (c : ℕ)
+    → Sends old pictures cycle row hub → hub ≡ SR c → is_punched_at old.stations.second row c ≡ true
+sends-second c (first its reads punched) is = cc
+sends-second {old} {pictures} {cycle} {row} c (second its reads punched) is =
+    let same : its ≡ c = cc in subst (λ n. is_punched_at old.stations.second row n ≡ true) same punched
+sends-second c (digit group position listed out low high shown) is = cc
+sends-second c (column storage its listed out held) is = cc
+sends-second c (emitter its on) is = cc
+
+-- the columns of a card that have hubs
+pub column-there : (within : Bool) (c n before : ℕ)
+    → option_map (λ place. before + place) (if within then Some c else None) ≡ Some n → within ≡ true
+column-there true c n before is = refl
+column-there false c n before is = cc
+
+-- a punch in a column of the card
+pub punched-there : (card : Option (List ℕ)) (c : ℕ) → is_punched_at card Eleven c ≡ true → has_sign card c ≡ true
+punched-there None c on = cc
+punched-there (Some card) c on = by (is_within c 80) on
+  where
+    by : (within : Bool) → (within && has_row (slice_index card (c - 1)) 11) ≡ true → has_row (column_of card c) 11 ≡ true
+    by true both = both
+    by false both = cc
+
+there-punched : (card : Option (List ℕ)) (c : ℕ) → is_within c 80 ≡ true → has_sign card c ≡ true → is_punched_at card Eleven c ≡ true
+there-punched None c within on = cc
+there-punched (Some card) c within on = rw within on
+
+-- the cycles that move pilots read the card at first reading
+reads : (cycle : Cycle) → moves_pilots cycle ≡ true → ReadsFirst cycle
+reads RunIn is = run_in
+reads Card is = card_reads
+reads (Prog level ordinal) is = cc
+reads (Head heading) is = cc
+
+module _ (chart : Chart) (plan : Lists) (wiring : Wiring) (cycle : Cycle) (old : MachineState) (pictures : Point → Hub → Bool)
+    (orderly : AreOrderly) (it : IsCycleOf chart plan wiring cycle old pictures) where
+  at_pickup : (n : ℕ) → (pictures (Row Eleven) (PIX n) ≡ true) ↔ SendsTo chart.lines plan old pictures cycle Eleven (PIX n)
+  at_pickup n =
+      at_row chart plan wiring cycle old pictures orderly it Eleven (PIX n) refl refl (pickup-plain chart.lines plan n)
+
+  module _ (name : List ℕ) (field : Field) (rule : SignRule) (pilot : ℕ) (named : field_named chart.lines name ≡ Some field)
+      (ruled : rule_of field.kind ≡ Some rule) (served : pilot_for plan name ≡ Some pilot) where
+    -- what comes to the pickup of the amount's pilot is its sign column
+    sign-came : SendsTo chart.lines plan old pictures cycle Eleven (PIX pilot) → has_sign old.stations.first (column_of_rule rule) ≡ true
+    sign-came come =
+        by come.wire.line come.wire.listed come.sends refl (to_pickup chart.lines plan come.wire.line.number come.wire.wire) served
+      where
+        by : (line : Line) → Contains chart.lines line → {exit : Hub} → Sends old pictures cycle Eleven exit → {statement : Statement}
+            → line.statement ≡ statement → {n : ℕ} → ToPickup plan statement exit n → pilot_for plan name ≡ Some n
+            → has_sign old.stations.first (column_of_rule rule) ≡ true
+        by line listed sends is (picked its its_rule n its_ruled its_served) served =
+            let names : its.name ≡ name = pilot-own plan its.name name n its_served served in
+            let its_named : field_named chart.lines its.name ≡ Some its = field-own chart it.panel.lawful line its listed is in
+            let fields : Some its ≡ Some field = sym its_named ∙ ap (field_named chart.lines) names ∙ named in
+            let same : its ≡ field = cc in
+            let rules : its_rule ≡ rule = let e : Some its_rule ≡ Some rule = sym its_ruled ∙ ap (λ (f : Field). rule_of f.kind) same ∙ ruled in cc in
+            ap (λ r. has_sign old.stations.first (column_of_rule r)) (sym rules)
+            ∙ punched-there old.stations.first (column_of_rule its_rule) (sends-first (column_of_rule its_rule) sends refl)
+
+    -- the wire from the sign column to the pickup
+    sign-wire : ChartWire chart.lines plan (FR (column_of_rule rule)) (PIX pilot)
+    sign-wire =
+        let f = field-line chart.lines name field named in
+        record {
+          line = f.line;
+          listed = f.listed;
+          wire = subst (λ statement. LineWire chart.lines plan f.line.number statement (FR (column_of_rule rule)) (PIX pilot)) (sym f.is_field)
+              (pickup field rule pilot ruled (ap (pilot_for plan) f.own_name ∙ served));
+        }
+
+    column-within : is_within (column_of_rule rule) 80 ≡ true
+    column-within =
+        let there = (it.panel.wired.wires (FR (column_of_rule rule)) (PIX pilot)).1 sign-wire in
+        column-there (is_within (column_of_rule rule) 80) (column_of_rule rule) there.number 0 there.numbered
+
+    pilot-within : is_within pilot 16 ≡ true
+    pilot-within =
+        let there = (it.panel.wired.wires (FR (column_of_rule rule)) (PIX pilot)).1 sign-wire in
+        column-there (is_within pilot 16) pilot there.to 1604 there.entry_numbered
+
+    -- behind a cycle that reads it
+    pilot-is : moves_pilots cycle ≡ true
+        → is_transferred (after_cycle cycle pictures old.pilots) pilot ≡ has_sign old.stations.first (column_of_rule rule)
+    pilot-is moves =
+        pilots_moved old.pilots cycle pictures pilot moves
+        ∙ rw pilot-within (same_tests (pictures (Row Eleven) (PIX pilot)) (has_sign old.stations.first (column_of_rule rule))
+        (λ on. sign-came ((at_pickup pilot).0 on))
+        (λ on. (at_pickup pilot).1 (record {
+          exit = FR (column_of_rule rule);
+          sends = first (column_of_rule rule) (reads cycle moves)
+              (there-punched old.stations.first (column_of_rule rule) column-within on);
+          wire = sign-wire;
+        })))
+
+  -- Behind the run-in and behind card cycles the pilots tell the signs of the card at first reading.
+  pub pilots-tell : moves_pilots cycle ≡ true → PilotsTellSigns chart.lines plan old.stations.first (after_cycle cycle pictures old.pilots)
+  pilots-tell moves = λ name field rule pilot named ruled served. pilot-is name field rule pilot named ruled served moves
+
+  -- Other cycles leave them.
+  pub pilots-kept : (card : Option (List ℕ)) → moves_pilots cycle ≡ false → PilotsTellSigns chart.lines plan card old.pilots
+      → PilotsTellSigns chart.lines plan card (after_cycle cycle pictures old.pilots)
+  pilots-kept card stays tell =
+      λ name field rule pilot named ruled served.
+      pilots_left old.pilots cycle pictures pilot stays ∙ tell name field rule pilot named ruled served

@@ -1,0 +1,326 @@
+-- What the storage units of a panel hold behind a card cycle, and in which cycles they read out.
+use Rattle.std.proofs.Common.{◌≡◌, ◌∙◌, refl, sym, ap, subst, ℕ, ◌+◌, ◌-◌, ◌<◌, ◌&&◌, Bool, true, false, List, [], ◌∷◌, Contains, Option, Some, None, option_map, ◌↔◌, if◌then◌else◌, slice_index, length, zero, suc, arith, map}
+use Rattle.std.proofs.lemmas.List.Elements.{All-contains}
+use Rattle.plans.specs.Plans.{Lists}
+use Rattle.card_code.specs.CardCode.{has_row}
+use Rattle.card_code.specs.Rows.{row_number}
+use Rattle.card_code.specs.declared.row.Row.{Row as CardRow}
+use Rattle.field_rules.specs.Fields.{field_named}
+use Rattle.chart_rules.specs.ValidCard.{column_of}
+use Rattle.charts.specs.Chart.{Chart, NumbersRise}
+use Rattle.charts.specs.Field.{columns_of}
+use Rattle.charts.specs.Levels.{level_number}
+use Rattle.charts.specs.declared.chart.Line.{Line}
+use Rattle.charts.specs.declared.level.Level.{Level}
+use Rattle.charts.specs.declared.level.Level.TheVariants as its_level
+use Rattle.charts.specs.declared.statement.BodyLine.TheVariants as body
+use Rattle.charts.specs.declared.statement.Field.{Field}
+use Rattle.charts.specs.declared.statement.Statement.{Statement}
+use Rattle.charts.specs.declared.statement.Statement.TheVariants as says
+use Rattle.hub_table.specs.Places.{part_place}
+use Rattle.hub_table.specs.Ranges.{is_within}
+use Rattle.setups.specs.Wiring.{Wiring}
+use Rattle.hubs.specs.declared.hub.Hub.{Hub}
+use Rattle.hubs.specs.declared.hub.Hub.TheVariants.{SR, CC, PX, SE, SI, SO}
+use Rattle.machine.specs.Machine.{MachineState, closes}
+use Rattle.net.specs.Impulsed.{IsPicture}
+use Rattle.net.specs.Panel.{contact_of}
+use Rattle.net.specs.declared.cycle.Cycle.{Cycle}
+use Rattle.net.specs.declared.cycle.Cycle.TheVariants.{Card}
+use Rattle.net.specs.declared.cycle.Point.{Point}
+use Rattle.net.specs.declared.cycle.Point.TheVariants.{C, Row}
+use Rattle.line_places.specs.Placing.{kind_of}
+use Rattle.stations.specs.Punches.{is_punched_at}
+use Rattle.storage_units.proofs.CycleLemmas.{reads_in_whole, keeps_held}
+use Rattle.storage_units.specs.Storage.{StorageState, storage_place, holds}
+use Rattle.storage_units.specs.WholeCycles.{after_cycle}
+use Rattle.whole_cycles.specs.Between.{HasAllRows}
+use Rattle.whole_cycles.specs.WholeCycles.{control_emits}
+use Rattle.wiring_table.specs.Figures.{IsText}
+use Rattle.wiring_table.specs.Parts.{unit_for}
+use Rattle.wiring_table.specs.Wires.{LineWire, ChartWire}
+use Rattle.wiring_table.specs.Wires.LineWire.{total_text_in, total_text_taken, total_text_given}
+use Rattle.wired_panels.proofs.ChartLines.{same-line}
+use Rattle.wired_panels.proofs.Contacts.{is_card_cycle}
+use Rattle.wired_panels.proofs.JacksAndTape.{same_tests}
+use Rattle.wired_panels.proofs.PlanPlaces.{unit-own}
+use Rattle.wired_panels.proofs.SaidOnce.{further}
+use Rattle.wired_panels.proofs.Straight.{at_control, at_row, control_reached}
+use Rattle.wired_panels.proofs.ToCarriage.{tells-kind, kind-tells}
+use Rattle.wired_panels.proofs.ToPilots.{sends-second, column-there}
+use Rattle.wired_panels.specs.Panel.{IsPanel}
+use Rattle.wired_panels.specs.Sensed.{AreOrderly, IsCycleOf, TellsTo, SendsTo, UnitsHold, IsTextPrinted}
+use Rattle.wired_panels.specs.Sources.{Sends, Tells}
+use Rattle.wired_panels.specs.Sources.Sends.{second}
+use Rattle.wired_panels.specs.Sources.Tells.{card as tells_card, prog as tells_prog, head as tells_head}
+
+-- a card cycle prints no total line, and neither does a cycle that prints no body line
+pub card-no_total : (level : Level) → ¬ (kind_of Card ≡ Some (level_number level))
+card-no_total its_level.Minor is = let e : 0 ≡ level_number its_level.Minor = cc in omega (arith, e)
+card-no_total its_level.Intermediate is = let e : 0 ≡ level_number its_level.Intermediate = cc in omega (arith, e)
+card-no_total its_level.Major is = let e : 0 ≡ level_number its_level.Major = cc in omega (arith, e)
+card-no_total its_level.Final is = let e : 0 ≡ level_number its_level.Final = cc in omega (arith, e)
+
+pub other-no_total : (cycle : Cycle) → kind_of cycle ≡ None → (level : Level) → ¬ (kind_of cycle ≡ Some (level_number level))
+other-no_total cycle none level is = let e : None ≡ Some (level_number level) = sym none ∙ is in cc
+
+-- a wire to an entry of a storage unit, and to the hubs by which it reads in and out
+pub data ToStored (lines : List Line) (plan : Lists) (number : ℕ) : Statement → Hub → ℕ → ℕ → Type 0 where
+  stored : (level : Level) (wheel : ℕ) (name : List ℕ) (field : Field) (unit j : ℕ)
+      → IsText lines name field → j < columns_of field → unit_for plan number ≡ Some unit
+      → ToStored lines plan number (says.TotalText level wheel name) (SR (field.first + j)) unit (j + 1)
+
+pub to_stored :
+    (lines : List Line) (plan : Lists) (number : ℕ) {statement : Statement} {x : Hub} {unit c : ℕ}
+    → LineWire lines plan number statement x (SE unit c) → ToStored lines plan number statement x unit c
+to_stored lines plan number (total_text_in level wheel name field unit j is_text below served) =
+    stored level wheel name field unit j is_text below served
+
+pub data ToReadIn (plan : Lists) (number : ℕ) : Statement → Hub → ℕ → Type 0 where
+  taken : (level : Level) (wheel : ℕ) (name : List ℕ) (unit : ℕ) → unit_for plan number ≡ Some unit
+      → ToReadIn plan number (says.TotalText level wheel name) CC unit
+
+pub to_read_in :
+    (lines : List Line) (plan : Lists) (number : ℕ) {statement : Statement} {x : Hub} {unit : ℕ}
+    → LineWire lines plan number statement x (SI unit) → ToReadIn plan number statement x unit
+to_read_in lines plan number (total_text_taken level wheel name unit served) = taken level wheel name unit served
+
+pub data ToReadOut (plan : Lists) (number : ℕ) : Statement → Hub → ℕ → Type 0 where
+  given : (level : Level) (wheel : ℕ) (name : List ℕ) (unit : ℕ) → unit_for plan number ≡ Some unit
+      → ToReadOut plan number (says.TotalText level wheel name) (PX (level_number level) 3) unit
+
+pub to_read_out :
+    (lines : List Line) (plan : Lists) (number : ℕ) {statement : Statement} {x : Hub} {unit : ℕ}
+    → LineWire lines plan number statement x (SO unit) → ToReadOut plan number statement x unit
+to_read_out lines plan number (total_text_given level wheel name unit served) = given level wheel name unit served
+
+stored-plain : (lines : List Line) (plan : Lists) (unit c : ℕ) (exit : Hub) → ChartWire lines plan exit (SE unit c) → contact_of exit ≡ None
+stored-plain lines plan unit c exit wire = by (to_stored lines plan wire.line.number wire.wire)
+  where
+    by : {statement : Statement} {x : Hub} {n m : ℕ} → ToStored lines plan wire.line.number statement x n m → contact_of x ≡ None
+    by (stored level wheel name field unit j is_text below served) = refl
+
+read_in-plain : (lines : List Line) (plan : Lists) (unit : ℕ) (exit : Hub) → ChartWire lines plan exit (SI unit) → contact_of exit ≡ None
+read_in-plain lines plan unit exit wire = by (to_read_in lines plan wire.line.number wire.wire)
+  where
+    by : {statement : Statement} {x : Hub} {n : ℕ} → ToReadIn plan wire.line.number statement x n → contact_of x ≡ None
+    by (taken level wheel name unit served) = refl
+
+read_out-plain : (lines : List Line) (plan : Lists) (unit : ℕ) (exit : Hub) → ChartWire lines plan exit (SO unit) → contact_of exit ≡ None
+read_out-plain lines plan unit exit wire = by (to_read_out lines plan wire.line.number wire.wire)
+  where
+    by : {statement : Statement} {x : Hub} {n : ℕ} → ToReadOut plan wire.line.number statement x n → contact_of x ≡ None
+    by (given level wheel name unit served) = refl
+
+-- a part of a thing that has a hub
+part-there : (one other : Bool) (many n p k before : ℕ)
+    → option_map (λ place. before + place) (part_place many (if one then Some n else None) (if other then Some p else None)) ≡ Some k
+    → other ≡ true
+part-there one true many n p k before is = refl
+part-there true false many n p k before is = cc
+part-there false false many n p k before is = cc
+
+-- a punch in a column of a card at a station
+pub punched-in : (station : Option (List ℕ)) (card : List ℕ) (row : CardRow) (c : ℕ) → station ≡ Some card → is_punched_at station row c ≡ true
+    → has_row (column_of card c) (row_number row) ≡ true
+punched-in station card row c is on = by (is_within c 80) (ap (λ s. is_punched_at s row c) (sym is) ∙ on)
+  where
+    by : (within : Bool) → (within && has_row (slice_index card (c - 1)) (row_number row)) ≡ true
+        → has_row (column_of card c) (row_number row) ≡ true
+    by true both = both
+    by false both = cc
+
+pub in-punched : (station : Option (List ℕ)) (card : List ℕ) (row : CardRow) (c : ℕ) → station ≡ Some card → is_within c 80 ≡ true
+    → has_row (column_of card c) (row_number row) ≡ true → is_punched_at station row c ≡ true
+in-punched station card row c is within on =
+    ap (λ s. is_punched_at s row c) is ∙ (rw within on)
+
+-- the exit of card cycles tells of them alone
+tells-card : {cycle : Cycle} {hub : Hub} → Tells cycle hub → hub ≡ CC → cycle ≡ Card
+tells-card tells_card is = refl
+tells-card (tells_prog level ordinal) is = cc
+tells-card (tells_head heading) is = cc
+
+module _ (chart : Chart) (plan : Lists) (wiring : Wiring) (cycle : Cycle) (old : MachineState) (pictures : Point → Hub → Bool)
+    (orderly : AreOrderly) (panel : IsPanel chart plan wiring)
+    (control : IsPicture wiring (control_emits cycle) (closes old cycle C) (pictures C)) where
+  at_read_out : (unit : ℕ) → (pictures C (SO unit) ≡ true) ↔ TellsTo chart.lines plan cycle (SO unit)
+  at_read_out unit =
+      control_reached chart plan wiring orderly panel cycle old (pictures C) control (SO unit) refl refl (read_out-plain chart.lines plan unit)
+
+  -- A storage unit reads out in the cycle that prints the total line of its text, and in no other.
+  pub unit-reads_out : (unit : ℕ) → (pictures C (SO unit) ≡ true) ↔ IsTextPrinted chart.lines plan cycle unit
+  unit-reads_out unit = (
+    λ on. let come = (at_read_out unit).0 on in
+        by come.wire.line come.wire.listed come.tells refl (to_read_out chart.lines plan come.wire.line.number come.wire.wire),
+    λ text. (at_read_out unit).1 (record {
+      exit = PX (level_number text.level) 3;
+      tells = kind-tells cycle (body.Total text.level) text.printed;
+      wire = record {
+        line = text.line;
+        listed = text.listed;
+        wire = subst (λ statement. LineWire chart.lines plan text.line.number statement (PX (level_number text.level) 3) (SO unit))
+            (sym text.is_text) (total_text_given text.level text.wheel text.name unit text.served);
+      };
+    }),
+  )
+    where
+      by : (line : Line) → Contains chart.lines line → {exit : Hub} → Tells cycle exit → {statement : Statement} → line.statement ≡ statement
+          → {n : ℕ} → ToReadOut plan line.number statement exit n → IsTextPrinted chart.lines plan cycle n
+      by line listed tells is (given level wheel name n served) = record {
+        line = line;
+        listed = listed;
+        level = level;
+        wheel = wheel;
+        name = name;
+        is_text = is;
+        served = served;
+        printed = tells-kind (body.Total level) tells refl;
+      }
+
+  -- No storage unit reads out in a cycle that prints no total line.
+  pub no-unit-reads_out : (unit : ℕ) → ((level : Level) → ¬ (kind_of cycle ≡ Some (level_number level))) → pictures C (SO unit) ≡ false
+  no-unit-reads_out unit none = by (pictures C (SO unit)) refl
+    where
+      by : (b : Bool) → pictures C (SO unit) ≡ b → b ≡ false
+      by true on = let text = (unit-reads_out unit).0 on in absurd (none text.level text.printed)
+      by false on = refl
+
+module _ (chart : Chart) (plan : Lists) (wiring : Wiring) (cycle : Cycle) (old : MachineState) (pictures : Point → Hub → Bool)
+    (orderly : AreOrderly) (it : IsCycleOf chart plan wiring cycle old pictures) where
+  at_stored : (row : CardRow) (unit c : ℕ)
+      → (pictures (Row row) (SE unit c) ≡ true) ↔ SendsTo chart.lines plan old pictures cycle row (SE unit c)
+  at_stored row unit c =
+      at_row chart plan wiring cycle old pictures orderly it row (SE unit c) refl refl (stored-plain chart.lines plan unit c)
+
+  at_read_in : (unit : ℕ) → (pictures C (SI unit) ≡ true) ↔ TellsTo chart.lines plan cycle (SI unit)
+  at_read_in unit = at_control chart plan wiring cycle old pictures orderly it (SI unit) refl refl (read_in-plain chart.lines plan unit)
+
+  -- No storage unit reads in but in card cycles.
+  no-unit-reads_in : (unit : ℕ) → is_card_cycle cycle ≡ false → pictures C (SI unit) ≡ false
+  no-unit-reads_in unit none = by (pictures C (SI unit)) refl
+    where
+      card : {exit : Hub} → Tells cycle exit → (number : ℕ) → {statement : Statement} → {n : ℕ} → ToReadIn plan number statement exit n → cycle ≡ Card
+      card tells number (taken level wheel name n served) = tells-card tells refl
+
+      by : (b : Bool) → pictures C (SI unit) ≡ b → b ≡ false
+      by true on =
+          let come = (at_read_in unit).0 on in
+          let is = card come.tells come.wire.line.number (to_read_in chart.lines plan come.wire.line.number come.wire.wire) in
+          let e : is_card_cycle cycle ≡ true = ap is_card_cycle is in sym e ∙ none
+      by false on = refl
+
+  -- Other cycles leave what the units hold.
+  pub unit-kept : (storage : StorageState) (row : CardRow) (column : ℕ) → is_card_cycle cycle ≡ false
+      → holds (after_cycle cycle pictures storage) row column ≡ holds storage row column
+  unit-kept storage row column none =
+      keeps_held storage cycle pictures row column (no-unit-reads_in (storage_place storage) none)
+
+  -- In a card cycle
+  module _ (rising : NumbersRise chart.lines chart.end) (is_card : cycle ≡ Card) (card : List ℕ) (stands : old.stations.second ≡ Some card)
+      (line : Line) (level : Level) (wheel : ℕ) (name : List ℕ) (field : Field) (unit : ℕ) (listed : Contains chart.lines line)
+      (says_it : line.statement ≡ says.TotalText level wheel name) (is_text : IsText chart.lines name field)
+      (served : unit_for plan line.number ≡ Some unit) where
+    reads_in : pictures C (SI unit) ≡ true
+    reads_in = (at_read_in unit).1 (record {
+      exit = CC;
+      tells = subst (λ c. Tells c CC) (sym is_card) tells_card;
+      wire = record {
+        line = line;
+        listed = listed;
+        wire = subst (λ statement. LineWire chart.lines plan line.number statement CC (SI unit)) (sym says_it)
+            (total_text_taken level wheel name unit served);
+      };
+    })
+
+    module _ (row : CardRow) (j : ℕ) (below : j < columns_of field) where
+      came : SendsTo chart.lines plan old pictures cycle row (SE unit (j + 1))
+          → has_row (column_of card (field.first + j)) (row_number row) ≡ true
+      came come =
+          by come.wire.line come.wire.listed come.sends refl (to_stored chart.lines plan come.wire.line.number come.wire.wire) refl served
+        where
+          by : (other : Line) → Contains chart.lines other → {exit : Hub} → Sends old pictures cycle row exit → {statement : Statement}
+              → other.statement ≡ statement → {n c : ℕ} → ToStored chart.lines plan other.number statement exit n c → c ≡ j + 1
+              → unit_for plan line.number ≡ Some n → has_row (column_of card (field.first + j)) (row_number row) ≡ true
+          by other its_listed sends is (stored its wheel' name' field' n j' text' below' served') same served =
+              let numbers : other.number ≡ line.number = unit-own plan other.number line.number n served' served in
+              let lines : other ≡ line = same-line chart.lines chart.end other line rising its_listed listed numbers in
+              let statements : says.TotalText its wheel' name' ≡ says.TotalText level wheel name =
+              sym is ∙ ap (λ (l : Line). l.statement) lines ∙ says_it in
+              let names : name' ≡ name = cc in
+              let fields : Some field' ≡ Some field = sym text'.named ∙ ap (field_named chart.lines) names ∙ is_text.named in
+              let one : field' ≡ field = cc in
+              let places : j' ≡ j = omega (arith, same) in
+              let columns : field'.first + j' ≡ field.first + j = ap (λ (f : Field). f.first + j') one ∙ ap (λ n. field.first + n) places in
+              punched-in old.stations.second card row (field.first + j) stands (sends-second (field.first + j) sends (ap SR columns))
+
+      text-wire : ChartWire chart.lines plan (SR (field.first + j)) (SE unit (j + 1))
+      text-wire = record {
+        line = line;
+        listed = listed;
+        wire = subst (λ statement. LineWire chart.lines plan line.number statement (SR (field.first + j)) (SE unit (j + 1))) (sym says_it)
+            (total_text_in level wheel name field unit j is_text below served);
+      }
+
+      text-column : is_within (field.first + j) 80 ≡ true
+      text-column =
+          let there = (it.panel.wired.wires (SR (field.first + j)) (SE unit (j + 1))).1 text-wire in
+          column-there (is_within (field.first + j) 80) (field.first + j) there.number 80 there.numbered
+
+      unit-column : is_within (j + 1) 16 ≡ true
+      unit-column =
+          let there = (it.panel.wired.wires (SR (field.first + j)) (SE unit (j + 1))).1 text-wire in
+          part-there (is_within unit 4) (is_within (j + 1) 16) 16 unit (j + 1) there.to 1620 there.entry_numbered
+
+      is-stored : pictures (Row row) (SE unit (j + 1)) ≡ has_row (column_of card (field.first + j)) (row_number row)
+      is-stored =
+          same_tests (pictures (Row row) (SE unit (j + 1))) (has_row (column_of card (field.first + j)) (row_number row))
+          (λ on. came ((at_stored row unit (j + 1)).0 on))
+          (λ on. (at_stored row unit (j + 1)).1 (record {
+            exit = SR (field.first + j);
+            sends = second (field.first + j) is_card (in-punched old.stations.second card row (field.first + j) stands text-column on);
+            wire = text-wire;
+          }))
+
+      -- the unit holds the columns of its text
+      pub unit-holds : (storage : StorageState) → length storage.received ≡ 12 → storage_place storage ≡ unit
+          → holds (after_cycle cycle pictures storage) row (j + 1) ≡ has_row (column_of card (field.first + j)) (row_number row)
+      unit-holds storage long same =
+          reads_in_whole storage cycle pictures row (j + 1) long (ap (λ u. pictures C (SI u)) same ∙ reads_in)
+          ∙ rw unit-column (ap (λ u. pictures (Row row) (SE u (j + 1))) same ∙ is-stored)
+
+-- an element of a mapped list comes from one of the list
+pub record IsMapped {X : Type 0} {Y : Type 0} (f : X → Y) (list : List X) (y : Y) : Type 0 where
+  pub item : X
+  pub listed : Contains list item
+  pub is : f item ≡ y
+
+pub mapped : {X : Type 0} {Y : Type 0} (f : X → Y) (list : List X) (y : Y) → Contains (map f list) y → IsMapped f list y
+mapped f [] y (k, within, is) = absurd (omega (arith, within))
+mapped f (x ∷ list) y (zero, within, is) = record { item = x; listed = (0, omega arith, refl); is = is }
+mapped f (x ∷ list) y (suc k, within, is) =
+    let below = mapped f list y (k, omega (arith, within), is) in
+    record { item = below.item; listed = further list below.item x below.listed; is = below.is }
+
+module _ (chart : Chart) (plan : Lists) (wiring : Wiring) (cycle : Cycle) (old : MachineState) (pictures : Point → Hub → Bool)
+    (orderly : AreOrderly) (it : IsCycleOf chart plan wiring cycle old pictures) where
+  -- Behind a card cycle the storage units hold the texts of the card at second reading.
+  pub units-hold : (card : List ℕ) → NumbersRise chart.lines chart.end → cycle ≡ Card → old.stations.second ≡ Some card
+      → UnitsHold chart.lines plan card (map (after_cycle cycle pictures) old.storage)
+  units-hold card rising is_card stands =
+      λ line level wheel name field unit storage row j listed says_it is_text served there place below.
+      let from = mapped (after_cycle cycle pictures) old.storage storage there in
+      let long = (All-contains HasAllRows old.storage from.item it.between.storage from.listed).received in
+      ap (λ s. holds s row (j + 1)) (sym from.is)
+      ∙ unit-holds chart plan wiring cycle old pictures orderly it rising is_card card stands line level wheel name field unit listed says_it
+      is_text served row j below from.item long (ap storage_place from.is ∙ place)
+
+  -- Behind another cycle they hold what they held.
+  pub units-kept : (card : List ℕ) → is_card_cycle cycle ≡ false → UnitsHold chart.lines plan card old.storage
+      → UnitsHold chart.lines plan card (map (after_cycle cycle pictures) old.storage)
+  units-kept card none held =
+      λ line level wheel name field unit storage row j listed says_it is_text served there place below.
+      let from = mapped (after_cycle cycle pictures) old.storage storage there in
+      ap (λ s. holds s row (j + 1)) (sym from.is)
+      ∙ unit-kept chart plan wiring cycle old pictures orderly it from.item row (j + 1) none
+      ∙ held line level wheel name field unit from.item row j listed says_it is_text served from.listed (ap storage_place from.is ∙ place) below

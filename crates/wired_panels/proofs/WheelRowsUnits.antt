@@ -1,0 +1,166 @@
+-- Counter groups and storage units of a machine between cycles, by the names of their hubs.
+use Rattle.std.proofs.Common.{◌≡◌, ◌∙◌, refl, sym, ap, subst, ℕ, zero, suc, ◌+◌, ◌-◌, ◌/◌, ◌%◌, ◌^◌, ◌<◌, ◌≤◌, false, List, [], ◌∷◌, Contains, Option, Some, None, length, slice_get, get_or, inl, inr, ◌⊎◌, arith}
+use Rattle.std.specs.List.{filter_map, cons_option}
+use Rattle.std.proofs.lemmas.Bool.{cases_lt}
+use Rattle.std.proofs.lemmas.Bool.Decides.{nat_tests}
+use Rattle.std.proofs.lemmas.List.{get_or-map}
+use Rattle.std.proofs.lemmas.List.FromFn.{get_or-range_with_len}
+use Rattle.std.proofs.lemmas.List.Elements.{Contains-get_or}
+use Rattle.counter_cycles.proofs.ShownLemmas.{digits-tell}
+use Rattle.counter_cycles.specs.Acts.{digit_of}
+use Rattle.wanted.specs.ChartTotals.{total_of}
+use Rattle.plans.specs.Plans.{Lists, IsFor}
+use Rattle.wanted.specs.declared.total.Total.{Total}
+use Rattle.capacity.specs.Capacities.{HasGroup, groups_of, standard}
+use Rattle.capacity.specs.declared.group.CounterGroup.{CounterGroup}
+use Rattle.charts.specs.declared.chart.Line.{Line}
+use Rattle.counters.specs.Counters.{Counter, counter_number, counter_of}
+use Rattle.counters.specs.Laws.{IsCounter}
+use Rattle.counters.specs.Numbers.{number}
+use Rattle.hubs.specs.declared.hub.Group.{Group}
+use Rattle.machine.specs.Machine.{MachineState, group_units, storage_units}
+use Rattle.net.specs.Panel.{unit_of}
+use Rattle.report.specs.Edits.{last_digits}
+use Rattle.storage_units.specs.Storage.{StorageState, storage_number, storage_place, storage_at_start}
+use Rattle.whole_cycles.proofs.Places.{in_units, as_many, told_at}
+use Rattle.whole_cycles.proofs.Units.{units-by_name}
+use Rattle.whole_cycles.specs.Between.{IsBetween}
+use Rattle.whole_cycles.specs.Units.{IsGroup, group_at, storage_at}
+use Rattle.wiring_table.specs.Parts.{group_for, panel_group}
+use Rattle.wired_panels.specs.Sources.{digit_at}
+use Rattle.wired_panels.proofs.Contacts.{is_set}
+use Rattle.wired_panels.proofs.SpeakersApart.{group-at}
+
+-- the units of the counter groups and of the storage units, in order
+unit-at : (k : ℕ) → k < 32 → get_or group_units k 0 ≡ 3 + k
+unit-at k within = get_or-range_with_len 3 32 k 0 within
+
+storage-at : (k : ℕ) → k < 4 → get_or storage_units k 0 ≡ 35 + k
+storage-at k within = get_or-range_with_len 35 4 k 0 within
+
+-- the group of a total is one of the panel
+pub group-named : (lines : List Line) (plan : Lists) (number : ℕ) (group : Group) → IsFor lines plan
+    → group_for lines plan number ≡ Some group → IsGroup group
+group-named lines plan number group planned is =
+    let at = group-at lines plan number group is in
+    subst (λ g. IsGroup g) at.named (by at.its_group (planned.groups.there at.place at.its_group at.taken))
+  where
+    by : (g : CounterGroup) → HasGroup standard g → IsGroup (panel_group g)
+    by g has = of g.width g.number has.from has.to
+      where
+        of : (w n : ℕ) → 1 ≤ n → n ≤ groups_of standard w → IsGroup (record { width = w; number = n })
+        of w n from to = record { width = grind (arith, nat_tests, from, to); number = grind (arith, nat_tests, from, to) }
+
+module _ (machine : MachineState) (between : IsBetween machine) where
+  many : length machine.groups ≡ 32
+  many = as_many counter_number machine.groups group_units between.ordered
+
+  -- the group of a name is one of the machine
+  pub group-listed : (name : Group) → IsGroup name → Contains machine.groups (group_at machine name)
+  group-listed name is =
+      let (low, high) = in_units name is in
+      let m = many in
+      Contains-get_or machine.groups (unit_of name - 3) (counter_of name false) (omega (arith, low, high, m))
+
+  -- a group of the machine is that of its name
+  pub group-own : (counter : Counter) → Contains machine.groups counter → counter ≡ group_at machine counter.name
+  group-own counter (k, within, is) =
+      let m = many in
+      let unit : unit_of counter.name ≡ 3 + k
+      = ap (λ c. counter_number c) (sym is) ∙ told_at counter_number machine.groups group_units k counter between.ordered within
+      ∙ unit-at k (omega (arith, within, m)) in
+      let place : unit_of counter.name - 3 ≡ k = omega (arith, unit) in
+      sym (ap (λ j. get_or machine.groups j (counter_of counter.name false)) place
+      ∙ same machine.groups k counter (counter_of counter.name false) within is)
+    where
+      same : (list : List Counter) (k : ℕ) (x d : Counter) → k < length list → get_or list k x ≡ x → get_or list k d ≡ x
+      same [] k x d within is = absurd (omega (arith, within))
+      same (y ∷ list) zero x d within is = is
+      same (y ∷ list) (suc k) x d within is = same list k x d (omega (arith, within)) is
+
+  pub counter-is : (name : Group) → IsGroup name → IsCounter (group_at machine name)
+  counter-is name is = (units-by_name.groups machine name between is).idle.lawful
+
+  -- the digit of a group at a position
+  pub digit-of : (name : Group) (position : ℕ) → IsGroup name → 1 ≤ position → position ≤ length (group_at machine name).digits
+      → digit_at (group_at machine name).digits position ≡ digit_of (number (group_at machine name).digits) position
+  digit-of name position is from to = digits-tell.of_list (group_at machine name).digits position (counter-is name is).digits from to
+
+  -- a latch by the name of its group
+  pub latch-at : (name : Group) → IsGroup name → is_set machine name ≡ (group_at machine name).latch
+  latch-at name is =
+      let (low, high) = in_units name is in
+      let m = many in
+      get_or-map (λ c. c.latch) machine.groups (unit_of name - 3) (counter_of name false) false (omega (arith, low, high, m))
+
+  many_units : length machine.storage ≡ 4
+  many_units = as_many storage_number machine.storage storage_units between.numbered
+
+  pub unit-listed : (unit : ℕ) → 1 ≤ unit → unit ≤ 4 → Contains machine.storage (storage_at machine unit)
+  unit-listed unit low high =
+      let m = many_units in
+      Contains-get_or machine.storage (unit - 1) (storage_at_start (34 + unit)) (omega (arith, low, high, m))
+
+  pub unit-place : (unit : ℕ) → 1 ≤ unit → unit ≤ 4 → storage_place (storage_at machine unit) ≡ unit
+  unit-place unit low high =
+      let m = many_units in
+      let e = told_at storage_number machine.storage storage_units (unit - 1) (storage_at_start (34 + unit)) between.numbered (omega (arith, low, high, m)) in
+      let f = storage-at (unit - 1) (omega (arith, low, high)) in
+      omega (arith, e, f, low)
+
+  pub unit-own : (storage : StorageState) → Contains machine.storage storage → storage ≡ storage_at machine (storage_place storage)
+  unit-own storage (k, within, is) =
+      let m = many_units in
+      let unit : storage.unit ≡ 35 + k
+      = ap storage_number (sym is) ∙ told_at storage_number machine.storage storage_units k storage between.numbered within
+      ∙ storage-at k (omega (arith, within, m)) in
+      let place : storage_place storage - 1 ≡ k = omega (arith, unit) in
+      sym (ap (λ j. get_or machine.storage j (storage_at_start (34 + storage_place storage))) place
+      ∙ same machine.storage k storage (storage_at_start (34 + storage_place storage)) within is)
+    where
+      same : (list : List StorageState) (k : ℕ) (x d : StorageState) → k < length list → get_or list k x ≡ x → get_or list k d ≡ x
+      same [] k x d within is = absurd (omega (arith, within))
+      same (y ∷ list) zero x d within is = is
+      same (y ∷ list) (suc k) x d within is = same list k x d (omega (arith, within)) is
+
+-- the last digits of a number, by position
+pub last-at : (count n position : ℕ) → 1 ≤ position → position ≤ count → get_or (last_digits count n) (count - position) 0 ≡ digit_of n position
+last-at zero n position from to = absurd (omega (arith, from, to))
+last-at (suc count) n position from to = by (cases_lt count position) (last-at count n position from)
+  where
+    by : (count < position) ⊎ (position ≤ count) → (position ≤ count → get_or (last_digits count n) (count - position) 0 ≡ digit_of n position)
+        → get_or (last_digits (suc count) n) (suc count - position) 0 ≡ digit_of n position
+    by (inl high) rest =
+        let place : suc count - position ≡ 0 = omega (arith, high) in
+        let is : count ≡ position - 1 = omega (arith, high, to) in
+        ap (λ k. get_or (last_digits (suc count) n) k 0) place ∙ ap (λ k. n / 10 ^ k % 10) is
+    by (inr low) rest =
+        let place : suc count - position ≡ suc (count - position) = omega (arith, low) in
+        ap (λ k. get_or (last_digits (suc count) n) k 0) place ∙ rest low
+
+pub last-long : (count n : ℕ) → length (last_digits count n) ≡ count
+last-long zero n = refl
+last-long (suc count) n = ap suc (last-long count n)
+
+-- the line of a total
+pub record HasTotalLine (all lines : List Line) (total : Total) : Type 0 where
+  pub line : Line
+  pub place : ℕ
+  pub at : slice_get lines place ≡ Some line
+  pub is : total_of all line.number line.statement ≡ Some total
+
+pub total-line : (all lines : List Line) (k : ℕ) (total : Total)
+    → slice_get (filter_map (λ line. total_of all line.number line.statement) lines) k ≡ Some total → HasTotalLine all lines total
+total-line all [] k total at = cc
+total-line all (line ∷ lines) k total at = by (total_of all line.number line.statement) refl k at (λ j. total-line all lines j total)
+  where
+    behind : HasTotalLine all lines total → HasTotalLine all (line ∷ lines) total
+    behind t = record { line = t.line; place = suc t.place; at = t.at; is = t.is }
+
+    by : (o : Option Total) → total_of all line.number line.statement ≡ o → (k : ℕ)
+        → slice_get (cons_option o (filter_map (λ line. total_of all line.number line.statement) lines)) k ≡ Some total
+        → ((j : ℕ) → slice_get (filter_map (λ line. total_of all line.number line.statement) lines) j ≡ Some total → HasTotalLine all lines total)
+        → HasTotalLine all (line ∷ lines) total
+    by None is k at rest = behind (rest k at)
+    by (Some x) is zero at rest = let e : x ≡ total = cc in record { line = line; place = 0; at = refl; is = is ∙ ap Some e }
+    by (Some x) is (suc k) at rest = behind (rest k at)

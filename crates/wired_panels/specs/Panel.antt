@@ -1,0 +1,25 @@
+-- A panel that is wired for a chart, and the ways of impulses in it.
+use Rattle.std.specs.Prelude.{◌≡◌, Bool, true, List, Some}
+use Rattle.plans.specs.Plans.{Lists, IsFor}
+use Rattle.chart_rules.specs.Rules.{IsLawful}
+use Rattle.charts.specs.Chart.{Chart}
+use Rattle.charts.specs.declared.chart.Line.{Line}
+use Rattle.setups.specs.Wiring.{Wiring}
+use Rattle.hubs.specs.declared.hub.Hub.{Hub}
+use Rattle.net.specs.Panel.{contact_of}
+use Rattle.wiring_table.specs.Wires.{ChartWire}
+use Rattle.wiring_table.specs.WiredFor.{WiredFor}
+
+-- A setup is wired for a chart that breaks no rule, by a plan of it.
+pub record IsPanel (chart : Chart) (plan : Lists) (wiring : Wiring) : Type 0 where
+  pub lawful : IsLawful chart
+  pub planned : IsFor chart.lines plan
+  pub wired : WiredFor chart.lines plan wiring
+
+-- The ways of an impulse to an entry: straight from an emitting exit, or from one through one closed contact.
+pub data Comes (lines : List Line) (plan : Lists) (exits closed : Hub → Bool) : Hub → Type 0 where
+  straight : (exit entry : Hub) → exits exit ≡ true → ChartWire lines plan exit entry → Comes lines plan exits closed entry
+  through :
+      (exit common contact entry : Hub) → exits exit ≡ true → ChartWire lines plan exit common
+      → contact_of contact ≡ Some common → closed contact ≡ true → ChartWire lines plan contact entry
+      → Comes lines plan exits closed entry

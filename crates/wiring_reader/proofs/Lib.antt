@@ -1,0 +1,16 @@
+mod LetterReading
+mod NamePieces
+mod NameGrammar
+mod StatementGrammar
+mod LineGrammar
+mod SameStatement
+mod SetupSteps
+mod LineSteps
+mod Takings
+mod NewSetup
+mod LinesGrammar
+mod LinePlaces
+mod LineOutcomes
+mod LowestFaults
+mod WiringGrammar
+pub mod Answered

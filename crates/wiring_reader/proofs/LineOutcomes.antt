@@ -1,0 +1,208 @@
+-- What the answer on the lines behind a form says of them.
+use Rattle.std.proofs.Common.{◌≡◌, ℕ, ◌+◌, ◌-◌, ◌<◌, Bool, true, false, cond, List, [], ◌∷◌, ◌++◌, get_or, Option, Some, None, Result, Ok, Err, refl, ap, sym, ◌∙◌, subst, suc, inl, inr, arith}
+use Rattle.setups.specs.Tapes.{IsFormed}
+use Rattle.setups.specs.declared.fault.SetupFault.{SetupFault}
+use Rattle.wiring_reader.specs.Reading.{is_said}
+use Rattle.wiring_text.specs.Statements.{statement_fault}
+use Rattle.wiring_reader.specs.TextReading.{Content, content_of, go_on, lines_from, new_said, step, start}
+use Rattle.tokens.specs.Frame.{line_at, IsBehindEnd, LacksEnd}
+use Rattle.wiring_text.specs.WiringFaults.{IsMisplaced, SaysAt, IsRepeated, IsUnfit, IsAtFault, misplaced, repeated, unfit, AreGoodBefore}
+use Rattle.wiring_text.specs.WiringText.{IsEndLine}
+use Rattle.wiring_text.specs.declared.statement.FormNumbers.{FormNumbers}
+use Rattle.wiring_text.specs.declared.fault.WiringFault.{WiringFault}
+use Rattle.wiring_text.specs.declared.fault.WiringFault.TheVariants.{TooLarge, NoFirstLine, NotALine, LineTwice, Unfit, NoEnd, Memory}
+use Rattle.tokens.specs.declared.frame.Content.TheVariants.{Empty, End, Says, NoLine}
+use Rattle.wiring_text.specs.declared.statement.Statement.{Statement}
+use Rattle.wiring_reader.proofs.LineGrammar.{is_content, empty_read, end_read}
+use Rattle.wiring_reader.proofs.LinesGrammar.{before_end, behind_end}
+use Rattle.wiring_reader.proofs.LinePlaces.{Stands, next_stands, content_at, there_at, same_said, NoEndBelow, good_more, no_end_more, not_at_fault, unsaid_good, empty_placed, before_end_placed, all_good, SaidBelow, said_nothing_more, said_more}
+use Rattle.wiring_reader.proofs.SameStatement.{contains_said, none_contained}
+
+-- what an answer says of the lines of a text
+abbrev pub Outcome : List (List ℕ) → FormNumbers → Result (List Statement) WiringFault → Type 0
+Outcome all form (Ok said) = ((n : ℕ) → IsAtFault all form n → ⊥) × (LacksEnd 3 all → ⊥)
+Outcome all form (Err (NotALine n)) = IsMisplaced all n × AreGoodBefore all form n
+Outcome all form (Err (LineTwice n)) = IsRepeated all n × AreGoodBefore all form n
+Outcome all form (Err (Unfit n fault)) = IsUnfit all form n fault × AreGoodBefore all form n
+Outcome all form (Err NoEnd) = ((n : ℕ) → IsAtFault all form n → ⊥) × LacksEnd 3 all
+Outcome all form (Err TooLarge) = ⊥
+Outcome all form (Err NoFirstLine) = ⊥
+Outcome all form (Err Memory) = ⊥
+
+-- a line behind END that is not empty
+misplaced_behind : (all : List (List ℕ)) (form : FormNumbers) (number : ℕ) (line : List ℕ) (rest : List (List ℕ)) (content : Content)
+    → Stands all number (line ∷ rest) → AreGoodBefore all form number → IsBehindEnd 3 all number
+    → content_of (line_at all number) ≡ content → (content ≡ Empty → ⊥)
+    → IsMisplaced all number × AreGoodBefore all form number
+misplaced_behind all form number line rest content stands good behind here filled = (
+  record {
+    there = there_at all number line rest stands;
+    cause = inr (behind, λ has. filled (sym here ∙ empty_read (line_at all number) has));
+  },
+  good,
+)
+
+behind_more : (all : List (List ℕ)) (number : ℕ) → IsBehindEnd 3 all number → IsBehindEnd 3 all (suc number)
+behind_more all number behind = record {
+  end = behind.end;
+  there = behind.there;
+  before = omega (arith, behind.before);
+  is_end = behind.is_end;
+}
+
+unsaid_empty : (s : Statement) → Empty ≡ Says s → ⊥
+unsaid_empty s e = cc
+
+unsaid_end : (s : Statement) → End ≡ Says s → ⊥
+unsaid_end s e = cc
+
+ended_by : (all : List (List ℕ)) (form : FormNumbers) (number : ℕ) (said : List Statement) (line : List ℕ) (rest : List (List ℕ))
+    (content : Content) → Stands all number (line ∷ rest) → AreGoodBefore all form number → IsBehindEnd 3 all number
+    → content_of (line_at all number) ≡ content
+    → (Stands all (suc number) rest → AreGoodBefore all form (suc number) → IsBehindEnd 3 all (suc number)
+    → Outcome all form (lines_from form.lines (suc number) (behind_end said) rest))
+    → Outcome all form (go_on (step form.lines number (behind_end said) content)
+    (λ next. lines_from form.lines (suc number) next rest))
+ended_by all form number said line rest Empty stands good behind here others =
+    others (next_stands all number line rest stands)
+    (good_more all form number good (unsaid_good all form number Empty stands.from here unsaid_empty
+    (empty_placed all number here)))
+    (behind_more all number behind)
+ended_by all form number said line rest End stands good behind here others =
+    misplaced_behind all form number line rest End stands good behind here (λ e. cc)
+ended_by all form number said line rest (Says s) stands good behind here others =
+    misplaced_behind all form number line rest (Says s) stands good behind here (λ e. cc)
+ended_by all form number said line rest NoLine stands good behind here others =
+    misplaced_behind all form number line rest NoLine stands good behind here (λ e. cc)
+
+-- the outcome behind END
+ended_outcome : (all : List (List ℕ)) (form : FormNumbers) (said : List Statement) (rest : List (List ℕ)) (number : ℕ)
+    → Stands all number rest → AreGoodBefore all form number → IsBehindEnd 3 all number
+    → Outcome all form (lines_from form.lines number (behind_end said) rest)
+unfolding lines_from
+ended_outcome all form said [] number stands good behind =
+    (all_good all form number stands good, λ lacks. lacks behind.end behind.there behind.is_end)
+ended_outcome all form said (line ∷ rest) number stands good behind =
+    ended_by all form number said line rest (content_of line) stands good behind
+    (content_at all number line rest (content_of line) stands refl) (ended_outcome all form said rest (suc number))
+
+-- a statement before END
+no_end_here : (all : List (List ℕ)) (number : ℕ) (content : Content) → content_of (line_at all number) ≡ content
+    → (End ≡ content → ⊥) → IsEndLine (line_at all number) → ⊥
+no_end_here all number content here other has = other (sym (end_read (line_at all number) has) ∙ here)
+
+says_at : (all : List (List ℕ)) (number : ℕ) (line : List ℕ) (rest : List (List ℕ)) (s : Statement)
+    → Stands all number (line ∷ rest) → NoEndBelow all number → content_of (line_at all number) ≡ Says s → SaysAt all number s
+says_at all number line rest s stands no_end here =
+    let says = is_content (line_at all number) (Says s) here in
+    record {
+      there = there_at all number line rest stands;
+      said = says;
+      placed = before_end_placed all number no_end (λ none. none.not_said s says);
+    }
+
+not_repeated : (all : List (List ℕ)) (number : ℕ) (s : Statement) (said : List Statement)
+    → content_of (line_at all number) ≡ Says s → is_said said s ≡ false → SaidBelow all number said → IsRepeated all number → ⊥
+not_repeated all number s said here new below is =
+    let same = same_said all number s is.statement here is.said.said in
+    none_contained said s new (below.found s is.earlier is.before (subst (SaysAt all is.earlier) same is.said_before))
+
+said_by : (all : List (List ℕ)) (form : FormNumbers) (number : ℕ) (said : List Statement) (line : List ℕ) (rest : List (List ℕ))
+    (s : Statement) (test : Bool) (faults : Option SetupFault) → Stands all number (line ∷ rest) → AreGoodBefore all form number
+    → NoEndBelow all number → SaidBelow all number said → content_of (line_at all number) ≡ Says s → SaysAt all number s
+    → is_said said s ≡ test → statement_fault form.lines s ≡ faults
+    → (Stands all (suc number) rest → AreGoodBefore all form (suc number) → NoEndBelow all (suc number)
+    → SaidBelow all (suc number) (said ++ s ∷ [])
+    → Outcome all form (lines_from form.lines (suc number) (before_end (said ++ s ∷ [])) rest))
+    → Outcome all form (go_on (cond test (Err (LineTwice number)) (new_said number said s faults))
+    (λ next. lines_from form.lines (suc number) next rest))
+said_by all form number said line rest s true faults stands good no_end below here at test fault others =
+    let earlier = below.listed s (contains_said said s test) in
+    (record { statement = s; said = at; earlier = earlier.0; before = earlier.1; said_before = earlier.2 }, good)
+said_by all form number said line rest s false (Some f) stands good no_end below here at test fault others = (
+  inr (record {
+    statement = s;
+    said = at;
+    new = not_repeated all number s said here test below;
+    unfit = fault;
+  }),
+  good,
+)
+said_by all form number said line rest s false None stands good no_end below here at test fault others =
+    others (next_stands all number line rest stands)
+    (good_more all form number good (not_at_fault all form number stands.from at.placed
+    (not_repeated all number s said here test below)
+    (λ f is. clash f (ap (statement_fault form.lines) (sym (same_said all number s is.statement here is.said.said)) ∙ is.unfit))))
+    (no_end_more all number no_end (no_end_here all number (Says s) here (unsaid_end s)))
+    (said_more all number s said here at below)
+  where
+    clash : (f : SetupFault) → statement_fault form.lines s ≡ Some f → ⊥
+    clash f e = cc
+
+started_by : (all : List (List ℕ)) (form : FormNumbers) (number : ℕ) (said : List Statement) (line : List ℕ) (rest : List (List ℕ))
+    (content : Content) → Stands all number (line ∷ rest) → AreGoodBefore all form number → NoEndBelow all number
+    → SaidBelow all number said → content_of (line_at all number) ≡ content
+    → ((so : List Statement) → Stands all (suc number) rest → AreGoodBefore all form (suc number)
+    → NoEndBelow all (suc number) → SaidBelow all (suc number) so
+    → Outcome all form (lines_from form.lines (suc number) (before_end so) rest))
+    → Outcome all form (go_on (step form.lines number (before_end said) content)
+    (λ next. lines_from form.lines (suc number) next rest))
+started_by all form number said line rest Empty stands good no_end below here others =
+    others said (next_stands all number line rest stands)
+    (good_more all form number good (unsaid_good all form number Empty stands.from here unsaid_empty
+    (empty_placed all number here)))
+    (no_end_more all number no_end (no_end_here all number Empty here (λ e. cc)))
+    (said_nothing_more all number Empty said here unsaid_empty below)
+started_by all form number said line rest End stands good no_end below here others =
+    let is_end = is_content (line_at all number) End here in
+    let behind : IsBehindEnd 3 all (suc number) =
+    record { end = number; there = there_at all number line rest stands; before = omega arith; is_end = is_end } in
+    ended_outcome all form said rest (suc number) (next_stands all number line rest stands)
+    (good_more all form number good (unsaid_good all form number End stands.from here unsaid_end
+    (before_end_placed all number no_end (λ none. none.not_end is_end))))
+    behind
+started_by all form number said line rest (Says s) stands good no_end below here others =
+    said_by all form number said line rest s (is_said said s) (statement_fault form.lines s) stands good no_end below here
+    (says_at all number line rest s stands no_end here) refl refl (others (said ++ s ∷ []))
+started_by all form number said line rest NoLine stands good no_end below here others = (
+  record {
+    there = there_at all number line rest stands;
+    cause = inl (is_content (line_at all number) NoLine here);
+  },
+  good,
+)
+
+-- the outcome of lines without END so far
+started_outcome : (all : List (List ℕ)) (form : FormNumbers) (rest : List (List ℕ)) (number : ℕ) (said : List Statement)
+    → Stands all number rest → AreGoodBefore all form number → NoEndBelow all number → SaidBelow all number said
+    → Outcome all form (lines_from form.lines number (before_end said) rest)
+unfolding lines_from
+started_outcome all form [] number said stands good no_end below =
+    (all_good all form number stands good, λ n there is_end. no_end n (omega (arith, stands.size, there.to)) there is_end)
+started_outcome all form (line ∷ rest) number said stands good no_end below =
+    started_by all form number said line rest (content_of line) stands good no_end below
+    (content_at all number line rest (content_of line) stands refl)
+    (λ so. started_outcome all form rest (suc number) so)
+
+-- the outcome of all lines
+pub outcome : (first second : List ℕ) (others : List (List ℕ)) (form : FormNumbers)
+    → IsFormed form.lines form.first form.overflow
+    → Outcome (first ∷ second ∷ others) form (lines_from form.lines 3 start others)
+outcome first second others form formed =
+    started_outcome (first ∷ second ∷ others) form others 3 []
+    (record { from = omega arith; size = omega arith; at = λ k within. ap (λ n. get_or (first ∷ second ∷ others) n []) (third k) })
+    good
+    (λ n below there is_end. absurd (omega (arith, below, there.from)))
+    (record {
+      listed = λ s has. absurd (omega (arith, has.1));
+      found = λ s k below at. absurd (omega (arith, below, at.there.from));
+    })
+  where
+    third : (k : ℕ) → suc (suc k) ≡ 3 + k - 1
+    third k = omega arith
+
+    good : (n : ℕ) → n < 3 → IsAtFault (first ∷ second ∷ others) form n → ⊥
+    good n below (misplaced is) = absurd (omega (arith, below, is.there.from))
+    good n below (repeated is) = absurd (omega (arith, below, is.said.there.from))
+    good n below (unfit fault (inl is)) = is.unfit formed
+    good n below (unfit fault (inr is)) = absurd (omega (arith, below, is.said.there.from))

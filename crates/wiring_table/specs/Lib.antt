@@ -1,0 +1,5 @@
+pub mod Figures
+pub mod Parts
+pub mod Wires
+pub mod Jacks
+pub mod WiredFor

@@ -1,0 +1,95 @@
+-- Which parts of the machine serve what of a chart, by its plan, and which totals of an amount come one above the other.
+use Rattle.std.specs.Prelude.{◌≡◌, ℕ, ◌<◌, ◌==◌, List, Contains, Option, option_map, true}
+use Rattle.wanted.specs.ChartTotals.{totals_of}
+use Rattle.plans.specs.Plans.{Lists, group_on, number_where}
+use Rattle.wanted.specs.Positions.{is_same_position}
+use Rattle.wanted.specs.Wanted.{indicate_at}
+use Rattle.wanted.specs.declared.position.Position.{Position}
+use Rattle.capacity.specs.declared.group.CounterGroup.{CounterGroup}
+use Rattle.charts.specs.Levels.{level_number}
+use Rattle.charts.specs.Name.{is_same_name}
+use Rattle.charts.specs.declared.chart.Line.{Line}
+use Rattle.charts.specs.declared.level.ControlLevel.{ControlLevel}
+use Rattle.charts.specs.declared.level.Level.{Level}
+use Rattle.charts.specs.declared.statement.BodyLine.{BodyLine}
+use Rattle.charts.specs.declared.statement.BodyLine.TheVariants as body
+use Rattle.charts.specs.declared.statement.SignRule.{SignRule}
+use Rattle.charts.specs.declared.statement.SignRule.TheVariants as sign
+use Rattle.charts.specs.declared.statement.Statement.TheVariants as says
+use Rattle.hubs.specs.declared.hub.Group.{Group}
+use Rattle.hubs.specs.declared.hub.Hub.{Hub}
+use Rattle.hubs.specs.declared.hub.Hub.TheVariants.{CC, PIN, PIT, PX}
+
+-- a counter group of the plan as a group of the panel
+abbrev pub panel_group : CounterGroup → Group
+panel_group group = record { width = group.width; number = group.number }
+
+-- the counter group of the total on a line of the chart
+abbrev pub group_for : List Line → Lists → ℕ → Option Group
+group_for lines plan number = option_map panel_group (group_on (totals_of lines) plan.groups number)
+
+-- the pilot of an amount
+abbrev pub pilot_for : Lists → List ℕ → Option ℕ
+pilot_for plan name = number_where (λ served. is_same_name served name) plan.parts.pilots
+
+-- a column of a line of the chart
+abbrev pub column_on : (number column : ℕ) → Position
+column_on number column = record { line = number; column = column }
+
+-- the comparing position of a column of a CONTROL line
+abbrev pub comparing_for : Lists → (number column : ℕ) → Option ℕ
+comparing_for plan number column =
+    number_where (λ served. is_same_position served (column_on number column)) plan.parts.comparing
+
+-- the indicate position of a column of an INDICATE item of a level
+abbrev pub indicate_for : Lists → ControlLevel → (number column : ℕ) → Option ℕ
+indicate_for plan level number column =
+    number_where (λ served. is_same_position served (column_on number column)) (indicate_at plan.parts level)
+
+-- the split of the amount on a DETAIL line
+abbrev pub split_for : Lists → ℕ → Option ℕ
+split_for plan number = number_where (λ served. served == number) plan.parts.splits
+
+-- the storage unit of the text on a total line
+abbrev pub unit_for : Lists → ℕ → Option ℕ
+unit_for plan number = number_where (λ served. served == number) plan.parts.storage
+
+-- The contact of a pilot's position that is closed while its amount is below 0: the transferred one for X, the normal one for NX.
+abbrev pub negative_side : SignRule → (pilot position : ℕ) → Hub
+negative_side (sign.X column) pilot position = PIT pilot position
+negative_side (sign.NX column) pilot position = PIN pilot position
+
+-- the contact of a pilot's position that is closed while its amount is not below 0
+abbrev pub positive_side : SignRule → (pilot position : ℕ) → Hub
+positive_side (sign.X column) pilot position = PIN pilot position
+positive_side (sign.NX column) pilot position = PIT pilot position
+
+-- the exit that tells of the cycle that prints a kind of body line
+abbrev pub source_of : BodyLine → Hub
+source_of body.Detail = CC
+source_of (body.Total level) = PX (level_number level) 3
+
+-- A line of the chart, by its number, has a total of the amount of a name, at a level, in so many digits.
+pub record HasTotal (lines : List Line) (name : List ℕ) (level number : ℕ) : Type 0 where
+  pub line : Line
+  pub listed : Contains lines line
+  pub is_number : line.number ≡ number
+  pub its_level : Level
+  pub wheel : ℕ
+  pub its_name : List ℕ
+  pub digits : ℕ
+  pub mark : _
+  pub says_total : line.statement ≡ says.TotalAmount its_level wheel its_name digits mark
+  pub same_level : level_number its_level ≡ level
+  pub same_name : is_same_name its_name name ≡ true
+
+-- no total of the amount has a lower level
+abbrev pub IsLowest : List Line → List ℕ → ℕ → Type 0
+IsLowest lines name level = (other number : ℕ) → other < level → ¬ HasTotal lines name other number
+
+-- The next higher total of the amount of a name above a level: on the line with this number, with no total of the amount between.
+pub record IsNextHigher (lines : List Line) (name : List ℕ) (level number : ℕ) : Type 0 where
+  pub higher : ℕ
+  pub total : HasTotal lines name higher number
+  pub above : level < higher
+  pub next : (between other : ℕ) → level < between → between < higher → ¬ HasTotal lines name between other

@@ -1,0 +1,210 @@
+-- The wires of a chart, by its plan: for each line of the chart the wires that it gives, and no others.
+use Rattle.std.specs.Prelude.{◌≡◌, ◌≢◌, ℕ, ◌+◌, ◌-◌, ◌<◌, ◌≤◌, List, Contains, Option, Some}
+use Rattle.plans.specs.Plans.{Lists}
+use Rattle.field_rules.specs.Fields.{field_named}
+use Rattle.print_rules.specs.declared.items.Figure.{Figure}
+use Rattle.charts.specs.Field.{columns_of, decimals_of, column_of_rule, sign_column}
+use Rattle.charts.specs.Levels.{control_number, level_number}
+use Rattle.charts.specs.declared.chart.Line.{Line}
+use Rattle.charts.specs.declared.level.ControlLevel.{ControlLevel}
+use Rattle.charts.specs.declared.level.Level.{Level}
+use Rattle.charts.specs.declared.spacing.Spacing.TheVariants as spacing
+use Rattle.charts.specs.declared.statement.After.TheVariants as action
+use Rattle.charts.specs.declared.statement.BodyLine.{BodyLine}
+use Rattle.charts.specs.declared.statement.DetailOption.{DetailOption}
+use Rattle.charts.specs.declared.statement.DetailOption.TheVariants as shown
+use Rattle.charts.specs.declared.statement.Field.{Field}
+use Rattle.charts.specs.declared.statement.Mark.{Mark}
+use Rattle.charts.specs.declared.statement.SignRule.{SignRule}
+use Rattle.charts.specs.declared.statement.Statement.{Statement}
+use Rattle.charts.specs.declared.statement.Statement.TheVariants as says
+use Rattle.hubs.specs.declared.hub.Group.{Group}
+use Rattle.hubs.specs.declared.hub.Hub.{Hub}
+use Rattle.hubs.specs.declared.hub.Hub.TheVariants.{FR, SR, CX, GX, CO, BAN, BAT, SX, IX, CSD, EM, CC, PX, CA, CB, GE, PL, MI, RO, BT, CI, BAC, PIC, PIX, SE, SI, SO, IE, CSE, W, ST, SP, SK, RS}
+use Rattle.wiring_table.specs.Figures.{IsText, IsAmount, IsSigned, IsUnsigned, IsLiteral, IsFigure, HasPunch, HasPunchAt, rule_of, digit_wheel, point_wheel, mark_wheel, mark_characters, detail_emitter, total_emitter}
+use Rattle.wiring_table.specs.Parts.{IsLowest, IsNextHigher, group_for, pilot_for, comparing_for, indicate_for, split_for, unit_for, negative_side, positive_side, source_of}
+
+-- The wires of a line of the chart with a number. Columns, wheels and digits are counted from 1, digits from the units; `j` and `k`
+-- are places in a text, from 0.
+pub data LineWire (lines : List Line) (plan : Lists) (number : ℕ) : Statement → Hub → Hub → Type 0 where
+  -- A text on the line of a card: each column at second reading to its wheel.
+  detail_text : (wheel : ℕ) (name : List ℕ) (field : Field) (j : ℕ)
+      → IsText lines name field → j < columns_of field
+      → LineWire lines plan number (says.DetailField wheel name shown.Plain) (SR (field.first + j)) (W (wheel + j))
+  -- An indicated text: each column passes through a position of its level.
+  indicated_text_in : (wheel : ℕ) (name : List ℕ) (level : ControlLevel) (field : Field) (j x : ℕ)
+      → IsText lines name field → j < columns_of field → indicate_for plan level number (field.first + j) ≡ Some x
+      → LineWire lines plan number (says.DetailField wheel name (shown.Indicated level))
+      (SR (field.first + j)) (IE (control_number level) x)
+  indicated_text_out : (wheel : ℕ) (name : List ℕ) (level : ControlLevel) (field : Field) (j x : ℕ)
+      → IsText lines name field → j < columns_of field → indicate_for plan level number (field.first + j) ≡ Some x
+      → LineWire lines plan number (says.DetailField wheel name (shown.Indicated level))
+      (IX (control_number level) x) (W (wheel + j))
+  -- A literal: for each character the emitter's rows of its punches to its wheel; a blank has none.
+  literal : (statement : Statement) (emitter wheel : ℕ) (text : List ℕ) (j row : ℕ)
+      → IsLiteral statement emitter wheel text → HasPunchAt text j row
+      → LineWire lines plan number statement (EM emitter row) (W (wheel + j))
+  -- The point of an amount with decimals: the emitter's rows of the point's punches to its wheel.
+  point : (statement : Statement) (emitter wheel : ℕ) (figure : Figure) (row : ℕ)
+      → IsFigure lines statement emitter wheel figure → 0 < figure.decimals → HasPunch 46 row
+      → LineWire lines plan number statement (EM emitter row) (W (point_wheel wheel figure.digits figure.decimals))
+  -- An amount on the line of a card: each column at second reading to the wheel of its digit. Where the sign is punched in a column
+  -- of the amount itself, that column passes through a split, which keeps the sign from the wheel.
+  detail_digit : (wheel : ℕ) (name : List ℕ) (how : DetailOption) (field : Field) (position : ℕ)
+      → IsAmount lines name field → 1 ≤ position → position ≤ columns_of field
+      → sign_column field.kind ≢ Some (field.last + 1 - position)
+      → LineWire lines plan number (says.DetailField wheel name how)
+      (SR (field.last + 1 - position)) (W (digit_wheel wheel (columns_of field) (decimals_of field.kind) position))
+  split_digit_in : (wheel : ℕ) (name : List ℕ) (how : DetailOption) (field : Field) (position split : ℕ)
+      → IsAmount lines name field → 1 ≤ position → position ≤ columns_of field
+      → sign_column field.kind ≡ Some (field.last + 1 - position) → split_for plan number ≡ Some split
+      → LineWire lines plan number (says.DetailField wheel name how) (SR (field.last + 1 - position)) (CSE split)
+  split_digit_out : (wheel : ℕ) (name : List ℕ) (how : DetailOption) (field : Field) (position split : ℕ)
+      → IsAmount lines name field → 1 ≤ position → position ≤ columns_of field
+      → sign_column field.kind ≡ Some (field.last + 1 - position) → split_for plan number ≡ Some split
+      → LineWire lines plan number (says.DetailField wheel name how)
+      (CSD split) (W (digit_wheel wheel (columns_of field) (decimals_of field.kind) position))
+  -- The mark of an amount on the line of a card: the rows of its characters pass through the positions 2 and 3 of the pilot, on the
+  -- side that is closed while the amount is below 0.
+  detail_mark_in : (wheel : ℕ) (name : List ℕ) (mark : Mark) (rule : SignRule) (pilot k row : ℕ)
+      → IsSigned lines name rule → pilot_for plan name ≡ Some pilot → HasPunchAt (mark_characters mark) k row
+      → LineWire lines plan number (says.DetailField wheel name (shown.Marked mark)) (EM detail_emitter row) (PIC pilot (2 + k))
+  detail_mark_out : (wheel : ℕ) (name : List ℕ) (mark : Mark) (rule : SignRule) (field : Field) (pilot k row : ℕ)
+      → IsSigned lines name rule → field_named lines name ≡ Some field → pilot_for plan name ≡ Some pilot
+      → HasPunchAt (mark_characters mark) k row
+      → LineWire lines plan number (says.DetailField wheel name (shown.Marked mark))
+      (negative_side rule pilot (2 + k)) (W (mark_wheel wheel (columns_of field) (decimals_of field.kind) + k))
+  -- The pickup of the pilot of an amount: its sign column at first reading.
+  pickup : (field : Field) (rule : SignRule) (pilot : ℕ)
+      → rule_of field.kind ≡ Some rule → pilot_for plan field.name ≡ Some pilot
+      → LineWire lines plan number (says.Field field) (FR (column_of_rule rule)) (PIX pilot)
+  -- The lowest total of an amount: each column at second reading enters it. Without a sign rule each card adds; with one it adds or
+  -- subtracts by position 1 of the pilot.
+  entry : (level : Level) (wheel : ℕ) (name : List ℕ) (digits : ℕ) (mark : Option Mark) (field : Field) (group : Group)
+      (position : ℕ)
+      → IsLowest lines name (level_number level) → group_for lines plan number ≡ Some group
+      → IsAmount lines name field → 1 ≤ position → position ≤ columns_of field
+      → LineWire lines plan number (says.TotalAmount level wheel name digits mark)
+      (SR (field.last + 1 - position)) (GE group position)
+  entry_adds : (level : Level) (wheel : ℕ) (name : List ℕ) (digits : ℕ) (mark : Option Mark) (group : Group)
+      → IsLowest lines name (level_number level) → group_for lines plan number ≡ Some group → IsUnsigned lines name
+      → LineWire lines plan number (says.TotalAmount level wheel name digits mark) CC (PL group)
+  entry_sign : (level : Level) (wheel : ℕ) (name : List ℕ) (digits : ℕ) (mark : Option Mark) (rule : SignRule) (pilot : ℕ)
+      → IsLowest lines name (level_number level) → IsSigned lines name rule → pilot_for plan name ≡ Some pilot
+      → LineWire lines plan number (says.TotalAmount level wheel name digits mark) CC (PIC pilot 1)
+  entry_plus : (level : Level) (wheel : ℕ) (name : List ℕ) (digits : ℕ) (mark : Option Mark) (rule : SignRule) (pilot : ℕ)
+      (group : Group)
+      → IsLowest lines name (level_number level) → group_for lines plan number ≡ Some group
+      → IsSigned lines name rule → pilot_for plan name ≡ Some pilot
+      → LineWire lines plan number (says.TotalAmount level wheel name digits mark) (positive_side rule pilot 1) (PL group)
+  entry_minus : (level : Level) (wheel : ℕ) (name : List ℕ) (digits : ℕ) (mark : Option Mark) (rule : SignRule) (pilot : ℕ)
+      (group : Group)
+      → IsLowest lines name (level_number level) → group_for lines plan number ≡ Some group
+      → IsSigned lines name rule → pilot_for plan name ≡ Some pilot
+      → LineWire lines plan number (says.TotalAmount level wheel name digits mark) (negative_side rule pilot 1) (MI group)
+  -- The read-out of a total in the cycle that prints it: its digits to their wheels.
+  read_out : (level : Level) (wheel : ℕ) (name : List ℕ) (digits : ℕ) (mark : Option Mark) (group : Group)
+      → group_for lines plan number ≡ Some group
+      → LineWire lines plan number (says.TotalAmount level wheel name digits mark) (PX (level_number level) 3) (RO group)
+  total_digit : (level : Level) (wheel : ℕ) (name : List ℕ) (digits : ℕ) (mark : Option Mark) (field : Field) (group : Group)
+      (position : ℕ)
+      → group_for lines plan number ≡ Some group → IsAmount lines name field → 1 ≤ position → position ≤ digits
+      → LineWire lines plan number (says.TotalAmount level wheel name digits mark)
+      (GX group position) (W (digit_wheel wheel digits (decimals_of field.kind) position))
+  -- The sign conversion of a signed total. Its wheels form a ring. The first program cycle of the level tests the balance; the
+  -- second, where the balance is below 0, reads the group out into itself by minus, on all its positions, which leaves the figure.
+  ring : (level : Level) (wheel : ℕ) (name : List ℕ) (digits : ℕ) (mark : Option Mark) (rule : SignRule) (group : Group)
+      → group_for lines plan number ≡ Some group → IsSigned lines name rule
+      → LineWire lines plan number (says.TotalAmount level wheel name digits mark) (CO group) (CI group)
+  balance_test : (level : Level) (wheel : ℕ) (name : List ℕ) (digits : ℕ) (mark : Option Mark) (rule : SignRule) (group : Group)
+      → group_for lines plan number ≡ Some group → IsSigned lines name rule
+      → LineWire lines plan number (says.TotalAmount level wheel name digits mark) (PX (level_number level) 1) (BT group)
+  conversion : (level : Level) (wheel : ℕ) (name : List ℕ) (digits : ℕ) (mark : Option Mark) (rule : SignRule) (group : Group)
+      → group_for lines plan number ≡ Some group → IsSigned lines name rule
+      → LineWire lines plan number (says.TotalAmount level wheel name digits mark) (PX (level_number level) 2) (BAC group 1)
+  conversion_read_out : (level : Level) (wheel : ℕ) (name : List ℕ) (digits : ℕ) (mark : Option Mark) (rule : SignRule)
+      (group : Group)
+      → group_for lines plan number ≡ Some group → IsSigned lines name rule
+      → LineWire lines plan number (says.TotalAmount level wheel name digits mark) (BAT group 1) (RO group)
+  conversion_minus : (level : Level) (wheel : ℕ) (name : List ℕ) (digits : ℕ) (mark : Option Mark) (rule : SignRule)
+      (group : Group)
+      → group_for lines plan number ≡ Some group → IsSigned lines name rule
+      → LineWire lines plan number (says.TotalAmount level wheel name digits mark) (BAT group 1) (MI group)
+  feedback : (level : Level) (wheel : ℕ) (name : List ℕ) (digits : ℕ) (mark : Option Mark) (rule : SignRule) (group : Group)
+      (position : ℕ)
+      → group_for lines plan number ≡ Some group → IsSigned lines name rule → 1 ≤ position → position ≤ group.width
+      → LineWire lines plan number (says.TotalAmount level wheel name digits mark) (GX group position) (GE group position)
+  -- The mark of a signed total: the rows of its characters pass through the balance positions 3 and 4, on the side that is closed
+  -- while the latch is set.
+  total_mark_in : (level : Level) (wheel : ℕ) (name : List ℕ) (digits : ℕ) (mark : Mark) (rule : SignRule) (group : Group)
+      (k row : ℕ)
+      → group_for lines plan number ≡ Some group → IsSigned lines name rule → HasPunchAt (mark_characters mark) k row
+      → LineWire lines plan number (says.TotalAmount level wheel name digits (Some mark))
+      (EM (total_emitter (level_number level)) row) (BAC group (3 + k))
+  total_mark_out : (level : Level) (wheel : ℕ) (name : List ℕ) (digits : ℕ) (mark : Mark) (rule : SignRule) (field : Field)
+      (group : Group) (k row : ℕ)
+      → group_for lines plan number ≡ Some group → IsSigned lines name rule → field_named lines name ≡ Some field
+      → HasPunchAt (mark_characters mark) k row
+      → LineWire lines plan number (says.TotalAmount level wheel name digits (Some mark))
+      (BAT group (3 + k)) (W (mark_wheel wheel digits (decimals_of field.kind) + k))
+  -- The transfer of a total to the next higher total of its amount: its digits enter that one, which adds them, or subtracts them where
+  -- the balance is below 0.
+  transfer : (level : Level) (wheel : ℕ) (name : List ℕ) (digits : ℕ) (mark : Option Mark) (group upper : Group)
+      (other position : ℕ)
+      → group_for lines plan number ≡ Some group → IsNextHigher lines name (level_number level) other
+      → group_for lines plan other ≡ Some upper → 1 ≤ position → position ≤ digits
+      → LineWire lines plan number (says.TotalAmount level wheel name digits mark) (GX group position) (GE upper position)
+  transfer_adds : (level : Level) (wheel : ℕ) (name : List ℕ) (digits : ℕ) (mark : Option Mark) (upper : Group) (other : ℕ)
+      → IsUnsigned lines name → IsNextHigher lines name (level_number level) other → group_for lines plan other ≡ Some upper
+      → LineWire lines plan number (says.TotalAmount level wheel name digits mark) (PX (level_number level) 3) (PL upper)
+  transfer_sign : (level : Level) (wheel : ℕ) (name : List ℕ) (digits : ℕ) (mark : Option Mark) (rule : SignRule) (group : Group)
+      (other : ℕ)
+      → group_for lines plan number ≡ Some group → IsSigned lines name rule
+      → IsNextHigher lines name (level_number level) other
+      → LineWire lines plan number (says.TotalAmount level wheel name digits mark) (PX (level_number level) 3) (BAC group 2)
+  transfer_plus : (level : Level) (wheel : ℕ) (name : List ℕ) (digits : ℕ) (mark : Option Mark) (rule : SignRule)
+      (group upper : Group) (other : ℕ)
+      → group_for lines plan number ≡ Some group → IsSigned lines name rule
+      → IsNextHigher lines name (level_number level) other → group_for lines plan other ≡ Some upper
+      → LineWire lines plan number (says.TotalAmount level wheel name digits mark) (BAN group 2) (PL upper)
+  transfer_minus : (level : Level) (wheel : ℕ) (name : List ℕ) (digits : ℕ) (mark : Option Mark) (rule : SignRule)
+      (group upper : Group) (other : ℕ)
+      → group_for lines plan number ≡ Some group → IsSigned lines name rule
+      → IsNextHigher lines name (level_number level) other → group_for lines plan other ≡ Some upper
+      → LineWire lines plan number (says.TotalAmount level wheel name digits mark) (BAT group 2) (MI upper)
+  -- A text on a total line: a storage unit takes its columns from each card, and gives them in the cycle that prints the line.
+  total_text_in : (level : Level) (wheel : ℕ) (name : List ℕ) (field : Field) (unit j : ℕ)
+      → IsText lines name field → j < columns_of field → unit_for plan number ≡ Some unit
+      → LineWire lines plan number (says.TotalText level wheel name) (SR (field.first + j)) (SE unit (j + 1))
+  total_text_taken : (level : Level) (wheel : ℕ) (name : List ℕ) (unit : ℕ)
+      → unit_for plan number ≡ Some unit → LineWire lines plan number (says.TotalText level wheel name) CC (SI unit)
+  total_text_given : (level : Level) (wheel : ℕ) (name : List ℕ) (unit : ℕ)
+      → unit_for plan number ≡ Some unit
+      → LineWire lines plan number (says.TotalText level wheel name) (PX (level_number level) 3) (SO unit)
+  total_text_out : (level : Level) (wheel : ℕ) (name : List ℕ) (field : Field) (unit j : ℕ)
+      → IsText lines name field → j < columns_of field → unit_for plan number ≡ Some unit
+      → LineWire lines plan number (says.TotalText level wheel name) (SX unit (j + 1)) (W (wheel + j))
+  -- Comparing: each column of a control field at first and at second reading; where they differ, the level is called for.
+  compared_first : (level : ControlLevel) (name : List ℕ) (field : Field) (j position : ℕ)
+      → field_named lines name ≡ Some field → j < columns_of field
+      → comparing_for plan number (field.first + j) ≡ Some position
+      → LineWire lines plan number (says.Control level name) (FR (field.first + j)) (CA position)
+  compared_second : (level : ControlLevel) (name : List ℕ) (field : Field) (j position : ℕ)
+      → field_named lines name ≡ Some field → j < columns_of field
+      → comparing_for plan number (field.first + j) ≡ Some position
+      → LineWire lines plan number (says.Control level name) (SR (field.first + j)) (CB position)
+  level_called : (level : ControlLevel) (name : List ℕ) (field : Field) (j position : ℕ)
+      → field_named lines name ≡ Some field → j < columns_of field
+      → comparing_for plan number (field.first + j) ≡ Some position
+      → LineWire lines plan number (says.Control level name) (CX position) (ST (control_number level))
+  -- The carriage: the cycle that prints a kind of line asks for its spacing, if that is not single, and for what follows it.
+  double_space : (line : BodyLine) → LineWire lines plan number (says.Space line spacing.Double) (source_of line) (SP 2)
+  triple_space : (line : BodyLine) → LineWire lines plan number (says.Space line spacing.Triple) (source_of line) (SP 3)
+  page : (line : BodyLine) → LineWire lines plan number (says.After line action.Page) (source_of line) RS
+  skip : (line : BodyLine) (channel : ℕ) → LineWire lines plan number (says.After line (action.Skip channel)) (source_of line) (SK channel)
+
+-- A wire of a chart is one of some line of it.
+pub record ChartWire (lines : List Line) (plan : Lists) (exit entry : Hub) : Type 0 where
+  pub line : Line
+  pub listed : Contains lines line
+  pub wire : LineWire lines plan line.number line.statement exit entry

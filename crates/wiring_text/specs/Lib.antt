@@ -1,0 +1,5 @@
+pub mod HubNames
+pub mod Statements
+pub mod WiringFaultNumbers
+pub mod WiringFaults
+pub mod WiringText

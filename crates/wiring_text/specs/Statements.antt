@@ -1,0 +1,52 @@
+-- The lines of a wiring chart: what the tokens of a line between FORM and END say, and what is wrong with what they say.
+use Rattle.std.specs.Prelude.{ℕ, ◌≤◌, List, [], ◌∷◌, not, Option, Some, None, codes, if◌then◌else◌}
+use Rattle.hubs.specs.Hubs.{is_exit_hub, is_entry_hub, keeps_ring}
+use Rattle.hub_table.specs.Ranges.{is_within}
+use Rattle.setups.specs.declared.fault.SetupFault.{SetupFault}
+use Rattle.setups.specs.declared.fault.SetupFault.TheVariants.{NotExit, NotEntry, CarryRing, TapeFault}
+use Rattle.hubs.specs.declared.hub.Hub.{Hub}
+use Rattle.hubs.specs.declared.jack.Jack.{Jack}
+use Rattle.hubs.specs.declared.jack.Jack.TheVariants as jacks
+use Rattle.tokens.specs.Number.{IsNumber, IsNumberTo}
+use Rattle.wiring_text.specs.HubNames.{IsHubName, hub_of}
+use Rattle.wiring_text.specs.declared.statement.HubName.{HubName}
+use Rattle.wiring_text.specs.declared.statement.Statement.{Statement}
+use Rattle.wiring_text.specs.declared.statement.Statement.TheVariants.{Stop, Plug, Wire}
+
+-- a jack that the panel has
+pub data SaysJack : List (List ℕ) → Jack → Type 0 where
+  list : SaysJack (codes "LIST" ∷ []) jacks.List
+  total : {token : List ℕ} {level : ℕ} → IsNumberTo 4 token level → SaysJack (codes "TOTAL" ∷ token ∷ []) (jacks.Total level)
+  head : {token : List ℕ} {heading : ℕ} → IsNumberTo 3 token heading → SaysJack (codes "HEAD" ∷ token ∷ []) (jacks.Head heading)
+  link : {token : List ℕ} {wheel : ℕ} → IsNumberTo 120 token wheel → SaysJack (codes "LINK" ∷ token ∷ []) (jacks.Link wheel)
+  suppress : {token : List ℕ} {wheel : ℕ} → IsNumberTo 120 token wheel
+      → SaysJack (codes "SUPPRESS" ∷ token ∷ []) (jacks.Suppress wheel)
+  symbol : {token : List ℕ} {wheel : ℕ} → IsNumberTo 120 token wheel → SaysJack (codes "SYMBOL" ∷ token ∷ []) (jacks.Symbol wheel)
+
+-- the three kinds of lines, and what each says
+pub data Says : List (List ℕ) → Statement → Type 0 where
+  stop : {channel line : List ℕ} {c n : ℕ} → IsNumberTo 11 channel c → 2 ≤ c → IsNumber line n
+      → Says (codes "STOP" ∷ channel ∷ line ∷ []) (Stop c n)
+  plug : {operands : List (List ℕ)} {j : Jack} → SaysJack operands j → Says (codes "JACK" ∷ operands) (Plug j)
+  wire : {from to : List ℕ} {exit entry : HubName} → IsHubName from exit → IsHubName to entry
+      → Says (codes "WIRE" ∷ from ∷ to ∷ []) (Wire exit entry)
+
+-- what is wrong with a wire between two hubs, asked in this order: no exit, no entry, a carry that leaves its group
+abbrev pub fault_between : Hub → Hub → Option SetupFault
+fault_between exit entry =
+    if not (is_exit_hub exit) then Some NotExit
+    else if not (is_entry_hub entry) then Some NotEntry
+    else if not (keeps_ring exit entry) then Some CarryRing
+    else None
+
+-- what is wrong with a wire between two named hubs: a name of no hub is that of no exit and of no entry
+abbrev pub wire_fault : Option Hub → Option Hub → Option SetupFault
+wire_fault None entry = Some NotExit
+wire_fault (Some exit) None = if is_exit_hub exit then Some NotEntry else Some NotExit
+wire_fault (Some exit) (Some entry) = fault_between exit entry
+
+-- what is wrong with what a line says, on a form of so many lines
+abbrev pub statement_fault : ℕ → Statement → Option SetupFault
+statement_fault lines (Stop channel line) = if is_within line lines then None else Some TapeFault
+statement_fault lines (Plug j) = None
+statement_fault lines (Wire exit entry) = wire_fault (hub_of exit) (hub_of entry)

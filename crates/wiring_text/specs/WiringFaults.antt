@@ -1,0 +1,93 @@
+-- What is wrong with a text that is no wiring chart, in the order in which it is asked: its size, its first two lines, the
+-- lowest of its other lines at fault, its END. On one line it is asked whether it is a line of a wiring chart, whether it stood
+-- before, and whether the panel can have what it says.
+use Rattle.std.specs.Prelude.{◌≡◌, ℕ, ◌<◌, ◌≤◌, List, length, ◌⊎◌, Some}
+use Rattle.card_code.specs.Lines.{lines_of}
+use Rattle.setups.specs.Tapes.{IsFormed}
+use Rattle.setups.specs.declared.fault.SetupFault.{SetupFault}
+use Rattle.setups.specs.declared.fault.SetupFault.TheVariants.{TapeFault}
+use Rattle.tokens.specs.Frame as frame
+pub use Rattle.tokens.specs.Frame.{line_at}
+use Rattle.tokens.specs.Frame.{IsLineFrom, LacksEnd}
+use Rattle.wiring_text.specs.Statements.{statement_fault}
+use Rattle.wiring_text.specs.WiringText.{IsFirstLine, IsFormLine, SaysLine, IsTooLarge}
+use Rattle.wiring_text.specs.declared.statement.FormNumbers.{FormNumbers}
+use Rattle.wiring_text.specs.declared.fault.WiringFault.{WiringFault}
+use Rattle.wiring_text.specs.declared.fault.WiringFault.TheVariants.{TooLarge, NoFirstLine, NotALine, LineTwice, Unfit, NoEnd, Memory}
+use Rattle.wiring_text.specs.declared.statement.Statement.{Statement}
+
+-- there are two lines, `WIRING407 1` and a form with these numbers
+pub record HasHead (lines : List (List ℕ)) (form : FormNumbers) : Type 0 where
+  pub there : 2 ≤ length lines
+  pub begun : IsFirstLine (line_at lines 1)
+  pub formed : IsFormLine (line_at lines 2) form
+
+-- the number is that of a line behind the form
+abbrev pub IsBehindForm : List (List ℕ) → ℕ → Type 0
+IsBehindForm lines number = IsLineFrom 3 lines number
+
+-- the line of a number is none of a wiring chart, or stands behind END and isn't empty
+abbrev pub IsMisplaced : List (List ℕ) → ℕ → Type 0
+IsMisplaced lines number = frame.IsMisplaced SaysLine 3 lines number
+
+-- the line of a number says this, and stands where a line may stand
+pub record SaysAt (lines : List (List ℕ)) (number : ℕ) (statement : Statement) : Type 0 where
+  pub there : IsBehindForm lines number
+  pub said : SaysLine (line_at lines number) statement
+  pub placed : ¬ IsMisplaced lines number
+
+-- the line of a number says what a line before it said
+pub record IsRepeated (lines : List (List ℕ)) (number : ℕ) : Type 0 where
+  pub statement : Statement
+  pub said : SaysAt lines number statement
+  pub earlier : ℕ
+  pub before : earlier < number
+  pub said_before : SaysAt lines earlier statement
+
+-- the line of a number says what no line before it said, and the panel can't have it
+pub record IsUnfitLine (lines : List (List ℕ)) (form : FormNumbers) (number : ℕ) (fault : SetupFault) : Type 0 where
+  pub statement : Statement
+  pub said : SaysAt lines number statement
+  pub new : ¬ IsRepeated lines number
+  pub unfit : statement_fault form.lines statement ≡ Some fault
+
+-- the form, on line 2, is none that a tape can have
+pub record IsUnfitForm (form : FormNumbers) (number : ℕ) (fault : SetupFault) : Type 0 where
+  pub second : number ≡ 2
+  pub unfit : ¬ IsFormed form.lines form.first form.overflow
+  pub is_tape : fault ≡ TapeFault
+
+-- the panel can't have what the line of a number says
+abbrev pub IsUnfit : List (List ℕ) → FormNumbers → ℕ → SetupFault → Type 0
+IsUnfit lines form number fault = IsUnfitForm form number fault ⊎ IsUnfitLine lines form number fault
+
+-- the line of a number is at fault
+pub data IsAtFault (lines : List (List ℕ)) (form : FormNumbers) (number : ℕ) : Type 0 where
+  misplaced : IsMisplaced lines number → IsAtFault lines form number
+  repeated : IsRepeated lines number → IsAtFault lines form number
+  unfit : (fault : SetupFault) → IsUnfit lines form number fault → IsAtFault lines form number
+
+-- no line before that of a number is at fault
+abbrev pub AreGoodBefore : List (List ℕ) → FormNumbers → ℕ → Type 0
+AreGoodBefore lines form number = (lower : ℕ) → lower < number → ¬ IsAtFault lines form lower
+
+-- a text that is not too large, and begins as a wiring chart with a form of these numbers
+pub record IsBegun (lines : List (List ℕ)) : Type 0 where
+  pub size : ¬ IsTooLarge lines
+  pub form : FormNumbers
+  pub head : HasHead lines form
+
+-- the fault of the lines of a text
+abbrev pub HaveFault : List (List ℕ) → WiringFault → Type 0
+HaveFault lines TooLarge = IsTooLarge lines
+HaveFault lines NoFirstLine = (¬ IsTooLarge lines) × ((form : FormNumbers) → ¬ HasHead lines form)
+HaveFault lines (NotALine number) = (begun : IsBegun lines) × AreGoodBefore lines begun.form number × IsMisplaced lines number
+HaveFault lines (LineTwice number) = (begun : IsBegun lines) × AreGoodBefore lines begun.form number × IsRepeated lines number
+HaveFault lines (Unfit number fault) =
+    (begun : IsBegun lines) × AreGoodBefore lines begun.form number × IsUnfit lines begun.form number fault
+HaveFault lines NoEnd = (begun : IsBegun lines) × ((number : ℕ) → ¬ IsAtFault lines begun.form number) × LacksEnd 3 lines
+HaveFault lines Memory = ⊥
+
+-- the fault of a text
+abbrev pub HasFault : List ℕ → WiringFault → Type 0
+HasFault bytes fault = HaveFault (lines_of bytes) fault

@@ -1,0 +1,35 @@
+//! What a line of a wiring chart says.
+
+use hub_table::{Letters, Numbers};
+use hubs::Jack;
+
+/// A hub as it is written: its letters and as many numbers as hubs of these letters have, each 0 to 999.
+#[derive(Clone, Copy, Debug, PartialEq, Eq)]
+pub struct HubName {
+    /// Its letters.
+    pub letters: Letters,
+    /// Its numbers.
+    pub numbers: Numbers,
+}
+
+/// The numbers of a form as they are written, 0 to 999 each.
+#[derive(Clone, Copy, Debug, PartialEq, Eq)]
+pub struct FormNumbers {
+    /// How many lines the form has.
+    pub lines: u16,
+    /// Its first line.
+    pub first: u16,
+    /// Its overflow line.
+    pub overflow: u16,
+}
+
+/// What a line between FORM and END says.
+#[derive(Clone, Copy, Debug, PartialEq, Eq)]
+pub enum Statement {
+    /// `STOP`: a stop of a channel, 2 to 11, at a line, 0 to 999.
+    Stop(u8, u16),
+    /// `JACK`: a jack that the panel has.
+    Plug(Jack),
+    /// `WIRE`: a wire from the first hub to the second.
+    Wire(HubName, HubName),
+}
