@@ -1,14 +1,43 @@
 -- What fits a machine can be planned.
-use Rattle.std.proofs.Common.{◌≡◌, ℕ, ◌<◌, ◌≤◌, [], arith}
+use Rattle.std.proofs.Common.{◌≡◌, ℕ, ◌<◌, ◌≤◌, List, [], ◌∷◌, length, refl, ap, arith}
 use Rattle.capacity.specs.Capacities.{Capacities, standard, IsAtMost}
-use Rattle.wanted.specs.Wanted.{Wanted}
+use Rattle.wanted.specs.Wanted.{Parts, Wanted}
 use Rattle.plans.specs.Assignments.{IsAssignment}
 use Rattle.plans.specs.Plans.{Lists, IsWithinMachine, Serves}
-use Rattle.plans.proofs.Plans.{Serves-from, wide_texts-none}
 use Rattle.allocate.specs.Exceeded.{Fits}
 use Rattle.allocate.specs.HelperCounters.{HasGroupsFor}
 use Rattle.allocate.proofs.Assignments.{HasGroupsFor-from, IsAssignment-standard}
 use Rattle.allocate.proofs.Order.{NotOver-fits}
+
+-- a plan within the machine that has groups for the totals, and no text that is too wide
+Serves-from : (wanted : Wanted) (plan : Lists) → IsWithinMachine plan.parts → IsAssignment wanted.totals standard plan.groups
+    → plan.parts ≡ wanted.parts → [] ≡ wanted.wide_texts → Serves wanted plan
+Serves-from wanted plan within assigned same narrow =
+    let pilots = ap (λ (p : Parts). length p.pilots) same in
+    let comparing = ap (λ (p : Parts). length p.comparing) same in
+    let storage = ap (λ (p : Parts). length p.storage) same in
+    let splits = ap (λ (p : Parts). length p.splits) same in
+    let minor = ap (λ (p : Parts). length p.minor) same in
+    let intermediate = ap (λ (p : Parts). length p.intermediate) same in
+    let major = ap (λ (p : Parts). length p.major) same in
+    let width = ap length narrow in
+    record {
+      groups = assigned;
+      parts = same;
+      pilots = λ over. omega arith;
+      comparing = λ over. omega arith;
+      storage_width = λ over. omega arith;
+      storage_units = λ over. omega arith;
+      splits = λ over. omega arith;
+      minor = λ over. omega arith;
+      intermediate = λ over. omega arith;
+      major = λ over. omega arith;
+    }
+
+-- no text is too wide where none exceeds the width of a storage unit
+wide_texts-none : (lines : List ℕ) → ¬ (0 < length lines) → [] ≡ lines
+wide_texts-none [] none = refl
+wide_texts-none (line ∷ lines) none = absurd (none (omega arith))
 
 -- where what is wanted fits a machine, what its parts serve is within the standard machine
 pub IsWithinMachine-fits : (wanted : Wanted) (machine : Capacities) → Fits wanted machine → IsAtMost machine standard → IsWithinMachine wanted.parts

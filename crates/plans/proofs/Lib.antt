@@ -1,4 +1,3 @@
 pub mod CounterGroups
 pub mod Enough
-pub mod Plans
 pub mod Single
