@@ -11,7 +11,9 @@ use std::test::Fail;
 // A panel whose wheel 1 prints column 1 of each card, on forms of 12 lines with the first line 1 and the overflow line 9.
 fn listing(alloc: Global) -> Result<Setup, Fail> {
     let tape = Tape::new(12, 1, 9, &[])?;
-    setup_of(alloc, tape, &[Jack::List], &[(Hub::SR(1), Hub::W(1))])
+    let mut setup = setup_of(alloc, tape, &[(Hub::SR(1), Hub::W(1))])?;
+    setup.plug(Jack::List);
+    Ok(setup)
 }
 
 // Whether the lines stand at these places, with a text of one character each.

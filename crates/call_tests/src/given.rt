@@ -2,7 +2,7 @@
 
 use chart_rules::{Chart, check};
 use chart_text::read_chart;
-use hubs::{Hub, Jack};
+use hubs::Hub;
 use setups::{Setup, Tape};
 use std::alloc::Global;
 use std::test::Fail;
@@ -22,17 +22,9 @@ pub(crate) fn chart_of(alloc: Global, lines: &[u8], more: &[u8]) -> Result<Chart
     Ok(check(alloc, read_chart(alloc, text.as_slice())?)?)
 }
 
-/// The setup with a tape, some jacks and some wires.
-pub(crate) fn setup_of(
-    alloc: Global,
-    tape: Tape,
-    jacks: &[Jack],
-    wires: &[(Hub, Hub)],
-) -> Result<Setup, Fail> {
+/// The setup with a tape and some wires.
+pub(crate) fn setup_of(alloc: Global, tape: Tape, wires: &[(Hub, Hub)]) -> Result<Setup, Fail> {
     let mut setup = Setup::new(alloc, tape);
-    for jack in jacks {
-        setup.plug(*jack);
-    }
     for &(exit, entry) in wires {
         setup.add(exit, entry)?;
     }

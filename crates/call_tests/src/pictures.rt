@@ -8,7 +8,7 @@ use std::alloc::Global;
 use std::test::Fail;
 
 fn wired(alloc: Global, wires: &[(Hub, Hub)]) -> Result<Net, Fail> {
-    let setup = setup_of(alloc, Tape::new(66, 4, 60, &[])?, &[], wires)?;
+    let setup = setup_of(alloc, Tape::new(66, 4, 60, &[])?, wires)?;
     Ok(Net::of(alloc, &setup)?)
 }
 

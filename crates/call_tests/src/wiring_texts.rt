@@ -22,12 +22,7 @@ const COUNTED: &str =
 JACK SUPPRESS 2\nJACK SUPPRESS 3\nWIRE SR.1 GE.4.1.3\nWIRE SR.2 GE.4.1.2\nWIRE SR.3 GE.4.1.1\nWIRE GX.4.1.1 W.4\n\
 WIRE GX.4.1.2 W.3\nWIRE GX.4.1.3 W.2\nWIRE GX.4.1.4 W.1\nWIRE CC PL.4.1\nWIRE PX.4.3 RO.4.1\nEND\n";
 
-/// The jacks and wires of a total of three columns, last ones first.
-#[rattlefmt::skip]
-static COUNTED_JACKS: [Jack; 7] = [
-    Jack::Suppress(3), Jack::Suppress(2), Jack::Suppress(1), Jack::Link(4), Jack::Link(3), Jack::Link(2), Jack::Total(4),
-];
-
+/// The wires of a total of three columns, last ones first.
 #[rattlefmt::skip]
 static COUNTED_WIRES: [(Hub, Hub); 9] = [
     (Hub::PX(4, 3), Hub::RO(GROUP)), (Hub::CC, Hub::PL(GROUP)),
@@ -48,7 +43,18 @@ static STOPPED_WIRES: [(Hub, Hub); 5] = [
 #[test]
 fn wires_and_jacks_are_written_in_the_order_of_the_panel(rt: HostRuntime) -> Result<(), Fail> {
     let tape = Tape::new(12, 1, 9, &[])?;
-    let setup = setup_of(rt.alloc(), tape, &COUNTED_JACKS, &COUNTED_WIRES)?;
+    let mut setup = setup_of(rt.alloc(), tape, &COUNTED_WIRES)?;
+    for jack in [
+        Jack::Suppress(3),
+        Jack::Suppress(2),
+        Jack::Suppress(1),
+        Jack::Link(4),
+        Jack::Link(3),
+        Jack::Link(2),
+        Jack::Total(4),
+    ] {
+        setup.plug(jack);
+    }
     let text = write_setup(rt.alloc(), &setup)?;
     assert_eq!(rt; text.as_str(), COUNTED);
     Ok(())
@@ -57,8 +63,10 @@ fn wires_and_jacks_are_written_in_the_order_of_the_panel(rt: HostRuntime) -> Res
 #[test]
 fn stops_are_written_by_channel_and_line(rt: HostRuntime) -> Result<(), Fail> {
     let tape = Tape::new(144, 100, 7, &[(11, 10), (2, 144), (2, 7)])?;
-    let jacks = [Jack::Symbol(120), Jack::Head(3), Jack::List];
-    let setup = setup_of(rt.alloc(), tape, &jacks, &STOPPED_WIRES)?;
+    let mut setup = setup_of(rt.alloc(), tape, &STOPPED_WIRES)?;
+    for jack in [Jack::Symbol(120), Jack::Head(3), Jack::List] {
+        setup.plug(jack);
+    }
     let text = write_setup(rt.alloc(), &setup)?;
     assert_eq!(rt; text.as_str(), STOPPED);
     Ok(())

@@ -1,12 +1,12 @@
-//! The program `run407`: reads the words of the command line, opens the files that they name, and has the command done by
-//! `commands`, whose `serve` it offers too. The words' parser is its own, and no crate below knows it.
+//! The program `run407`: has what the words of the command line ask for done by `commands`, whose `serve` it offers too, on the files
+//! that they name. `command_line` reads the words.
 #![tactic(auto)]
 
-mod command_line;
+mod performing;
 
 pub use commands::serve;
 use std::process::ExitCode;
 
 fn main(rt: HostRuntime) -> ExitCode {
-    ExitCode::from(command_line::perform(&rt))
+    ExitCode::from(performing::perform(&rt))
 }

@@ -1,72 +1,15 @@
-//! The command line.
+//! What the words ask for, done on the files that they name.
 
 ghost use Rattle.std.specs.Prelude.{◌≡◌, ◌≢◌};
 ghost use Rattle.std.specs.IoError.{error_kind};
-ghost use Rattle.clap.specs.Values.{kind_of};
 
-use clap::error::ErrorKind;
-use clap::{Arg, ArgMatches, Command, Error};
+use command_line::{Refused, Wanted, read_words};
 use commands::{Fault, chart_and_deck, read_whole, serve, tell, unprinted};
-use std::alloc::Global;
 use std::io::{ErrorKind as IoErrorKind, Write};
 use std::{fs, io};
 
-/// The version that the program answers.
-const VERSION: &str = "0.3";
-
 /// The status where the words can't be read.
 const USAGE: u8 = 2;
-
-// The word for the chart, a file.
-fn chart_word<'a>(alloc: Global) -> Arg<'a> {
-    Arg::new(alloc, "CHART")
-        .help("the planning chart, a file")
-        .required(true)
-}
-
-// The word for the deck, a file.
-fn deck_word<'a>(alloc: Global) -> Arg<'a> {
-    Arg::new(alloc, "DECK")
-        .help("the deck of cards, a file")
-        .required(true)
-}
-
-// The command that runs a deck through a wiring chart.
-fn replay_command<'a>(alloc: Global) -> Result<Command<'a>, Error> {
-    let wiring = Arg::new(alloc, "WIRING")
-        .help("the wiring chart, a file")
-        .required(true);
-    let replay = Command::new(alloc, "replay")
-        .about("Prints the pages of a deck on a wired panel")
-        .arg(wiring)?
-        .arg(deck_word(alloc))?;
-    Ok(replay)
-}
-
-// The words that the program takes.
-fn command<'a>(alloc: Global) -> Result<Command<'a>, Error> {
-    let run = Command::new(alloc, "run")
-        .about("Prints the pages of a deck")
-        .arg(chart_word(alloc))?
-        .arg(deck_word(alloc))?;
-    let check = Command::new(alloc, "check")
-        .about("Checks a planning chart")
-        .arg(chart_word(alloc))?;
-    let wire = Command::new(alloc, "wire")
-        .about("Prints the wiring chart of a planning chart")
-        .arg(chart_word(alloc))?;
-    let whole = Command::new(alloc, "run407")
-        .version(VERSION)
-        .about(
-            "Compiles planning charts and runs decks on a simulated IBM 407. Without a command it reads a chart and then its deck from standard input, and prints the pages.",
-        )
-        .bin_name("run407")?
-        .subcommand(run)?
-        .subcommand(check)?
-        .subcommand(wire)?
-        .subcommand(replay_command(alloc)?)?;
-    Ok(whole)
-}
 
 // What is told where a file can't be opened.
 fn unopened<'a>(error: &io::Error, path: &'a str) -> Fault<'a>
@@ -140,42 +83,28 @@ fn run_standard_input(rt: &HostRuntime) -> u8 {
     serve(rt.alloc(), "run", chart, "-", deck, &mut out, &mut faults)
 }
 
-// What the words ask for.
-fn matches_of<'a>(alloc: Global, words: &'a [String]) -> Result<ArgMatches<'a>, Error> {
-    command(alloc)?.try_get_matches_from(words)
-}
-
 // Does what the words ask for, and answers the status.
-fn obey(rt: &HostRuntime, matches: &ArgMatches) -> u8 {
-    match matches.subcommand() {
-        Some(("run", given)) => serve_deck(
-            rt,
-            "run",
-            given.get_str("CHART").unwrap_or(""),
-            given.get_str("DECK").unwrap_or(""),
-        ),
-        Some(("replay", given)) => serve_deck(
-            rt,
-            "replay",
-            given.get_str("WIRING").unwrap_or(""),
-            given.get_str("DECK").unwrap_or(""),
-        ),
-        Some((command, given)) => serve_chart(rt, command, given.get_str("CHART").unwrap_or("")),
-        None => run_standard_input(rt),
+fn obey(rt: &HostRuntime, wanted: Wanted) -> u8 {
+    match wanted {
+        Wanted::Run { chart, deck } => serve_deck(rt, "run", chart, deck),
+        Wanted::Check { chart } => serve_chart(rt, "check", chart),
+        Wanted::Wire { chart } => serve_chart(rt, "wire", chart),
+        Wanted::Replay { wiring, deck } => serve_deck(rt, "replay", wiring, deck),
+        Wanted::StandardInput => run_standard_input(rt),
     }
 }
 
-// Tells what is wrong with the words, or prints the help or the version that they ask for.
-fn tell_words(rt: &HostRuntime, error: &Error) -> u8
-    ensures { kind_of error.now ≡ ErrorKind.OutOfMemory → result ≡ 5 }
+// The status where the words ask for nothing that is still to be done; want of memory is told here.
+fn tell_refused(rt: &HostRuntime, refused: &Refused) -> u8
+    ensures memory { refused.now ≡ Refused.Memory → result ≡ 5 }
+    ensures mistaken { refused.now ≡ Refused.Mistaken → result ≡ 2 }
+    ensures answered { refused.now ≡ Refused.Answered → result ≡ 0 }
 {
-    if error.kind() == ErrorKind::OutOfMemory {
-        return tell(&Fault::Memory, &mut rt.stderr());
-    }
-    match error.print(rt) {
-        Ok(()) if error.use_stderr() => USAGE,
-        Ok(()) => 0,
-        Err(unwritten) => tell(&unprinted(&unwritten), &mut rt.stderr()),
+    match refused {
+        Refused::Memory => tell(&Fault::Memory, &mut rt.stderr()),
+        Refused::Mistaken => USAGE,
+        Refused::Answered => 0,
+        Refused::Unwritten(error) => tell(&unprinted(error), &mut rt.stderr()),
     }
 }
 
@@ -208,8 +137,8 @@ pub fn perform(rt: &HostRuntime) -> u8 {
         Ok(words) => words,
         Err(error) => return tell_wordless(rt, &error),
     };
-    match matches_of(rt.alloc(), words.as_slice()) {
-        Ok(matches) => obey(rt, &matches),
-        Err(error) => tell_words(rt, &error),
+    match read_words(rt, words.as_slice()) {
+        Ok(wanted) => obey(rt, wanted),
+        Err(refused) => tell_refused(rt, &refused),
     }
 }

@@ -1,0 +1,58 @@
+//! The words that the program takes.
+
+use clap::{Arg, Command, Error};
+use std::alloc::Global;
+
+/// The version that the program answers.
+const VERSION: &str = "0.3";
+
+// The word for the chart, a file.
+fn chart_word<'a>(alloc: Global) -> Arg<'a> {
+    Arg::new(alloc, "CHART")
+        .help("the planning chart, a file")
+        .required(true)
+}
+
+// The word for the deck, a file.
+fn deck_word<'a>(alloc: Global) -> Arg<'a> {
+    Arg::new(alloc, "DECK")
+        .help("the deck of cards, a file")
+        .required(true)
+}
+
+// The command that runs a deck through a wiring chart.
+fn replay_command<'a>(alloc: Global) -> Result<Command<'a>, Error> {
+    let wiring = Arg::new(alloc, "WIRING")
+        .help("the wiring chart, a file")
+        .required(true);
+    let replay = Command::new(alloc, "replay")
+        .about("Prints the pages of a deck on a wired panel")
+        .arg(wiring)?
+        .arg(deck_word(alloc))?;
+    Ok(replay)
+}
+
+/// The program's commands, each with its words.
+pub fn parser<'a>(alloc: Global) -> Result<Command<'a>, Error> {
+    let run = Command::new(alloc, "run")
+        .about("Prints the pages of a deck")
+        .arg(chart_word(alloc))?
+        .arg(deck_word(alloc))?;
+    let check = Command::new(alloc, "check")
+        .about("Checks a planning chart")
+        .arg(chart_word(alloc))?;
+    let wire = Command::new(alloc, "wire")
+        .about("Prints the wiring chart of a planning chart")
+        .arg(chart_word(alloc))?;
+    let whole = Command::new(alloc, "run407")
+        .version(VERSION)
+        .about(
+            "Compiles planning charts and runs decks on a simulated IBM 407. Without a command it reads a chart and then its deck from standard input, and prints the pages.",
+        )
+        .bin_name("run407")?
+        .subcommand(run)?
+        .subcommand(check)?
+        .subcommand(wire)?
+        .subcommand(replay_command(alloc)?)?;
+    Ok(whole)
+}

@@ -1,0 +1,96 @@
+//! What the words ask for.
+
+ghost use Rattle.std.specs.Prelude.{◌≡◌};
+ghost use Rattle.clap.specs.Values.{kind_of};
+
+use crate::parser::parser;
+use clap::error::ErrorKind;
+use clap::{ArgMatches, Error};
+use std::alloc::Global;
+use std::io;
+
+/// What the words of the command line ask for; files are told by their paths.
+#[derive(Clone, Copy, Debug, PartialEq, Eq)]
+pub enum Wanted<'a> {
+    /// The pages of a deck by a planning chart.
+    Run { chart: &'a str, deck: &'a str },
+    /// Whether a planning chart compiles.
+    Check { chart: &'a str },
+    /// The wiring chart of a planning chart.
+    Wire { chart: &'a str },
+    /// The pages of a deck by a wiring chart.
+    Replay { wiring: &'a str, deck: &'a str },
+    /// No command: a planning chart and then its deck stand on standard input.
+    StandardInput,
+}
+
+/// Why the words ask for nothing that is still to be done.
+#[derive(Debug, Drop)]
+pub enum Refused {
+    /// Memory ran out. Nothing is told yet.
+    Memory,
+    /// The words are no command. What is wrong with them stands on standard error.
+    Mistaken,
+    /// The words asked for the help or the version, which is printed.
+    Answered,
+    /// The help, the version or what is wrong could not be written.
+    Unwritten(io::Error),
+}
+
+// Tells what is wrong with the words, or prints the help or the version that they ask for.
+fn told(rt: &HostRuntime, error: &Error) -> Refused
+    ensures { kind_of error.now ≡ ErrorKind.OutOfMemory → result ≡ Refused.Memory }
+{
+    if error.kind() == ErrorKind::OutOfMemory {
+        return Refused::Memory;
+    }
+    match error.print(rt) {
+        Ok(()) if error.use_stderr() => Refused::Mistaken,
+        Ok(()) => Refused::Answered,
+        Err(unwritten) => Refused::Unwritten(unwritten),
+    }
+}
+
+// What the words match.
+fn matches_of<'a>(alloc: Global, words: &'a [String]) -> Result<ArgMatches<'a>, Error> {
+    parser(alloc)?.try_get_matches_from(words)
+}
+
+// The file that a word of a command names; the parser lets no command through that lacks one of its words.
+fn file_of<'a>(given: &ArgMatches<'a>, word: &str) -> &'a str {
+    given.get_str(word).unwrap_or("")
+}
+
+// What is asked for by words that match.
+fn wanted_by<'a>(matches: &ArgMatches<'a>) -> Wanted<'a> {
+    match matches.subcommand() {
+        Some(("run", given)) => Wanted::Run {
+            chart: file_of(given, "CHART"),
+            deck: file_of(given, "DECK"),
+        },
+        Some(("replay", given)) => Wanted::Replay {
+            wiring: file_of(given, "WIRING"),
+            deck: file_of(given, "DECK"),
+        },
+        Some(("wire", given)) => Wanted::Wire {
+            chart: file_of(given, "CHART"),
+        },
+        Some((_, given)) => Wanted::Check {
+            chart: file_of(given, "CHART"),
+        },
+        None => Wanted::StandardInput,
+    }
+}
+
+/// What the words ask for, the program's name first.
+///
+/// # Errors
+///
+/// `Memory` where a growth was refused; `Mistaken` where the words are no command, and `Answered` where they ask for the help or
+/// the version, with the parser's text written; `Unwritten` where that could not be.
+pub fn read_words<'a>(rt: &HostRuntime, words: &'a [String]) -> Result<Wanted<'a>, Refused> {
+    match matches_of(rt.alloc(), words) {
+        Ok(matches) => Ok(wanted_by(&matches)),
+        Err(error) => Err(told(rt, &error)),
+    }
+}
