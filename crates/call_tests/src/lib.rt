@@ -28,8 +28,6 @@ mod pictures;
 #[cfg(test)]
 mod profiles;
 #[cfg(test)]
-mod reports;
-#[cfg(test)]
 mod rule_answers;
 #[cfg(test)]
 mod wired_setups;
