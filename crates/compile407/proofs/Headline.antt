@@ -14,7 +14,7 @@ use Rattle.chart_text.proofs.ReadLiterals.{read_literals}
 use Rattle.setups.specs.Wiring.{Wiring}
 use Rattle.machine.proofs.SameSetups.{MachineLines-same}
 use Rattle.machine.proofs.SomeOutcome.{MachineLines-some}
-use Rattle.machine.specs.Feeds.{MachineLines}
+use Rattle.machine.specs.Runs.{MachineLines}
 use Rattle.page_text.specs.Pages.{Pages}
 use Rattle.report.specs.ChartForm.{form_of}
 use Rattle.report.specs.Report.{report_lines}

@@ -10,8 +10,9 @@ use Rattle.charts.specs.Literals.{HaveLiteralTexts}
 use Rattle.decks.specs.Stands.{report_before}
 use Rattle.setups.specs.Tapes.{IsForm}
 use Rattle.setups.specs.Wiring.{Wiring}
-use Rattle.machine.specs.Feeds.{FedLines, MachineLines}
+use Rattle.machine.specs.Feeds.{FedLines}
 use Rattle.machine.specs.Machine.{MachineState, machine_at_start}
+use Rattle.machine.specs.Runs.{MachineLines}
 use Rattle.page_text.specs.Pages.{Pages}
 use Rattle.report.specs.ChartForm.{form_of}
 use Rattle.report.specs.Report.{Report}

@@ -3,14 +3,18 @@ use Rattle.std.proofs.Common.{ℕ, List, [], ◌∷◌, ◌++◌, Some, None, ap
 use Rattle.placed_lines.specs.declared.placed_line.PlacedLine.{PlacedLine}
 use Rattle.setups.specs.Wiring.{Wiring}
 use Rattle.net.specs.Nets.{NetRows, IsNetOf}
-use Rattle.machine.specs.Feeds.{Feeds, LinesFrom, MachineLines}
+use Rattle.machine.specs.Feeds.{Feeds, LinesFrom}
 use Rattle.machine.specs.Gains.{GainsFeed}
 use Rattle.machine.specs.Machine.{MachineState, machine_at_start}
+use Rattle.machine.specs.Runs.{MachineLines}
+use Rattle.machine.proofs.FeedsInRuns.{feeds-in-run}
 
 -- Whatever run over the cards that are left follows, it is the rest of a run over the deck behind the lines so far.
 pub record Ran (wiring : Wiring) (cards : List (List ℕ)) (left : List (List ℕ)) (now : MachineState) (lines : List PlacedLine) :
     Type 0 where
-  pub whole : (others : List PlacedLine) → LinesFrom wiring now left others → MachineLines wiring cards (lines ++ others)
+  pub whole :
+      (others : List PlacedLine) → LinesFrom wiring now left others
+      → LinesFrom wiring (machine_at_start wiring) cards (lines ++ others)
 
 pub Ran-none : (wiring : Wiring) (cards : List (List ℕ)) → Ran wiring cards cards (machine_at_start wiring) []
 Ran-none wiring cards = record { whole = λ others run. run }
@@ -29,7 +33,7 @@ pub Ran-more : (wiring : Wiring) (net : NetRows) (cards : List (List ℕ)) (card
     → Ran wiring cards left new behind
 Ran-more wiring net cards card left old new before behind is_net ran gains = record {
   whole = λ others run.
-      subst (λ (all : List PlacedLine). MachineLines wiring cards all)
+      subst (λ (all : List PlacedLine). LinesFrom wiring (machine_at_start wiring) cards all)
       (sym (append_assoc before gains.lines others) ∙ ap (λ (l : List PlacedLine). l ++ others) (sym gains.gained))
       (ran.whole (gains.lines ++ others)
       (LinesFrom-more wiring old card left new gains.lines others (gains.feeds wiring is_net) run));
@@ -45,5 +49,6 @@ pub Ran-all : (wiring : Wiring) (net : NetRows) (cards : List (List ℕ)) (old n
     → IsNetOf wiring net → Ran wiring cards [] old before → GainsFeed net old None new before behind
     → MachineLines wiring cards behind
 Ran-all wiring net cards old new before behind is_net ran gains =
-    subst (λ (all : List PlacedLine). MachineLines wiring cards all) (sym gains.gained)
-    (ran.whole gains.lines (LinesFrom-none wiring old new gains.lines (gains.feeds wiring is_net)))
+    feeds-in-run wiring cards behind
+    (subst (λ (all : List PlacedLine). LinesFrom wiring (machine_at_start wiring) cards all) (sym gains.gained)
+    (ran.whole gains.lines (LinesFrom-none wiring old new gains.lines (gains.feeds wiring is_net))))

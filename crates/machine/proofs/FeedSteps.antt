@@ -1,6 +1,5 @@
 -- The cycles of a feed, one after another.
-use Rattle.std.proofs.Common.{◌≡◌, ℕ, ◌<◌, ◌≤◌, Bool, true, false, not, ◌||◌, List, [], ◌∷◌, Some, None, is_some, length, if◌then◌else◌, refl, ap, ◌∙◌, arith}
-use Rattle.placed_lines.specs.declared.placed_line.PlacedLine.{PlacedLine}
+use Rattle.std.proofs.Common.{◌≡◌, ℕ, ◌<◌, ◌≤◌, Bool, true, false, not, ◌||◌, Some, None, is_some, if◌then◌else◌, refl, ap, ◌∙◌, arith}
 use Rattle.setups.specs.Wiring.{Wiring}
 use Rattle.net.specs.declared.cycle.Cycle.{Cycle}
 use Rattle.net.specs.declared.cycle.Cycle.TheVariants.{RunIn, Card, Prog, Head}
@@ -10,8 +9,8 @@ use Rattle.program_unit.specs.Program.{ProgramState, stage_ended}
 use Rattle.program_unit.specs.declared.stage.Stage.{Stage}
 use Rattle.program_unit.specs.declared.stage.Stage.TheVariants.{RanCard}
 use Rattle.stations.specs.Stations.{StationCards}
-use Rattle.machine.specs.Feeds.{Fed, FeedStep, FeedRuns, due_in, taken, is_over, cycle_due, has_more}
-use Rattle.machine.specs.Machine.{MachineState}
+use Rattle.machine.specs.Feeds.{Fed, FeedStep, due_in, taken, is_over}
+use Rattle.machine.specs.Runs.{cycle_due, has_more}
 use Rattle.machine.specs.Ends.{is_card, EndsCycle}
 use Rattle.machine.proofs.Keeps.{CycleRun-ends}
 use Rattle.machine.proofs.Work.{left_in, top_of, top_of-four, work-falls}
@@ -83,13 +82,3 @@ ends-falls Card old new due ends waits =
 pub FeedStep-falls : (wiring : Wiring) (cycle : Cycle) (old new : Fed) → FeedStep wiring cycle old new → left new < left old
 FeedStep-falls wiring cycle old new step =
     ends-falls cycle old new step.due (CycleRun-ends wiring cycle (taken cycle old).machine new.machine step.ran).order step.waits
-
--- a feed has at most as many cycles as may follow at its start
-pub FeedRuns-few : (wiring : Wiring) (cycles : List Cycle) (fed : Fed) (new : MachineState) (lines : List PlacedLine)
-    → FeedRuns wiring cycles fed new lines → length cycles ≤ left fed
-unfolding FeedRuns
-FeedRuns-few wiring [] fed new lines run = omega arith
-FeedRuns-few wiring (cycle ∷ cycles) fed new lines (mid, others, step, run, is) =
-    let few = FeedRuns-few wiring cycles mid new others run in
-    let falls = FeedStep-falls wiring cycle fed mid step in
-    omega (arith, few, falls)

@@ -7,6 +7,9 @@ pub mod Order
 pub mod SameSetups
 pub mod SomeOutcome
 pub mod ClosedContacts
+pub mod FeedsInRuns
+pub mod RunsInFeeds
+mod CardCycles
 mod Decks
 mod Exits
 mod Moving

@@ -1,5 +1,5 @@
 -- A setup and a deck have one run at most.
-use Rattle.std.proofs.Common.{◌≡◌, ℕ, zero, suc, ◌↔◌, Bool, true, false, List, [], ◌∷◌, ◌++◌, Option, Some, None, refl, sym, ap, ◌∙◌, subst}
+use Rattle.std.proofs.Common.{◌≡◌, ℕ, zero, suc, ◌↔◌, Bool, true, false, List, [], ◌∷◌, ◌++◌, Option, Some, refl, sym, ap, ◌∙◌, subst}
 use Rattle.placed_lines.specs.declared.placed_line.PlacedLine.{PlacedLine}
 use Rattle.setups.specs.Wiring.{Wiring}
 use Rattle.hubs.specs.declared.hub.Hub.{Hub}
@@ -7,8 +7,9 @@ use Rattle.net.specs.Impulsed.{IsPicture}
 use Rattle.net.specs.declared.cycle.Cycle.{Cycle}
 use Rattle.net.specs.declared.cycle.Point.{Point}
 use Rattle.machine.specs.Cycles.{PointStep, Reached, CycleRun, point_at, line_of}
-use Rattle.machine.specs.Feeds.{Fed, FeedStep, FeedRuns, LinesFrom, MachineLines, begun, taken}
-use Rattle.machine.specs.Machine.{MachineState, machine_at_start, emits, closes, sensed, ended}
+use Rattle.machine.specs.Feeds.{Fed, FeedStep, taken}
+use Rattle.machine.specs.Machine.{MachineState, emits, closes, sensed, ended}
+use Rattle.machine.specs.Runs.{InRun, MachineLines, RunsBy, made_ready, run_at_start}
 
 -- two tests that are true of the same are equal
 same_test : (P : Type 0) (one other : Bool) → (one ≡ true) ↔ P → (other ≡ true) ↔ P → one ≡ other
@@ -63,41 +64,33 @@ FeedStep-one wiring old one other cycle also first second =
           (first.next ∙ sym second.next),
     )
 
--- two runs of a feed leave one machine and the same lines
-FeedRuns-one : (wiring : Wiring) (cycles also : List Cycle) (fed : Fed) (one other : MachineState) (lines others : List PlacedLine)
-    → FeedRuns wiring cycles fed one lines → FeedRuns wiring also fed other others → (one ≡ other) × (lines ≡ others)
-unfolding FeedRuns
-FeedRuns-one wiring [] [] fed one other lines others (due, is_new, none) (also_due, also_new, also_none) =
-    (is_new ∙ sym also_new, none ∙ sym also_none)
-FeedRuns-one wiring [] (cycle ∷ also) fed one other lines others (due, is_new, none) (mid, rest, step, run, is) =
-    let e = sym due ∙ step.due in cc
-FeedRuns-one wiring (cycle ∷ cycles) [] fed one other lines others (mid, rest, step, run, is) (due, is_new, none) =
-    let e = sym due ∙ step.due in cc
-FeedRuns-one wiring (cycle ∷ cycles) (also_cycle ∷ also) fed one other lines others (mid, rest, step, run, is)
-    (also_mid, also_rest, also_step, also_run, also_is) =
-    let same = (FeedStep-one wiring fed mid also_mid cycle also_cycle step also_step).1 in
-    let runs = FeedRuns-one wiring cycles also also_mid one other rest also_rest
-    (subst (λ (m : Fed). FeedRuns wiring cycles m one rest) same run) also_run in (
-      runs.0,
-      is ∙ ap (λ (m : Fed). line_of m.machine ++ rest) same
-          ∙ ap (λ (r : List PlacedLine). line_of also_mid.machine ++ r) runs.1 ∙ sym also_is,
-    )
-
-LinesFrom-one : (wiring : Wiring) (old : MachineState) (cards : List (List ℕ)) (one other : List PlacedLine)
-    → LinesFrom wiring old cards one → LinesFrom wiring old cards other → one ≡ other
-unfolding LinesFrom
-LinesFrom-one wiring old [] one other (new, feed) (also_new, also_feed) =
-    (FeedRuns-one wiring feed.cycles also_feed.cycles (begun old None) new also_new one other feed.runs also_feed.runs).1
-LinesFrom-one wiring old (card ∷ cards) one other (new, first, others, feed, run, is)
-    (also_new, also_first, also_others, also_feed, also_run, also_is) =
-    let feeds =
-    FeedRuns-one wiring feed.cycles also_feed.cycles (begun old (Some card)) new also_new first also_first feed.runs also_feed.runs in
-    let rest = LinesFrom-one wiring also_new cards others also_others
-    (subst (λ (m : MachineState). LinesFrom wiring m cards others) feeds.0 run) also_run in
-    is ∙ ap (λ (l : List PlacedLine). l ++ others) feeds.1 ∙ ap (λ (l : List PlacedLine). also_first ++ l) rest ∙ sym also_is
+-- two runs from one machine on place the same lines
+RunsBy-one : (wiring : Wiring) (cycles also : List Cycle) (run : InRun) (one other : List PlacedLine)
+    → RunsBy (CycleRun wiring) cycles run one → RunsBy (CycleRun wiring) also run other → one ≡ other
+unfolding RunsBy
+RunsBy-one wiring [] [] run one other (due, none) (also_due, also_none) = none ∙ sym also_none
+RunsBy-one wiring [] (cycle ∷ also) run one other (none_due, none) (new, others, due, ran, runs, is) =
+    let e = sym none_due ∙ due in cc
+RunsBy-one wiring (cycle ∷ cycles) [] run one other (new, others, due, ran, runs, is) (none_due, none) =
+    let e = sym none_due ∙ due in cc
+RunsBy-one wiring (cycle ∷ cycles) (also_cycle ∷ also) run one other (new, others, due, ran, runs, is)
+    (also_new, also_others, also_due, also_ran, also_runs, also_is) =
+    let same = same_some cycle also_cycle (sym due ∙ also_due) in
+    let left = CycleRun-one wiring also_cycle (made_ready also_cycle run).machine new also_new
+    (subst (λ (c : Cycle). CycleRun wiring c (made_ready c run).machine new) same ran) also_ran in
+    let goes_on : InRun = record { machine = also_new; hopper = (made_ready also_cycle run).hopper } in
+    let rest = RunsBy-one wiring cycles also goes_on others also_others
+    (subst (λ (r : InRun). RunsBy (CycleRun wiring) cycles r others) (same_run run cycle also_cycle new also_new same left) runs)
+    also_runs in
+    is ∙ ap (λ (m : MachineState). line_of m ++ others) left ∙ ap (λ (l : List PlacedLine). line_of also_new ++ l) rest ∙ sym also_is
+  where
+    same_run : (before : InRun) (c d : Cycle) (m n : MachineState) → c ≡ d → m ≡ n
+        → ◌≡◌ {A = InRun} (record { machine = m; hopper = (made_ready c before).hopper })
+        (record { machine = n; hopper = (made_ready d before).hopper })
+    same_run before c d m n cycles_same machines = λ i. record { machine = machines i; hopper = (made_ready (cycles_same i) before).hopper }
 
 -- a setup and a deck have one list of lines at most
 pub MachineLines-one : (wiring : Wiring) (cards : List (List ℕ)) (one other : List PlacedLine)
     → MachineLines wiring cards one → MachineLines wiring cards other → one ≡ other
-MachineLines-one wiring cards one other first second =
-    LinesFrom-one wiring (machine_at_start wiring) cards one other first second
+MachineLines-one wiring cards one other (cycles, runs) (also, also_runs) =
+    RunsBy-one wiring cycles also (run_at_start wiring cards) one other runs also_runs

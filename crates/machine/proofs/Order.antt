@@ -1,6 +1,5 @@
 -- The lines of a run come in the order of their places.
-use Rattle.std.proofs.Common.{◌≡◌, ℕ, suc, ◌+◌, ◌^◌, ◌≤◌, ◌⊎◌, inl, inr, ⊎_elim, Bool, true, false, ◌&&◌, List, [], ◌∷◌, ◌++◌, Option, Some, None, length, append_assoc, if◌then◌else◌, refl, sym, ap, ◌∙◌, subst, arith}
-use Rattle.std.proofs.lemmas.List.{append-nil, length-append}
+use Rattle.std.proofs.Common.{◌≡◌, ℕ, suc, ◌+◌, ◌^◌, ◌≤◌, ◌⊎◌, inl, inr, ⊎_elim, Bool, true, false, ◌&&◌, List, [], ◌∷◌, ◌++◌, Option, Some, None, length, if◌then◌else◌, refl, sym, ap, ◌∙◌, subst, arith}
 use Rattle.carriage.specs.Carriage.{CarriageState, carriage_ended}
 use Rattle.placed_lines.specs.InOrder.{FollowInOrder, IsInOrder}
 use Rattle.placed_lines.specs.declared.placed_line.PlacedLine.{PlacedLine}
@@ -13,16 +12,14 @@ use Rattle.net.specs.declared.cycle.Level.{Level}
 use Rattle.net.specs.declared.cycle.Ordinal.{Ordinal}
 use Rattle.net.specs.declared.cycle.Ordinal.TheVariants.{First, Second, Third}
 use Rattle.net.specs.declared.printing.Printing.{Printing}
-use Rattle.program_unit.specs.CycleOrder.{is_fresh, cycle_behind, behind, headed, has_level_left, level_above}
+use Rattle.program_unit.specs.CycleOrder.{cycle_behind, behind, headed, has_level_left, level_above}
 use Rattle.program_unit.specs.Program.{ProgramState, stage_ended}
 use Rattle.program_unit.specs.declared.stage.Stage.{Stage}
 use Rattle.program_unit.specs.declared.stage.Stage.TheVariants.{Fresh, RanIn, RanCard, RanProg, BeforeCard, BeforeTotal}
-use Rattle.machine.specs.Cycles.{line_of}
-use Rattle.machine.specs.Feeds.{Fed, FeedStep, FeedRuns, LinesFrom, MachineLines, begun, taken, moved_on, has_more}
-use Rattle.machine.specs.Laws.{cycles_from, cycles_of}
+use Rattle.machine.specs.Cycles.{CycleRun, line_of}
 use Rattle.machine.specs.Machine.{MachineState, machine_at_start}
-use Rattle.machine.proofs.FeedSteps.{due_in-going}
-use Rattle.machine.proofs.FewCycles.{MachineLines-cycles}
+use Rattle.machine.specs.Runs.{InRun, MachineLines, RunsBy, cards_moved, cycle_due, has_more, made_ready, moved_on, run_at_start}
+use Rattle.machine.proofs.FewCycles.{runs-have-few}
 use Rattle.machine.proofs.Keeps.{AsksLines, KeepsCarriage, CycleRun-ends}
 use Rattle.machine.proofs.Moving.{Ended, carriage_ended-ends}
 
@@ -159,17 +156,25 @@ record IsSound (form : Form) (machine : MachineState) (left : ℕ) : Type 0 wher
   few : machine.carriage.spot.page + left ≤ 2 ^ 32
 
 -- the cards move on by themselves
-taken-carriage : (cycle : Cycle) (fed : Fed) → (taken cycle fed).machine.carriage ≡ fed.machine.carriage
-taken-carriage RunIn fed = refl
-taken-carriage Card fed = refl
-taken-carriage (Prog level ordinal) fed = refl
-taken-carriage (Head heading) fed = refl
+moved-carriage : (machine : MachineState) (hopper : List (List ℕ)) → (cards_moved machine hopper).machine.carriage ≡ machine.carriage
+moved-carriage machine [] = refl
+moved-carriage machine (card ∷ cards) = refl
 
-taken-program : (cycle : Cycle) (fed : Fed) → (taken cycle fed).machine.program ≡ fed.machine.program
-taken-program RunIn fed = refl
-taken-program Card fed = refl
-taken-program (Prog level ordinal) fed = refl
-taken-program (Head heading) fed = refl
+moved-program : (machine : MachineState) (hopper : List (List ℕ)) → (cards_moved machine hopper).machine.program ≡ machine.program
+moved-program machine [] = refl
+moved-program machine (card ∷ cards) = refl
+
+ready-carriage : (cycle : Cycle) (run : InRun) → (made_ready cycle run).machine.carriage ≡ run.machine.carriage
+ready-carriage RunIn run = refl
+ready-carriage Card run = moved-carriage run.machine run.hopper
+ready-carriage (Prog level ordinal) run = refl
+ready-carriage (Head heading) run = refl
+
+ready-program : (cycle : Cycle) (run : InRun) → (made_ready cycle run).machine.program ≡ run.machine.program
+ready-program RunIn run = refl
+ready-program Card run = moved-program run.machine run.hopper
+ready-program (Prog level ordinal) run = refl
+ready-program (Head heading) run = refl
 
 module _ (form : Form) (is_form : IsForm form) (old new : MachineState) (at_end : CarriageState) (cycle : Cycle) (more : Bool)
     (left : ℕ) (sound : IsSound form old (suc left))
@@ -250,132 +255,49 @@ module _ (form : Form) (is_form : IsForm form) (old new : MachineState) (at_end 
         (ended.places new.wheels.line others own))
         follow
 
--- One cycle of a feed: the machine is sound behind it, and the lines that follow it follow its own.
+-- One cycle of a run: the machine is sound behind it, and the lines that follow it follow its own.
 record StepsSoundly (form : Form) (old new : MachineState) (left : ℕ) : Type 0 where
   sound : IsSound form new left
   places :
       (others : List PlacedLine) → FollowInOrder form.lines new.carriage.spot.page new.carriage.spot.line others
       → FollowInOrder form.lines old.carriage.spot.page old.carriage.spot.line (line_of new ++ others)
 
-FeedStep-sound : (wiring : Wiring) (form : Form) → IsForm form → (cycle : Cycle) (old new : Fed) (left : ℕ)
-    → IsSound form old.machine (suc left) → FeedStep wiring cycle old new → StepsSoundly form old.machine new.machine left
-FeedStep-sound wiring form is_form cycle old new left sound step =
-    let going = due_in-going old cycle step.due in
-    let ends = CycleRun-ends wiring cycle (taken cycle old).machine new.machine step.ran in
-    let kept : KeepsCarriage old.machine.carriage ends.at_end =
-    subst (λ (c : CarriageState). KeepsCarriage c ends.at_end) (taken-carriage cycle old) ends.kept in
-    let printing : new.machine.program.printing ≡ old.machine.program.printing =
-    ends.printing ∙ ap (λ (p : ProgramState). p.printing) (taken-program cycle old) in
-    let stage : new.machine.program.stage ≡ stage_ended old.machine.program.stage cycle =
-    ends.order.stage ∙ ap (λ (p : ProgramState). stage_ended p.stage cycle) (taken-program cycle old) in
+CycleRun-sound : (wiring : Wiring) (form : Form) → IsForm form → (cycle : Cycle) (run : InRun) (new : MachineState) (left : ℕ)
+    → IsSound form run.machine (suc left) → cycle_due run.machine ≡ Some cycle
+    → CycleRun wiring cycle (made_ready cycle run).machine new → StepsSoundly form run.machine new left
+CycleRun-sound wiring form is_form cycle run new left sound due ran =
+    let ends = CycleRun-ends wiring cycle (made_ready cycle run).machine new ran in
+    let kept : KeepsCarriage run.machine.carriage ends.at_end =
+    subst (λ (c : CarriageState). KeepsCarriage c ends.at_end) (ready-carriage cycle run) ends.kept in
+    let printing : new.program.printing ≡ run.machine.program.printing =
+    ends.printing ∙ ap (λ (p : ProgramState). p.printing) (ready-program cycle run) in
+    let stage : new.program.stage ≡ stage_ended run.machine.program.stage cycle =
+    ends.order.stage ∙ ap (λ (p : ProgramState). stage_ended p.stage cycle) (ready-program cycle run) in
     record {
-      sound = sound-after form is_form old.machine new.machine ends.at_end cycle (has_more old.machine) left sound going.due kept
+      sound = sound-after form is_form run.machine new ends.at_end cycle (has_more run.machine) left sound due kept
           ends.carriage printing stage;
-      places = places-before form is_form old.machine new.machine ends.at_end cycle (has_more old.machine) left sound going.due
+      places = places-before form is_form run.machine new ends.at_end cycle (has_more run.machine) left sound due
           kept ends.carriage printing stage;
     }
 
--- a feed, with so many cycles behind it
-FeedRuns-sound : (wiring : Wiring) (form : Form) → IsForm form
-    → (cycles : List Cycle) (fed : Fed) (new : MachineState) (lines : List PlacedLine) (left : ℕ)
-    → IsSound form fed.machine (length cycles + left) → FeedRuns wiring cycles fed new lines
-    → IsSound form new left
-unfolding FeedRuns
-FeedRuns-sound wiring form is_form [] fed new lines left sound (due, is_new, none) = rw is_new (fewer sound)
-  where
-    fewer : IsSound form fed.machine (0 + left) → IsSound form fed.machine left
-    fewer s = subst (λ (n : ℕ). IsSound form fed.machine n) (omega arith) s
-FeedRuns-sound wiring form is_form (cycle ∷ cycles) fed new lines left sound (mid, others, step, run, is) =
-    FeedRuns-sound wiring form is_form cycles mid new others left
-    (FeedStep-sound wiring form is_form cycle fed mid (length cycles + left)
-    (subst (λ (n : ℕ). IsSound form fed.machine n) (omega arith) sound) step).sound
-    run
-
-FeedRuns-places : (wiring : Wiring) (form : Form) → IsForm form
-    → (cycles : List Cycle) (fed : Fed) (new : MachineState) (lines others : List PlacedLine) (left : ℕ)
-    → IsSound form fed.machine (length cycles + left) → FeedRuns wiring cycles fed new lines
-    → FollowInOrder form.lines new.carriage.spot.page new.carriage.spot.line others
-    → FollowInOrder form.lines fed.machine.carriage.spot.page fed.machine.carriage.spot.line (lines ++ others)
-unfolding FeedRuns
-FeedRuns-places wiring form is_form [] fed new lines others left sound (due, is_new, none) follow =
-    rw none
-    (subst (λ (m : MachineState). FollowInOrder form.lines m.carriage.spot.page m.carriage.spot.line others) is_new follow)
-FeedRuns-places wiring form is_form (cycle ∷ cycles) fed new lines others left sound (mid, rest, step, run, is) follow =
-    let steps = FeedStep-sound wiring form is_form cycle fed mid (length cycles + left)
-    (subst (λ (n : ℕ). IsSound form fed.machine n) (omega arith) sound) step in
-    subst
-    (λ (l : List PlacedLine). FollowInOrder form.lines fed.machine.carriage.spot.page fed.machine.carriage.spot.line l)
-    (sym (append_assoc (line_of mid.machine) rest others) ∙ ap (λ (l : List PlacedLine). l ++ others) (sym is))
-    (steps.places (rest ++ others)
-    (FeedRuns-places wiring form is_form cycles mid new rest others left steps.sound run follow))
-
-begun-sound : (form : Form) (machine : MachineState) (next : Option (List ℕ)) (left : ℕ)
-    → IsSound form machine left → IsSound form (begun machine next).machine left
-begun-sound form machine next left sound = by (is_fresh machine.program.stage)
-  where
-    by : (fresh : Bool)
-        → (λ (f : Fed). IsSound form f.machine left)
-        (if fresh
-        then record { machine = moved_on next machine; waits = false; next = next }
-        else record { machine = machine; waits = true; next = next })
-    by true = record {
-      form_is = sound.form_is;
-      printing = sound.printing;
-      inside = sound.inside;
-      asks = sound.asks;
-      on_page = sound.on_page;
-      in_heads = sound.in_heads;
-      few = sound.few;
-    }
-    by false = sound
-
-begun-places : (form : Form) (machine : MachineState) (next : Option (List ℕ)) (lines : List PlacedLine)
-    → FollowInOrder form.lines (begun machine next).machine.carriage.spot.page (begun machine next).machine.carriage.spot.line lines
-    → FollowInOrder form.lines machine.carriage.spot.page machine.carriage.spot.line lines
-begun-places form machine next lines =
-    subst
-    (λ (c : CarriageState). FollowInOrder form.lines c.spot.page c.spot.line lines
-    → FollowInOrder form.lines machine.carriage.spot.page machine.carriage.spot.line lines)
-    (sym (by (is_fresh machine.program.stage))) (λ follow. follow)
-  where
-    by : (fresh : Bool)
-        → (λ (f : Fed). f.machine.carriage ≡ machine.carriage)
-        (if fresh
-        then record { machine = moved_on next machine; waits = false; next = next }
-        else record { machine = machine; waits = true; next = next })
-    by true = refl
-    by false = refl
-
 -- the lines of a run follow the place of the carriage
-LinesFrom-in_order : (wiring : Wiring) (form : Form) → IsForm form
-    → (old : MachineState) (cards : List (List ℕ)) (lines : List PlacedLine) (run : LinesFrom wiring old cards lines)
-    → IsSound form old (length (cycles_from wiring old cards lines run))
-    → FollowInOrder form.lines old.carriage.spot.page old.carriage.spot.line lines
-unfolding LinesFrom cycles_from
-LinesFrom-in_order wiring form is_form old [] lines (new, feed) sound =
-    begun-places form old None lines
-    (subst
-    (λ (l : List PlacedLine). FollowInOrder form.lines (begun old None).machine.carriage.spot.page (begun old None).machine.carriage.spot.line l)
-    (append-nil lines)
-    (FeedRuns-places wiring form is_form feed.cycles (begun old None) new lines [] 0
-    (subst (λ (n : ℕ). IsSound form (begun old None).machine n) (omega arith)
-    (begun-sound form old None (length feed.cycles) sound)) feed.runs tt))
-LinesFrom-in_order wiring form is_form old (card ∷ cards) lines (new, first, others, feed, run, is) sound =
-    let after = length (cycles_from wiring new cards others run) in
-    let start : IsSound form (begun old (Some card)).machine (length feed.cycles + after) =
-    subst (λ (n : ℕ). IsSound form (begun old (Some card)).machine n)
-    (length-append feed.cycles (cycles_from wiring new cards others run))
-    (begun-sound form old (Some card) (length (feed.cycles ++ cycles_from wiring new cards others run)) sound) in
+RunsBy-in_order : (wiring : Wiring) (form : Form) → IsForm form
+    → (cycles : List Cycle) (run : InRun) (lines : List PlacedLine)
+    → IsSound form run.machine (length cycles) → RunsBy (CycleRun wiring) cycles run lines
+    → FollowInOrder form.lines run.machine.carriage.spot.page run.machine.carriage.spot.line lines
+unfolding RunsBy
+RunsBy-in_order wiring form is_form [] run lines sound (due, none) = rw none tt
+RunsBy-in_order wiring form is_form (cycle ∷ cycles) run lines sound (new, others, due, ran, runs, is) =
+    let steps = CycleRun-sound wiring form is_form cycle run new (length cycles) sound due ran in
     rw is
-    (begun-places form old (Some card) (first ++ others)
-    (FeedRuns-places wiring form is_form feed.cycles (begun old (Some card)) new first others after start feed.runs
-    (LinesFrom-in_order wiring form is_form new cards others run
-    (FeedRuns-sound wiring form is_form feed.cycles (begun old (Some card)) new first after start feed.runs))))
+    (steps.places others
+    (RunsBy-in_order wiring form is_form cycles (record { machine = new; hopper = (made_ready cycle run).hopper }) others
+    steps.sound runs))
 
 -- a machine at the start of a run is sound
-start-sound : (wiring : Wiring) (left : ℕ) → IsForm wiring.tape → left ≤ 2 ^ 32
-    → IsSound wiring.tape (machine_at_start wiring) left
-start-sound wiring left is_form few = record {
+start-sound : (wiring : Wiring) (next : Option (List ℕ)) (left : ℕ) → IsForm wiring.tape → left ≤ 2 ^ 32
+    → IsSound wiring.tape (moved_on next (machine_at_start wiring)) left
+start-sound wiring next left is_form few = record {
   form_is = refl;
   printing = refl;
   inside = omega arith;
@@ -388,7 +310,11 @@ start-sound wiring left is_form few = record {
 -- the lines of a run are in order
 pub MachineLines-in_order : (wiring : Wiring) (cards : List (List ℕ)) (lines : List PlacedLine)
     → IsForm wiring.tape → length cards ≤ 999999 → MachineLines wiring cards lines → IsInOrder wiring.tape.lines lines
-MachineLines-in_order wiring cards lines is_form short run =
-    let few = MachineLines-cycles wiring cards lines run in
-    LinesFrom-in_order wiring wiring.tape is_form (machine_at_start wiring) cards lines run
-    (start-sound wiring (length (cycles_of wiring cards lines run)) is_form (omega (arith, few, short)))
+MachineLines-in_order wiring [] lines is_form short (cycles, runs) =
+    let few = runs-have-few wiring [] cycles lines runs in
+    RunsBy-in_order wiring wiring.tape is_form cycles (run_at_start wiring []) lines
+    (start-sound wiring None (length cycles) is_form (omega (arith, few, short))) runs
+MachineLines-in_order wiring (card ∷ cards) lines is_form short (cycles, runs) =
+    let few = runs-have-few wiring (card ∷ cards) cycles lines runs in
+    RunsBy-in_order wiring wiring.tape is_form cycles (run_at_start wiring (card ∷ cards)) lines
+    (start-sound wiring (Some card) (length cycles) is_form (omega (arith, few, short))) runs

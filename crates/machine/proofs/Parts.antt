@@ -1,11 +1,8 @@
 -- A run over a deck in two parts: the feeds of the first cards, and a run over the others.
-use Rattle.std.proofs.Common.{◌≡◌, ◌∙◌, refl, sym, ap, ℕ, List, [], ◌∷◌, ◌++◌}
+use Rattle.std.proofs.Common.{◌∙◌, refl, sym, ap, [], ◌∷◌, ◌++◌}
 use Rattle.std.proofs.lemmas.List.{append_assoc}
-use Rattle.placed_lines.specs.declared.placed_line.PlacedLine.{PlacedLine}
-use Rattle.setups.specs.Wiring.{Wiring}
 use Rattle.machine.specs.Feeds.{FedLines, LinesFrom}
 use Rattle.machine.specs.Laws.{RunsGoInParts}
-use Rattle.machine.specs.Machine.{MachineState}
 
 pub LinesFrom-parts : RunsGoInParts
 unfolding LinesFrom FedLines

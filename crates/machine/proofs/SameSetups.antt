@@ -1,5 +1,5 @@
 -- Setups with the same wires, jacks and tape have the same runs.
-use Rattle.std.proofs.Common.{◌≡◌, ℕ, zero, suc, ◌↔◌, inl, inr, Bool, true, false, IsTrue, List, [], ◌∷◌, Option, Some, None, map, replicate, refl, sym, subst}
+use Rattle.std.proofs.Common.{◌≡◌, ℕ, zero, suc, ◌↔◌, inl, inr, Bool, true, false, IsTrue, List, [], ◌∷◌, None, map, replicate, refl, sym, subst}
 use Rattle.std.specs.List.{range_with_len}
 use Rattle.carriage.specs.Asked.{nothing_asked}
 use Rattle.placed_lines.specs.declared.placed_line.PlacedLine.{PlacedLine}
@@ -23,9 +23,9 @@ use Rattle.selectors.specs.Pilots.{pilots_at_start}
 use Rattle.stations.specs.Comparing.{comparing_at_start}
 use Rattle.stations.specs.Stations.{stations_at_start}
 use Rattle.storage_units.specs.Storage.{storage_at_start}
-use Rattle.machine.specs.Cycles.{PointStep, Reached, point_at}
-use Rattle.machine.specs.Feeds.{Fed, Feeds, FeedStep, FeedRuns, LinesFrom, MachineLines, begun, taken}
+use Rattle.machine.specs.Cycles.{CycleRun, PointStep, Reached, point_at}
 use Rattle.machine.specs.Machine.{MachineState, machine_at_start, group_units, storage_units, emits, closes}
+use Rattle.machine.specs.Runs.{InRun, MachineLines, RunsBy, cards_moved, made_ready, run_at_start}
 
 wire-same : (one other : Wiring) → SameWires one other → (closed : Hub → Bool) (from to : Hub)
     → LeadsOn one closed from to → LeadsOn other closed from to
@@ -65,44 +65,26 @@ Reached-same one other wires cycle zero old now same = same
 Reached-same one other wires cycle (suc place) old now (mid, reached, step) =
     (mid, Reached-same one other wires cycle place old mid reached, PointStep-same one other wires cycle (point_at place) mid now step)
 
-FeedStep-same : (one other : Wiring) → SameWires one other → (cycle : Cycle) (old new : Fed)
-    → FeedStep one cycle old new → FeedStep other cycle old new
-FeedStep-same one other wires cycle old new step = record {
-  due = step.due;
-  ran = record {
-    at_end = step.ran.at_end;
-    reached = Reached-same one other wires cycle 14 (taken cycle old).machine step.ran.at_end step.ran.reached;
-    is_new = step.ran.is_new;
-  };
-  waits = step.waits;
-  next = step.next;
+CycleRun-same : (one other : Wiring) → SameWires one other → (cycle : Cycle) (old new : MachineState)
+    → CycleRun one cycle old new → CycleRun other cycle old new
+CycleRun-same one other wires cycle old new ran = record {
+  at_end = ran.at_end;
+  reached = Reached-same one other wires cycle 14 old ran.at_end ran.reached;
+  is_new = ran.is_new;
 }
 
-FeedRuns-same : (one other : Wiring) → SameWires one other
-    → (cycles : List Cycle) (fed : Fed) (new : MachineState) (lines : List PlacedLine)
-    → FeedRuns one cycles fed new lines → FeedRuns other cycles fed new lines
-unfolding FeedRuns
-FeedRuns-same one other wires [] fed new lines ends = ends
-FeedRuns-same one other wires (cycle ∷ cycles) fed new lines (mid, others, step, run, is) =
-    (mid, others, FeedStep-same one other wires cycle fed mid step, FeedRuns-same one other wires cycles mid new others run, is)
-
-Feeds-same : (one other : Wiring) → SameWires one other
-    → (old : MachineState) (next : Option (List ℕ)) (new : MachineState) (lines : List PlacedLine)
-    → Feeds one old next new lines → Feeds other old next new lines
-Feeds-same one other wires old next new lines feed =
-    record { cycles = feed.cycles; runs = FeedRuns-same one other wires feed.cycles (begun old next) new lines feed.runs }
-
-LinesFrom-same : (one other : Wiring) → SameWires one other
-    → (old : MachineState) (cards : List (List ℕ)) (lines : List PlacedLine)
-    → LinesFrom one old cards lines → LinesFrom other old cards lines
-unfolding LinesFrom
-LinesFrom-same one other wires old [] lines (new, feed) = (new, Feeds-same one other wires old None new lines feed)
-LinesFrom-same one other wires old (card ∷ cards) lines (new, first, others, feed, run, is) = (
+-- a run by one relation is a run by another that holds where the first does
+pub RunsBy-also : (One Other : Cycle → MachineState → MachineState → Type 0)
+    → ((cycle : Cycle) (old new : MachineState) → One cycle old new → Other cycle old new)
+    → (cycles : List Cycle) (run : InRun) (lines : List PlacedLine) → RunsBy One cycles run lines → RunsBy Other cycles run lines
+unfolding RunsBy
+RunsBy-also One Other also [] run lines ends = ends
+RunsBy-also One Other also (cycle ∷ cycles) run lines (new, others, due, ran, runs, is) = (
   new,
-  first,
   others,
-  Feeds-same one other wires old (Some card) new first feed,
-  LinesFrom-same one other wires new cards others run,
+  due,
+  also cycle (made_ready cycle run).machine new ran,
+  RunsBy-also One Other also cycles (record { machine = new; hopper = (made_ready cycle run).hopper }) others runs,
   is,
 )
 
@@ -178,7 +160,10 @@ pub MachineLines-same : (one other : Wiring) (cards : List (List ℕ)) (lines : 
     → IsForm one.tape → IsForm other.tape
     → SameWires one other → SameJacks one other → SameTape one.tape other.tape
     → MachineLines one cards lines → MachineLines other cards lines
-MachineLines-same one other cards lines form also wires jacks tape run =
-    let same : one.tape ≡ other.tape = SameTape-same one.tape other.tape form also tape in
-    subst (λ (m : MachineState). LinesFrom other m cards lines) (start-same one other wires jacks same)
-    (LinesFrom-same one other wires (machine_at_start one) cards lines run)
+MachineLines-same one other cards lines form also wires jacks tape (cycles, runs) =
+    let same : one.tape ≡ other.tape = SameTape-same one.tape other.tape form also tape in (
+      cycles,
+      subst (λ (m : MachineState). RunsBy (CycleRun other) cycles (cards_moved m cards) lines)
+          (start-same one other wires jacks same)
+          (RunsBy-also (CycleRun one) (CycleRun other) (CycleRun-same one other wires) cycles (run_at_start one cards) lines runs),
+    )

@@ -7,8 +7,10 @@ use Rattle.net.proofs.EachPicture.{each_picture}
 use Rattle.net.specs.declared.cycle.Cycle.{Cycle}
 use Rattle.net.specs.declared.cycle.Point.{Point}
 use Rattle.machine.specs.Cycles.{PointStep, Reached, CycleRun, point_at, line_of}
-use Rattle.machine.specs.Feeds.{Fed, FeedStep, FeedRuns, LinesFrom, MachineLines, begun, due_in, taken}
+use Rattle.machine.specs.Feeds.{Fed, FeedStep, FeedRuns, LinesFrom, begun, due_in, taken}
 use Rattle.machine.specs.Machine.{MachineState, machine_at_start, emits, closes, sensed, ended}
+use Rattle.machine.specs.Runs.{MachineLines}
+use Rattle.machine.proofs.FeedsInRuns.{feeds-in-run}
 use Rattle.machine.proofs.FeedSteps.{left, FeedStep-falls}
 
 -- each point of a cycle leaves a machine
@@ -91,7 +93,7 @@ FeedEnds-begun : (wiring : Wiring) (old : MachineState) (next : Option (List ℕ
 FeedEnds-begun wiring old next = FeedEnds-some (left (begun old next)) wiring (begun old next) (omega arith)
 
 -- the feeds of a deck run one after another
-LinesFrom-some : (wiring : Wiring) (old : MachineState) (cards : List (List ℕ))
+pub LinesFrom-some : (wiring : Wiring) (old : MachineState) (cards : List (List ℕ))
     → (lines : List PlacedLine) × LinesFrom wiring old cards lines
 unfolding LinesFrom
 LinesFrom-some wiring old [] =
@@ -114,4 +116,5 @@ LinesFrom-some wiring old (card ∷ cards) =
 -- each setup and each deck have a list of lines
 pub MachineLines-some : (wiring : Wiring) (cards : List (List ℕ))
     → (lines : List PlacedLine) × MachineLines wiring cards lines
-MachineLines-some wiring cards = LinesFrom-some wiring (machine_at_start wiring) cards
+MachineLines-some wiring cards =
+    let fed = LinesFrom-some wiring (machine_at_start wiring) cards in (fed.0, feeds-in-run wiring cards fed.0 fed.1)

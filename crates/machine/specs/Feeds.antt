@@ -1,27 +1,16 @@
--- A run goes feed by feed. The first feed gives the machine the first card, and its run-in. Each later feed gives it the next
+-- A machine is fed card by card. The first feed gives it the first card, and its run-in. Each later feed gives it the next
 -- card, or none behind the last one, and runs the card cycle of the card before, with the heading cycles before that and
 -- all cycles behind it up to those of the next card. The cards move on exactly when a card cycle is due, just before it runs.
-use Rattle.std.specs.Prelude.{◌≡◌, ℕ, Bool, true, false, not, ◌||◌, List, [], ◌∷◌, ◌++◌, Option, Some, None, is_some, if◌then◌else◌}
+-- That the feeds of a deck are its run is a law.
+use Rattle.std.specs.Prelude.{◌≡◌, ℕ, Bool, true, false, not, ◌||◌, List, [], ◌∷◌, ◌++◌, Option, Some, None, if◌then◌else◌}
 use Rattle.placed_lines.specs.declared.placed_line.PlacedLine.{PlacedLine}
 use Rattle.setups.specs.Wiring.{Wiring}
 use Rattle.net.specs.declared.cycle.Cycle.{Cycle}
 use Rattle.net.specs.declared.cycle.Cycle.TheVariants.{Card}
-use Rattle.program_unit.specs.CycleOrder.{is_fresh, next_cycle, card_over}
-use Rattle.stations.specs.Stations.{loaded}
-use Rattle.machine.specs.Machine.{MachineState, machine_at_start}
+use Rattle.program_unit.specs.CycleOrder.{is_fresh, card_over}
 use Rattle.machine.specs.Cycles.{CycleRun, line_of}
-
--- the machine with its cards moved on by one
-abbrev pub moved_on : Option (List ℕ) → MachineState → MachineState
-moved_on next machine = record machine { stations = loaded next machine.stations }
-
--- whether a card stands at first reading
-abbrev pub has_more : MachineState → Bool
-has_more machine = is_some machine.stations.first
-
--- which cycle is due, if any
-abbrev pub cycle_due : MachineState → Option Cycle
-cycle_due machine = next_cycle machine.program machine.carriage.spot.latch (has_more machine)
+use Rattle.machine.specs.Machine.{MachineState}
+use Rattle.machine.specs.Runs.{cycle_due, has_more, moved_on}
 
 -- whether the cycles of the last card are over
 abbrev pub is_over : MachineState → Bool
@@ -83,7 +72,7 @@ FedLines wiring old (card ∷ cards) new lines =
     × FedLines wiring mid cards new others
     × (lines ≡ first ++ others)
 
--- the lines of a run from now on: those of a feed for each card, and of one for the end
+-- the lines of a feed for each of these cards, and of one for the end
 unfoldable pub LinesFrom : Wiring → MachineState → List (List ℕ) → List PlacedLine → Type 0
 LinesFrom wiring old [] lines = (new : MachineState) × Feeds wiring old None new lines
 LinesFrom wiring old (card ∷ cards) lines =
@@ -92,7 +81,3 @@ LinesFrom wiring old (card ∷ cards) lines =
     × Feeds wiring old (Some card) new first
     × LinesFrom wiring new cards others
     × (lines ≡ first ++ others)
-
--- the lines of a run over a deck
-abbrev pub MachineLines : Wiring → List (List ℕ) → List PlacedLine → Type 0
-MachineLines wiring cards lines = LinesFrom wiring (machine_at_start wiring) cards lines

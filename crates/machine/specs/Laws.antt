@@ -1,33 +1,28 @@
 -- Laws of whole runs, for every setup of the panel and every deck.
-use Rattle.std.specs.Prelude.{◌≡◌, ℕ, ◌+◌, ◌*◌, ◌≤◌, List, [], ◌∷◌, ◌++◌, length}
+use Rattle.std.specs.Prelude.{◌≡◌, ℕ, ◌+◌, ◌*◌, ◌≤◌, ◌↔◌, List, ◌++◌, length}
 use Rattle.placed_lines.specs.InOrder.{IsInOrder}
 use Rattle.placed_lines.specs.declared.placed_line.PlacedLine.{PlacedLine}
 use Rattle.setups.specs.Tapes.{IsForm, SameTape}
 use Rattle.setups.specs.Wiring.{Wiring, SameWires, SameJacks}
 use Rattle.net.specs.declared.cycle.Cycle.{Cycle}
-use Rattle.machine.specs.Feeds.{Fed, FedLines, FeedStep, LinesFrom, MachineLines}
+use Rattle.machine.specs.Cycles.{CycleRun}
+use Rattle.machine.specs.Feeds.{Fed, FedLines, FeedStep, LinesFrom}
 use Rattle.machine.specs.Machine.{MachineState, machine_at_start}
+use Rattle.machine.specs.Runs.{MachineLines, RunsBy, run_at_start}
 
--- all cycles of a run, feed by feed
-unfoldable pub cycles_from :
-    (wiring : Wiring) (old : MachineState) (cards : List (List ℕ)) (lines : List PlacedLine)
-    → LinesFrom wiring old cards lines → List Cycle
-unfolding LinesFrom
-cycles_from wiring old [] lines (new, feed) = feed.cycles
-cycles_from wiring old (card ∷ cards) lines (new, first, others, feed, run, is) =
-    feed.cycles ++ cycles_from wiring new cards others run
-
--- all cycles of a run over a deck
-abbrev pub cycles_of : (wiring : Wiring) (cards : List (List ℕ)) (lines : List PlacedLine) → MachineLines wiring cards lines → List Cycle
-cycles_of wiring cards lines run = cycles_from wiring (machine_at_start wiring) cards lines run
+-- A run is what the feeds of its cards, and one for the end, do one after another: the lines are the same.
+abbrev pub FeedsCutRuns : Type 0
+FeedsCutRuns =
+    (wiring : Wiring) (cards : List (List ℕ)) (lines : List PlacedLine)
+    → MachineLines wiring cards lines ↔ LinesFrom wiring (machine_at_start wiring) cards lines
 
 -- A run over n cards has at most 28 n + 1 cycles: the run-in, and for each card its own cycle, three program cycles for each of
 -- four levels, and three heading cycles before each of the five that can print.
 abbrev pub RunsHaveFewCycles : Type 0
 RunsHaveFewCycles =
-    (wiring : Wiring) (cards : List (List ℕ)) (lines : List PlacedLine)
-    → (run : MachineLines wiring cards lines)
-    → length (cycles_of wiring cards lines run) ≤ 28 * length cards + 1
+    (wiring : Wiring) (cards : List (List ℕ)) (cycles : List Cycle) (lines : List PlacedLine)
+    → RunsBy (CycleRun wiring) cycles (run_at_start wiring cards) lines
+    → length cycles ≤ 28 * length cards + 1
 
 -- The lines of a run come in the order of their places, on pages 1 to 2^32 and lines of the form, where the deck has at most
 -- 999,999 cards.

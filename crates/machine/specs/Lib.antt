@@ -1,5 +1,6 @@
 pub mod Machine
 pub mod Cycles
+pub mod Runs
 pub mod Feeds
 pub mod Laws
 pub mod Running

@@ -15,7 +15,8 @@ impl Units {
     ghost use Rattle.machine.specs.Ends.{GoesOn};
     ghost use Rattle.machine.specs.Gains.{GainsFeed, GainsPrefix};
     ghost use Rattle.std.specs.Prelude.{OnOk, OnErr};
-    ghost use Rattle.machine.specs.Feeds.{begun, due_in, taken, moved_on, cycle_due, FeedStep};
+    ghost use Rattle.machine.specs.Feeds.{begun, due_in, taken, FeedStep};
+    ghost use Rattle.machine.specs.Runs.{moved_on, cycle_due};
 
     // Begins a feed, and answers whether what is fed waits: the first card goes to first reading at once.
     fn begin(&mut self, next: &Option<Card>) -> bool

@@ -1,8 +1,13 @@
 //! Laws of whole runs, for every setup of the panel and every deck. Each is a function that does nothing: its contract
 //! is the law.
 
-ghost use Rattle.machine.specs.Laws.{LinesComeInOrder, OneCycleFollows, RunsGoInParts, RunsHaveAnOutcome, RunsHaveFewCycles};
+ghost use Rattle.machine.specs.Laws.{FeedsCutRuns, LinesComeInOrder, OneCycleFollows, RunsGoInParts, RunsHaveAnOutcome, RunsHaveFewCycles};
 ghost use Rattle.machine.specs.Laws.{RunsHaveOneOutcome, SameSetupsPrintAlike};
+
+/// A run places the lines that the feeds of its cards, and one for the end, place one after another.
+pub fn feeds_cut_runs()
+    ensures { FeedsCutRuns }
+{}
 
 /// The lines of a run come in the order of their places.
 pub fn lines_come_in_order()

@@ -2,7 +2,7 @@
 
 ghost use Rattle.std.specs.Prelude.{◌≤◌, IfOk, length};
 ghost use Rattle.placed_lines.specs.InOrder.{IsInOrder};
-ghost use Rattle.machine.specs.Feeds.{MachineLines};
+ghost use Rattle.machine.specs.Runs.{MachineLines};
 
 use crate::units::Units;
 use card_code::Card;

@@ -8,8 +8,9 @@ use Rattle.decks.proofs.Places.{places_split}
 use Rattle.decks.specs.Left.{bodies_of, left_behind}
 use Rattle.decks.specs.Stands.{Stand, card_bodies}
 use Rattle.setups.specs.Wiring.{Wiring}
-use Rattle.machine.specs.Feeds.{Feeds, FeedRuns, begun, due_in, has_more, moved_on}
+use Rattle.machine.specs.Feeds.{Feeds, FeedRuns, begun, due_in}
 use Rattle.machine.specs.Machine.{MachineState}
+use Rattle.machine.specs.Runs.{has_more, moved_on}
 use Rattle.net.specs.Printing.{prints}
 use Rattle.net.specs.declared.cycle.Cycle.TheVariants.{Card, Head}
 use Rattle.net.specs.declared.cycle.Level.{Level}

@@ -8,8 +8,9 @@ use Rattle.placed_lines.specs.declared.placed_line.PlacedLine.{PlacedLine}
 use Rattle.charts.specs.Chart.{Chart}
 use Rattle.setups.specs.Wiring.{Wiring}
 use Rattle.machine.specs.Cycles.{line_of}
-use Rattle.machine.specs.Feeds.{due_in, has_more}
+use Rattle.machine.specs.Feeds.{due_in}
 use Rattle.machine.specs.Machine.{MachineState}
+use Rattle.machine.specs.Runs.{has_more}
 use Rattle.net.specs.Printing.{prints}
 use Rattle.net.specs.declared.cycle.Cycle.{Cycle}
 use Rattle.net.specs.declared.cycle.Cycle.TheVariants.{Head}

@@ -16,8 +16,8 @@ use Rattle.wired_panels.specs.CounterStates.{IsCardRead}
 use Rattle.wired_panels.specs.Sensed.{AreSetTo}
 use Rattle.wired_panels.proofs.IndicateLatches.{latches-card, latches-third, latches-left, latches-heading, latches-run_in}
 use Rattle.machine.specs.Cycles.{CycleRun}
-use Rattle.machine.specs.Feeds.{moved_on}
 use Rattle.machine.specs.Machine.{MachineState, machine_at_start}
+use Rattle.machine.specs.Runs.{moved_on}
 use Rattle.net.specs.Cycles.{level_number}
 use Rattle.net.specs.declared.cycle.Cycle.TheVariants.{RunIn, Card, Prog, Head}
 use Rattle.net.specs.declared.cycle.Level.{Level}

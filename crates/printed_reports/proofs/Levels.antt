@@ -12,8 +12,9 @@ use Rattle.decks.specs.Left.{bodies_of, left_behind}
 use Rattle.decks.specs.Stands.{Stand}
 use Rattle.setups.specs.Wiring.{Wiring}
 use Rattle.machine.specs.Cycles.{line_of}
-use Rattle.machine.specs.Feeds.{due_in, has_more}
+use Rattle.machine.specs.Feeds.{due_in}
 use Rattle.machine.specs.Machine.{MachineState}
+use Rattle.machine.specs.Runs.{has_more}
 use Rattle.net.specs.Cycles.{level_number}
 use Rattle.net.specs.Printing.{prints}
 use Rattle.net.specs.declared.cycle.Cycle.{Cycle}

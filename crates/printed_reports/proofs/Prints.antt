@@ -6,8 +6,8 @@ use Rattle.chart_rules.specs.Rules.{IsLawful}
 use Rattle.chart_rules.specs.ValidCard.{IsValidCard}
 use Rattle.charts.specs.Chart.{Chart}
 use Rattle.setups.specs.Wiring.{Wiring}
-use Rattle.machine.specs.Feeds.{MachineLines}
 use Rattle.machine.specs.Machine.{MachineState}
+use Rattle.machine.specs.Runs.{MachineLines}
 use Rattle.report.specs.Report.{report_lines}
 use Rattle.report.specs.Totals.{Fits}
 use Rattle.printed_reports.specs.Content.{Behind, Waits, Within, by_first, by_second}

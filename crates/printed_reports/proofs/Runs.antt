@@ -8,9 +8,11 @@ use Rattle.decks.proofs.Running.{runs_follow_decks}
 use Rattle.decks.specs.Runner.{Runner, GoesByCards, FollowsNext, Runs}
 use Rattle.decks.specs.Stands.{Stand, at_first, card_bodies, stand_behind}
 use Rattle.setups.specs.Wiring.{Wiring}
+use Rattle.machine.proofs.RunsInFeeds.{run-in-feeds}
 use Rattle.machine.specs.Cycles.{CycleRun}
-use Rattle.machine.specs.Feeds.{Feeds, LinesFrom, MachineLines, begun, due_in, has_more, moved_on}
+use Rattle.machine.specs.Feeds.{Feeds, LinesFrom, begun, due_in}
 use Rattle.machine.specs.Machine.{MachineState, machine_at_start}
+use Rattle.machine.specs.Runs.{MachineLines, has_more, moved_on}
 use Rattle.net.specs.Printing.{printing_of}
 use Rattle.net.specs.declared.cycle.Cycle.TheVariants.{RunIn}
 use Rattle.net.specs.declared.cycle.Level.{Level}
@@ -137,4 +139,4 @@ pub machine_prints :
 machine_prints chart wiring Reads Waits Behind Tested Turned cards lines lawful goes reads long fits run =
     runs_follow_decks (runner chart wiring Reads Waits)
     (goes_by_cards chart wiring Reads Waits Behind Tested Turned lawful goes) cards lines reads long fits
-    (lines-run chart wiring Reads Waits (machine_at_start wiring) cards lines run)
+    (lines-run chart wiring Reads Waits (machine_at_start wiring) cards lines (run-in-feeds wiring cards lines run))

@@ -8,8 +8,8 @@ use Rattle.decks.specs.Runner.{ReadsNext}
 use Rattle.decks.specs.Stands.{Stand, at_first, stand_behind}
 use Rattle.setups.specs.Wiring.{Wiring}
 use Rattle.machine.specs.Cycles.{CycleRun}
-use Rattle.machine.specs.Feeds.{moved_on}
 use Rattle.machine.specs.Machine.{MachineState, machine_at_start}
+use Rattle.machine.specs.Runs.{moved_on}
 use Rattle.net.specs.Cycles.{level_number}
 use Rattle.net.specs.Printing.{printing_of}
 use Rattle.net.specs.declared.cycle.Cycle.TheVariants.{Card, Head, Prog, RunIn}

@@ -7,7 +7,7 @@ use Rattle.charts.specs.Chart.{Chart, NumbersRise}
 use Rattle.charts.specs.Literals.{HaveLiteralTexts}
 use Rattle.setups.specs.Wiring.{Wiring}
 use Rattle.wired_panels.specs.Panel.{IsPanel}
-use Rattle.machine.specs.Feeds.{MachineLines}
+use Rattle.machine.specs.Runs.{MachineLines}
 use Rattle.report.specs.Report.{report_lines}
 use Rattle.report.specs.Totals.{Fits}
 

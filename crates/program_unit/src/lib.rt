@@ -12,6 +12,6 @@ mod laws;
 mod program;
 mod stage;
 
-pub use laws::headings_come_once;
+pub use laws::{headings_come_once, levels_run_in_order};
 pub use program::Program;
 pub use stage::Stage;

@@ -14,8 +14,9 @@ use Rattle.print_unit.specs.Wheels.{emptied, wheel_at_start}
 use Rattle.program_unit.specs.CycleOrder.{is_fresh}
 use Rattle.program_unit.specs.Program.{ProgramState, program_ended, program_sensed}
 use Rattle.machine.specs.Cycles.{CycleRun}
-use Rattle.machine.specs.Feeds.{Fed, FeedRuns, FeedStep, begun, moved_on, taken}
+use Rattle.machine.specs.Feeds.{Fed, FeedRuns, FeedStep, begun, taken}
 use Rattle.machine.specs.Machine.{MachineState, group_units, machine_at_start}
+use Rattle.machine.specs.Runs.{moved_on}
 use Rattle.whole_cycles.specs.Between.{IsReady, IsRingAsWired, IsSetUp}
 use Rattle.whole_cycles.specs.Laws.{MachinesStayReady}
 use Rattle.whole_cycles.specs.WholeCycles.{WholeCycle, counter_behind}

@@ -1,5 +1,5 @@
-use Rattle.machine.proofs.FewCycles.{MachineLines-cycles}
+use Rattle.machine.proofs.FewCycles.{runs-have-few}
 use Rattle.machine.proofs.laws.runs_have_few_cycles.Goals as goal
 
 pub returns : goal.returns
-returns c = MachineLines-cycles
+returns c = runs-have-few
