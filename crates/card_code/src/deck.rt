@@ -96,8 +96,12 @@ pub fn deck_text_is_unambiguous()
         Deck bytes cards → ¬ HasFault bytes fault }
 {}
 
-/// The card of line `number`, or the line's fault.
-fn read_card(number: u32, line: &[u8]) -> Result<Card, DeckFault>
+/// The card of the line with the number `number`, from 1.
+///
+/// # Errors
+///
+/// `CardTooLong`, or else `NoSuchCharacter` for the first byte that is no deck character.
+pub fn read_card(number: u32, line: &[u8]) -> Result<Card, DeckFault>
     ensures card { IfOk result (λ card. IsCardOf line.now card) }
     ensures fault { IfErr result (λ fault. HasLineFault line.now number fault) }
 {

@@ -23,6 +23,6 @@ mod row;
 pub use card::{CARD_COLUMNS, Card};
 pub use code::code_is_one_to_one;
 pub use column::Column;
-pub use deck::{DeckFault, MOST_CARDS, deck_text_is_unambiguous, read_deck};
-pub use lines::next_line;
+pub use deck::{DeckFault, MOST_CARDS, deck_text_is_unambiguous, read_card, read_deck};
+pub use lines::{next_line, without_cr};
 pub use row::{ROWS, Row};

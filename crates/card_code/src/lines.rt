@@ -44,8 +44,8 @@ fn last_line(text: &[u8]) -> Option<(&[u8], &[u8])>
     }
 }
 
-/// A piece without the one CR at its end.
-fn without_cr(piece: &[u8]) -> &[u8]
+/// A piece of a text without the one CR at its end.
+pub fn without_cr(piece: &[u8]) -> &[u8]
     ensures line { result.now ≡ without_cr piece.now }
 {
     match piece.split_last() {

@@ -1,0 +1,121 @@
+-- The next card, or the fault in its place.
+use Rattle.std.proofs.Common.{◌≡◌, ◌∙◌, ℕ, ◌+◌, ◌<◌, List, [], ◌∷◌, ◌++◌, length, take, drop, Option, Some, None, Result, Ok, Err, IfOk, IfSome, is_some, refl, sym, ap, subst, arith, append-nil}
+use Rattle.std.proofs.Math.Seq.{take-length, drop-length}
+use Rattle.std.proofs.lemmas.Bool.Decides.{nat_tests}
+use Rattle.std.proofs.lemmas.Bool.{false≢true}
+use Rattle.std.specs.Io.KnownBytes.{IsAtEnd, Keeps, prepend_known}
+use Rattle.card_code.proofs.Pieces.{lines_of_last, lines_of_none}
+use Rattle.card_code.specs.Deck.{IsCardOf, HasLineFault}
+use Rattle.card_code.specs.Lines.{lines_of, without_cr}
+use Rattle.card_code.specs.declared.deck.DeckFault.{DeckFault}
+use Rattle.card_code.specs.declared.deck.DeckFault.TheVariants.{CardTooLong, NoSuchCharacter, TooManyCards, Memory}
+use Rattle.card_lines.proofs.FirstLines.{long_first}
+use Rattle.card_lines.specs.Faults.{HasFaultNext}
+use Rattle.card_lines.specs.Front.{IsPart, IsTooLong}
+use Rattle.card_lines.specs.Reading.{GivesCard, HasFirstLine}
+use Rattle.card_lines.specs.declared.fault.ReadFault.TheVariants as read
+
+-- the bytes of a text that is known
+abbrev bytes_of : Option (List ℕ) → List ℕ
+bytes_of None = []
+bytes_of (Some bytes) = bytes
+
+-- where the text still to come is known, so is what is left of it
+pub left_of : (held text : List ℕ) (left : Option (List ℕ)) → prepend_known held left ≡ Some text
+    → (rest : List ℕ) × (left ≡ Some rest) × (text ≡ held ++ rest)
+left_of held text None known = absurd (false≢true (ap is_some known))
+left_of held text (Some rest) known = (rest, refl, sym (ap bytes_of known))
+
+-- a card comes off the front
+pub gives : (given end used : ℕ) (held text card : List ℕ) (left : Option (List ℕ)) → given < 999999
+    → ((rest : List ℕ) → left ≡ Some rest → HasFirstLine held end used rest) → IsCardOf (without_cr (take end held)) card
+    → prepend_known held left ≡ Some text → GivesCard given text card (prepend_known (drop used held) left)
+gives given end used held text card left few first punched known =
+    let rest = left_of held text left known in
+    record {
+      few = few;
+      line = without_cr (take end held);
+      rest = drop used held ++ rest.0;
+      left = ap (prepend_known (drop used held)) (rest.1);
+      cut = ap lines_of (rest.2) ∙ first (rest.0) (rest.1);
+      punched = punched;
+    }
+
+-- the fault of a line at fault
+pub told : (given : ℕ) (text line : List ℕ) (others : List (List ℕ)) → given < 999999 → lines_of text ≡ line ∷ others
+    → (fault : DeckFault) → HasLineFault line (given + 1) fault → HasFaultNext given text (read.Deck fault)
+told given text line others few cut (CardTooLong n) at = record { few = few; line = line; others = others; cut = cut; is_fault = at }
+told given text line others few cut (NoSuchCharacter n column) at =
+    record { few = few; line = line; others = others; cut = cut; is_fault = at }
+told given text line others few cut TooManyCards at = absurd at
+told given text line others few cut Memory at = absurd at
+
+-- after 999,999 cards another line is one too many
+pub many : (given end used : ℕ) (held text : List ℕ) (left : Option (List ℕ)) → given ≡ 999999
+    → ((rest : List ℕ) → left ≡ Some rest → HasFirstLine held end used rest) → prepend_known held left ≡ Some text
+    → HasFaultNext given text (read.Deck TooManyCards)
+many given end used held text left full first known =
+    let rest = left_of held text left known in
+    let cut = ap lines_of (rest.2) ∙ first (rest.0) (rest.1) in
+    (full, λ none. absurd (omega (arith, ap length (sym none ∙ cut))))
+
+-- the fault of the line at the front
+pub told_next : (given end used : ℕ) (held text : List ℕ) (left : Option (List ℕ)) (fault : DeckFault) → given < 999999
+    → ((rest : List ℕ) → left ≡ Some rest → HasFirstLine held end used rest) → prepend_known held left ≡ Some text
+    → HasLineFault (without_cr (take end held)) (given + 1) fault → HasFaultNext given text (read.Deck fault)
+told_next given end used held text left fault few first known at =
+    let rest = left_of held text left known in
+    told given text _ _ few (ap lines_of (rest.2) ∙ first (rest.0) (rest.1)) fault at
+
+-- what is told of a line that is surely too long
+pub long_told : (given : ℕ) (held text : List ℕ) (left : Option (List ℕ)) → given < 999999 → IsTooLong held
+    → prepend_known held left ≡ Some text → HasFaultNext given text (read.Deck (CardTooLong (given + 1)))
+long_told given held text left few front known =
+    let rest = left_of held text left known in
+    let first = long_first held (rest.0) front in
+    told given text (first.line) (first.others) few (ap lines_of (rest.2) ∙ first.cut) (CardTooLong (given + 1)) (refl, first.long)
+
+-- and after 999,999 cards
+pub long_many : (given : ℕ) (held text : List ℕ) (left : Option (List ℕ)) → given ≡ 999999 → IsTooLong held
+    → prepend_known held left ≡ Some text → HasFaultNext given text (read.Deck TooManyCards)
+long_many given held text left full front known =
+    let rest = left_of held text left known in
+    let first = long_first held (rest.0) front in
+    (full, λ none. absurd (omega (arith, ap length (sym none ∙ ap lines_of (rest.2) ∙ first.cut))))
+
+-- the last line, which no LF ends: all that is held is it, and nothing is left
+pub last_first : (held : List ℕ) (left : Option (List ℕ)) → IsPart held → IsAtEnd left → 0 < length (without_cr held)
+    → (rest : List ℕ) → left ≡ Some rest → HasFirstLine held (length held) (length held) rest
+last_first held left part end some rest is =
+    let none : rest ≡ [] = subst IsAtEnd is end in
+    ap (λ (t : List ℕ). lines_of (held ++ t)) none ∙ ap lines_of (append-nil held)
+    ∙ lines_of_last held (without_cr held) [] part.unended refl (grind (arith, nat_tests, some)) refl
+    ∙ ap (λ (t : List ℕ). without_cr t ∷ lines_of []) (sym (take-length held))
+    ∙ ap (λ (t : List ℕ). without_cr (take (length held) held) ∷ lines_of t) (sym (ap (λ (t : List ℕ). drop (length held) held ++ t) none ∙ append-nil (drop (length held) held) ∙ drop-length held))
+
+-- no line is left where the end is met and nothing but a CR is held
+pub none_left : (held text : List ℕ) (left : Option (List ℕ)) → IsPart held → IsAtEnd left → length (without_cr held) ≡ 0
+    → prepend_known held left ≡ Some text → lines_of text ≡ []
+none_left held text left part end empty known =
+    let rest = left_of held text left known in
+    let none : rest.0 ≡ [] = subst IsAtEnd (rest.1) end in
+    ap lines_of (rest.2) ∙ ap (λ (t : List ℕ). lines_of (held ++ t)) none ∙ ap lines_of (append-nil held)
+    ∙ lines_of_none held (without_cr held) part.unended refl (grind (arith, nat_tests, empty))
+
+-- a text that stays is known where it was
+pub still_known : (before after : Option (List ℕ)) (text : List ℕ) → Keeps before after → before ≡ Some text → after ≡ Some text
+still_known None after text kept known = absurd (false≢true (ap is_some known))
+still_known (Some bytes) None text kept known = absurd kept
+still_known (Some bytes) (Some same) text kept known = ap Some kept ∙ known
+
+-- what is said of a card that was found
+pub of_found : {C E : Type 0} (P Q : C → Type 0) → ((card : C) → P card → Q card) → (found : Result (Option C) E)
+    → IfOk found (λ card. IfSome card P) → IfOk found (λ card. IfSome card Q)
+of_found P Q more (Ok None) is = tt
+of_found P Q more (Ok (Some card)) is = more card is
+of_found P Q more (Err fault) is = tt
+
+-- the number of cards before it by another word
+pub given_as : {come : Option (List ℕ)} (one other : ℕ) (text card : List ℕ) → one ≡ other → GivesCard one text card come
+    → GivesCard other text card come
+given_as {come} one other text card is = subst (λ n. GivesCard n text card come) is

@@ -1,0 +1,47 @@
+use Rattle.std.proofs.Common.{◌≡◌, ◌∙◌, ◌<◌, List, ℕ, length, ap, subst, arith}
+use Rattle.std.proofs.lemmas.Bool.Decides.{nat_tests}
+use Rattle.std.specs.Io.KnownBytes.{IsAtEnd}
+use Rattle.card_code.specs.Lines.{without_cr}
+use Rattle.card_lines.proofs.FirstLines.{held_line}
+use Rattle.card_lines.proofs.Next.{given_as, last_first, none_left, of_found, still_known}
+use Rattle.card_lines.proofs.reading.CardLines.take_card.Goals as goal
+use Rattle.card_lines.specs.Front.{IsFront}
+use Rattle.card_lines.specs.Reading.{Reading}
+
+pub take_line-requires-clause-first : goal.take_line-requires-clause-first
+take_line-requires-clause-first g c = λ rest is.
+    held_line c.fill.new.self.held rest c.in-Line.end (subst (IsFront c.fill.new.self.held) c.in-Line.is c.in-Ok.ensures.front)
+
+pub take_line-requires-in-Part-2-clause-first : goal.take_line-requires-in-Part-2-clause-first
+take_line-requires-in-Part-2-clause-first g c =
+    let end =
+    subst (λ (r : Reading g.row.S.Denot). IsAtEnd (g.S.Source.left r.source)) c.self.view_is
+    (c.self.invariant.1 (ap (λ r. r.at_end) c.self.view_is ∙ c.in-Ok.ensures.end c.in-Part-2.is)) in
+    let line = c.without_cr.ensures.line ∙ ap without_cr (c.bytes.ensures ∙ ap (λ r. r.held) c.self.view_is) in
+    rw (c.bytes-end.ensures ∙ ap (λ r. r.held) c.self.view_is)
+    (last_first c.fill.new.self.held _ (subst (IsFront c.fill.new.self.held) c.in-Part-2.is c.in-Ok.ensures.front) end
+    (subst (λ (l : List ℕ). 0 < length l) line (grind (arith, nat_tests, c.if-is_empty.ensures))))
+
+pub returns-in-Line-clause-card : goal.returns-in-Line-clause-card
+returns-in-Line-clause-card g c =
+    of_found _ _
+    (λ card gave text known. given_as _ _ text card c.in-Ok.ensures.given
+    (gave text (still_known _ _ text c.in-Ok.ensures.text known)))
+    c.take_line.result c.take_line.ensures.card
+
+pub returns-in-Part-clause-none : goal.returns-in-Part-clause-none
+returns-in-Part-clause-none g c = λ text known.
+    let end =
+    subst (λ (r : Reading g.row.S.Denot). IsAtEnd (g.S.Source.left r.source)) c.self.view_is
+    (c.self.invariant.1 (ap (λ r. r.at_end) c.self.view_is ∙ c.in-Ok.ensures.end c.in-Part.is)) in
+    let line = c.without_cr.ensures.line ∙ ap without_cr (c.bytes.ensures ∙ ap (λ r. r.held) c.self.view_is) in
+    none_left c.fill.new.self.held text _ (subst (IsFront c.fill.new.self.held) c.in-Part.is c.in-Ok.ensures.front) end
+    (subst (λ (l : List ℕ). length l ≡ 0) line (grind (arith, nat_tests, c.if-is_empty.ensures)))
+    (still_known _ _ text c.in-Ok.ensures.text known)
+
+pub returns-in-Part-2-clause-card : goal.returns-in-Part-2-clause-card
+returns-in-Part-2-clause-card g c =
+    of_found _ _
+    (λ card gave text known. given_as _ _ text card c.in-Ok.ensures.given
+    (gave text (still_known _ _ text c.in-Ok.ensures.text known)))
+    c.take_line-in-Part-2.result c.take_line-in-Part-2.ensures.card

@@ -1,0 +1,36 @@
+-- Cards that come off the front of what a source gives.
+use Rattle.std.specs.Prelude.{◌≡◌, ℕ, ◌<◌, ◌⊎◌, Bool, List, ◌∷◌, ◌++◌, Option, Some, drop, take}
+use Rattle.std.specs.Io.KnownBytes.{prepend_known}
+use Rattle.card_code.specs.Deck.{IsCardOf}
+use Rattle.card_code.specs.Lines.{lines_of, without_cr}
+use Rattle.card_lines.specs.Front.{IsLine, IsTooLong}
+
+-- A reading of cards: its source, the bytes held that were read and not given yet, how many cards were given, whether the end of the source
+-- was met, and whether a fault was told.
+pub record Reading (S : Type 0) : Type 0 where
+  pub source : S
+  pub held : List ℕ
+  pub given : ℕ
+  pub at_end : Bool
+  pub has_failed : Bool
+
+-- the text still to come, where it is known: the bytes held, and then those that the source has left
+abbrev pub still_to_come : {S : Type 0} → (S → Option (List ℕ)) → Reading S → Option (List ℕ)
+still_to_come left reading = prepend_known reading.held (left reading.source)
+
+-- a whole line, or one that is surely too long, is held
+abbrev pub IsSettled : List ℕ → Type 0
+IsSettled held = ((end : ℕ) × IsLine held end) ⊎ IsTooLong held
+
+-- The card after so many others is that of the first line of a text, and the text still to come then has the others.
+pub record GivesCard (given : ℕ) (text card : List ℕ) (to_come : Option (List ℕ)) : Type 0 where
+  pub few : given < 999999
+  pub line : List ℕ
+  pub rest : List ℕ
+  pub left : to_come ≡ Some rest
+  pub cut : lines_of text ≡ line ∷ lines_of rest
+  pub punched : IsCardOf line card
+
+-- With the bytes that come after those held, the first line is that of the first so many of them, and after so many the other lines begin.
+abbrev pub HasFirstLine : (held : List ℕ) (end used : ℕ) (rest : List ℕ) → Type 0
+HasFirstLine held end used rest = lines_of (held ++ rest) ≡ without_cr (take end held) ∷ lines_of (drop used held ++ rest)

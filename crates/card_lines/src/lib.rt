@@ -1,0 +1,20 @@
+//! Decks read card by card from any source of bytes.
+//!
+//! [`CardLines`] holds one line at most of what was not given yet, in a buffer of a fixed size, and gives the cards of the deck
+//! that the source's bytes are, one by one, however the source cuts them. It asks for no memory.
+//!
+//! ```text
+//! let mut lines = CardLines::new(FromRead::new(file));
+//! while let Some(card) = lines.next_card()? { .. }
+//! ```
+//!
+//! The crate stands on `card_code`, which says what a line and a card are, and on `devices`.
+#![tactic(auto)]
+
+mod buffer;
+mod fault;
+mod front;
+mod reading;
+
+pub use fault::ReadFault;
+pub use reading::CardLines;

@@ -1,0 +1,195 @@
+//! Cards off the front of what a source gives.
+
+ghost use Rattle.std.specs.Prelude.{◌≡◌, ◌≢◌, ◌+◌, ◌≤◌, ℕ, List, Option, [], ◌∷◌, length, Some, true, false, IfOk, IfErr, IfSome, IfNone, IsErr, IsSome, OnErr, OnOk};
+ghost use Rattle.std.specs.Io.KnownBytes.{IsAtEnd, Keeps};
+ghost use Rattle.card_code.specs.Lines.{lines_of};
+ghost use Rattle.card_lines.specs.Reading.{Reading, still_to_come, IsSettled, GivesCard, HasFirstLine};
+ghost use Rattle.card_lines.specs.Front.{IsFront, IsTooLong};
+ghost use Rattle.card_lines.specs.Faults.{HasFaultNext};
+ghost use Rattle.card_lines.specs.declared.fault.ReadFault.TheVariants as read;
+ghost use Rattle.card_lines.specs.declared.front.Front.TheVariants as stands;
+
+use crate::buffer::Buffer;
+use crate::fault::ReadFault;
+use crate::front::{Front, look_at};
+use card_code::{Card, DeckFault, MOST_CARDS, read_card, without_cr};
+use devices::{DeviceFailed, Source};
+use std::marker::Model;
+
+/// The cards of a deck, one by one, from the bytes of a source.
+///
+/// Contracts see the source, the bytes held that were read from it and not given yet, how many cards were given, at most 999,999,
+/// whether the end of the source was met, and whether a fault was told.
+#[derive(Drop)]
+pub struct CardLines<S: Source + Drop> {
+    source: S,
+    held: Buffer,
+    given: u32,
+    at_end: bool,
+    has_failed: bool,
+}
+
+impl<S: Source + Drop> Model for CardLines<S> {
+    ghost Value = { Reading S };
+
+    ghost view = { λ lines. record {
+      source = lines.source;
+      held = lines.held;
+      given = lines.given;
+      at_end = lines.at_end;
+      has_failed = lines.has_failed;
+    } };
+
+    ghost invariant = { λ lines. (lines.given ≤ 999999) × (lines.at_end ≡ true → IsAtEnd (S.left lines.source)) };
+}
+
+impl<S: Source + Drop> CardLines<S> {
+    /// The cards of all bytes that the source has left.
+    pub fn new(source: S) -> CardLines<S>
+        ensures source { result.source ≡ source }
+        ensures nothing_held { result.held ≡ [] }
+        ensures nothing_given { result.given ≡ 0 }
+        ensures begun { result.at_end ≡ false }
+        ensures well { result.has_failed ≡ false }
+    {
+        CardLines {
+            source,
+            held: Buffer::new(),
+            given: 0,
+            at_end: false,
+            has_failed: false,
+        }
+    }
+
+    /// The next card, or `None` where no line is left.
+    ///
+    /// It reads only while it holds no whole line, and none that is surely too long, at most 82 times, and never again behind the
+    /// end of the source or a fault.
+    ///
+    /// # Errors
+    ///
+    /// `Read` where the source fails; else `Deck` where the line is the one after 999,999 cards (`TooManyCards`), has more than 80
+    /// characters (`CardTooLong`) or one that is no deck character (`NoSuchCharacter`). After each of these `Failed`, always.
+    pub fn next_card(&mut self) -> Result<Option<Card>, ReadFault>
+        ensures card { IfOk result (λ found. IfSome found (λ card. (text : List ℕ) → still_to_come S.left self.old ≡ Some text →
+            GivesCard self.old.given text card (still_to_come S.left self.new))) }
+        ensures one_more { IfOk result (λ found. IfSome found (λ _. self.new.given ≡ self.old.given + 1)) }
+        ensures none { IfOk result (λ found. IfNone found ((text : List ℕ) → still_to_come S.left self.old ≡ Some text →
+            lines_of text ≡ [])) }
+        ensures all { IfOk result (λ found. IfNone found (IsAtEnd (S.left self.new.source))) }
+        ensures fault { self.old.has_failed ≡ false → IfErr result (λ fault. (text : List ℕ) →
+            still_to_come S.left self.old ≡ Some text → HasFaultNext self.old.given text fault) }
+        ensures read { self.old.has_failed ≡ false → IfErr result (λ fault. (line : ℕ) → fault ≡ read.Read line →
+            (line ≡ self.old.given + 1) × (S.has_failed self.new.source ≡ true)) }
+        ensures told { IfErr result (λ _. self.new.has_failed ≡ true) }
+        ensures well { OnOk result (self.new.has_failed ≡ false) }
+        ensures again { self.old.has_failed ≡ true → IfErr result (λ fault. fault ≡ read.Failed) }
+        ensures no_card_again { self.old.has_failed ≡ true → IsErr result }
+        ensures unread_again { self.old.has_failed ≡ true → self.new ≡ self.old }
+        ensures unread { IsSettled self.old.held → self.new.source ≡ self.old.source }
+        ensures ended { self.old.at_end ≡ true → self.new.source ≡ self.old.source }
+        ensures counted { S.reads self.new.source ≤ S.reads self.old.source + 82 }
+    {
+        if self.has_failed {
+            return Err(ReadFault::Failed);
+        }
+        let next = self.take_card();
+        self.has_failed = next.is_err();
+        next
+    }
+}
+
+impl<S: Source + Drop> CardLines<S> {
+    // The next card, where no fault was told.
+    fn take_card(&mut self) -> Result<Option<Card>, ReadFault>
+        requires { self.old.has_failed ≡ false }
+        ensures card { IfOk result (λ found. IfSome found (λ card. (text : List ℕ) → still_to_come S.left self.old ≡ Some text →
+            GivesCard self.old.given text card (still_to_come S.left self.new))) }
+        ensures one_more { IfOk result (λ found. IfSome found (λ _. self.new.given ≡ self.old.given + 1)) }
+        ensures none { IfOk result (λ found. IfNone found ((text : List ℕ) → still_to_come S.left self.old ≡ Some text →
+            lines_of text ≡ [])) }
+        ensures all { IfOk result (λ found. IfNone found (IsAtEnd (S.left self.new.source))) }
+        ensures fault { IfErr result (λ fault. (text : List ℕ) →
+            still_to_come S.left self.old ≡ Some text → HasFaultNext self.old.given text fault) }
+        ensures read { IfErr result (λ fault. (line : ℕ) → fault ≡ read.Read line →
+            (line ≡ self.old.given + 1) × (S.has_failed self.new.source ≡ true)) }
+        ensures unread { IsSettled self.old.held → self.new.source ≡ self.old.source }
+        ensures ended { self.old.at_end ≡ true → self.new.source ≡ self.old.source }
+        ensures counted { S.reads self.new.source ≤ S.reads self.old.source + 82 }
+    {
+        let Ok(front) = self.fill() else {
+            return Err(ReadFault::Read {
+                line: self.given + 1,
+            });
+        };
+        match front {
+            Front::Line(end) => self.take_line(end, end + 1),
+            Front::TooLong => Err(self.too_long()),
+            Front::Part if without_cr(self.held.bytes()).is_empty() => Ok(None),
+            Front::Part => {
+                let end = self.held.bytes().len();
+                self.take_line(end, end)
+            }
+        }
+    }
+
+    // Reads until a whole line, one that is surely too long, or the end is met.
+    fn fill(&mut self) -> Result<Front, DeviceFailed>
+        ensures text { Keeps (still_to_come S.left self.old) (still_to_come S.left self.new) }
+        ensures front { IfOk result (λ front. IsFront self.new.held front) }
+        ensures end { IfOk result (λ front. front ≡ stands.Part → self.new.at_end ≡ true) }
+        ensures given { self.new.given ≡ self.old.given }
+        ensures has_failed { self.new.has_failed ≡ self.old.has_failed }
+        ensures failed { OnErr result (S.has_failed self.new.source ≡ true) }
+        ensures unread { IsSettled self.old.held → self.new.source ≡ self.old.source }
+        ensures ended { self.old.at_end ≡ true → self.new.source ≡ self.old.source }
+        ensures counted { S.reads self.new.source ≤ S.reads self.old.source + 82 }
+    {
+        loop {
+            let front = look_at(self.held.bytes());
+            if !matches!(front, Front::Part) || self.at_end {
+                return Ok(front);
+            }
+            self.at_end = self.held.read_more(&mut self.source)? == 0;
+        }
+    }
+
+    // The card of the line that is the first `end` bytes held, which with its LF, if it has one, are the first `used`.
+    fn take_line(&mut self, end: usize, used: usize) -> Result<Option<Card>, ReadFault>
+        requires first { (rest : List ℕ) → S.left self.old.source ≡ Some rest → HasFirstLine self.old.held end used rest }
+        requires within { used ≤ length self.old.held }
+        requires end { end ≤ used }
+        ensures some { IfOk result IsSome }
+        ensures card { IfOk result (λ found. IfSome found (λ card. (text : List ℕ) → still_to_come S.left self.old ≡ Some text →
+            GivesCard self.old.given text card (still_to_come S.left self.new))) }
+        ensures one_more { OnOk result (self.new.given ≡ self.old.given + 1) }
+        ensures fault { IfErr result (λ fault. (text : List ℕ) →
+            still_to_come S.left self.old ≡ Some text → HasFaultNext self.old.given text fault) }
+        ensures not_read { IfErr result (λ fault. (line : ℕ) → fault ≢ read.Read line) }
+        ensures unread { self.new.source ≡ self.old.source }
+    {
+        if self.given == MOST_CARDS as u32 {
+            return Err(DeckFault::TooManyCards.into());
+        }
+        let card = read_card(self.given + 1, without_cr(&self.held.bytes()[..end]))?;
+        self.held.use_up(used);
+        self.given += 1;
+        Ok(Some(card))
+    }
+
+    // The fault of a line that is surely too long.
+    fn too_long(&self) -> ReadFault
+        requires { IsTooLong self.now.held }
+        ensures fault { (text : List ℕ) → still_to_come S.left self.now ≡ Some text → HasFaultNext self.now.given text result }
+        ensures not_read { (line : ℕ) → result ≢ read.Read line }
+    {
+        if self.given == MOST_CARDS as u32 {
+            return DeckFault::TooManyCards.into();
+        }
+        ReadFault::Deck {
+            fault: DeckFault::CardTooLong {
+                line: self.given + 1,
+            },
+        }
+    }
+}
