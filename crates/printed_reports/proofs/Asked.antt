@@ -1,11 +1,16 @@
 -- What the carriage is asked for in a cycle.
-use Rattle.std.proofs.Common.{Some, None}
+use Rattle.std.proofs.Common.{ℕ, Option, Some, None}
 use Rattle.carriage.specs.Asked.{nothing_asked}
 use Rattle.carriage.specs.declared.asked.Asked.{Asked}
 use Rattle.charts.specs.Chart.{Chart}
 use Rattle.net.specs.declared.cycle.Cycle.{Cycle}
 use Rattle.line_places.specs.Placing.{asked_of, kind_of}
 
+-- what the carriage is asked for where a kind of body line prints, or none
+abbrev pub asked_for : Chart → Option ℕ → Asked
+asked_for chart None = nothing_asked
+asked_for chart (Some kind) = asked_of chart.lines kind
+
 -- what the carriage is asked for in a cycle
 abbrev pub asked_in : Chart → Cycle → Asked
-asked_in chart cycle = elim (kind_of cycle) [ None ↦ nothing_asked | Some kind ↦ asked_of chart.lines kind ]
+asked_in chart cycle = asked_for chart (kind_of cycle)

@@ -18,9 +18,9 @@ use Rattle.decks.proofs.Fitting.{totals_room}
 use Rattle.decks.specs.CardMisfits.{GroupFits}
 use Rattle.setups.specs.Wiring.{Wiring}
 use Rattle.hubs.specs.declared.hub.Group.{Group}
-use Rattle.wired_panels.proofs.AmountFacts.{digits_are, has_from}
-use Rattle.wired_panels.specs.ChartAmounts.{amount_of, total_group}
-use Rattle.wired_panels.specs.CounterStates.{held_in}
+use Rattle.panel_cycles.proofs.AmountFacts.{digits_are, has_from}
+use Rattle.panel_cycles.specs.ChartAmounts.{amount_of, total_group}
+use Rattle.panel_cycles.specs.CounterStates.{held_in}
 use Rattle.machine.specs.Machine.{group_units, machine_at_start}
 use Rattle.net.specs.Panel.{unit_of}
 use Rattle.report.specs.Amounts.{is_negated}

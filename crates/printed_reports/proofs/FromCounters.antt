@@ -1,5 +1,5 @@
 -- What a cycle leaves of the totals of an amount: each holds what its act makes of what it held.
-use Rattle.std.proofs.Common.{◌≡◌, ◌∙◌, refl, sym, ap, subst, ℕ, zero, suc, ◌≤◌, Bool, true, false, List, [], ◌∷◌, Contains, Option, Some, None, map, is_some, option_and_then, if◌then◌else◌, arith}
+use Rattle.std.proofs.Common.{◌≡◌, ◌∙◌, refl, sym, ap, subst, ℕ, ◌≤◌, Bool, true, false, List, [], Contains, Option, Some, None, is_some, option_and_then, if◌then◌else◌, arith}
 use Rattle.std.proofs.lemmas.List.Elements.{All-contains}
 use Rattle.counter_cycles.proofs.ActLemmas.{acts-done}
 use Rattle.counter_cycles.specs.Acts.{Act, Asks, Held, IsWithinGroup, held_after}
@@ -17,14 +17,17 @@ use Rattle.counters.specs.Numbers.{number}
 use Rattle.setups.specs.Wiring.{Wiring, is_wired}
 use Rattle.hubs.specs.declared.hub.Group.{Group}
 use Rattle.hubs.specs.declared.hub.Hub.TheVariants.{CO, CI}
-use Rattle.wired_panels.proofs.AmountFacts.{group_is, has_from}
-use Rattle.wired_panels.proofs.CounterAsks.{asks_card, asks_heading, asks_run_in, asks_step}
-use Rattle.wired_panels.proofs.AmountsLawful.{lawful_amount}
-use Rattle.wired_panels.proofs.CounterOthers.{ring_is}
+use Rattle.panel_cycles.proofs.AmountFacts.{group_is, has_from}
+use Rattle.panel_cycles.proofs.CounterAsks.{asks_card, asks_heading, asks_run_in, asks_step}
+use Rattle.panel_cycles.proofs.AmountsLawful.{lawful_amount}
+use Rattle.panel_cycles.proofs.Rings.{ring_is}
 use Rattle.wired_panels.proofs.CounterUnits.{at_unit, counter_there, planned_unit}
+use Rattle.wired_panels.proofs.PlanLists.{map-contains}
+use Rattle.wired_panels.proofs.BehindCycles.{cycle-of}
 use Rattle.wired_panels.proofs.PlanOwners.{has_group}
-use Rattle.wired_panels.specs.ChartAmounts.{IsGroupOf, amount_of, positions_of, total_group, total_line}
-use Rattle.wired_panels.specs.CounterStates.{IsPanelCycle, held_in}
+use Rattle.wired_panels.specs.Groups.{IsGroupOf}
+use Rattle.panel_cycles.specs.ChartAmounts.{amount_of, positions_of, total_group, total_line}
+use Rattle.panel_cycles.specs.CounterStates.{held_in}
 use Rattle.wired_panels.specs.Panel.{IsPanel}
 use Rattle.machine.specs.Cycles.{CycleRun}
 use Rattle.machine.specs.Machine.{MachineState}
@@ -51,13 +54,6 @@ held_there machine counter group between listed named =
     ap (λ (g : Group). held_in machine (Some g)) (sym named)
     ∙ (λ i. record { number = digits i; latch = latch i })
 
--- what a map makes of one of a list is one of what it makes of the list
-mapped : {X : Type 0} (f : X → X) (list : List X) (x : X) → Contains list x → Contains (map f list) (f x)
-mapped f [] x (k, within, is) = absurd (omega (arith, within))
-mapped f (y ∷ ys) x (zero, within, is) = (0, omega arith, ap f is)
-mapped f (y ∷ ys) x (suc k, within, is) =
-    let (n, inside, same) = mapped f ys x (k, omega (arith, within), is) in (suc n, omega (arith, inside), same)
-
 -- one group through a cycle
 group_done :
     (wiring : Wiring) (cycle : Cycle) (old new : MachineState) (group : Group) (act : Act) (signed : Bool)
@@ -77,7 +73,7 @@ group_done wiring cycle old new group act signed is is_new all there ring fits a
     let done = acts-done act counter cycle all.pictures (record { is_counter = idle.lawful; entered = idle.entered }) room asked in
     let behind = counter_behind cycle all.pictures counter in
     let listed_new : Contains new.groups behind
-    = subst (λ (gs : List Counter). Contains gs behind) (sym all.groups) (mapped (counter_behind cycle all.pictures) old.groups counter listed) in
+    = subst (λ (gs : List Counter). Contains gs behind) (sym all.groups) (map-contains (counter_behind cycle all.pictures) old.groups counter listed) in
     held_there new behind group is_new.between listed_new (done.name ∙ named)
     ∙ done.held
     ∙ ap (λ (b : Bool). held_after b counter.name.width act (held_by counter))
@@ -94,18 +90,6 @@ some_level chart_level.Final = omega arith
 
 module _ (chart : Chart) (plan : Lists) (wiring : Wiring) (panel : IsPanel chart plan wiring) (rise : NumbersRise chart.lines chart.end)
   where
-    -- a whole cycle as one of the panel
-    pub panel_cycle :
-        (cycle : Cycle) (old new : MachineState) → IsReady wiring old → (all : WholeCycle wiring cycle old new)
-        → IsPanelCycle chart plan wiring old cycle all.pictures
-    panel_cycle cycle old new is all = record {
-      panel = panel;
-      rise = rise;
-      between = is.between;
-      control = all.control;
-      rows = all.rows;
-    }
-
     -- what is asked of the group of a total
     asked_of_group :
         (cycle : Cycle) (card : List ℕ) (old new : MachineState) (name : List ℕ) (field : Field) (level : ℕ) (group : Group)
@@ -115,13 +99,13 @@ module _ (chart : Chart) (plan : Lists) (wiring : Wiring) (panel : IsPanel chart
         → Asks (act_of (amount_of chart.lines plan name) (kind_for cycle card field) (held chart plan old name) level)
         (held chart plan old name level).number group all.pictures
     asked_of_group RunIn card old new name field level group is all read amount small own =
-        asks_run_in chart plan wiring old all.pictures name level group own (panel_cycle RunIn old new is all)
+        asks_run_in chart plan wiring rise old all.pictures name level group own (cycle-of chart plan wiring RunIn old new panel is.between all)
     asked_of_group Card card old new name field level group is all read amount small own =
-        asks_card chart plan wiring old all.pictures name level group own (panel_cycle Card old new is all) card read field amount
+        asks_card chart plan wiring rise old all.pictures name level group own (cycle-of chart plan wiring Card old new panel is.between all) card read field amount
     asked_of_group (Prog l ordinal) card old new name field level group is all read amount small own =
-        asks_step chart plan wiring old all.pictures name level group own l ordinal (panel_cycle (Prog l ordinal) old new is all) small
+        asks_step chart plan wiring rise old all.pictures name level group own l ordinal (cycle-of chart plan wiring (Prog l ordinal) old new panel is.between all) small
     asked_of_group (Head heading) card old new name field level group is all read amount small own =
-        asks_heading chart plan wiring old all.pictures name level group own heading (panel_cycle (Head heading) old new is all)
+        asks_heading chart plan wiring rise old all.pictures name level group own heading (cycle-of chart plan wiring (Head heading) old new panel is.between all)
 
     -- a level with a total
     with_total :

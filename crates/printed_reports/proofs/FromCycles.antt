@@ -1,5 +1,5 @@
 -- What whole cycles leave of the units that know no chart.
-use Rattle.std.proofs.Common.{◌≡◌, ◌≢◌, ◌∙◌, refl, ap, Bool}
+use Rattle.std.proofs.Common.{◌≡◌, ◌∙◌, refl, ap, Bool, false}
 use Rattle.setups.specs.Wiring.{Wiring}
 use Rattle.machine.specs.Cycles.{CycleRun}
 use Rattle.machine.specs.Machine.{MachineState}
@@ -12,6 +12,7 @@ use Rattle.program_unit.specs.declared.stage.Stage.TheVariants.{RanCard}
 use Rattle.whole_cycles.proofs.Wholes.{cycles-whole}
 use Rattle.whole_cycles.specs.Between.{IsReady}
 use Rattle.whole_cycles.specs.WholeCycles.{WholeCycle}
+use Rattle.wired_panels.proofs.Contacts.{is_card_cycle}
 
 -- a cycle of a machine that is ready, as a whole
 pub whole : (wiring : Wiring) (cycle : Cycle) (old new : MachineState) → IsReady wiring old → CycleRun wiring cycle old new
@@ -33,18 +34,18 @@ printing_stays wiring cycle old new is run =
     ap (λ p. p.printing) all.program ∙ same_printing old.program cycle (all.pictures K)
 
 -- the program unit senses nothing in cycles that are no card cycles
-unsensed : (program : ProgramState) (cycle : Cycle) (picture : Hub → Bool) → cycle ≢ Card
+unsensed : (program : ProgramState) (cycle : Cycle) (picture : Hub → Bool) → is_card_cycle cycle ≡ false
     → program_ended (program_sensed program cycle K picture) cycle ≡ program_ended program cycle
-unsensed program RunIn picture differs = refl
-unsensed program Card picture differs = absurd (differs refl)
-unsensed program (Prog level ordinal) picture differs = refl
-unsensed program (Head heading) picture differs = refl
+unsensed program RunIn picture other = refl
+unsensed program Card picture other = cc
+unsensed program (Prog level ordinal) picture other = refl
+unsensed program (Head heading) picture other = refl
 
 pub program_goes : (wiring : Wiring) (cycle : Cycle) (old new : MachineState) → IsReady wiring old → CycleRun wiring cycle old new
-    → cycle ≢ Card → new.program ≡ program_ended old.program cycle
-program_goes wiring cycle old new is run differs =
+    → is_card_cycle cycle ≡ false → new.program ≡ program_ended old.program cycle
+program_goes wiring cycle old new is run other =
     let all = whole wiring cycle old new is run in
-    all.program ∙ unsensed old.program cycle (all.pictures K) differs
+    all.program ∙ unsensed old.program cycle (all.pictures K) other
 
 pub card_stage : (wiring : Wiring) (old new : MachineState) → IsReady wiring old → CycleRun wiring Card old new
     → new.program.stage ≡ RanCard

@@ -26,19 +26,20 @@ use Rattle.charts.specs.declared.statement.Statement.TheVariants as says
 use Rattle.decks.specs.Alike.{AlikeWith}
 use Rattle.setups.specs.Wiring.{Wiring}
 use Rattle.hubs.specs.declared.hub.Group.{Group}
-use Rattle.wired_panels.proofs.AmountFacts.{digits_are, group_is, has_it, kept, total_field}
-use Rattle.wired_panels.proofs.JacksAndTape.{wheel_jacks-are}
+use Rattle.panel_cycles.proofs.AmountFacts.{digits_are, group_is, has_it, kept, total_field}
+use Rattle.panel_cycles.proofs.JacksAndTape.{wheel_jacks-are}
 use Rattle.wired_panels.proofs.SpeakersServed.{number-range}
 use Rattle.wired_panels.proofs.PlanOwners.{own_name}
 use Rattle.wired_panels.proofs.ToCounters.{IsLine, with_group}
-use Rattle.wired_panels.proofs.WheelRowsLaws.{wheels-totals}
-use Rattle.wired_panels.proofs.WheelRowsUnits.{group-listed, group-named, unit-listed, unit-place}
-use Rattle.wired_panels.specs.ChartAmounts.{IsGroupOf, amount_of}
-use Rattle.wired_panels.specs.CounterStates.{held_in}
+use Rattle.panel_cycles.proofs.WheelRowsLaws.{wheels-totals}
+use Rattle.panel_cycles.proofs.WheelRowsUnits.{group-listed, group-named, unit-listed, unit-place}
+use Rattle.wired_panels.specs.Groups.{IsGroupOf}
+use Rattle.panel_cycles.specs.ChartAmounts.{amount_of}
+use Rattle.panel_cycles.specs.CounterStates.{held_in}
 use Rattle.wired_panels.specs.Panel.{IsPanel}
-use Rattle.wired_panels.specs.Sensed.{UnitsHold}
-use Rattle.wired_panels.specs.Spoken as spoken
-use Rattle.wired_panels.specs.Spoken.{IsTotalRow}
+use Rattle.wired_panels.specs.PanelCycles.{UnitsHold}
+use Rattle.panel_cycles.specs.PrintedRows as rows
+use Rattle.panel_cycles.specs.PrintedRows.{IsTotalRow}
 use Rattle.machine.specs.Cycles.{CycleRun}
 use Rattle.machine.specs.Machine.{MachineState}
 use Rattle.net.specs.Cycles.{level_number}
@@ -48,7 +49,7 @@ use Rattle.net.specs.declared.cycle.Ordinal.TheVariants.{Third}
 use Rattle.printed_lines.proofs.Premises.{total_texts}
 use Rattle.printed_lines.proofs.TotalLines.{total_lines}
 use Rattle.printed_lines.specs.Held as printed
-use Rattle.printed_lines.specs.Held.{HoldsLine, HoldsText}
+use Rattle.printed_lines.specs.Held.{HoldsLine}
 use Rattle.printed_lines.specs.Shown.{Printed, sent_to_total, set_on}
 use Rattle.report.specs.BodyLines.{total_line}
 use Rattle.report.specs.Breaks.{taking}
@@ -65,7 +66,7 @@ use Rattle.printed_reports.proofs.Facts.{ShowsTotal}
 use Rattle.printed_reports.proofs.FromCounters.{held_there}
 use Rattle.printed_reports.proofs.FromCycles.{whole}
 use Rattle.printed_reports.proofs.FromTotals.{controlled, first_same}
-use Rattle.printed_reports.proofs.FromWheels.{is_moment, row_of}
+use Rattle.printed_reports.proofs.FromWheels.{on_panel, row_of}
 use Rattle.printed_reports.proofs.Lines.{has_link, has_suppress, has_symbol, line_of_cycle}
 
 -- an amount with a mark has a sign rule
@@ -106,7 +107,7 @@ module _ (chart : Chart) (plan : Lists) (wiring : Wiring) (panel : IsPanel chart
         (line : Line) (its : ChartLevel) (wheel : ℕ) (name : List ℕ) (digits : ℕ) (mark : Option Mark) (group : Group)
         → Contains chart.lines line → line.statement ≡ says.TotalAmount its wheel name digits mark
         → levels.level_number its ≡ level_number level → group_for chart.lines plan line.number ≡ Some group
-        → spoken.HoldsTotal (row_of chart plan wiring panel rise literals (Prog level Third) old new all row) group
+        → rows.HoldsTotal (row_of chart plan wiring panel rise literals (Prog level Third) old new all row) group
         (printed_held chart plan old (level_number level) name)
     groups_hold line its wheel name digits mark group there says same served =
         let own = own_group line its wheel name digits mark group (level_number level) there says same served in
@@ -160,7 +161,8 @@ module _ (chart : Chart) (plan : Lists) (wiring : Wiring) (panel : IsPanel chart
         → IsTotalRow wiring level (printed_held chart plan old (level_number level)) card
         (row_of chart plan wiring panel rise literals (Prog level Third) old new all row)
     total_row stored = record {
-      moment = is_moment chart plan wiring panel rise literals (Prog level Third) old new is all row;
+      on_panel = on_panel chart plan wiring panel rise literals (Prog level Third) old new is all;
+      rises = rise;
       cycle = refl;
       totals = groups_hold;
       texts = units_hold stored;

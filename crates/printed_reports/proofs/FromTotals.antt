@@ -22,7 +22,7 @@ use Rattle.charts.specs.declared.statement.Field.{Field}
 use Rattle.charts.specs.declared.statement.Statement.{Statement}
 use Rattle.charts.specs.declared.statement.Statement.TheVariants as says
 use Rattle.decks.specs.Alike.{AlikeWith}
-use Rattle.wired_panels.proofs.AmountFacts.{kept}
+use Rattle.panel_cycles.proofs.AmountFacts.{kept}
 use Rattle.wired_panels.proofs.PlanLists.{filter_map-contains}
 use Rattle.wired_panels.proofs.Sources.{found}
 use Rattle.report.specs.BodyLines.{a_card_of}

@@ -5,14 +5,13 @@ use Rattle.card_code.specs.declared.row.Row.{Row as CardRow}
 use Rattle.charts.specs.Chart.{Chart, NumbersRise}
 use Rattle.charts.specs.Literals.{HaveLiteralTexts}
 use Rattle.setups.specs.Wiring.{Wiring}
-use Rattle.wired_panels.proofs.JacksAndTape.{wheel_jacks-are}
-use Rattle.wired_panels.proofs.WheelRowsCardLine.{card-rows}
-use Rattle.wired_panels.proofs.WheelRowsHeading.{heading-rows}
-use Rattle.wired_panels.specs.CounterStates.{IsCardRead}
+use Rattle.panel_cycles.proofs.JacksAndTape.{wheel_jacks-are}
+use Rattle.wired_panels.proofs.BehindCycles.{cycle-of}
+use Rattle.panel_cycles.proofs.WheelRowsLaws.{wheels-cards, wheels-headings}
+use Rattle.wired_panels.specs.PanelCycles.{IsCardRead}
 use Rattle.wired_panels.specs.Panel.{IsPanel}
-use Rattle.wired_panels.specs.Sensed.{AreSetTo}
-use Rattle.wired_panels.specs.Speakers.{Moment}
-use Rattle.wired_panels.specs.Spoken.{IsMoment}
+use Rattle.wired_panels.specs.PanelCycles.{AreSetTo, IsPanelCycle}
+use Rattle.wired_panels.specs.CycleRows.{CycleRow}
 use Rattle.machine.specs.Cycles.{CycleRun}
 use Rattle.machine.specs.Machine.{MachineState}
 use Rattle.net.specs.Cycles.{ordinal_number}
@@ -23,7 +22,6 @@ use Rattle.printed_lines.proofs.Cards.{card_lines}
 use Rattle.printed_lines.proofs.Headings.{heading_lines}
 use Rattle.printed_lines.specs.Shown.{sent_to_card, sent_to_heading, set_on}
 use Rattle.report.specs.BodyLines.{card_line, heading_line}
-use Rattle.whole_cycles.proofs.Contacts.{contacts-one_deep}
 use Rattle.whole_cycles.specs.Between.{IsReady}
 use Rattle.whole_cycles.specs.WholeCycles.{WholeCycle}
 use Rattle.printed_reports.proofs.FromCycles.{whole}
@@ -32,19 +30,13 @@ use Rattle.printed_reports.proofs.Lines.{has_link, has_suppress, has_symbol, lin
 module _ (chart : Chart) (plan : Lists) (wiring : Wiring) (panel : IsPanel chart plan wiring) (rise : NumbersRise chart.lines chart.end)
     (literals : HaveLiteralTexts chart.lines) where
   -- a row of a cycle
-  abbrev pub row_of : (cycle : Cycle) (old new : MachineState) (all : WholeCycle wiring cycle old new) → CardRow → Moment
+  abbrev pub row_of : (cycle : Cycle) (old new : MachineState) (all : WholeCycle wiring cycle old new) → CardRow → CycleRow
   row_of cycle old new all row =
       record { chart = chart; plan = plan; old = old; pictures = all.pictures; cycle = cycle; row = row }
 
-  pub is_moment : (cycle : Cycle) (old new : MachineState) → IsReady wiring old → (all : WholeCycle wiring cycle old new) (row : CardRow)
-      → IsMoment wiring (row_of cycle old new all row)
-  is_moment cycle old new is all row = record {
-    panel = panel;
-    rises = rise;
-    between = is.between;
-    control = all.control;
-    rows = all.rows row;
-  }
+  pub on_panel : (cycle : Cycle) (old new : MachineState) → IsReady wiring old → (all : WholeCycle wiring cycle old new)
+      → IsPanelCycle chart plan wiring old cycle all.pictures
+  on_panel cycle old new is all = cycle-of chart plan wiring cycle old new panel is.between all
 
   pub card_prints :
       (old new : MachineState) (card : List ℕ) (opens : ℕ) → IsReady wiring old → CycleRun wiring Card old new
@@ -53,15 +45,8 @@ module _ (chart : Chart) (plan : Lists) (wiring : Wiring) (panel : IsPanel chart
       let all = whole wiring Card old new is run in
       let set_of = set_on (sent_to_card chart.lines opens card) in
       line_of_cycle wiring Card old new set_of is all
-      (λ row v low high. card-rows wiring card opens (row_of Card old new all row) v contacts-one_deep
-      (record {
-        moment = is_moment Card old new is all row;
-        cycle = refl;
-        second = read.second;
-        valid = read.valid;
-        latches = set;
-        pilots = λ name rule pilot signed served. read.pilots name signed.field rule pilot signed.named signed.ruled served;
-      }))
+      (λ row v low high. wheels-cards wiring card opens (row_of Card old new all row) v
+      (record { on_panel = on_panel Card old new is all; rises = rise; cycle = refl; read = read; latches = set }))
       ∙ card_lines chart (has_link wiring) (has_suppress wiring) (has_symbol wiring) opens card panel.lawful literals
       (wheel_jacks-are chart plan wiring panel) read.valid
 
@@ -72,9 +57,6 @@ module _ (chart : Chart) (plan : Lists) (wiring : Wiring) (panel : IsPanel chart
       let all = whole wiring (Head heading) old new is run in
       let set_of = set_on (sent_to_heading chart.lines (ordinal_number heading)) in
       line_of_cycle wiring (Head heading) old new set_of is all
-      (λ row v low high. heading-rows wiring heading (row_of (Head heading) old new all row) v contacts-one_deep
-      (record {
-        moment = is_moment (Head heading) old new is all row;
-        cycle = refl;
-      }))
+      (λ row v low high. wheels-headings wiring heading (row_of (Head heading) old new all row) v
+      (record { on_panel = on_panel (Head heading) old new is all; rises = rise; cycle = refl }))
       ∙ heading_lines chart (has_link wiring) (has_suppress wiring) (has_symbol wiring) (ordinal_number heading) literals

@@ -1,24 +1,30 @@
 -- The cycles of a machine that is wired for a chart, put together: what it holds between cycles is kept, and each line is printed as the
 -- report has it.
-use Rattle.std.proofs.Common.{◌≡◌, ◌≢◌, inl, inr, ◌∙◌, refl, sym, ap, subst, ℕ, suc, ◌+◌, nat_le, ◌≤◌, ◌<◌, ◌^◌, ℤ, Bool, true, false, List, [], Option, Some, None, if◌then◌else◌, arith}
+use Rattle.std.proofs.Common.{◌≡◌, ◌∙◌, refl, sym, ap, subst, ℕ, suc, ◌+◌, nat_le, ◌≤◌, ◌<◌, ◌^◌, ℤ, Bool, true, false, List, [], Option, Some, None, if◌then◌else◌, arith}
 use Rattle.std.proofs.lemmas.Bool.Decides.{nat_tests}
 use Rattle.counter_cycles.specs.Acts.{Held}
 use Rattle.plans.specs.Plans.{Lists}
 use Rattle.carriage.specs.Asked.{nothing_asked}
 use Rattle.chart_rules.specs.ValidCard.{IsValidCard}
-use Rattle.charts.specs.Chart.{Chart}
+use Rattle.charts.specs.Chart.{Chart, NumbersRise}
+use Rattle.charts.specs.Literals.{HaveLiteralTexts}
 use Rattle.charts.specs.declared.statement.Field.{Field}
 use Rattle.decks.specs.Runner.{ReadsNext}
 use Rattle.decks.specs.Stands.{Stand, at_first}
 use Rattle.setups.specs.Wiring.{Wiring}
-use Rattle.wired_panels.specs.ChartAmounts.{amount_of}
-use Rattle.wired_panels.specs.CounterStates.{IsCardRead}
-use Rattle.wired_panels.specs.Sensed.{AreSetTo}
-use Rattle.wired_panels.proofs.IndicateLatches.{latches-card, latches-third, latches-left, latches-heading, latches-run_in}
+use Rattle.panel_cycles.specs.ChartAmounts.{amount_of}
+use Rattle.wired_panels.specs.PanelCycles.{IsCardRead}
+use Rattle.wired_panels.specs.PanelCycles.{AreSetTo}
+use Rattle.wired_panels.specs.Panel.{IsPanel}
+use Rattle.panel_cycles.proofs.AmountsLawful.{amount_on_card, lawful_amount}
+use Rattle.wired_panels.proofs.Contacts.{is_card_cycle}
+use Rattle.wired_panels.proofs.IndicateLatches.{latches-card, latches-third, latches-left, latches-heading, latches-run_in, latches-start}
+use Rattle.panel_cycles.proofs.JacksAndTape.{printing-is, tape-is}
 use Rattle.machine.specs.Cycles.{CycleRun}
 use Rattle.machine.specs.Machine.{MachineState, machine_at_start}
 use Rattle.machine.specs.Runs.{moved_on}
 use Rattle.net.specs.Cycles.{level_number}
+use Rattle.net.specs.declared.cycle.Cycle.{Cycle}
 use Rattle.net.specs.declared.cycle.Cycle.TheVariants.{RunIn, Card, Prog, Head}
 use Rattle.net.specs.declared.cycle.Level.{Level}
 use Rattle.net.specs.declared.cycle.Ordinal.{Ordinal}
@@ -27,71 +33,96 @@ use Rattle.report.specs.Breaks.{cleared, ended_behind, taking}
 use Rattle.report.specs.Edits as edit
 use Rattle.report.specs.Totals.{total_of}
 use Rattle.selectors.specs.Indicate.{Latches, indicate_ended}
+use Rattle.selectors.specs.Pilots.{moves_pilots}
 use Rattle.totals.proofs.Cards.{zeros}
 use Rattle.totals.proofs.GroupEnds.{total_shows}
 use Rattle.totals.proofs.Passing.{other_passes}
-use Rattle.totals.specs.Amounts.{IsSmall, state_after}
+use Rattle.totals.specs.Amounts.{IsLawful as IsLawfulAmount, IsSmall, state_after}
 use Rattle.totals.specs.Amounts.Kind.{Prog as Ends}
 use Rattle.totals.specs.Laws.{IsGroupEnd, ready}
 use Rattle.totals.specs.Standing.{StandsAll}
 use Rattle.whole_cycles.specs.Between.{IsReady}
-use Rattle.whole_cycles.proofs.Ready.{ready-moved}
+use Rattle.whole_cycles.proofs.Ready.{machines-ready, ready-moved}
 use Rattle.wiring_table.specs.Figures.{IsAmount}
-use Rattle.printed_reports.specs.Content.{AllStand, Behind, Holds, Waits, Within, by_first, by_second, held, sums_of}
-use Rattle.printed_reports.proofs.Facts.{CycleFacts, ShowsTotal}
+use Rattle.printed_reports.specs.Content.{AllStand, Behind, Holds, Waits, Within, by_first, by_second, held, kind_for, sums_of}
+use Rattle.printed_reports.proofs.Asked.{asked_in}
+use Rattle.printed_reports.proofs.Facts.{IsRead, ShowsTotal}
+use Rattle.printed_reports.proofs.FromCharts.{fits, never_negated, start_zero}
+use Rattle.printed_reports.proofs.FromCounters.{totals}
+use Rattle.printed_reports.proofs.FromCycles.{card_stage, program_goes}
+use Rattle.printed_reports.proofs.FromHubs.{cycled, keeps_stored, kept, levels, picked_up, stores}
+use Rattle.printed_reports.proofs.FromLevels.{total_prints}
+use Rattle.printed_reports.proofs.FromWheels.{card_prints, heading_prints}
 use Rattle.printed_reports.proofs.Sums.{card_sums, group_end, level_sums, unsigned_total}
 use Rattle.printed_reports.specs.Goes.{CardGoes, HeadsKeep, IsDue, MachineGoes}
+use Rattle.printed_reports.specs.Going.{MachinesGoAsChartsWant}
 use Rattle.printed_reports.specs.Steps.{GoesOn, Heads, RunsCard, Totals}
 
-module _ (chart : Chart) (plan : Lists) (wiring : Wiring) (Stored : List ℕ → MachineState → Type 0)
-    (facts : CycleFacts chart plan wiring Stored) where
-  -- cycles that are no card cycles
-  run_in_differs : RunIn ≢ Card
-  run_in_differs e = cc
+module _ (chart : Chart) (plan : Lists) (wiring : Wiring) (panel : IsPanel chart plan wiring) (rise : NumbersRise chart.lines chart.end)
+    (literals : HaveLiteralTexts chart.lines) where
+  -- the amounts of the chart
+  lawful : (name : List ℕ) (field : Field) → IsAmount chart.lines name field → IsLawfulAmount (amount_of chart.lines plan name)
+  lawful name field amount = lawful_amount chart plan name panel.lawful rise panel.planned
 
-  prog_differs : (level : Level) (ordinal : Ordinal) → Prog level ordinal ≢ Card
-  prog_differs level ordinal e = cc
+  -- what a cycle leaves of their totals
+  totals_behind :
+      (cycle : Cycle) (card : List ℕ) (old new : MachineState) → IsReady wiring old → CycleRun wiring cycle old new
+      → IsRead chart plan cycle card old → (name : List ℕ) (field : Field) → IsAmount chart.lines name field
+      → IsSmall (amount_of chart.lines plan name) (kind_for cycle card field) (held chart plan old name)
+      → held chart plan new name ≡ state_after (amount_of chart.lines plan name) (kind_for cycle card field) (held chart plan old name)
+  totals_behind cycle card old new is run read name field amount small =
+      totals chart plan wiring panel rise cycle card old new is run read name field amount small
 
-  prog_no_run_in : (level : Level) (ordinal : Ordinal) → Prog level ordinal ≢ RunIn
-  prog_no_run_in level ordinal e = cc
+  -- a cycle that is no card cycle goes on
+  goes_on : (cycle : Cycle) (old new : MachineState) → IsReady wiring old → CycleRun wiring cycle old new → is_card_cycle cycle ≡ false
+      → GoesOn cycle (asked_in chart cycle) old new
+  goes_on cycle old new is run other =
+      let done = cycled chart plan wiring panel cycle old new is run in
+      record { stations = done.stations; carriage = done.carriage; program = program_goes wiring cycle old new is run other }
 
-  head_differs : (heading : Ordinal) → Head heading ≢ Card
-  head_differs heading e = cc
+  -- a cycle that leaves the pilots
+  holds_on : (cycle : Cycle) (old new : MachineState) (was latches : ℕ) (signs : Option (List ℕ)) → Holds chart plan wiring was signs old
+      → CycleRun wiring cycle old new → moves_pilots cycle ≡ false → AreSetTo (indicate_ended old.indicate cycle) latches
+      → Holds chart plan wiring latches signs new
+  holds_on cycle old new was latches signs holds run stays set =
+      let done = cycled chart plan wiring panel cycle old new holds.is_ready run in
+      record {
+        is_ready = done.is_ready;
+        are_set = subst (λ (l : Latches). AreSetTo l latches) (sym done.indicate) set;
+        pilots = kept chart plan wiring panel cycle old new signs holds.is_ready run stays holds.pilots;
+      }
 
-  head_no_run_in : (heading : Ordinal) → Head heading ≢ RunIn
-  head_no_run_in heading e = cc
+  -- a cycle that picks up the pilots anew
+  picked : (cycle : Cycle) (old new : MachineState) (latches : ℕ) → IsReady wiring old → CycleRun wiring cycle old new
+      → moves_pilots cycle ≡ true → AreSetTo (indicate_ended old.indicate cycle) latches
+      → Holds chart plan wiring latches old.stations.first new
+  picked cycle old new latches is run moves set =
+      let done = cycled chart plan wiring panel cycle old new is run in
+      record {
+        is_ready = done.is_ready;
+        are_set = subst (λ (l : Latches). AreSetTo l latches) (sym done.indicate) set;
+        pilots = picked_up chart plan wiring panel cycle old new is run moves;
+      }
 
   -- a heading cycle goes on and prints its line
   heads : (heading : Ordinal) (old new : MachineState) → IsReady wiring old → CycleRun wiring (Head heading) old new
       → Heads chart heading old new
-  heads heading old new is run =
-      let done = facts.cycled (Head heading) old new is run in
-      record {
-        goes = record {
-          stations = done.stations;
-          carriage = done.carriage;
-          program = facts.program (Head heading) old new is run (head_differs heading);
-        };
-        line = λ there. facts.heading_prints old new heading is run;
-      }
+  heads heading old new is run = record {
+    goes = goes_on (Head heading) old new is run refl;
+    line = λ there. heading_prints chart plan wiring panel rise literals old new heading is run;
+  }
 
   -- a heading cycle keeps latches, pilots and units
   heads_hold : (heading : Ordinal) (old new : MachineState) (latches : ℕ) (signs : Option (List ℕ))
       → Holds chart plan wiring latches signs old → CycleRun wiring (Head heading) old new → Holds chart plan wiring latches signs new
   heads_hold heading old new latches signs holds run =
-      let done = facts.cycled (Head heading) old new holds.is_ready run in
-      record {
-        is_ready = done.is_ready;
-        are_set = subst (λ (l : Latches). AreSetTo l latches) (sym done.indicate)
-            (latches-heading old.indicate heading latches holds.are_set);
-        pilots = facts.kept old new (Head heading) signs (head_no_run_in heading) (head_differs heading) holds.is_ready run holds.pilots;
-      }
+      holds_on (Head heading) old new latches latches signs holds run refl (latches-heading old.indicate heading latches holds.are_set)
 
   -- and the totals
   heads_same : (heading : Ordinal) (card : List ℕ) (old new : MachineState) → IsReady wiring old → CycleRun wiring (Head heading) old new
       → (name : List ℕ) (field : Field) → IsAmount chart.lines name field → held chart plan new name ≡ held chart plan old name
   heads_same heading card old new is run name field amount =
-      facts.totals (Head heading) card old new is run tt name field amount tt
+      totals_behind (Head heading) card old new is run tt name field amount tt
       ∙ other_passes (amount_of chart.lines plan name) (held chart plan old name)
 
   -- the totals stand for the same sums where they hold the same
@@ -101,35 +132,25 @@ module _ (chart : Chart) (plan : Lists) (wiring : Wiring) (Stored : List ℕ →
       subst (λ s. StandsAll (amount_of chart.lines plan name) (sums_of field groups) s) (sym (same name field amount)) (stand name field amount)
 
   -- the run-in of the first card
-  pub starts :
+  starts :
       (card : List ℕ) (new : MachineState) → IsValidCard chart card
       → CycleRun wiring RunIn (moved_on (Some card) (machine_at_start wiring)) new
       → Waits chart plan wiring at_first card new × GoesOn RunIn nothing_asked (moved_on (Some card) (machine_at_start wiring)) new
   starts card new valid run =
       let start : MachineState = moved_on (Some card) (machine_at_start wiring) in
-      let is = ready-moved wiring (Some card) (machine_at_start wiring) facts.starts_ready in
-      let done = facts.cycled RunIn start new is run in
+      let is = ready-moved wiring (Some card) (machine_at_start wiring) (machines-ready.start wiring) in
       let same : (name : List ℕ) (field : Field) → IsAmount chart.lines name field
       → held chart plan new name ≡ held chart plan (machine_at_start wiring) name
-      = λ name field amount. facts.totals RunIn card start new is run tt name field amount tt
+      = λ name field amount. totals_behind RunIn card start new is run tt name field amount tt
       ∙ other_passes (amount_of chart.lines plan name) (held chart plan start name) in
       let zero_sums : AllStand chart plan at_first.so_far (held chart plan (machine_at_start wiring))
       = λ name field amount. zeros (amount_of chart.lines plan name) (held chart plan (machine_at_start wiring) name)
-      (λ level. facts.start name level) in (
+      (λ level. start_zero chart plan wiring name level) in (
         record {
-          holds = record {
-            is_ready = done.is_ready;
-            are_set = subst (λ (l : Latches). AreSetTo l 4) (sym done.indicate)
-                (latches-run_in (machine_at_start wiring).indicate 4 facts.starts_set);
-            pilots = facts.picked_up start new RunIn (inl refl) is run;
-          };
+          holds = picked RunIn start new 4 is run refl (latches-run_in (machine_at_start wiring).indicate 4 latches-start);
           totals = stand_same at_first.so_far (held chart plan (machine_at_start wiring)) (held chart plan new) zero_sums same;
         },
-        record {
-          stations = done.stations;
-          carriage = done.carriage;
-          program = facts.program RunIn start new is run run_in_differs;
-        },
+        goes_on RunIn start new is run refl,
       )
 
   -- a card that comes next is valid
@@ -142,41 +163,37 @@ module _ (chart : Chart) (plan : Lists) (wiring : Wiring) (Stored : List ℕ →
       (stand : Stand) (card : List ℕ) (next : Option (List ℕ)) → IsDue chart (IsValidCard chart) stand card next
       → (old new : MachineState) → Waits chart plan wiring stand card old → old.stations.first ≡ Some card
       → CycleRun wiring Card (moved_on next old) new
-      → Behind chart plan wiring (Stored card) stand card next 0 new × RunsCard chart stand card next (moved_on next old) new
+      → Behind chart plan wiring stand card next 0 new × RunsCard chart stand card next (moved_on next old) new
   card_runs stand card next due old new waits first run =
       let start : MachineState = moved_on next old in
       let is = ready-moved wiring next old waits.holds.is_ready in
-      let done = facts.cycled Card start new is run in
+      let done = cycled chart plan wiring panel Card start new is run in
       let read : IsCardRead chart plan start card
       = record { second = first; valid = due.reads; pilots = waits.holds.pilots } in (
         record {
-          holds = record {
-            is_ready = done.is_ready;
-            are_set = subst (λ (l : Latches). AreSetTo l 0) (sym done.indicate) (latches-card old.indicate);
-            pilots = facts.picked_up start new Card (inr refl) is run;
-          };
+          holds = picked Card start new 0 is run refl (latches-card old.indicate);
           totals = λ name field amount.
-              let on_card = facts.on_card name field card amount due.reads in
+              let on_card = amount_on_card chart plan name field card panel.lawful amount in
               let after = card_sums (amount_of chart.lines plan name) field card stand.so_far (held chart plan old name)
-              (facts.lawful name field amount) on_card (waits.totals name field amount) in
+              (lawful name field amount) on_card (waits.totals name field amount) in
               subst
               (λ s. StandsAll (amount_of chart.lines plan name) (sums_of field (cleared 0 (taking card stand.so_far))) s)
-              (sym (facts.totals Card card start new is run read name field amount on_card)) after;
-          stored = facts.stores start new card is run first due.reads;
+              (sym (totals_behind Card card start new is run read name field amount on_card)) after;
+          stored = stores chart plan wiring panel start new card rise is run first;
         },
         record {
           first = ap (λ s. s.first) done.stations;
           carriage = done.carriage;
-          stage = facts.stage start new is run;
+          stage = card_stage wiring start new is run;
           printing = done.printing;
-          levels = facts.levels start new card next is run first refl due.reads (next_valid next due.reads_next);
-          line = λ printed. facts.card_prints start new card stand.opens is run read waits.holds.are_set;
+          levels = levels chart plan wiring panel start new card next is run first refl due.reads (next_valid next due.reads_next);
+          line = λ printed. card_prints chart plan wiring panel rise literals start new card stand.opens is run read waits.holds.are_set;
         },
       )
 
-  pub cards :
+  cards :
       (stand : Stand) (card : List ℕ) (next : Option (List ℕ)) → IsDue chart (IsValidCard chart) stand card next
-      → CardGoes chart wiring stand card next (Waits chart plan wiring stand card) (Behind chart plan wiring (Stored card) stand card next)
+      → CardGoes chart wiring stand card next (Waits chart plan wiring stand card) (Behind chart plan wiring stand card next)
   cards stand card next due = record {
     heads = λ heading old new waits run. (
       record {
@@ -193,77 +210,54 @@ module _ (chart : Chart) (plan : Lists) (wiring : Wiring) (Stored : List ℕ →
   first_runs :
       (stand : Stand) (card : List ℕ) (next : Option (List ℕ)) (k : ℕ) (level : Level) (old new : MachineState)
       → level_number level ≡ suc k → suc k ≤ ended_behind chart.lines card next
-      → Behind chart plan wiring (Stored card) stand card next k old → CycleRun wiring (Prog level First) old new
-      → Within chart plan wiring (Stored card) stand card next (by_first chart plan level) level new
-      × GoesOn (Prog level First) nothing_asked old new
-  first_runs stand card next k level old new number within behind run =
-      let done = facts.cycled (Prog level First) old new behind.holds.is_ready run in (
-        record {
-          k = k;
-          is_level = number;
-          within = within;
-          holds = record {
-            is_ready = done.is_ready;
-            are_set = subst (λ (l : Latches). AreSetTo l k) (sym done.indicate) (latches-left old.indicate level k behind.holds.are_set).0;
-            pilots = facts.kept old new (Prog level First) next (prog_no_run_in level First) (prog_differs level First)
-                behind.holds.is_ready run behind.holds.pilots;
-          };
-          stored = facts.keeps_stored old new (Prog level First) card (prog_differs level First) behind.holds.is_ready run behind.stored;
-          before = held chart plan old;
-          totals = behind.totals;
-          is = λ name field amount. facts.totals (Prog level First) card old new behind.holds.is_ready run tt name field amount tt;
-        },
-        record {
-          stations = done.stations;
-          carriage = done.carriage;
-          program = facts.program (Prog level First) old new behind.holds.is_ready run (prog_differs level First);
-        },
-      )
+      → Behind chart plan wiring stand card next k old → CycleRun wiring (Prog level First) old new
+      → Within chart plan wiring stand card next (by_first chart plan level) level new × GoesOn (Prog level First) nothing_asked old new
+  first_runs stand card next k level old new number within behind run = (
+    record {
+      k = k;
+      is_level = number;
+      within = within;
+      holds = holds_on (Prog level First) old new k k next behind.holds run refl (latches-left old.indicate level k behind.holds.are_set).0;
+      stored = keeps_stored chart plan wiring panel (Prog level First) old new card behind.holds.is_ready run refl behind.stored;
+      before = held chart plan old;
+      totals = behind.totals;
+      is = λ name field amount. totals_behind (Prog level First) card old new behind.holds.is_ready run tt name field amount tt;
+    },
+    goes_on (Prog level First) old new behind.holds.is_ready run refl,
+  )
 
   -- the second
   second_runs :
       (stand : Stand) (card : List ℕ) (next : Option (List ℕ)) (level : Level) (old new : MachineState)
-      → Within chart plan wiring (Stored card) stand card next (by_first chart plan level) level old
-      → CycleRun wiring (Prog level Second) old new
-      → Within chart plan wiring (Stored card) stand card next (by_second chart plan level) level new
-      × GoesOn (Prog level Second) nothing_asked old new
-  second_runs stand card next level old new was run =
-      let done = facts.cycled (Prog level Second) old new was.holds.is_ready run in (
-        record {
-          k = was.k;
-          is_level = was.is_level;
-          within = was.within;
-          holds = record {
-            is_ready = done.is_ready;
-            are_set = subst (λ (l : Latches). AreSetTo l was.k) (sym done.indicate)
-                (latches-left old.indicate level was.k was.holds.are_set).1;
-            pilots = facts.kept old new (Prog level Second) next (prog_no_run_in level Second) (prog_differs level Second)
-                was.holds.is_ready run was.holds.pilots;
-          };
-          stored = facts.keeps_stored old new (Prog level Second) card (prog_differs level Second) was.holds.is_ready run was.stored;
-          before = was.before;
-          totals = was.totals;
-          is = λ name field amount. facts.totals (Prog level Second) card old new was.holds.is_ready run tt name field amount tt
-              ∙ ap (λ s. state_after (amount_of chart.lines plan name) (Ends (level_number level) Second) s) (was.is name field amount);
-        },
-        record {
-          stations = done.stations;
-          carriage = done.carriage;
-          program = facts.program (Prog level Second) old new was.holds.is_ready run (prog_differs level Second);
-        },
-      )
+      → Within chart plan wiring stand card next (by_first chart plan level) level old → CycleRun wiring (Prog level Second) old new
+      → Within chart plan wiring stand card next (by_second chart plan level) level new × GoesOn (Prog level Second) nothing_asked old new
+  second_runs stand card next level old new was run = (
+    record {
+      k = was.k;
+      is_level = was.is_level;
+      within = was.within;
+      holds = holds_on (Prog level Second) old new was.k was.k next was.holds run refl
+          (latches-left old.indicate level was.k was.holds.are_set).1;
+      stored = keeps_stored chart plan wiring panel (Prog level Second) old new card was.holds.is_ready run refl was.stored;
+      before = was.before;
+      totals = was.totals;
+      is = λ name field amount. totals_behind (Prog level Second) card old new was.holds.is_ready run tt name field amount tt
+          ∙ ap (λ s. state_after (amount_of chart.lines plan name) (Ends (level_number level) Second) s) (was.is name field amount);
+    },
+    goes_on (Prog level Second) old new was.holds.is_ready run refl,
+  )
 
   -- heading cycles between the second and the third
   within_heads :
       (stand : Stand) (card : List ℕ) (next : Option (List ℕ)) (level : Level)
-      → HeadsKeep chart wiring (Within chart plan wiring (Stored card) stand card next (by_second chart plan level) level)
+      → HeadsKeep chart wiring (Within chart plan wiring stand card next (by_second chart plan level) level)
   within_heads stand card next level heading old new was run = (
     record {
       k = was.k;
       is_level = was.is_level;
       within = was.within;
       holds = heads_hold heading old new was.k next was.holds run;
-      stored = facts.keeps_stored old new (Head heading) card (head_differs heading) was.holds.is_ready run was.stored;
+      stored = keeps_stored chart plan wiring panel (Head heading) old new card was.holds.is_ready run refl was.stored;
       before = was.before;
       totals = was.totals;
       is = λ name field amount. heads_same heading card old new was.holds.is_ready run name field amount ∙ was.is name field amount;
@@ -279,8 +273,8 @@ module _ (chart : Chart) (plan : Lists) (wiring : Wiring) (Stored : List ℕ →
       → IsGroupEnd (amount_of chart.lines plan name) (suc k) (sums_of field (cleared k (taking card stand.so_far)))
   ends_so stand card next due k within name field amount has =
       group_end (amount_of chart.lines plan name) field (taking card stand.so_far) k
-      (facts.fits name field k (taking card stand.so_far (suc k)) amount has (due.fit (suc k) (omega arith) within))
-      (λ none. unsigned_total field (taking card stand.so_far (suc k)) (facts.unsigned name field amount none))
+      (fits chart plan panel.lawful name field k (taking card stand.so_far (suc k)) amount has (due.fit (suc k) (omega arith) within))
+      (λ none. unsigned_total field (taking card stand.so_far (suc k)) (never_negated chart plan name field amount none))
 
   -- the total of a level that has one, as it is shown
   shows_so :
@@ -295,14 +289,14 @@ module _ (chart : Chart) (plan : Lists) (wiring : Wiring) (Stored : List ℕ →
       let groups = taking card stand.so_far in
       let end = ends_so stand card next due k within name field amount has in
       let shown = total_shows (amount_of chart.lines plan name) (suc k) (sums_of field (cleared k groups)) state
-      (facts.lawful name field amount) has end stands in
+      (lawful name field amount) has end stands in
       let here : total_of field (cleared k groups (suc k)) ≡ total_of field (groups (suc k)) = not_yet field (groups (suc k)) in
       record {
         figure = shown.number ∙ ap same_size here;
         below = λ less. shown.below_zero (ap same_sign here ∙ less);
         above = λ signed less some. shown.above_zero signed (ap same_sign here ∙ less) (subst (λ n. 1 ≤ edit.size n) (sym here) some);
-        fits = facts.fits name field k (groups (suc k)) amount has (due.fit (suc k) (omega arith) within);
-        unsigned = λ none. (unsigned_total field (groups (suc k)) (facts.unsigned name field amount none));
+        fits = fits chart plan panel.lawful name field k (groups (suc k)) amount has (due.fit (suc k) (omega arith) within);
+        unsigned = λ none. (unsigned_total field (groups (suc k)) (never_negated chart plan name field amount none));
       }
     where
       not_yet : (f : Field) (group : List (List ℕ)) → total_of f (if nat_le (suc k) k then [] else group) ≡ total_of f group
@@ -326,21 +320,20 @@ module _ (chart : Chart) (plan : Lists) (wiring : Wiring) (Stored : List ℕ →
       → (ready (amount_of chart.lines plan name) (suc k) state (suc k)).number < 10 ^ (amount_of chart.lines plan name).digits (suc k)
   room_of stand card next due k within name field amount state stands has =
       (total_shows (amount_of chart.lines plan name) (suc k) (sums_of field (cleared k (taking card stand.so_far))) state
-      (facts.lawful name field amount) has (ends_so stand card next due k within name field amount has) stands).room.1 has
+      (lawful name field amount) has (ends_so stand card next due k within name field amount has) stands).room.1 has
 
   -- the third cycle of a level
   third_runs :
       (stand : Stand) (card : List ℕ) (next : Option (List ℕ)) → IsDue chart (IsValidCard chart) stand card next
       → (k : ℕ) (level : Level) (old new : MachineState) → level_number level ≡ suc k → suc k ≤ ended_behind chart.lines card next
-      → Within chart plan wiring (Stored card) stand card next (by_second chart plan level) level old
+      → Within chart plan wiring stand card next (by_second chart plan level) level old
       → CycleRun wiring (Prog level Third) old new
-      → Behind chart plan wiring (Stored card) stand card next (suc k) new × Totals chart stand card level old new
+      → Behind chart plan wiring stand card next (suc k) new × Totals chart stand card level old new
   third_runs stand card next due k level old new number within was run =
       let groups = taking card stand.so_far in
       let same_k : was.k ≡ k = let its = was.is_level in omega (arith, its, number) in
       let stands : AllStand chart plan (cleared k groups) was.before
       = subst (λ n. AllStand chart plan (cleared n groups) was.before) same_k was.totals in
-      let done = facts.cycled (Prog level Third) old new was.holds.is_ready run in
       let is_held : (name : List ℕ) (field : Field) → IsAmount chart.lines name field
       → held chart plan old name ≡ ready (amount_of chart.lines plan name) (suc k) (was.before name)
       = λ name field amount. was.is name field amount
@@ -354,32 +347,24 @@ module _ (chart : Chart) (plan : Lists) (wiring : Wiring) (Stored : List ℕ →
             ((room_of stand card next due k within name field amount (was.before name) (stands name field amount) has)),
       ) in (
         record {
-          holds = record {
-            is_ready = done.is_ready;
-            are_set = subst (λ (l : Latches). AreSetTo l (suc k)) (sym done.indicate) (one_more old.indicate (subst (λ n. AreSetTo old.indicate n) same_k was.holds.are_set));
-            pilots = facts.kept old new (Prog level Third) next (prog_no_run_in level Third) (prog_differs level Third)
-                was.holds.is_ready run was.holds.pilots;
-          };
+          holds = holds_on (Prog level Third) old new was.k (suc k) next was.holds run refl
+              (one_more old.indicate (subst (λ n. AreSetTo old.indicate n) same_k was.holds.are_set));
           totals = λ name field amount.
-              let after = level_sums (amount_of chart.lines plan name) field groups k (was.before name) (facts.lawful name field amount)
+              let after = level_sums (amount_of chart.lines plan name) field groups k (was.before name) (lawful name field amount)
               (ends_so stand card next due k within name field amount) (stands name field amount) in
               let comes : held chart plan new name
               ≡ state_after (amount_of chart.lines plan name) (Ends (suc k) Third)
               (ready (amount_of chart.lines plan name) (suc k) (was.before name))
-              = facts.totals (Prog level Third) card old new was.holds.is_ready run tt name field amount (small name field amount)
+              = totals_behind (Prog level Third) card old new was.holds.is_ready run tt name field amount (small name field amount)
               ∙ ap (λ n. state_after (amount_of chart.lines plan name) (Ends n Third) (held chart plan old name)) number
               ∙ ap (λ s. state_after (amount_of chart.lines plan name) (Ends (suc k) Third) s) (is_held name field amount) in
               subst (λ s. StandsAll (amount_of chart.lines plan name) (sums_of field (cleared (suc k) groups)) s) (sym comes) after;
-          stored = facts.keeps_stored old new (Prog level Third) card (prog_differs level Third) was.holds.is_ready run was.stored;
+          stored = keeps_stored chart plan wiring panel (Prog level Third) old new card was.holds.is_ready run refl was.stored;
         },
         record {
-          goes = record {
-            stations = done.stations;
-            carriage = done.carriage;
-            program = facts.program (Prog level Third) old new was.holds.is_ready run (prog_differs level Third);
-          };
+          goes = goes_on (Prog level Third) old new was.holds.is_ready run refl;
           line = λ printed.
-              facts.total_prints old new level card stand.so_far was.holds.is_ready run was.stored due.reads due.alike
+              total_prints chart plan wiring panel rise literals old new level card stand.so_far was.holds.is_ready run was.stored due.reads due.alike
               (λ name field amount has.
               let P : ℕ → Type 0 = λ n. (amount_of chart.lines plan name).has n ≡ true
               → ShowsTotal chart plan n (groups n) name field (held chart plan old name n) in
@@ -396,15 +381,14 @@ module _ (chart : Chart) (plan : Lists) (wiring : Wiring) (Stored : List ℕ →
           let same : k + 1 ≡ suc k = omega arith in
           subst (λ n. AreSetTo (indicate_ended l (Prog level Third)) n) same (latches-third l level k set plus)
 
-  -- all cycles
+  -- Between its cycles the machine holds what the chart wants.
   pub machine_goes :
-      MachineGoes chart wiring (IsValidCard chart) (Waits chart plan wiring)
-      (λ stand card next k machine. Behind chart plan wiring (Stored card) stand card next k machine)
-      (λ stand card next level machine. Within chart plan wiring (Stored card) stand card next (by_first chart plan level) level machine)
-      (λ stand card next level machine. Within chart plan wiring (Stored card) stand card next (by_second chart plan level) level machine)
+      MachineGoes chart wiring (IsValidCard chart) (Waits chart plan wiring) (Behind chart plan wiring)
+      (λ stand card next level machine. Within chart plan wiring stand card next (by_first chart plan level) level machine)
+      (λ stand card next level machine. Within chart plan wiring stand card next (by_second chart plan level) level machine)
   machine_goes = record {
-    printing = facts.printing;
-    form = facts.form;
+    printing = printing-is chart plan wiring panel;
+    form = tape-is chart plan wiring panel;
     starts = λ card new valid run. starts card new valid run;
     cards = λ stand card next due. cards stand card next due;
     levels = λ stand card next due. record {
@@ -415,3 +399,6 @@ module _ (chart : Chart) (plan : Lists) (wiring : Wiring) (Stored : List ℕ →
     };
     arrives = λ stand card next machine due behind. record { holds = behind.holds; totals = behind.totals };
   }
+
+pub machines_go : MachinesGoAsChartsWant
+machines_go chart plan wiring panel rise literals = machine_goes chart plan wiring panel rise literals

@@ -6,10 +6,8 @@ pub mod Feed
 pub mod Runs
 pub mod Sums
 pub mod Asked
-pub mod Going
 pub mod Facts
 pub mod Instance
-pub mod Prints
 pub mod FromCycles
 pub mod FromHubs
 pub mod Lines

@@ -1,18 +1,16 @@
 -- A machine wired for a chart goes by cards, and so the lines that it places are those of the report.
-use Rattle.std.proofs.Common.{◌≡◌, ◌∙◌, refl, sym, ap, subst, ℕ, ◌+◌, ◌≤◌, ◌<◌, ◌^◌, true, false, List, [], ◌∷◌, ◌++◌, Option, Some, None, All, length}
+use Rattle.std.proofs.Common.{◌≡◌, ◌∙◌, refl, sym, ap, subst, ℕ, ◌+◌, ◌<◌, ◌^◌, true, false, List, [], ◌∷◌, ◌++◌, Option, Some, None}
 use Rattle.carriage.specs.Asked.{nothing_asked}
 use Rattle.placed_lines.specs.declared.placed_line.PlacedLine.{PlacedLine}
 use Rattle.chart_rules.specs.Rules.{IsLawful}
 use Rattle.charts.specs.Chart.{Chart}
-use Rattle.decks.proofs.Running.{runs_follow_decks}
 use Rattle.decks.specs.Runner.{Runner, GoesByCards, FollowsNext, Runs}
 use Rattle.decks.specs.Stands.{Stand, at_first, card_bodies, stand_behind}
 use Rattle.setups.specs.Wiring.{Wiring}
-use Rattle.machine.proofs.RunsInFeeds.{run-in-feeds}
 use Rattle.machine.specs.Cycles.{CycleRun}
 use Rattle.machine.specs.Feeds.{Feeds, LinesFrom, begun, due_in}
 use Rattle.machine.specs.Machine.{MachineState, machine_at_start}
-use Rattle.machine.specs.Runs.{MachineLines, has_more, moved_on}
+use Rattle.machine.specs.Runs.{has_more, moved_on}
 use Rattle.net.specs.Printing.{printing_of}
 use Rattle.net.specs.declared.cycle.Cycle.TheVariants.{RunIn}
 use Rattle.net.specs.declared.cycle.Level.{Level}
@@ -22,8 +20,6 @@ use Rattle.line_places.specs.Placing.{IsCarriageOf, IsFormOf, printing_of_chart}
 use Rattle.program_unit.specs.CycleOrder.{card_over}
 use Rattle.program_unit.specs.Program.{ProgramState}
 use Rattle.report.specs.Places.{before_all, placed}
-use Rattle.report.specs.Report.{report_lines}
-use Rattle.report.specs.Totals.{Fits}
 use Rattle.printed_reports.proofs.Feed.{IsWaiting, card_fed}
 use Rattle.printed_reports.proofs.Levels.{quietly}
 use Rattle.printed_reports.proofs.Steps.{fed_with, GoesFrom, stepped, over}
@@ -78,12 +74,12 @@ first_fed chart wiring Waits card new lines printing form runs feed =
 
 -- a machine whose cycles go so goes by cards
 pub goes_by_cards :
-    (chart : Chart) (wiring : Wiring) (Reads : List ℕ → Type 0) (Waits : Stand → List ℕ → MachineState → Type 0)
-    (Behind : Stand → List ℕ → Option (List ℕ) → ℕ → MachineState → Type 0)
-    (Tested Turned : Stand → List ℕ → Option (List ℕ) → Level → MachineState → Type 0)
+    (chart : Chart) (wiring : Wiring) {Reads : List ℕ → Type 0} {Waits : Stand → List ℕ → MachineState → Type 0}
+    {Behind : Stand → List ℕ → Option (List ℕ) → ℕ → MachineState → Type 0}
+    {Tested Turned : Stand → List ℕ → Option (List ℕ) → Level → MachineState → Type 0}
     → IsLawful chart → MachineGoes chart wiring Reads Waits Behind Tested Turned
     → GoesByCards (runner chart wiring Reads Waits)
-goes_by_cards chart wiring Reads Waits Behind Tested Turned lawful goes = record {
+goes_by_cards chart wiring {Reads} {Waits} {Behind} {Tested} {Turned} lawful goes = record {
   ends = λ new lines feed. ends wiring new lines feed;
   starts = λ card new lines reads feed.
       first_fed chart wiring (Waits at_first card) card new lines goes.printing goes.form (λ mid ran. goes.starts card mid reads ran) feed;
@@ -118,7 +114,7 @@ goes_by_cards chart wiring Reads Waits Behind Tested Turned lawful goes = record
         )
 
 -- the lines of a machine are those of its feeds
-lines-run :
+pub lines-run :
     (chart : Chart) (wiring : Wiring) (Reads : List ℕ → Type 0) (Waits : Stand → List ℕ → MachineState → Type 0)
     (old : MachineState) (cards : List (List ℕ)) (lines : List PlacedLine)
     → LinesFrom wiring old cards lines → Runs (runner chart wiring Reads Waits) old cards lines
@@ -126,17 +122,3 @@ unfolding LinesFrom
 lines-run chart wiring Reads Waits old [] lines (new, feed) = (new, feed)
 lines-run chart wiring Reads Waits old (card ∷ cards) lines (new, first, others, feed, run, is) =
     (new, first, others, feed, lines-run chart wiring Reads Waits new cards others run, is)
-
--- the lines that the machine places for a deck that fits are those of the report
-pub machine_prints :
-    (chart : Chart) (wiring : Wiring) (Reads : List ℕ → Type 0) (Waits : Stand → List ℕ → MachineState → Type 0)
-    (Behind : Stand → List ℕ → Option (List ℕ) → ℕ → MachineState → Type 0)
-    (Tested Turned : Stand → List ℕ → Option (List ℕ) → Level → MachineState → Type 0)
-    (cards : List (List ℕ)) (lines : List PlacedLine)
-    → IsLawful chart → MachineGoes chart wiring Reads Waits Behind Tested Turned
-    → All Reads cards → length cards ≤ 999999 → Fits chart.lines cards → MachineLines wiring cards lines
-    → lines ≡ report_lines chart cards
-machine_prints chart wiring Reads Waits Behind Tested Turned cards lines lawful goes reads long fits run =
-    runs_follow_decks (runner chart wiring Reads Waits)
-    (goes_by_cards chart wiring Reads Waits Behind Tested Turned lawful goes) cards lines reads long fits
-    (lines-run chart wiring Reads Waits (machine_at_start wiring) cards lines (run-in-feeds wiring cards lines run))

@@ -7,9 +7,9 @@ use Rattle.charts.specs.Chart.{Chart}
 use Rattle.charts.specs.declared.statement.Field.{Field}
 use Rattle.decks.specs.Stands.{Stand}
 use Rattle.setups.specs.Wiring.{Wiring}
-use Rattle.wired_panels.specs.ChartAmounts.{amount_of}
-use Rattle.wired_panels.specs.CounterStates.{state_of}
-use Rattle.wired_panels.specs.Sensed.{AreSetTo, PilotsTellSigns, UnitsHold}
+use Rattle.panel_cycles.specs.ChartAmounts.{amount_of}
+use Rattle.panel_cycles.specs.CounterStates.{state_of}
+use Rattle.wired_panels.specs.PanelCycles.{AreSetTo, PilotsTellSigns, UnitsHold}
 use Rattle.machine.specs.Machine.{MachineState}
 use Rattle.net.specs.Cycles.{level_number}
 use Rattle.net.specs.declared.cycle.Cycle.{Cycle}
@@ -58,20 +58,20 @@ pub record Waits (chart : Chart) (plan : Lists) (wiring : Wiring) (stand : Stand
   pub totals : AllStand chart plan stand.so_far (held chart plan machine)
 
 -- So many levels have run behind the card.
-pub record Behind (chart : Chart) (plan : Lists) (wiring : Wiring) (Stored : MachineState → Type 0) (stand : Stand) (card : List ℕ)
-    (next : Option (List ℕ)) (k : ℕ) (machine : MachineState) : Type 0 where
+pub record Behind (chart : Chart) (plan : Lists) (wiring : Wiring) (stand : Stand) (card : List ℕ) (next : Option (List ℕ)) (k : ℕ)
+    (machine : MachineState) : Type 0 where
   pub holds : Holds chart plan wiring k next machine
   pub totals : AllStand chart plan (cleared k (taking card stand.so_far)) (held chart plan machine)
-  pub stored : Stored machine
+  pub stored : Stores chart plan card machine
 
 -- Some cycles of a level have run: the totals have come from what stood for the sums before it.
-pub record Within (chart : Chart) (plan : Lists) (wiring : Wiring) (Stored : MachineState → Type 0) (stand : Stand) (card : List ℕ)
-    (next : Option (List ℕ)) (came : List ℕ → (ℕ → Held) → ℕ → Held) (level : Level) (machine : MachineState) : Type 0 where
+pub record Within (chart : Chart) (plan : Lists) (wiring : Wiring) (stand : Stand) (card : List ℕ) (next : Option (List ℕ))
+    (came : List ℕ → (ℕ → Held) → ℕ → Held) (level : Level) (machine : MachineState) : Type 0 where
   pub k : ℕ
   pub is_level : level_number level ≡ suc k
   pub within : suc k ≤ ended_behind chart.lines card next
   pub holds : Holds chart plan wiring k next machine
-  pub stored : Stored machine
+  pub stored : Stores chart plan card machine
   pub before : List ℕ → ℕ → Held
   pub totals : AllStand chart plan (cleared k (taking card stand.so_far)) before
   pub is : (name : List ℕ) (field : Field) → IsAmount chart.lines name field → held chart plan machine name ≡ came name (before name)

@@ -97,18 +97,6 @@ is_card_cycle Card = true
 is_card_cycle (Prog level ordinal) = false
 is_card_cycle (Head heading) = false
 
-pub opens-IX : (machine : MachineState) (cycle : Cycle) (point : Point) (level position : ℕ)
-    → AreInUnitOrder machine.groups → is_card_cycle cycle ≡ false → closes machine cycle point (IX level position) ≡ false
-opens-IX machine RunIn point level position ordered none =
-    closes-joined machine RunIn point (IX level position) ordered ∙ rw (no_split point (IX level position) (λ row. refl)) refl
-opens-IX machine Card point level position ordered none = cc
-opens-IX machine (Prog its ordinal) point level position ordered none =
-    closes-joined machine (Prog its ordinal) point (IX level position) ordered
-    ∙ rw (no_split point (IX level position) (λ row. refl)) refl
-opens-IX machine (Head heading) point level position ordered none =
-    closes-joined machine (Head heading) point (IX level position) ordered
-    ∙ rw (no_split point (IX level position) (λ row. refl)) refl
-
 -- splits lead to their digit exits at the rows 9 to 0
 pub closes-CSD : (machine : MachineState) (cycle : Cycle) (row : CardRow) (split : ℕ)
     → AreInUnitOrder machine.groups

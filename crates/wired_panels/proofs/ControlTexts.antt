@@ -1,10 +1,10 @@
 -- The columns of control fields on valid cards are sets of the twelve rows.
-use Rattle.std.proofs.Common.{◌≡◌, ◌∙◌, refl, sym, ap, subst, ℕ, ◌+◌, ◌<◌, ◌==◌, ◌&&◌, Bool, true, false, List, [], ◌∷◌, Contains, Option, Some, arith, if◌then◌else◌}
+use Rattle.std.proofs.Common.{◌≡◌, ◌∙◌, refl, sym, ap, subst, ℕ, ◌+◌, ◌<◌, ◌==◌, ◌&&◌, Bool, true, false, List, [], ◌∷◌, Contains, Option, Some, take, arith, if◌then◌else◌}
 use Rattle.std.proofs.lemmas.Bool.Decides.{nat_tests}
 use Rattle.std.specs.List.{list_all}
 use Rattle.card_code.specs.CardCode.{code, character_in, deck_character}
 use Rattle.card_code.specs.Rows.{is_row_set}
-use Rattle.field_rules.specs.Fields.{field_named}
+use Rattle.field_rules.specs.Fields.{field_named, fields_of}
 use Rattle.field_rules.specs.Names.{names_amount}
 use Rattle.chart_rules.specs.Rules.{IsLawful, breaks}
 use Rattle.chart_rules.specs.ValidCard.{IsValidCard, IsValidKind, IsText, column_of, is_printed}
@@ -17,8 +17,9 @@ use Rattle.charts.specs.declared.statement.Field.{Field}
 use Rattle.charts.specs.declared.statement.FieldKind.{FieldKind}
 use Rattle.charts.specs.declared.statement.FieldKind.TheVariants as holds
 use Rattle.charts.specs.declared.statement.Statement.TheVariants as says
-use Rattle.printed_lines.proofs.LawfulItems.{named-valid}
-use Rattle.wired_panels.proofs.AmountFacts.{kept}
+use Rattle.std.proofs.lemmas.Option.{slice_get_within}
+use Rattle.wired_panels.proofs.SpeakersApart.{place-of}
+use Rattle.wired_panels.proofs.SpeakersLawful.{kept-at, named-line}
 
 -- a set with a print character is the set of the first pair, or has its character further on
 one-passes : (pair : ℕ × ℕ) (rest : Option ℕ) (set : ℕ) (b : Bool) → (pair.1 == set) ≡ b → is_row_set pair.1 ≡ true
@@ -53,12 +54,14 @@ no-amount (holds.Amount decimals rule) is = cc
 control-text : (chart : Chart) (card : List ℕ) (line : Line) (level : ControlLevel) (name : List ℕ) (field : Field) → IsLawful chart
     → IsValidCard chart card → Contains chart.lines line → line.statement ≡ says.Control level name
     → field_named chart.lines name ≡ Some field → IsText field.first field.last card
-control-text chart card line level name field lawful valid listed controls named =
-    let (earlier, right_kind) = kept chart rule.WrongKind line lawful listed in
+unfolding IsValidCard
+control-text chart card line level name field lawful valid (place, within, is) controls named =
+    let right_kind = kept-at rule.WrongKind chart place line lawful (place-of chart.lines line place within is) in
     let no : names_amount (field_named chart.lines name) ≡ false
-    = sym (ap (breaks rule.WrongKind chart.lines earlier) controls) ∙ right_kind in
+    = sym (ap (breaks rule.WrongKind chart.lines (take place chart.lines)) controls) ∙ right_kind in
+    let found = named-line chart.lines name field named in
     subst (λ kind. IsValidKind kind field card) (no-amount field.kind (sym (ap names_amount named) ∙ no))
-    (named-valid chart card name field valid named)
+    (valid found.place (slice_get_within (fields_of chart.lines) found.place field found.at) field found.at)
 
 -- Each column of a control field of a chart that breaks no rule is a set of the twelve rows on a valid card.
 pub control-set : (chart : Chart) (card : List ℕ) (line : Line) (level : ControlLevel) (name : List ℕ) (field : Field) (j : ℕ)

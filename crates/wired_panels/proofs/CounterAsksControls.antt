@@ -1,5 +1,5 @@
 -- What impulses the control hubs of the counter group of a total.
-use Rattle.std.proofs.Common.{◌≡◌, ◌∙◌, refl, sym, subst, ℕ, Bool, true, false, List, Some, None, ◌↔◌, ◌⊎◌, inl, inr, arith}
+use Rattle.std.proofs.Common.{◌≡◌, ◌∙◌, refl, sym, subst, ℕ, Bool, true, List, Some, ◌⊎◌, inl, inr, arith}
 use Rattle.plans.specs.Plans.{Lists}
 use Rattle.charts.specs.Chart.{Chart, NumbersRise}
 use Rattle.charts.specs.declared.chart.Line.{Line}
@@ -10,15 +10,10 @@ use Rattle.hubs.specs.declared.hub.Group.{Group}
 use Rattle.hubs.specs.declared.hub.Hub.{Hub}
 use Rattle.hubs.specs.declared.hub.Hub.TheVariants.{BAN, BAT, PL, MI, RO, BT, BAC, PIC}
 use Rattle.machine.specs.Machine.{MachineState, closes}
-use Rattle.net.specs.Impulsed.{IsPicture}
 use Rattle.net.specs.Panel.{contact_of}
 use Rattle.net.specs.declared.cycle.Cycle.{Cycle}
 use Rattle.net.specs.declared.cycle.Point.{Point}
 use Rattle.net.specs.declared.cycle.Point.TheVariants.{C}
-use Rattle.whole_cycles.proofs.Contacts.{contacts-one_deep}
-use Rattle.whole_cycles.proofs.Sources.{emit_at_sources}
-use Rattle.whole_cycles.specs.Between.{IsBetween}
-use Rattle.whole_cycles.specs.OneContactDeep.{is_source}
 use Rattle.whole_cycles.specs.WholeCycles.{control_emits}
 use Rattle.wiring_table.specs.Figures.{IsSigned, IsUnsigned}
 use Rattle.wiring_table.specs.Parts.{IsLowest, pilot_for, negative_side, positive_side}
@@ -33,12 +28,12 @@ use Rattle.wired_panels.proofs.ToCounters.ToReadOut.{shown as read_shown, turned
 use Rattle.wired_panels.proofs.ToCounters.ToTest.{tested as test_tested}
 use Rattle.wired_panels.proofs.ToCounters.ToBalance.{turned as balance_turned, up as balance_up, marks as balance_marks}
 use Rattle.wired_panels.proofs.ToCounters.ToPilot.{signs as pilots_signs, marks as pilots_marks}
-use Rattle.wired_panels.proofs.Ways.{comes}
-use Rattle.wired_panels.specs.ChartAmounts.{IsGroupOf}
-use Rattle.wired_panels.specs.CounterStates.{IsPanelCycle}
-use Rattle.wired_panels.specs.Panel.{Comes, IsPanel}
-use Rattle.wired_panels.specs.Panel.Comes.{straight, through}
-use Rattle.wired_panels.specs.Sources.{Tells}
+use Rattle.wired_panels.proofs.Straight.{control_arrives}
+use Rattle.wired_panels.specs.Groups.{IsGroupOf}
+use Rattle.wired_panels.specs.PanelCycles.{IsPanelCycle}
+use Rattle.wired_panels.specs.Panel.{Arrives}
+use Rattle.wired_panels.specs.Panel.Arrives.{straight, through}
+use Rattle.wired_panels.specs.Sources.{EmitsAtControl}
 
 -- what is closed at the control point
 abbrev pub shut : MachineState → Cycle → Hub → Bool
@@ -78,51 +73,26 @@ pub data ReadsOut (lines : List Line) (closed : Hub → Bool) (cycle : Cycle) (n
 pub data Tests (lines : List Line) (cycle : Cycle) (name : List ℕ) (level : ℕ) : Type 0 where
   tests_it : (rule : SignRule) → IsStep cycle level 1 → IsSigned lines name rule → Tests lines cycle name level
 
--- The control point of a cycle of a panel that is wired for a chart: its picture is that of the exits that emit there.
-pub record IsControlPoint (chart : Chart) (plan : Lists) (wiring : Wiring) (old : MachineState) (cycle : Cycle)
-    (pictures : Point → Hub → Bool) : Type 0 where
-  pub panel : IsPanel chart plan wiring
-  pub rise : NumbersRise chart.lines chart.end
-  pub between : IsBetween old
-  pub control : IsPicture wiring (control_emits cycle) (closes old cycle C) (pictures C)
-
--- the control point of a cycle
-pub control_point :
-    {chart : Chart} {plan : Lists} {wiring : Wiring} {old : MachineState} {cycle : Cycle} {pictures : Point → Hub → Bool}
-    → IsPanelCycle chart plan wiring old cycle pictures → IsControlPoint chart plan wiring old cycle pictures
-control_point at = record { panel = at.panel; rise = at.rise; between = at.between; control = at.control }
-
 module _ (chart : Chart) (plan : Lists) (wiring : Wiring) (old : MachineState) (cycle : Cycle) (pictures : Point → Hub → Bool)
-    (at : IsControlPoint chart plan wiring old cycle pictures) where
+    (at : IsPanelCycle chart plan wiring old cycle pictures) (rise : NumbersRise chart.lines chart.end) where
   -- a wire's numbers
   pub numbered : (exit entry : Hub) → ChartWire chart.lines plan exit entry → HasWire wiring exit entry
   numbered exit entry given = (at.panel.wired.wires exit entry).1 given
-
-  -- what comes to an entry at the control point
-  pub at_control : (entry : Hub) → contact_of entry ≡ None → control_emits cycle entry ≡ false
-      → (pictures C entry ≡ true) ↔ Comes chart.lines plan (control_emits cycle) (shut old cycle) entry
-  at_control entry no_contact silent =
-      comes chart plan wiring (control_emits cycle) (shut old cycle) (pictures C) entry contacts-one_deep at.panel
-      (emit_at_sources.no_common (control_emits cycle) (emit_at_sources.control cycle)) at.control no_contact silent
-
-  -- no entry emits at the control point
-  pub silent : (entry : Hub) → is_source entry ≡ false → control_emits cycle entry ≡ false
-  silent entry none = emit_at_sources.control cycle entry none
 
   -- the positions of a balance, where they are not the mark's
   in_balance :
       {exit : Hub} {position : ℕ} (name : List ℕ) (level step : ℕ) (group : Group) → IsGroupOf chart.lines plan name level group
       → IsPositionOf position step
-      → ToBalance chart.lines plan group position exit → Tells cycle exit → IsStep cycle level step
+      → ToBalance chart.lines plan group position exit → EmitsAtControl cycle exit → IsStep cycle level step
   in_balance name level step group own which (balance_turned its its_level rule its_own signed) tells =
-      let same = one_owner chart plan its name its_level level group at.rise at.panel.planned its_own own in
+      let same = one_owner chart plan its name its_level level group rise at.panel.planned its_own own in
       by which (subst (λ l. IsStep cycle l 2) same.level (told_step tells))
     where
       by : IsPositionOf 1 step → IsStep cycle level 2 → IsStep cycle level step
       by (inl (a, b)) stepped = subst (λ k. IsStep cycle level k) (sym b) stepped
       by (inr (a, b)) stepped = absurd (omega (arith, a))
   in_balance name level step group own which (balance_up its its_level rule its_own signed) tells =
-      let same = one_owner chart plan its name its_level level group at.rise at.panel.planned its_own own in
+      let same = one_owner chart plan its name its_level level group rise at.panel.planned its_own own in
       by which (subst (λ l. IsStep cycle l 3) same.level (told_step tells))
     where
       by : IsPositionOf 2 step → IsStep cycle level 3 → IsStep cycle level step
@@ -143,7 +113,7 @@ module _ (chart : Chart) (plan : Lists) (wiring : Wiring) (old : MachineState) (
       (told cycle exit on)
 
   -- behind a contact of a pilot
-  in_pilot : {exit : Hub} {pilot position : ℕ} → ToPilot chart.lines plan pilot position exit → Tells cycle exit → IsCardCycle cycle
+  in_pilot : {exit : Hub} {pilot position : ℕ} → ToPilot chart.lines plan pilot position exit → EmitsAtControl cycle exit → IsCardCycle cycle
   in_pilot (pilots_signs pilot) tells = told_card tells
   in_pilot (pilots_marks emitter row pilot position) tells = untold tells refl
 
@@ -166,27 +136,27 @@ module _ (chart : Chart) (plan : Lists) (wiring : Wiring) (old : MachineState) (
   negative_common (sign.X column) pilot = refl
   negative_common (sign.NX column) pilot = refl
 
-  positive_untold : {A : Type 0} (rule : SignRule) (pilot : ℕ) → Tells cycle (positive_side rule pilot 1) → A
+  positive_untold : {A : Type 0} (rule : SignRule) (pilot : ℕ) → EmitsAtControl cycle (positive_side rule pilot 1) → A
   positive_untold (sign.X column) pilot tells = untold tells refl
   positive_untold (sign.NX column) pilot tells = untold tells refl
 
-  negative_untold : {A : Type 0} (rule : SignRule) (pilot : ℕ) → Tells cycle (negative_side rule pilot 1) → A
+  negative_untold : {A : Type 0} (rule : SignRule) (pilot : ℕ) → EmitsAtControl cycle (negative_side rule pilot 1) → A
   negative_untold (sign.X column) pilot tells = untold tells refl
   negative_untold (sign.NX column) pilot tells = untold tells refl
 
   module _ (name : List ℕ) (level : ℕ) (group : Group) (own : IsGroupOf chart.lines plan name level group) where
     same_as : (its : List ℕ) (its_level : ℕ) → IsGroupOf chart.lines plan its its_level group → IsSameTotal its name its_level level
-    same_as its its_level given = one_owner chart plan its name its_level level group at.rise at.panel.planned given own
+    same_as its its_level given = one_owner chart plan its name its_level level group rise at.panel.planned given own
 
     -- straight to the plus hub
-    plus_straight : {exit : Hub} → ToPlus chart.lines plan group exit → Tells cycle exit
+    plus_straight : {exit : Hub} → ToPlus chart.lines plan group exit → EmitsAtControl cycle exit
         → Pluses chart.lines plan (shut old cycle) cycle name level
     plus_straight (plus_from_card its its_level given low unsigned) tells =
         let same = same_as its its_level given in
         card (told_card tells) (moved (λ n l. IsLowest chart.lines n l) same low) (moved (λ n l. IsUnsigned chart.lines n) same unsigned)
     plus_straight (plus_by_sign its its_level rule pilot given low signed served) tells = positive_untold rule pilot tells
     plus_straight (plus_up its low goes unsigned) tells =
-        let (same, under, digits) = goes_under chart plan name its low level group at.rise at.panel.planned own goes in
+        let (same, under, digits) = goes_under chart plan name its low level group rise at.panel.planned own goes in
         up low (told_step tells) under (moved (λ n l. IsUnsigned chart.lines n) same unsigned)
     plus_straight (plus_up_by_latch its low rule lower goes signed given) tells = untold tells refl
 
@@ -202,12 +172,12 @@ module _ (chart : Chart) (plan : Lists) (wiring : Wiring) (old : MachineState) (
         (moved (λ n l. pilot_for plan n ≡ Some pilot) same served) closed
     plus_through exit common (plus_up its low goes unsigned) leads closed on given_wire = cc
     plus_through exit common (plus_up_by_latch its low rule lower goes signed given) leads closed on given_wire =
-        let (same, under, digits) = goes_under chart plan name its low level group at.rise at.panel.planned own goes in
+        let (same, under, digits) = goes_under chart plan name its low level group rise at.panel.planned own goes in
         by_latch low rule lower
         (behind_balance exit common its low 2 3 lower given (inr (refl, refl)) leads on given_wire) under
         (moved (λ n l. IsSigned chart.lines n rule) same signed) (subst (λ n. IsGroupOf chart.lines plan n low lower) same.name given) closed
 
-    plus_from : {hub : Hub} → Comes chart.lines plan (control_emits cycle) (shut old cycle) hub → hub ≡ PL group
+    plus_from : {hub : Hub} → Arrives chart.lines plan (control_emits cycle) (shut old cycle) hub → hub ≡ PL group
         → Pluses chart.lines plan (shut old cycle) cycle name level
     plus_from (straight exit entry on given) is =
         let w : ChartWire chart.lines plan exit (PL group) = subst (λ h. ChartWire chart.lines plan exit h) is given in
@@ -217,7 +187,7 @@ module _ (chart : Chart) (plan : Lists) (wiring : Wiring) (old : MachineState) (
         plus_through exit common (to_plus chart.lines plan w.line.number (itself chart.lines w.line w.listed) w.wire) leads closed on given
 
     -- straight to the minus hub comes nothing
-    minus_straight : {exit : Hub} → ToMinus chart.lines plan group exit → Tells cycle exit
+    minus_straight : {exit : Hub} → ToMinus chart.lines plan group exit → EmitsAtControl cycle exit
         → Minuses chart.lines plan (shut old cycle) cycle name level group
     minus_straight (minus_by_sign its its_level rule pilot given low signed served) tells = negative_untold rule pilot tells
     minus_straight (minus_turned its its_level rule given signed) tells = untold tells refl
@@ -237,12 +207,12 @@ module _ (chart : Chart) (plan : Lists) (wiring : Wiring) (old : MachineState) (
         less_turned rule (behind_balance exit common name level 1 2 group own (inl (refl, refl)) leads on given_wire)
         (moved (λ n l. IsSigned chart.lines n rule) same signed) closed
     minus_through exit common (minus_up_by_latch its low rule lower goes signed given) leads closed on given_wire =
-        let (same, under, digits) = goes_under chart plan name its low level group at.rise at.panel.planned own goes in
+        let (same, under, digits) = goes_under chart plan name its low level group rise at.panel.planned own goes in
         less_by_latch low rule lower
         (behind_balance exit common its low 2 3 lower given (inr (refl, refl)) leads on given_wire) under
         (moved (λ n l. IsSigned chart.lines n rule) same signed) (subst (λ n. IsGroupOf chart.lines plan n low lower) same.name given) closed
 
-    minus_from : {hub : Hub} → Comes chart.lines plan (control_emits cycle) (shut old cycle) hub → hub ≡ MI group
+    minus_from : {hub : Hub} → Arrives chart.lines plan (control_emits cycle) (shut old cycle) hub → hub ≡ MI group
         → Minuses chart.lines plan (shut old cycle) cycle name level group
     minus_from (straight exit entry on given) is =
         let w : ChartWire chart.lines plan exit (MI group) = subst (λ h. ChartWire chart.lines plan exit h) is given in
@@ -252,7 +222,7 @@ module _ (chart : Chart) (plan : Lists) (wiring : Wiring) (old : MachineState) (
         minus_through exit common (to_minus chart.lines plan w.line.number (itself chart.lines w.line w.listed) w.wire) leads closed on given
 
     -- to the read-out hub
-    read_straight : {exit : Hub} → ToReadOut chart.lines plan group exit → Tells cycle exit
+    read_straight : {exit : Hub} → ToReadOut chart.lines plan group exit → EmitsAtControl cycle exit
         → ReadsOut chart.lines (shut old cycle) cycle name level group
     read_straight (read_shown its its_level given) tells =
         shows_it (subst (λ l. IsStep cycle l 3) (same_as its its_level given).level (told_step tells))
@@ -267,7 +237,7 @@ module _ (chart : Chart) (plan : Lists) (wiring : Wiring) (old : MachineState) (
         turns_it rule (behind_balance exit common name level 1 2 group own (inl (refl, refl)) leads on given_wire)
         (moved (λ n l. IsSigned chart.lines n rule) same signed) closed
 
-    read_from : {hub : Hub} → Comes chart.lines plan (control_emits cycle) (shut old cycle) hub → hub ≡ RO group
+    read_from : {hub : Hub} → Arrives chart.lines plan (control_emits cycle) (shut old cycle) hub → hub ≡ RO group
         → ReadsOut chart.lines (shut old cycle) cycle name level group
     read_from (straight exit entry on given) is =
         let w : ChartWire chart.lines plan exit (RO group) = subst (λ h. ChartWire chart.lines plan exit h) is given in
@@ -277,7 +247,7 @@ module _ (chart : Chart) (plan : Lists) (wiring : Wiring) (old : MachineState) (
         read_through exit common (to_read_out chart.lines plan w.line.number (itself chart.lines w.line w.listed) w.wire) leads closed on given
 
     -- to the balance test
-    test_straight : {exit : Hub} → ToTest chart.lines plan group exit → Tells cycle exit → Tests chart.lines cycle name level
+    test_straight : {exit : Hub} → ToTest chart.lines plan group exit → EmitsAtControl cycle exit → Tests chart.lines cycle name level
     test_straight (test_tested its its_level rule given signed) tells =
         let same = same_as its its_level given in
         tests_it rule (subst (λ l. IsStep cycle l 1) same.level (told_step tells))
@@ -287,7 +257,7 @@ module _ (chart : Chart) (plan : Lists) (wiring : Wiring) (old : MachineState) (
         → Tests chart.lines cycle name level
     test_through common (test_tested its its_level rule given signed) leads = cc
 
-    test_from : {hub : Hub} → Comes chart.lines plan (control_emits cycle) (shut old cycle) hub → hub ≡ BT group
+    test_from : {hub : Hub} → Arrives chart.lines plan (control_emits cycle) (shut old cycle) hub → hub ≡ BT group
         → Tests chart.lines cycle name level
     test_from (straight exit entry on given) is =
         let w : ChartWire chart.lines plan exit (BT group) = subst (λ h. ChartWire chart.lines plan exit h) is given in
@@ -298,13 +268,13 @@ module _ (chart : Chart) (plan : Lists) (wiring : Wiring) (old : MachineState) (
 
     -- what impulses the control hubs
     pub plus_is : pictures C (PL group) ≡ true → Pluses chart.lines plan (shut old cycle) cycle name level
-    plus_is on = plus_from ((at_control (PL group) refl (silent (PL group) refl)).0 on) refl
+    plus_is on = plus_from ((control_arrives chart plan wiring old cycle pictures at (PL group) refl refl).0 on) refl
 
     pub minus_is : pictures C (MI group) ≡ true → Minuses chart.lines plan (shut old cycle) cycle name level group
-    minus_is on = minus_from ((at_control (MI group) refl (silent (MI group) refl)).0 on) refl
+    minus_is on = minus_from ((control_arrives chart plan wiring old cycle pictures at (MI group) refl refl).0 on) refl
 
     pub read_is : pictures C (RO group) ≡ true → ReadsOut chart.lines (shut old cycle) cycle name level group
-    read_is on = read_from ((at_control (RO group) refl (silent (RO group) refl)).0 on) refl
+    read_is on = read_from ((control_arrives chart plan wiring old cycle pictures at (RO group) refl refl).0 on) refl
 
     pub test_is : pictures C (BT group) ≡ true → Tests chart.lines cycle name level
-    test_is on = test_from ((at_control (BT group) refl (silent (BT group) refl)).0 on) refl
+    test_is on = test_from ((control_arrives chart plan wiring old cycle pictures at (BT group) refl refl).0 on) refl

@@ -1,7 +1,7 @@
 -- What adds, subtracts, reads out and tests impulses the control hubs of the counter group of a total.
 use Rattle.std.proofs.Common.{◌≡◌, refl, sym, subst, ℕ, Bool, true, List, Option, Some}
 use Rattle.plans.specs.Plans.{Lists}
-use Rattle.charts.specs.Chart.{Chart}
+use Rattle.charts.specs.Chart.{Chart, NumbersRise}
 use Rattle.charts.specs.Levels.{level_number as chart_level}
 use Rattle.charts.specs.declared.level.Level.{Level as ChartLevel}
 use Rattle.charts.specs.declared.statement.Mark.{Mark}
@@ -20,23 +20,25 @@ use Rattle.wiring_table.specs.Figures.{IsSigned}
 use Rattle.wiring_table.specs.Parts.{HasTotal, IsLowest, IsNextHigher, pilot_for, negative_side, positive_side}
 use Rattle.wiring_table.specs.Wires.{LineWire, ChartWire}
 use Rattle.wiring_table.specs.Wires.LineWire.{entry_adds, entry_sign, entry_plus, entry_minus, read_out, balance_test, conversion, conversion_read_out, conversion_minus, transfer_adds, transfer_sign, transfer_plus, transfer_minus}
-use Rattle.wired_panels.proofs.CounterAsksControls.{IsControlPoint, shut, Pluses, Minuses, ReadsOut, Tests, numbered, at_control, silent, positive_common, negative_common}
+use Rattle.wired_panels.proofs.CounterAsksControls.{shut, Pluses, Minuses, ReadsOut, Tests, numbered, positive_common, negative_common}
 use Rattle.wired_panels.proofs.CounterAsksControls.Pluses.{card, by_sign, up, by_latch}
 use Rattle.wired_panels.proofs.CounterAsksControls.Minuses.{less_by_sign, less_turned, less_by_latch}
 use Rattle.wired_panels.proofs.CounterAsksControls.ReadsOut.{shows_it, turns_it}
 use Rattle.wired_panels.proofs.CounterAsksControls.Tests.{tests_it}
 use Rattle.wired_panels.proofs.CounterAsksTold.{IsStep, card_emits, step_emits, IsUnder, next_higher, wire_of}
-use Rattle.wired_panels.specs.ChartAmounts.{IsGroupOf}
-use Rattle.wired_panels.specs.Panel.{Comes}
-use Rattle.wired_panels.specs.Panel.Comes.{straight, through}
+use Rattle.wired_panels.specs.Groups.{IsGroupOf}
+use Rattle.wired_panels.proofs.Straight.{control_arrives}
+use Rattle.wired_panels.specs.PanelCycles.{IsPanelCycle}
+use Rattle.wired_panels.specs.Panel.{Arrives}
+use Rattle.wired_panels.specs.Panel.Arrives.{straight, through}
 
 module _ (chart : Chart) (plan : Lists) (wiring : Wiring) (old : MachineState) (cycle : Cycle) (pictures : Point → Hub → Bool)
-    (at : IsControlPoint chart plan wiring old cycle pictures) where
+    (at : IsPanelCycle chart plan wiring old cycle pictures) (rise : NumbersRise chart.lines chart.end) where
   -- a program cycle that is wired tells of itself
   telling_step : (level step : ℕ) (entry : Hub) → IsStep cycle level step → ChartWire chart.lines plan (PX level step) entry
       → control_emits cycle (PX level step) ≡ true
   telling_step level step entry is given =
-      let wire = numbered chart plan wiring old cycle pictures at (PX level step) entry given in
+      let wire = numbered chart plan wiring old cycle pictures at rise (PX level step) entry given in
       step_emits cycle level step wire.number is wire.numbered
 
   -- a wire from the program cycles of a level
@@ -78,11 +80,10 @@ module _ (chart : Chart) (plan : Lists) (wiring : Wiring) (old : MachineState) (
         transfer_sign its wheel name given.total.digits mark rule lower own.number given.served signed (higher low its same under))
 
     pub gives_plus : Pluses chart.lines plan (shut old cycle) cycle name level → pictures C (PL group) ≡ true
-    gives_plus adds = (at_control chart plan wiring old cycle pictures at (PL group) refl
-        (silent chart plan wiring old cycle pictures at (PL group) refl)).1 (by adds)
+    gives_plus adds = (control_arrives chart plan wiring old cycle pictures at (PL group) refl refl).1 (by adds)
       where
         by : Pluses chart.lines plan (shut old cycle) cycle name level
-            → Comes chart.lines plan (control_emits cycle) (shut old cycle) (PL group)
+            → Arrives chart.lines plan (control_emits cycle) (shut old cycle) (PL group)
         by (card is low unsigned) =
             straight CC (PL group) (card_emits cycle is)
             (wire_of chart.lines plan name level own.number CC (PL group) own.total
@@ -90,7 +91,7 @@ module _ (chart : Chart) (plan : Lists) (wiring : Wiring) (old : MachineState) (
             entry_adds its wheel name own.total.digits mark group (lowest its same low) own.served unsigned))
         by (by_sign rule pilot is low signed served closed) =
             through CC (PIC pilot 1) (positive_side rule pilot 1) (PL group) (card_emits cycle is) (to_sign rule pilot low signed served)
-            (positive_common chart plan wiring old cycle pictures at rule pilot) closed
+            (positive_common chart plan wiring old cycle pictures at rise rule pilot) closed
             (wire_of chart.lines plan name level own.number (positive_side rule pilot 1) (PL group) own.total
             (λ its wheel mark same.
             entry_plus its wheel name own.total.digits mark rule pilot group (lowest its same low) own.served signed served))
@@ -114,14 +115,13 @@ module _ (chart : Chart) (plan : Lists) (wiring : Wiring) (old : MachineState) (
         (λ its wheel mark same. conversion its wheel name own.total.digits mark rule group own.served signed)
 
     pub gives_minus : Minuses chart.lines plan (shut old cycle) cycle name level group → pictures C (MI group) ≡ true
-    gives_minus subtracts = (at_control chart plan wiring old cycle pictures at (MI group) refl
-        (silent chart plan wiring old cycle pictures at (MI group) refl)).1 (by subtracts)
+    gives_minus subtracts = (control_arrives chart plan wiring old cycle pictures at (MI group) refl refl).1 (by subtracts)
       where
         by : Minuses chart.lines plan (shut old cycle) cycle name level group
-            → Comes chart.lines plan (control_emits cycle) (shut old cycle) (MI group)
+            → Arrives chart.lines plan (control_emits cycle) (shut old cycle) (MI group)
         by (less_by_sign rule pilot is low signed served closed) =
             through CC (PIC pilot 1) (negative_side rule pilot 1) (MI group) (card_emits cycle is) (to_sign rule pilot low signed served)
-            (negative_common chart plan wiring old cycle pictures at rule pilot) closed
+            (negative_common chart plan wiring old cycle pictures at rise rule pilot) closed
             (wire_of chart.lines plan name level own.number (negative_side rule pilot 1) (MI group) own.total
             (λ its wheel mark same.
             entry_minus its wheel name own.total.digits mark rule pilot group (lowest its same low) own.served signed served))
@@ -139,11 +139,10 @@ module _ (chart : Chart) (plan : Lists) (wiring : Wiring) (old : MachineState) (
             (higher low its same under) own.served))
 
     pub gives_read : ReadsOut chart.lines (shut old cycle) cycle name level group → pictures C (RO group) ≡ true
-    gives_read reads = (at_control chart plan wiring old cycle pictures at (RO group) refl
-        (silent chart plan wiring old cycle pictures at (RO group) refl)).1 (by reads)
+    gives_read reads = (control_arrives chart plan wiring old cycle pictures at (RO group) refl refl).1 (by reads)
       where
         by : ReadsOut chart.lines (shut old cycle) cycle name level group
-            → Comes chart.lines plan (control_emits cycle) (shut old cycle) (RO group)
+            → Arrives chart.lines plan (control_emits cycle) (shut old cycle) (RO group)
         by (shows_it is) =
             let given = from_step name level own.number 3 (RO group) own.total
             (λ its wheel mark same. read_out its wheel name own.total.digits mark group own.served) in
@@ -155,10 +154,9 @@ module _ (chart : Chart) (plan : Lists) (wiring : Wiring) (old : MachineState) (
             (λ its wheel mark same. conversion_read_out its wheel name own.total.digits mark rule group own.served signed))
 
     pub gives_test : Tests chart.lines cycle name level → pictures C (BT group) ≡ true
-    gives_test tests = (at_control chart plan wiring old cycle pictures at (BT group) refl
-        (silent chart plan wiring old cycle pictures at (BT group) refl)).1 (by tests)
+    gives_test tests = (control_arrives chart plan wiring old cycle pictures at (BT group) refl refl).1 (by tests)
       where
-        by : Tests chart.lines cycle name level → Comes chart.lines plan (control_emits cycle) (shut old cycle) (BT group)
+        by : Tests chart.lines cycle name level → Arrives chart.lines plan (control_emits cycle) (shut old cycle) (BT group)
         by (tests_it rule is signed) =
             let given = from_step name level own.number 1 (BT group) own.total
             (λ its wheel mark same. balance_test its wheel name own.total.digits mark rule group own.served signed) in

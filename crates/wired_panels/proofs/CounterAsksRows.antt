@@ -1,9 +1,9 @@
 -- What enters the positions of the counter group of a total at the rows.
-use Rattle.std.proofs.Common.{◌≡◌, ◌∙◌, refl, sym, ap, subst, ℕ, ◌+◌, ◌-◌, ◌≤◌, Bool, true, List, Contains, Some, ◌↔◌, length, arith}
+use Rattle.std.proofs.Common.{◌≡◌, ◌∙◌, refl, sym, ap, subst, ℕ, ◌+◌, ◌-◌, ◌≤◌, Bool, true, List, Contains, Some, length, arith}
 use Rattle.plans.specs.Plans.{Lists}
 use Rattle.card_code.specs.Rows.{row_number}
 use Rattle.card_code.specs.declared.row.Row.{Row as CardRow}
-use Rattle.charts.specs.Chart.{Chart}
+use Rattle.charts.specs.Chart.{Chart, NumbersRise}
 use Rattle.charts.specs.Field.{columns_of}
 use Rattle.charts.specs.declared.chart.Line.{Line}
 use Rattle.charts.specs.declared.statement.Field.{Field}
@@ -20,27 +20,25 @@ use Rattle.net.specs.declared.cycle.Cycle.TheVariants.{Card}
 use Rattle.net.specs.declared.cycle.Point.{Point}
 use Rattle.net.specs.declared.cycle.Point.TheVariants.{C, Row}
 use Rattle.stations.specs.Punches.{is_punched_at}
-use Rattle.whole_cycles.proofs.Contacts.{contacts-one_deep}
-use Rattle.whole_cycles.proofs.Sources.{emit_at_sources}
 use Rattle.whole_cycles.specs.WholeCycles.{row_emits}
 use Rattle.wiring_table.specs.Figures.{IsAmount, IsSigned}
 use Rattle.wiring_table.specs.Parts.{IsLowest, IsNextHigher, group_for}
 use Rattle.wiring_table.specs.Wires.{ChartWire}
 use Rattle.wiring_table.specs.Wires.LineWire.{entry, feedback, transfer}
-use Rattle.wired_panels.proofs.CounterAsksControls.{control_point, numbered}
+use Rattle.wired_panels.proofs.CounterAsksControls.{numbered}
 use Rattle.wired_panels.proofs.CounterAsksTold.{moved, IsUnder, goes_under, next_higher, wire_of}
 use Rattle.wired_panels.proofs.PlanOwners.{one_owner, one_total}
 use Rattle.wired_panels.proofs.Sending.{sending}
 use Rattle.wired_panels.proofs.Sources.{sent}
 use Rattle.wired_panels.proofs.ToCounters.{itself, ToEntry, to_entry}
 use Rattle.wired_panels.proofs.ToCounters.ToEntry.{card as entry_card, from_itself as entry_itself, lower as entry_lower}
-use Rattle.wired_panels.proofs.Ways.{comes}
-use Rattle.wired_panels.specs.ChartAmounts.{IsGroupOf}
-use Rattle.wired_panels.specs.CounterStates.{IsPanelCycle}
-use Rattle.wired_panels.specs.Panel.{Comes}
-use Rattle.wired_panels.specs.Panel.Comes.{straight, through}
-use Rattle.wired_panels.specs.Sources.{Sends, digit_at}
-use Rattle.wired_panels.specs.Sources.Sends.{first, second, digit, column, emitter}
+use Rattle.wired_panels.proofs.Straight.{row_arrives}
+use Rattle.wired_panels.specs.Groups.{IsGroupOf}
+use Rattle.wired_panels.specs.PanelCycles.{IsPanelCycle}
+use Rattle.wired_panels.specs.Panel.{Arrives}
+use Rattle.wired_panels.specs.Panel.Arrives.{straight, through}
+use Rattle.wired_panels.specs.Sources.{EmitsAtRow, digit_at}
+use Rattle.wired_panels.specs.Sources.EmitsAtRow.{first, second, digit, column, emitter}
 
 -- A group of the machine reads out a digit at a row.
 pub record ReadsDigit (old : MachineState) (pictures : Point → Hub → Bool) (row : CardRow) (group : Group) (position : ℕ) : Type 0 where
@@ -54,7 +52,7 @@ pub record ReadsDigit (old : MachineState) (pictures : Point → Hub → Bool) (
 
 -- what sends at an exit of a group
 pub digit_sent : (old : MachineState) (pictures : Point → Hub → Bool) (cycle : Cycle) (row : CardRow) (group : Group) (position : ℕ)
-    {hub : Hub} → Sends old pictures cycle row hub → hub ≡ GX group position → ReadsDigit old pictures row group position
+    {hub : Hub} → EmitsAtRow old pictures cycle row hub → hub ≡ GX group position → ReadsDigit old pictures row group position
 digit_sent old pictures cycle row group position (first c reads punched) same = cc
 digit_sent old pictures cycle row group position (second c is punched) same = cc
 digit_sent old pictures cycle row group position (digit counter p listed out low high is) same =
@@ -74,7 +72,7 @@ digit_sent old pictures cycle row group position (emitter e is) same = cc
 
 -- what sends at a column of second reading
 pub column_sent : (old : MachineState) (pictures : Point → Hub → Bool) (cycle : Cycle) (row : CardRow) (at : ℕ)
-    {hub : Hub} → Sends old pictures cycle row hub → hub ≡ SR at
+    {hub : Hub} → EmitsAtRow old pictures cycle row hub → hub ≡ SR at
     → (cycle ≡ Card) × (is_punched_at old.stations.second row at ≡ true)
 column_sent old pictures cycle row at (first c reads punched) same = cc
 column_sent old pictures cycle row at (second c is punched) same =
@@ -97,30 +95,22 @@ pub data Enters (lines : List Line) (plan : Lists) (old : MachineState) (picture
       → Enters lines plan old pictures cycle row name level group position
 
 module _ (chart : Chart) (plan : Lists) (wiring : Wiring) (old : MachineState) (cycle : Cycle) (pictures : Point → Hub → Bool)
-    (at : IsPanelCycle chart plan wiring old cycle pictures) (name : List ℕ) (level : ℕ) (group : Group)
+    (at : IsPanelCycle chart plan wiring old cycle pictures) (rise : NumbersRise chart.lines chart.end) (name : List ℕ) (level : ℕ) (group : Group)
     (own : IsGroupOf chart.lines plan name level group) (row : CardRow) (position : ℕ) where
-  -- what comes to the entry of the position
-  at_row : (pictures (Row row) (GE group position) ≡ true)
-      ↔ Comes chart.lines plan (row_emits old pictures cycle row) (closes old cycle (Row row)) (GE group position)
-  at_row =
-      comes chart plan wiring (row_emits old pictures cycle row) (closes old cycle (Row row)) (pictures (Row row)) (GE group position)
-      contacts-one_deep at.panel (emit_at_sources.no_common (row_emits old pictures cycle row) (emit_at_sources.rows old pictures cycle row))
-      (at.rows row) refl (emit_at_sources.rows old pictures cycle row (GE group position) refl)
-
   -- straight to the entry
-  entered : {exit : Hub} → ToEntry chart.lines plan group position exit → Sends old pictures cycle row exit
+  entered : {exit : Hub} → ToEntry chart.lines plan group position exit → EmitsAtRow old pictures cycle row exit
       → Enters chart.lines plan old pictures cycle row name level group position
   entered (entry_card its its_level field given low amount from to) sends =
-      let same = one_owner chart plan its name its_level level group at.rise at.panel.planned given own in
+      let same = one_owner chart plan its name its_level level group rise at.panel.planned given own in
       let (is, punched) = column_sent old pictures cycle row (field.last + 1 - position) sends refl in
       card field is (moved (λ n l. IsLowest chart.lines n l) same low) (moved (λ n l. IsAmount chart.lines n field) same amount)
       from to punched
   entered (entry_itself its its_level rule given signed from to) sends =
-      let same = one_owner chart plan its name its_level level group at.rise at.panel.planned given own in
+      let same = one_owner chart plan its name its_level level group rise at.panel.planned given own in
       own_digit rule (moved (λ n l. IsSigned chart.lines n rule) same signed) from to
       (digit_sent old pictures cycle row group position sends refl)
   entered (entry_lower its low lower goes served from to) sends =
-      let (same, under, digits) = goes_under chart plan name its low level group at.rise at.panel.planned own goes in
+      let (same, under, digits) = goes_under chart plan name its low level group rise at.panel.planned own goes in
       let given : IsGroupOf chart.lines plan its low lower =
       record { number = goes.lower_number; total = goes.lower_total; served = served } in
       lower_digit low lower under (subst (λ n. IsGroupOf chart.lines plan n low lower) same.name given)
@@ -131,7 +121,7 @@ module _ (chart : Chart) (plan : Lists) (wiring : Wiring) (old : MachineState) (
   no_contact common (entry_itself its its_level rule given signed from to) leads = cc
   no_contact common (entry_lower its low lower goes served from to) leads = cc
 
-  entered_from : {hub : Hub} → Comes chart.lines plan (row_emits old pictures cycle row) (closes old cycle (Row row)) hub
+  entered_from : {hub : Hub} → Arrives chart.lines plan (row_emits old pictures cycle row) (closes old cycle (Row row)) hub
       → hub ≡ GE group position → Enters chart.lines plan old pictures cycle row name level group position
   entered_from (straight exit entry_hub on given) is =
       let w : ChartWire chart.lines plan exit (GE group position) = subst (λ h. ChartWire chart.lines plan exit h) is given in
@@ -141,31 +131,31 @@ module _ (chart : Chart) (plan : Lists) (wiring : Wiring) (old : MachineState) (
       absurd (no_contact common (to_entry chart.lines plan w.line.number (itself chart.lines w.line w.listed) w.wire) leads)
 
   pub enters_is : pictures (Row row) (GE group position) ≡ true → Enters chart.lines plan old pictures cycle row name level group position
-  enters_is on = entered_from (at_row.0 on) refl
+  enters_is on = entered_from ((row_arrives chart plan wiring old cycle pictures at row (GE group position) refl refl).0 on) refl
 
   -- a digit that is read out goes along a wire
   along : (from : Group) → ReadsDigit old pictures row from position → ChartWire chart.lines plan (GX from position) (GE group position)
-      → Comes chart.lines plan (row_emits old pictures cycle row) (closes old cycle (Row row)) (GE group position)
+      → Arrives chart.lines plan (row_emits old pictures cycle row) (closes old cycle (Row row)) (GE group position)
   along from reads given =
-      let wire = numbered chart plan wiring old cycle pictures (control_point at) (GX from position) (GE group position) given in
+      let wire = numbered chart plan wiring old cycle pictures at rise (GX from position) (GE group position) given in
       let out : pictures C (RO reads.counter.name) ≡ true = ap (λ g. pictures C (RO g)) reads.named ∙ reads.reads in
-      let sends : Sends old pictures cycle row (GX from position) =
-      subst (λ g. Sends old pictures cycle row (GX g position)) reads.named
+      let sends : EmitsAtRow old pictures cycle row (GX from position) =
+      subst (λ g. EmitsAtRow old pictures cycle row (GX g position)) reads.named
       (digit reads.counter position reads.listed out reads.from reads.to reads.is) in
       straight (GX from position) (GE group position) (sending old pictures cycle row wire.number sends wire.numbered) given
 
   pub gives_entry : Enters chart.lines plan old pictures cycle row name level group position → pictures (Row row) (GE group position) ≡ true
-  gives_entry enters = at_row.1 (by enters)
+  gives_entry enters = (row_arrives chart plan wiring old cycle pictures at row (GE group position) refl refl).1 (by enters)
     where
       by : Enters chart.lines plan old pictures cycle row name level group position
-          → Comes chart.lines plan (row_emits old pictures cycle row) (closes old cycle (Row row)) (GE group position)
+          → Arrives chart.lines plan (row_emits old pictures cycle row) (closes old cycle (Row row)) (GE group position)
       by (card field is low amount from to punched) =
           let given : ChartWire chart.lines plan (SR (field.last + 1 - position)) (GE group position) =
           wire_of chart.lines plan name level own.number (SR (field.last + 1 - position)) (GE group position) own.total
           (λ its wheel mark same.
           entry its wheel name own.total.digits mark field group position
           (subst (λ l. IsLowest chart.lines name l) (sym same) low) own.served amount from to) in
-          let wire = numbered chart plan wiring old cycle pictures (control_point at) (SR (field.last + 1 - position)) (GE group position) given in
+          let wire = numbered chart plan wiring old cycle pictures at rise (SR (field.last + 1 - position)) (GE group position) given in
           straight (SR (field.last + 1 - position)) (GE group position)
           (sending old pictures cycle row wire.number (second (field.last + 1 - position) is punched) wire.numbered) given
       by (own_digit rule signed from to reads) =

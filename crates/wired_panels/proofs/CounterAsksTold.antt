@@ -21,9 +21,9 @@ use Rattle.wiring_table.specs.Wires.{LineWire, ChartWire}
 use Rattle.wired_panels.proofs.PlanOwners.{IsSameTotal, one_owner}
 use Rattle.wired_panels.proofs.Sending.{telling}
 use Rattle.wired_panels.proofs.ToCounters.{GoesUp}
-use Rattle.wired_panels.specs.ChartAmounts.{IsGroupOf}
-use Rattle.wired_panels.specs.Sources.{Tells}
-use Rattle.wired_panels.specs.Sources.Tells.{card as tells_card, prog as tells_prog, head as tells_head}
+use Rattle.wired_panels.specs.Groups.{IsGroupOf}
+use Rattle.wired_panels.specs.Sources.{EmitsAtControl}
+use Rattle.wired_panels.specs.Sources.EmitsAtControl.{card as tells_card, prog as tells_prog, head as tells_head}
 
 -- a cycle is the card cycle
 abbrev pub IsCardCycle : Cycle → Type 0
@@ -40,10 +40,10 @@ IsStep (Prog its ordinal) level step = (level_number its ≡ level) × (ordinal_
 IsStep (Head heading) level step = ⊥
 
 -- what tells of a card cycle, and of a program cycle
-pub told_card : {cycle : Cycle} → Tells cycle CC → IsCardCycle cycle
+pub told_card : {cycle : Cycle} → EmitsAtControl cycle CC → IsCardCycle cycle
 told_card tells_card = tt
 
-pub told_step : {cycle : Cycle} {level step : ℕ} → Tells cycle (PX level step) → IsStep cycle level step
+pub told_step : {cycle : Cycle} {level step : ℕ} → EmitsAtControl cycle (PX level step) → IsStep cycle level step
 told_step (tells_prog level ordinal) = (refl, refl)
 
 -- whether a hub can tell of a cycle
@@ -53,13 +53,13 @@ can_tell (PX level step) = true
 can_tell (HX heading) = true
 can_tell other = false
 
-pub telling_hub : {cycle : Cycle} {hub : Hub} → Tells cycle hub → can_tell hub ≡ true
+pub telling_hub : {cycle : Cycle} {hub : Hub} → EmitsAtControl cycle hub → can_tell hub ≡ true
 telling_hub tells_card = refl
 telling_hub (tells_prog level ordinal) = refl
 telling_hub (tells_head heading) = refl
 
 -- no other hub tells
-pub untold : {A : Type 0} {cycle : Cycle} {hub : Hub} → Tells cycle hub → can_tell hub ≡ false → A
+pub untold : {A : Type 0} {cycle : Cycle} {hub : Hub} → EmitsAtControl cycle hub → can_tell hub ≡ false → A
 untold tells none = let on = telling_hub tells in absurd (no_both none on)
   where
     no_both : {b : Bool} → b ≡ false → b ≡ true → ⊥

@@ -18,11 +18,6 @@ use Rattle.machine.specs.Fields.{AreInUnitOrder}
 use Rattle.machine.specs.Machine.{group_units}
 use Rattle.net.specs.Panel.{unit_of, unit_behind}
 use Rattle.wiring_table.specs.Parts.{group_for}
-use Rattle.counter_cycles.specs.GroupCycles.{held_by}
-use Rattle.counters.specs.Numbers.{number}
-use Rattle.machine.specs.Machine.{MachineState}
-use Rattle.wired_panels.proofs.Contacts.{is_set}
-use Rattle.wired_panels.specs.CounterStates.{held_in, number_at}
 use Rattle.wired_panels.proofs.PlanLists.{here, behind, first_or_behind}
 use Rattle.wired_panels.proofs.PlanOwners.{group_there}
 
@@ -127,14 +122,3 @@ counter_there groups group ordered there =
 pub planned_unit : (lines : List Line) (plan : Lists) (number : ℕ) (group : Group) → IsFor lines plan
     → group_for lines plan number ≡ Some group → 3 ≤ unit_of group
 planned_unit lines plan number group planned served = unit_there group (group_there lines plan number group planned served)
-
--- what a counter of a machine holds is held in its group
-pub held_at : (machine : MachineState) (counter : Counter) (group : Group) → AreInUnitOrder machine.groups
-    → Contains machine.groups counter → counter.name ≡ group → held_by counter ≡ held_in machine (Some group)
-held_at machine counter group ordered listed named =
-    let numbers : number_at machine.groups group ≡ number counter.digits =
-    ap (number_at machine.groups) (sym named) ∙ at_unit (λ (c : Counter). number c.digits) 0 machine.groups counter ordered listed in
-    let latches : is_set machine group ≡ counter.latch =
-    ap (is_set machine) (sym named) ∙ at_unit (λ (c : Counter). c.latch) false machine.groups counter ordered listed in
-    ap (λ n. record { number = n; latch = counter.latch }) (sym numbers)
-    ∙ ap (λ (l : Bool). record { number = number_at machine.groups group; latch = l }) (sym latches)

@@ -15,7 +15,7 @@ use Rattle.charts.specs.declared.statement.Statement.{Statement}
 use Rattle.charts.specs.declared.statement.Statement.TheVariants as says
 use Rattle.report.specs.Groups.{control_field, is_same_on, is_same_at}
 use Rattle.wired_panels.proofs.SaidOnce.{further}
-use Rattle.wired_panels.specs.Sensed.{Differs}
+use Rattle.wired_panels.specs.PanelCycles.{Differs}
 
 -- A column of a row of them that fails a test.
 record Fails (test : ℕ → Bool) (first many : ℕ) : Type 0 where

@@ -9,7 +9,7 @@ use Rattle.net.specs.declared.cycle.Level.TheVariants.{Minor, Intermediate, Majo
 use Rattle.net.specs.declared.cycle.Ordinal.{Ordinal}
 use Rattle.net.specs.declared.cycle.Ordinal.TheVariants.{First, Second, Third}
 use Rattle.selectors.specs.Indicate.{Latches, indicate_at_start, indicate_ended}
-use Rattle.wired_panels.specs.Sensed.{AreSetTo}
+use Rattle.wired_panels.specs.PanelCycles.{AreSetTo}
 
 -- the latches by their levels
 by-levels : (minor intermediate major : Bool) (top level : ℕ) → 1 ≤ level → level ≤ 3 → minor ≡ nat_le 1 top

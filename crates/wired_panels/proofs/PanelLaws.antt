@@ -2,11 +2,9 @@
 use Rattle.std.proofs.Common.{◌≡◌, ◌≢◌, refl, false}
 use Rattle.net.specs.declared.cycle.Cycle.{Cycle}
 use Rattle.net.specs.declared.cycle.Cycle.TheVariants.{RunIn, Card, Prog, Head}
-use Rattle.wired_panels.proofs.BehindCycles.{carriage-behind, carriage-behind-other, pilots-behind, pilots-behind-other, program-behind, units-behind, units-behind-other}
+use Rattle.wired_panels.specs.PanelLaws.{BreaksCallLevels, PilotsTellTheNextCard, UnitsHoldTheCard}
+use Rattle.wired_panels.proofs.BehindCycles.{pilots-behind, pilots-behind-other, program-behind, units-behind, units-behind-other}
 use Rattle.wired_panels.proofs.Contacts.{is_card_cycle}
-use Rattle.wired_panels.proofs.CounterAsks.{asks}
-use Rattle.wired_panels.proofs.Straight.{orderly}
-use Rattle.wired_panels.specs.PanelLaws.{BreaksCallLevels, CarriageDoesWhatIsAsked, GroupsAreAskedForTotals, PilotsTellTheNextCard, UnitsHoldTheCard}
 
 -- a cycle other than a card cycle
 no_card : (cycle : Cycle) → cycle ≢ Card → is_card_cycle cycle ≡ false
@@ -15,28 +13,18 @@ no_card Card other = absurd (other refl)
 no_card (Prog level ordinal) other = refl
 no_card (Head heading) other = refl
 
-pub groups-asked : GroupsAreAskedForTotals
-groups-asked chart plan wiring old pictures name level group cycle kind at own is small =
-    asks chart plan wiring old pictures name level group own cycle kind at is small
-
 pub pilots-told : PilotsTellTheNextCard
 pilots-told chart plan wiring cycle old new panel between whole = (
-  pilots-behind chart plan wiring cycle old new orderly panel between whole,
-  pilots-behind-other chart plan wiring cycle old new orderly panel between whole,
+  pilots-behind chart plan wiring cycle old new panel between whole,
+  pilots-behind-other chart plan wiring cycle old new panel between whole,
 )
 
 pub units-told : UnitsHoldTheCard
 units-told chart plan wiring cycle old new card panel rising between whole = (
-  units-behind chart plan wiring cycle old new orderly panel between whole card rising,
-  λ other. units-behind-other chart plan wiring cycle old new orderly panel between whole card (no_card cycle other),
-)
-
-pub carriage-told : CarriageDoesWhatIsAsked
-carriage-told chart plan wiring cycle old new panel between whole = (
-  carriage-behind chart plan wiring cycle old new orderly panel between whole,
-  carriage-behind-other chart plan wiring cycle old new orderly panel between whole,
+  units-behind chart plan wiring cycle old new panel between whole card rising,
+  λ other. units-behind-other chart plan wiring cycle old new panel between whole card (no_card cycle other),
 )
 
 pub levels-called : BreaksCallLevels
 levels-called chart plan wiring old new card next panel between whole stands waits valid valid' =
-    program-behind chart plan wiring old new card next orderly panel between whole stands waits valid valid'
+    program-behind chart plan wiring old new card next panel between whole stands waits valid valid'

@@ -35,7 +35,7 @@ use Rattle.wiring_table.specs.Figures.{IsSigned, rule_of}
 use Rattle.wiring_table.specs.Parts.{HasTotal, group_for, panel_group, pilot_for}
 use Rattle.wired_panels.proofs.PlanLists.{here, first_or_behind, SplitAt, split_at, find_passes, position_passes, position_some, filter_map-contains, filter-contains, map-contains}
 use Rattle.wired_panels.proofs.Sending.{any_from}
-use Rattle.wired_panels.specs.ChartAmounts.{IsGroupOf}
+use Rattle.wired_panels.specs.Groups.{IsGroupOf}
 
 -- a name is the same as itself
 pub own_name : (name : List ℕ) → is_same_name name name ≡ true

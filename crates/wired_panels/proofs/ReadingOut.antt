@@ -1,102 +1,92 @@
 -- Which counter groups and storage units read out in the cycles that print: those of a level's totals and texts in its third program
--- cycle, and none in card and heading cycles.
-use Rattle.std.proofs.Common.{◌≡◌, ◌∙◌, refl, ap, sym, subst, ℕ, Bool, true, false, List, Some, ◌↔◌}
-use Rattle.charts.specs.Levels.{level_number as chart_number}
-use Rattle.charts.specs.declared.level.Level.{Level as ChartLevel}
+-- cycle, and none in other cycles.
+use Rattle.std.proofs.Common.{◌≡◌, refl, sym, ap, subst, ℕ, Bool, true, false, List, ◌↔◌}
 use Rattle.setups.specs.Wiring.{Wiring}
+use Rattle.charts.specs.Chart.{NumbersRise}
+use Rattle.charts.specs.Levels.{level_number as chart_number}
 use Rattle.hubs.specs.declared.hub.Group.{Group}
-use Rattle.hubs.specs.declared.hub.Hub.TheVariants.{RO, SO}
+use Rattle.hubs.specs.declared.hub.Hub.{Hub}
+use Rattle.hubs.specs.declared.hub.Hub.TheVariants.{PX, RO, SO}
 use Rattle.net.specs.Cycles.{level_number}
-use Rattle.net.specs.declared.cycle.Cycle.TheVariants.{RunIn, Card, Prog, Head}
 use Rattle.net.specs.declared.cycle.Cycle.{Cycle}
+use Rattle.net.specs.declared.cycle.Cycle.TheVariants.{RunIn, Card, Prog, Head}
 use Rattle.net.specs.declared.cycle.Level.{Level}
-use Rattle.net.specs.declared.cycle.Ordinal.TheVariants.{Third}
-use Rattle.net.specs.declared.cycle.Ordinal.{Ordinal}
+use Rattle.net.specs.declared.cycle.Ordinal.TheVariants.{First, Second, Third}
 use Rattle.net.specs.declared.cycle.Point.TheVariants.{C}
-use Rattle.line_places.specs.Placing.{kind_of}
-use Rattle.wired_panels.proofs.CounterOthers.{reading}
-use Rattle.wired_panels.proofs.Straight.{orderly}
-use Rattle.wired_panels.proofs.ToStorage.{card-no_total, no-unit-reads_out, other-no_total, unit-reads_out}
-use Rattle.wired_panels.specs.ChartAmounts.{IsGroupOf}
-use Rattle.wired_panels.specs.CounterStates.{Reading}
-use Rattle.wired_panels.specs.CounterStates.Reading.{third as reads_third, second as reads_second}
-use Rattle.wired_panels.specs.Sensed.{IsTextPrinted}
-use Rattle.wired_panels.specs.Speakers.{Moment}
-use Rattle.wired_panels.specs.Spoken.{IsMoment}
+use Rattle.wired_panels.proofs.ReadingGroups.{reading}
+use Rattle.wired_panels.proofs.ToStorage.{unit-reads_out}
+use Rattle.wired_panels.specs.CycleRows.{CycleRow}
+use Rattle.wired_panels.specs.Groups.{IsGroupOf, Reading}
+use Rattle.wired_panels.specs.Groups.Reading.{third as reads_third, second as reads_second}
+use Rattle.wired_panels.specs.PanelCycles.{IsPanelCycle, IsTextPrinted}
+use Rattle.wired_panels.specs.Sources.{EmitsAtControl}
+use Rattle.wired_panels.specs.Sources.EmitsAtControl.{card as emits_card, prog as emits_prog, head as emits_head}
 
--- No counter group and no storage unit reads out.
-pub record NothingReadsOut (at : Moment) : Type 0 where
-  pub groups : (group : Group) → at.pictures C (RO group) ≡ false
-  pub units : (unit : ℕ) → at.pictures C (SO unit) ≡ false
+-- whether a cycle can print
+abbrev pub can_print : Cycle → Bool
+can_print RunIn = false
+can_print Card = true
+can_print (Prog level First) = false
+can_print (Prog level Second) = false
+can_print (Prog level Third) = true
+can_print (Head heading) = true
 
--- whether a cycle is a program cycle
-abbrev is_prog : Cycle → Bool
-is_prog RunIn = false
-is_prog Card = false
-is_prog (Prog level ordinal) = true
-is_prog (Head heading) = false
+-- the third program cycle of a level, by the exit that emits in it
+pub third-of : {cycle : Cycle} {hub : Hub} (n : ℕ) → EmitsAtControl cycle hub → hub ≡ PX n 3 → can_print cycle ≡ true
+    → (level : Level) × (cycle ≡ Prog level Third)
+third-of n emits_card is prints = cc
+third-of n (emits_prog level First) is prints = cc
+third-of n (emits_prog level Second) is prints = cc
+third-of n (emits_prog level Third) is prints = (level, refl)
+third-of n (emits_head heading) is prints = cc
 
-module _ (wiring : Wiring) (at : Moment) (moment : IsMoment wiring at) where
-  -- the groups that read out
-  group-reads : (group : Group) → (at.pictures C (RO group) ≡ true) ↔ Reading at.chart at.plan at.old group at.cycle
-  group-reads group =
-      reading at.chart at.plan wiring at.old at.pictures group at.cycle
-      (record { panel = moment.panel; rise = moment.rises; between = moment.between; control = moment.control })
-
+module _ (wiring : Wiring) (at : CycleRow) (it : IsPanelCycle at.chart at.plan wiring at.old at.cycle at.pictures) where
   -- the units that read out
   unit-reads : (unit : ℕ) → (at.pictures C (SO unit) ≡ true) ↔ IsTextPrinted at.chart.lines at.plan at.cycle unit
-  unit-reads unit =
-      unit-reads_out at.chart at.plan wiring at.cycle at.old at.pictures orderly moment.panel moment.control unit
+  unit-reads unit = unit-reads_out at.chart at.plan wiring at.old at.cycle at.pictures it unit
 
-  -- groups read out in program cycles alone
-  in_prog : {group : Group} {cycle : Cycle} → Reading at.chart at.plan at.old group cycle → is_prog cycle ≡ true
-  in_prog (reads_third level name own) = refl
-  in_prog (reads_second level name rule own signed on) = refl
+  pub unit-third : (unit : ℕ) → can_print at.cycle ≡ true → at.pictures C (SO unit) ≡ true → (level : Level) × (at.cycle ≡ Prog level Third)
+  unit-third unit prints on = let text = (unit-reads unit).0 on in third-of (chart_number text.level) text.printed refl prints
 
-  -- nothing reads out in a cycle that prints no total line and is no program cycle
-  silent : is_prog at.cycle ≡ false → ((level : ChartLevel) → ¬ (kind_of at.cycle ≡ Some (chart_number level))) → NothingReadsOut at
-  silent other none = record {
-    groups = λ group. by group (at.pictures C (RO group)) refl;
-    units = λ unit. no-unit-reads_out at.chart at.plan wiring at.cycle at.old at.pictures orderly moment.panel moment.control unit none;
-  }
-    where
-      by : (group : Group) (b : Bool) → at.pictures C (RO group) ≡ b → b ≡ false
-      by group true on = let its = in_prog ((group-reads group).0 on) in cc
-      by group false off = refl
+  -- In the third program cycle of a level a unit that reads out is that of a text on the total line, and each of these reads out.
+  pub text-read : (level : Level) → at.cycle ≡ Prog level Third → (unit : ℕ) → at.pictures C (SO unit) ≡ true
+      → IsTextPrinted at.chart.lines at.plan (Prog level Third) unit
+  text-read level is unit on = subst (λ c. IsTextPrinted at.chart.lines at.plan c unit) is ((unit-reads unit).0 on)
 
-  pub card-silent : at.cycle ≡ Card → NothingReadsOut at
-  card-silent is = silent (ap is_prog is) (λ level printed. card-no_total level (sym (ap kind_of is) ∙ printed))
+  pub reads-text : (level : Level) → at.cycle ≡ Prog level Third → (unit : ℕ) → IsTextPrinted at.chart.lines at.plan (Prog level Third) unit
+      → at.pictures C (SO unit) ≡ true
+  reads-text level is unit text = (unit-reads unit).1 (subst (λ c. IsTextPrinted at.chart.lines at.plan c unit) (sym is) text)
 
-  pub heading-silent : (heading : Ordinal) → at.cycle ≡ Head heading → NothingReadsOut at
-  heading-silent heading is = silent (ap is_prog is) (other-no_total at.cycle (ap kind_of is))
+  module _ (rises : NumbersRise at.chart.lines at.chart.end) where
+    -- the groups that read out
+    group-reads : (group : Group) → (at.pictures C (RO group) ≡ true) ↔ Reading at.chart at.plan at.old group at.cycle
+    group-reads group = reading at.chart at.plan wiring rises at.old at.pictures group at.cycle it
 
-  -- In the third program cycle of a level
-  module _ (level : Level) (is : at.cycle ≡ Prog level Third) where
-    its_total : (group : Group) {cycle : Cycle} → Reading at.chart at.plan at.old group cycle → cycle ≡ Prog level Third
+    pub group-third : (group : Group) → can_print at.cycle ≡ true → at.pictures C (RO group) ≡ true
+        → (level : Level) × (at.cycle ≡ Prog level Third)
+    group-third group prints on = by ((group-reads group).0 on) prints
+      where
+        by : {cycle : Cycle} → Reading at.chart at.plan at.old group cycle → can_print cycle ≡ true → (level : Level) × (cycle ≡ Prog level Third)
+        by (reads_third level name own) prints = (level, refl)
+        by (reads_second level name rule own signed on) prints = cc
+
+    -- In the third program cycle of a level a group that reads out is that of a total of the level, and each of these reads out.
+    pub total-read : (level : Level) → at.cycle ≡ Prog level Third → (group : Group) → at.pictures C (RO group) ≡ true
         → (name : List ℕ) × IsGroupOf at.chart.lines at.plan name (level_number level) group
-    its_total group (reads_third l name own) same =
-        let levels : level_number l ≡ level_number level = ap level_of same in
-        (name, subst (λ n. IsGroupOf at.chart.lines at.plan name n group) levels own)
+    total-read level is group on = by ((group-reads group).0 on) is
       where
         level_of : Cycle → ℕ
         level_of (Prog its ordinal) = level_number its
         level_of other = 0
-    its_total group (reads_second l name rule own signed on) same = cc
 
-    -- a group that reads out is that of a total of the level, and each of these reads out
-    pub total-read : (group : Group) → at.pictures C (RO group) ≡ true
-        → (name : List ℕ) × IsGroupOf at.chart.lines at.plan name (level_number level) group
-    total-read group on = its_total group ((group-reads group).0 on) is
+        by : {cycle : Cycle} → Reading at.chart at.plan at.old group cycle → cycle ≡ Prog level Third
+            → (name : List ℕ) × IsGroupOf at.chart.lines at.plan name (level_number level) group
+        by (reads_third l name own) same =
+            let levels : level_number l ≡ level_number level = ap level_of same in
+            (name, subst (λ n. IsGroupOf at.chart.lines at.plan name n group) levels own)
+        by (reads_second l name rule own signed on) same = cc
 
-    pub reads-total : (name : List ℕ) (group : Group) → IsGroupOf at.chart.lines at.plan name (level_number level) group
-        → at.pictures C (RO group) ≡ true
-    reads-total name group own =
+    pub reads-total : (level : Level) → at.cycle ≡ Prog level Third → (name : List ℕ) (group : Group)
+        → IsGroupOf at.chart.lines at.plan name (level_number level) group → at.pictures C (RO group) ≡ true
+    reads-total level is name group own =
         (group-reads group).1 (subst (λ c. Reading at.chart at.plan at.old group c) (sym is) (reads_third level name own))
-
-    -- a unit that reads out is that of a text on the total line, and each of these reads out
-    pub text-read : (unit : ℕ) → at.pictures C (SO unit) ≡ true → IsTextPrinted at.chart.lines at.plan (Prog level Third) unit
-    text-read unit on = subst (λ c. IsTextPrinted at.chart.lines at.plan c unit) is ((unit-reads unit).0 on)
-
-    pub reads-text : (unit : ℕ) → IsTextPrinted at.chart.lines at.plan (Prog level Third) unit → at.pictures C (SO unit) ≡ true
-    reads-text unit text =
-        (unit-reads unit).1 (subst (λ c. IsTextPrinted at.chart.lines at.plan c unit) (sym is) text)

@@ -22,17 +22,17 @@ use Rattle.stations.specs.Punches.{is_punched_at}
 use Rattle.stations.specs.Stations.{stations_emits}
 use Rattle.storage_units.specs.Storage.{holds, storage_place}
 use Rattle.whole_cycles.specs.WholeCycles.{control_emits, row_emits, group_reads_out, storage_reads_out}
-use Rattle.wired_panels.specs.Sources.{Tells, Sends, ReadsFirst, digit_at}
+use Rattle.wired_panels.specs.Sources.{EmitsAtControl, EmitsAtRow, ReadsFirst, digit_at}
 use Rattle.wired_panels.specs.Sources.ReadsFirst.{run_in, card as card_reads}
-use Rattle.wired_panels.specs.Sources.Tells.{card as tells_card, prog as tells_prog, head as tells_head}
-use Rattle.wired_panels.specs.Sources.Sends.{first, second, digit, column, emitter}
+use Rattle.wired_panels.specs.Sources.EmitsAtControl.{card as tells_card, prog as tells_prog, head as tells_head}
+use Rattle.wired_panels.specs.Sources.EmitsAtRow.{first, second, digit, column, emitter}
 
 -- a hub of the panel is itself
 pub own : (hub : Hub) (n : ℕ) → number_of hub ≡ Some n → is_hub hub hub ≡ true
 own hub n is = is_hub-own hub n is
 
 -- the exit that tells of a cycle emits, if it is a hub of the panel
-pub telling : {cycle : Cycle} {hub : Hub} (n : ℕ) → Tells cycle hub → number_of hub ≡ Some n → control_emits cycle hub ≡ true
+pub telling : {cycle : Cycle} {hub : Hub} (n : ℕ) → EmitsAtControl cycle hub → number_of hub ≡ Some n → control_emits cycle hub ≡ true
 telling n tells_card is = refl
 telling n (tells_prog level ordinal) is = own (PX (level_number level) (ordinal_number ordinal)) n is
 telling n (tells_head heading) is = own (HX (ordinal_number heading)) n is
@@ -122,7 +122,7 @@ reading_second old cycle row c is punched =
 -- What sends at a row emits there, if it is a hub of the panel.
 pub sending :
     (old : MachineState) (pictures : Point → Hub → Bool) (cycle : Cycle) (row : CardRow) {hub : Hub} (n : ℕ)
-    → Sends old pictures cycle row hub → number_of hub ≡ Some n → row_emits old pictures cycle row hub ≡ true
+    → EmitsAtRow old pictures cycle row hub → number_of hub ≡ Some n → row_emits old pictures cycle row hub ≡ true
 sending old pictures cycle row n (first c reads punched) there =
     first_of _ _ _ _ (reading old row c reads punched)
 sending old pictures cycle row n (second c is punched) there =

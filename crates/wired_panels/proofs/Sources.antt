@@ -21,23 +21,23 @@ use Rattle.stations.specs.Punches.{is_punched_at}
 use Rattle.stations.specs.Stations.{first_emits, second_emits, stations_emits}
 use Rattle.storage_units.specs.Storage.{StorageState, holds, storage_place}
 use Rattle.whole_cycles.specs.WholeCycles.{control_emits, row_emits, group_reads_out, storage_reads_out}
-use Rattle.wired_panels.specs.Sources.{Tells, Sends, digit_at}
-use Rattle.wired_panels.specs.Sources.Tells.{card as tells_card, prog as tells_prog, head as tells_head}
+use Rattle.wired_panels.specs.Sources.{EmitsAtControl, EmitsAtRow, digit_at}
+use Rattle.wired_panels.specs.Sources.EmitsAtControl.{card as tells_card, prog as tells_prog, head as tells_head}
 use Rattle.wired_panels.specs.Sources.ReadsFirst.{run_in as reads_run_in, card as reads_card}
-use Rattle.wired_panels.specs.Sources.Sends.{first, second, digit, column, emitter}
+use Rattle.wired_panels.specs.Sources.EmitsAtRow.{first, second, digit, column, emitter}
 
 -- the exit that emits at the control point tells of the cycle
-pub told : (cycle : Cycle) (hub : Hub) → control_emits cycle hub ≡ true → Tells cycle hub
+pub told : (cycle : Cycle) (hub : Hub) → control_emits cycle hub ≡ true → EmitsAtControl cycle hub
 told RunIn hub on = absurd (by on)
   where
     by : false ≡ true → ⊥
     by e = cc
-told Card hub on = subst (λ h. Tells Card h) (is_hub-same CC hub on) tells_card
+told Card hub on = subst (λ h. EmitsAtControl Card h) (is_hub-same CC hub on) tells_card
 told (Prog level ordinal) hub on =
-    subst (λ h. Tells (Prog level ordinal) h) (is_hub-same (PX (level_number level) (ordinal_number ordinal)) hub on)
+    subst (λ h. EmitsAtControl (Prog level ordinal) h) (is_hub-same (PX (level_number level) (ordinal_number ordinal)) hub on)
     (tells_prog level ordinal)
 told (Head heading) hub on =
-    subst (λ h. Tells (Head heading) h) (is_hub-same (HX (ordinal_number heading)) hub on) (tells_head heading)
+    subst (λ h. EmitsAtControl (Head heading) h) (is_hub-same (HX (ordinal_number heading)) hub on) (tells_head heading)
 
 -- one of a list for which a test holds
 pub record Found {X : Type 0} (test : X → Bool) (list : List X) : Type 0 where
@@ -138,28 +138,28 @@ any_of false false false d on = inr (inr (inr on))
 -- what the stations send in a cycle
 station_source :
     (old : MachineState) (pictures : Point → Hub → Bool) (cycle : Cycle) (row : CardRow) (hub : Hub)
-    → stations_emits old.stations cycle (Row row) hub ≡ true → Sends old pictures cycle row hub
+    → stations_emits old.stations cycle (Row row) hub ≡ true → EmitsAtRow old pictures cycle row hub
 station_source old pictures RunIn row hub on =
     let (c, is, punched) = first_source old.stations.first row hub on in
-    subst (λ h. Sends old pictures RunIn row h) (sym is) (first c reads_run_in punched)
+    subst (λ h. EmitsAtRow old pictures RunIn row h) (sym is) (first c reads_run_in punched)
 station_source old pictures Card row hub on =
     by (first_emits old.stations.first row hub) refl on
   where
     by : (b : Bool) → first_emits old.stations.first row hub ≡ b → (b || second_emits old.stations.second row hub) ≡ true
-        → Sends old pictures Card row hub
+        → EmitsAtRow old pictures Card row hub
     by true is any =
         let (c, same, punched) = first_source old.stations.first row hub is in
-        subst (λ h. Sends old pictures Card row h) (sym same) (first c reads_card punched)
+        subst (λ h. EmitsAtRow old pictures Card row h) (sym same) (first c reads_card punched)
     by false is any =
         let (c, same, punched) = second_source old.stations.second row hub any in
-        subst (λ h. Sends old pictures Card row h) (sym same) (second c refl punched)
+        subst (λ h. EmitsAtRow old pictures Card row h) (sym same) (second c refl punched)
 station_source old pictures (Prog level ordinal) row hub on = cc
 station_source old pictures (Head heading) row hub on = cc
 
 -- The exits that emit at a row are those that send.
 pub sent :
     (old : MachineState) (pictures : Point → Hub → Bool) (cycle : Cycle) (row : CardRow) (hub : Hub)
-    → row_emits old pictures cycle row hub ≡ true → Sends old pictures cycle row hub
+    → row_emits old pictures cycle row hub ≡ true → EmitsAtRow old pictures cycle row hub
 sent old pictures cycle row hub on =
     by (any_of (stations_emits old.stations cycle (Row row) hub)
     (list_any (λ group. group_reads_out pictures row group hub) old.groups)
@@ -167,10 +167,10 @@ sent old pictures cycle row hub on =
     (emitters_emit old.emitters cycle (Row row) hub) on)
   where
     shown_by : (group : Counter) → Contains old.groups group → (a b : Bool) → pictures C (RO group.name) ≡ a
-        → shows group.name (row_number row) group.digits hub ≡ b → (a && b) ≡ true → Sends old pictures cycle row hub
+        → shows group.name (row_number row) group.digits hub ≡ b → (a && b) ≡ true → EmitsAtRow old pictures cycle row hub
     shown_by group listed true true out is both =
         let (position, low, high, digit_is, same) = shown_source group.name (row_number row) group.digits hub is in
-        subst (λ h. Sends old pictures cycle row h) (sym same) (digit group position listed out low high digit_is)
+        subst (λ h. EmitsAtRow old pictures cycle row h) (sym same) (digit group position listed out low high digit_is)
     shown_by group listed true false out is both = cc
     shown_by group listed false b out is both = cc
 
@@ -178,7 +178,7 @@ sent old pictures cycle row hub on =
         ⊎ ((list_any (λ group. group_reads_out pictures row group hub) old.groups ≡ true)
         ⊎ ((list_any (λ storage. storage_reads_out pictures row storage hub) old.storage ≡ true)
         ⊎ (emitters_emit old.emitters cycle (Row row) hub ≡ true)))
-        → Sends old pictures cycle row hub
+        → EmitsAtRow old pictures cycle row hub
     by (inl station) = station_source old pictures cycle row hub station
     by (inr (inl group)) =
         let f = found (λ g. group_reads_out pictures row g hub) old.groups group in
@@ -186,7 +186,7 @@ sent old pictures cycle row hub on =
     by (inr (inr (inl storage))) =
         let f = found (λ s. storage_reads_out pictures row s hub) old.storage storage in
         let (c, same, given, held) = stored_source pictures row f.item hub f.on in
-        subst (λ h. Sends old pictures cycle row h) (sym same) (column f.item c f.listed given held)
+        subst (λ h. EmitsAtRow old pictures cycle row h) (sym same) (column f.item c f.listed given held)
     by (inr (inr (inr emitting))) =
         let (e, is, same) = emitter_source (emitter_of cycle) row hub emitting in
-        subst (λ h. Sends old pictures cycle row h) (sym same) (emitter e is)
+        subst (λ h. EmitsAtRow old pictures cycle row h) (sym same) (emitter e is)

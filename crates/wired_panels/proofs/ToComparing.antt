@@ -20,8 +20,8 @@ use Rattle.hub_table.specs.Ranges.{is_within}
 use Rattle.setups.specs.Wiring.{Wiring}
 use Rattle.hubs.specs.declared.hub.Hub.{Hub}
 use Rattle.hubs.specs.declared.hub.Hub.TheVariants.{FR, SR, CX, CA, CB, ST}
-use Rattle.machine.specs.Machine.{MachineState}
-use Rattle.net.specs.Panel.{contact_of}
+use Rattle.machine.specs.Machine.{MachineState, closes}
+use Rattle.net.specs.Impulsed.{IsPicture}
 use Rattle.net.specs.declared.cycle.Cycle.TheVariants.{Card}
 use Rattle.net.specs.declared.cycle.Level.TheVariants.{Minor, Intermediate, Major}
 use Rattle.net.specs.declared.cycle.Point.{Point}
@@ -37,7 +37,7 @@ use Rattle.wiring_table.specs.Wires.{LineWire, ChartWire}
 use Rattle.wiring_table.specs.Wires.LineWire.{compared_first, compared_second, level_called}
 use Rattle.wired_panels.proofs.ControlTexts.{control-set}
 use Rattle.wired_panels.proofs.Differing.{differs-where, where-differs}
-use Rattle.wired_panels.proofs.JacksAndTape.{same_tests}
+use Rattle.wired_panels.proofs.Ways.{same_tests}
 use Rattle.wired_panels.proofs.PlanGives.{comparing-given}
 use Rattle.wired_panels.proofs.PlanPlaces.{comparing-own}
 use Rattle.wired_panels.proofs.SaidOnce.{any-none}
@@ -46,62 +46,10 @@ use Rattle.wired_panels.proofs.Sources.{found}
 use Rattle.wired_panels.proofs.Straight.{at_row, at_closing}
 use Rattle.wired_panels.proofs.ToPilots.{sends-first, sends-second, column-there}
 use Rattle.wired_panels.proofs.ToStorage.{punched-in, in-punched}
-use Rattle.wired_panels.specs.Sensed.{AreOrderly, IsCycleOf, SendsTo, ClosesTo, Differs}
-use Rattle.wired_panels.specs.Sources.{Sends}
+use Rattle.wired_panels.specs.PanelCycles.{IsPanelCycle, ArrivesAtRow, ArrivesAtClosing, Differs}
+use Rattle.wired_panels.specs.Sources.{EmitsAtRow}
 use Rattle.wired_panels.specs.Sources.ReadsFirst.{card as card_reads}
-use Rattle.wired_panels.specs.Sources.Sends.{first, second}
-
--- a wire to a comparing position, and to the hub that calls for a level
-pub data ToFirst (lines : List Line) (plan : Lists) (number : ℕ) : Statement → Hub → ℕ → Type 0 where
-  compared : (level : ControlLevel) (name : List ℕ) (field : Field) (j position : ℕ) → field_named lines name ≡ Some field
-      → j < columns_of field → comparing_for plan number (field.first + j) ≡ Some position
-      → ToFirst lines plan number (says.Control level name) (FR (field.first + j)) position
-
-pub to_first :
-    (lines : List Line) (plan : Lists) (number : ℕ) {statement : Statement} {x : Hub} {n : ℕ}
-    → LineWire lines plan number statement x (CA n) → ToFirst lines plan number statement x n
-to_first lines plan number (compared_first level name field j position named below served) =
-    compared level name field j position named below served
-
-pub data ToSecond (lines : List Line) (plan : Lists) (number : ℕ) : Statement → Hub → ℕ → Type 0 where
-  also : (level : ControlLevel) (name : List ℕ) (field : Field) (j position : ℕ) → field_named lines name ≡ Some field
-      → j < columns_of field → comparing_for plan number (field.first + j) ≡ Some position
-      → ToSecond lines plan number (says.Control level name) (SR (field.first + j)) position
-
-pub to_second :
-    (lines : List Line) (plan : Lists) (number : ℕ) {statement : Statement} {x : Hub} {n : ℕ}
-    → LineWire lines plan number statement x (CB n) → ToSecond lines plan number statement x n
-to_second lines plan number (compared_second level name field j position named below served) =
-    also level name field j position named below served
-
-pub data ToCall (lines : List Line) (plan : Lists) (number : ℕ) : Statement → Hub → ℕ → Type 0 where
-  calls : (level : ControlLevel) (name : List ℕ) (field : Field) (j position : ℕ) → field_named lines name ≡ Some field
-      → j < columns_of field → comparing_for plan number (field.first + j) ≡ Some position
-      → ToCall lines plan number (says.Control level name) (CX position) (control_number level)
-
-pub to_call :
-    (lines : List Line) (plan : Lists) (number : ℕ) {statement : Statement} {x : Hub} {n : ℕ}
-    → LineWire lines plan number statement x (ST n) → ToCall lines plan number statement x n
-to_call lines plan number (level_called level name field j position named below served) =
-    calls level name field j position named below served
-
-first-plain : (lines : List Line) (plan : Lists) (n : ℕ) (exit : Hub) → ChartWire lines plan exit (CA n) → contact_of exit ≡ None
-first-plain lines plan n exit wire = by (to_first lines plan wire.line.number wire.wire)
-  where
-    by : {statement : Statement} {x : Hub} {m : ℕ} → ToFirst lines plan wire.line.number statement x m → contact_of x ≡ None
-    by (compared level name field j position named below served) = refl
-
-second-plain : (lines : List Line) (plan : Lists) (n : ℕ) (exit : Hub) → ChartWire lines plan exit (CB n) → contact_of exit ≡ None
-second-plain lines plan n exit wire = by (to_second lines plan wire.line.number wire.wire)
-  where
-    by : {statement : Statement} {x : Hub} {m : ℕ} → ToSecond lines plan wire.line.number statement x m → contact_of x ≡ None
-    by (also level name field j position named below served) = refl
-
-call-plain : (lines : List Line) (plan : Lists) (n : ℕ) (exit : Hub) → ChartWire lines plan exit (ST n) → contact_of exit ≡ None
-call-plain lines plan n exit wire = by (to_call lines plan wire.line.number wire.wire)
-  where
-    by : {statement : Statement} {x : Hub} {m : ℕ} → ToCall lines plan wire.line.number statement x m → contact_of x ≡ None
-    by (calls level name field j position named below served) = refl
+use Rattle.wired_panels.specs.Sources.EmitsAtRow.{first, second}
 
 -- answers that are not unlike are the same
 alike : (a b : Bool) → are_unlike a b ≡ false → a ≡ b
@@ -121,15 +69,16 @@ both-on true b is = is
 both-on false b is = cc
 
 module _ (chart : Chart) (plan : Lists) (wiring : Wiring) (old : MachineState) (pictures : Point → Hub → Bool)
-    (orderly : AreOrderly) (it : IsCycleOf chart plan wiring Card old pictures) where
-  at_first : (row : CardRow) (n : ℕ) → (pictures (Row row) (CA n) ≡ true) ↔ SendsTo chart.lines plan old pictures Card row (CA n)
-  at_first row n = at_row chart plan wiring Card old pictures orderly it row (CA n) refl refl (first-plain chart.lines plan n)
+    (it : IsPanelCycle chart plan wiring old Card pictures)
+    (closing : IsPicture wiring (closing_emits pictures Card) (closes old Card K) (pictures K)) where
+  at_first : (row : CardRow) (n : ℕ) → (pictures (Row row) (CA n) ≡ true) ↔ ArrivesAtRow chart.lines plan old pictures Card row (CA n)
+  at_first row n = at_row chart plan wiring old Card pictures it row (CA n) refl refl refl
 
-  at_second : (row : CardRow) (n : ℕ) → (pictures (Row row) (CB n) ≡ true) ↔ SendsTo chart.lines plan old pictures Card row (CB n)
-  at_second row n = at_row chart plan wiring Card old pictures orderly it row (CB n) refl refl (second-plain chart.lines plan n)
+  at_second : (row : CardRow) (n : ℕ) → (pictures (Row row) (CB n) ≡ true) ↔ ArrivesAtRow chart.lines plan old pictures Card row (CB n)
+  at_second row n = at_row chart plan wiring old Card pictures it row (CB n) refl refl refl
 
-  at_call : (n : ℕ) → (pictures K (ST n) ≡ true) ↔ ClosesTo chart.lines plan pictures Card (ST n)
-  at_call n = at_closing chart plan wiring Card old pictures orderly it (ST n) refl refl (call-plain chart.lines plan n)
+  at_call : (n : ℕ) → (pictures K (ST n) ≡ true) ↔ ArrivesAtClosing chart.lines plan pictures Card (ST n)
+  at_call n = at_closing chart plan wiring old Card pictures it closing (ST n) refl refl refl
 
   -- with a card at each station
   module _ (card next : List ℕ) (stands : old.stations.second ≡ Some card) (waits : old.stations.first ≡ Some next) where
@@ -171,28 +120,28 @@ module _ (chart : Chart) (plan : Lists) (wiring : Wiring) (old : MachineState) (
           let there = (it.panel.wired.wires (FR (field.first + j)) (CA position)).1 first-wire in
           column-there (is_within position 30) position there.to 1040 there.entry_numbered
 
-      first-came : (row : CardRow) → SendsTo chart.lines plan old pictures Card row (CA position)
+      first-came : (row : CardRow) → ArrivesAtRow chart.lines plan old pictures Card row (CA position)
           → has_row (column_of next (field.first + j)) (row_number row) ≡ true
       first-came row come =
-          by come.wire.line.number come.sends (to_first chart.lines plan come.wire.line.number come.wire.wire) served
+          by come.wire.line.number come.emits come.wire.wire served
         where
-          by : (number : ℕ) → {exit : Hub} → Sends old pictures Card row exit → {statement : Statement} {n : ℕ}
-              → ToFirst chart.lines plan number statement exit n → comparing_for plan line.number (field.first + j) ≡ Some n
+          by : (number : ℕ) → {exit : Hub} → EmitsAtRow old pictures Card row exit → {statement : Statement} {n : ℕ}
+              → LineWire chart.lines plan number statement exit (CA n) → comparing_for plan line.number (field.first + j) ≡ Some n
               → has_row (column_of next (field.first + j)) (row_number row) ≡ true
-          by number sends (compared level' name' field' j' n named' below' served') served =
+          by number sends (compared_first level' name' field' j' n named' below' served') served =
               let columns : field'.first + j' ≡ field.first + j =
               (comparing-own plan number (field'.first + j') line.number (field.first + j) n served' served).1 in
               punched-in old.stations.first next row (field.first + j) waits (sends-first (field.first + j) sends (ap FR columns))
 
-      second-came : (row : CardRow) → SendsTo chart.lines plan old pictures Card row (CB position)
+      second-came : (row : CardRow) → ArrivesAtRow chart.lines plan old pictures Card row (CB position)
           → has_row (column_of card (field.first + j)) (row_number row) ≡ true
       second-came row come =
-          by come.wire.line.number come.sends (to_second chart.lines plan come.wire.line.number come.wire.wire) served
+          by come.wire.line.number come.emits come.wire.wire served
         where
-          by : (number : ℕ) → {exit : Hub} → Sends old pictures Card row exit → {statement : Statement} {n : ℕ}
-              → ToSecond chart.lines plan number statement exit n → comparing_for plan line.number (field.first + j) ≡ Some n
+          by : (number : ℕ) → {exit : Hub} → EmitsAtRow old pictures Card row exit → {statement : Statement} {n : ℕ}
+              → LineWire chart.lines plan number statement exit (CB n) → comparing_for plan line.number (field.first + j) ≡ Some n
               → has_row (column_of card (field.first + j)) (row_number row) ≡ true
-          by number sends (also level' name' field' j' n named' below' served') served =
+          by number sends (compared_second level' name' field' j' n named' below' served') served =
               let columns : field'.first + j' ≡ field.first + j =
               (comparing-own plan number (field'.first + j') line.number (field.first + j) n served' served).1 in
               punched-in old.stations.second card row (field.first + j) stands (sends-second (field.first + j) sends (ap SR columns))
@@ -204,7 +153,7 @@ module _ (chart : Chart) (plan : Lists) (wiring : Wiring) (old : MachineState) (
           (λ on. first-came row ((at_first row position).0 on))
           (λ on. (at_first row position).1 (record {
             exit = FR (field.first + j);
-            sends = first (field.first + j) card_reads (in-punched old.stations.first next row (field.first + j) waits column-within on);
+            emits = first (field.first + j) card_reads (in-punched old.stations.first next row (field.first + j) waits column-within on);
             wire = first-wire;
           }))
 
@@ -214,7 +163,7 @@ module _ (chart : Chart) (plan : Lists) (wiring : Wiring) (old : MachineState) (
           (λ on. second-came row ((at_second row position).0 on))
           (λ on. (at_second row position).1 (record {
             exit = SR (field.first + j);
-            sends = second (field.first + j) refl (in-punched old.stations.second card row (field.first + j) stands column-within on);
+            emits = second (field.first + j) refl (in-punched old.stations.second card row (field.first + j) stands column-within on);
             wire = second-wire;
           }))
 
@@ -254,13 +203,13 @@ module _ (chart : Chart) (plan : Lists) (wiring : Wiring) (old : MachineState) (
               let no_way : true ≡ false = sym e ∙ apart in cc)
 
     -- where a level is called for the cards differ at it
-    called-differs : (n : ℕ) → ClosesTo chart.lines plan pictures Card (ST n) → Differs chart.lines n card next
+    called-differs : (n : ℕ) → ArrivesAtClosing chart.lines plan pictures Card (ST n) → Differs chart.lines n card next
     called-differs n come =
-        by come.wire.line come.wire.listed come.emits refl (to_call chart.lines plan come.wire.line.number come.wire.wire)
+        by come.wire.line come.wire.listed come.emits refl come.wire.wire
       where
         by : (line : Line) → Contains chart.lines line → {exit : Hub} → closing_emits pictures Card exit ≡ true → {statement : Statement}
-            → line.statement ≡ statement → {n : ℕ} → ToCall chart.lines plan line.number statement exit n → Differs chart.lines n card next
-        by line listed emits is (calls level name field j position named below served) = record {
+            → line.statement ≡ statement → {n : ℕ} → LineWire chart.lines plan line.number statement exit (ST n) → Differs chart.lines n card next
+        by line listed emits is (level_called level name field j position named below served) = record {
           line = line;
           listed = listed;
           its_level = level;

@@ -18,7 +18,7 @@ use Rattle.wiring_table.specs.Parts.{HasTotal, IsLowest, IsNextHigher, group_for
 use Rattle.wiring_table.specs.Wires.{LineWire}
 use Rattle.wiring_table.specs.Wires.LineWire.{detail_mark_in, entry, entry_adds, entry_sign, entry_plus, entry_minus, read_out, balance_test, conversion, conversion_read_out, conversion_minus, feedback, total_mark_in, transfer, transfer_adds, transfer_sign, transfer_plus, transfer_minus}
 use Rattle.wired_panels.proofs.PlanOwners.{own_name}
-use Rattle.wired_panels.specs.ChartAmounts.{IsGroupOf}
+use Rattle.wired_panels.specs.Groups.{IsGroupOf}
 
 -- the total that a line says
 pub the_total :

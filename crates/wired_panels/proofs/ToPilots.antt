@@ -12,13 +12,11 @@ use Rattle.charts.specs.declared.chart.Line.{Line}
 use Rattle.charts.specs.declared.statement.Field.{Field}
 use Rattle.charts.specs.declared.statement.SignRule.{SignRule}
 use Rattle.charts.specs.declared.statement.Statement.{Statement}
-use Rattle.charts.specs.declared.statement.Statement.TheVariants as says
 use Rattle.hub_table.specs.Ranges.{is_within}
 use Rattle.setups.specs.Wiring.{Wiring}
 use Rattle.hubs.specs.declared.hub.Hub.{Hub}
 use Rattle.hubs.specs.declared.hub.Hub.TheVariants.{FR, SR, PIX}
 use Rattle.machine.specs.Machine.{MachineState}
-use Rattle.net.specs.Panel.{contact_of}
 use Rattle.net.specs.declared.cycle.Cycle.{Cycle}
 use Rattle.net.specs.declared.cycle.Cycle.TheVariants.{RunIn, Card, Prog, Head}
 use Rattle.net.specs.declared.cycle.Point.{Point}
@@ -32,33 +30,17 @@ use Rattle.wiring_table.specs.Parts.{pilot_for}
 use Rattle.wiring_table.specs.Wires.{LineWire, ChartWire}
 use Rattle.wiring_table.specs.Wires.LineWire.{pickup}
 use Rattle.wired_panels.proofs.ChartLines.{field-own, field-line}
-use Rattle.wired_panels.proofs.JacksAndTape.{same_tests}
+use Rattle.wired_panels.proofs.Ways.{same_tests}
 use Rattle.wired_panels.proofs.PlanPlaces.{pilot-own}
 use Rattle.wired_panels.proofs.Straight.{at_row}
-use Rattle.wired_panels.specs.Sensed.{AreOrderly, IsCycleOf, SendsTo, PilotsTellSigns, has_sign}
-use Rattle.wired_panels.specs.Sources.{Sends, ReadsFirst}
+use Rattle.wired_panels.specs.PanelCycles.{IsPanelCycle, ArrivesAtRow, PilotsTellSigns, has_sign}
+use Rattle.wired_panels.specs.Sources.{EmitsAtRow, ReadsFirst}
 use Rattle.wired_panels.specs.Sources.ReadsFirst.{run_in, card as card_reads}
-use Rattle.wired_panels.specs.Sources.Sends.{first, second, digit, column, emitter}
-
--- a wire to a pickup
-pub data ToPickup (plan : Lists) : Statement → Hub → ℕ → Type 0 where
-  picked : (field : Field) (rule : SignRule) (pilot : ℕ) → rule_of field.kind ≡ Some rule → pilot_for plan field.name ≡ Some pilot
-      → ToPickup plan (says.Field field) (FR (column_of_rule rule)) pilot
-
-pub to_pickup :
-    (lines : List Line) (plan : Lists) (number : ℕ) {statement : Statement} {x : Hub} {n : ℕ}
-    → LineWire lines plan number statement x (PIX n) → ToPickup plan statement x n
-to_pickup lines plan number (pickup field rule pilot ruled served) = picked field rule pilot ruled served
-
-pickup-plain : (lines : List Line) (plan : Lists) (n : ℕ) (exit : Hub) → ChartWire lines plan exit (PIX n) → contact_of exit ≡ None
-pickup-plain lines plan n exit wire = by (to_pickup lines plan wire.line.number wire.wire)
-  where
-    by : {statement : Statement} {x : Hub} {n : ℕ} → ToPickup plan statement x n → contact_of x ≡ None
-    by (picked field rule pilot ruled served) = refl
+use Rattle.wired_panels.specs.Sources.EmitsAtRow.{first, second, digit, column, emitter}
 
 -- a column that first reading sends is punched there, and a column at second reading likewise
 pub sends-first : {old : MachineState} {pictures : Point → Hub → Bool} {cycle : Cycle} {row : CardRow} {hub : Hub} (c : ℕ)
-    → Sends old pictures cycle row hub → hub ≡ FR c → is_punched_at old.stations.first row c ≡ true
+    → EmitsAtRow old pictures cycle row hub → hub ≡ FR c → is_punched_at old.stations.first row c ≡ true
 sends-first {old} {pictures} {cycle} {row} c (first its reads punched) is =
     let same : its ≡ c = cc in subst (λ n. is_punched_at old.stations.first row n ≡ true) same punched
 sends-first c (second its reads punched) is = cc
@@ -67,7 +49,7 @@ sends-first c (column storage its listed out held) is = cc
 sends-first c (emitter its on) is = cc
 
 pub sends-second : {old : MachineState} {pictures : Point → Hub → Bool} {cycle : Cycle} {row : CardRow} {hub : Hub} (c : ℕ)
-    → Sends old pictures cycle row hub → hub ≡ SR c → is_punched_at old.stations.second row c ≡ true
+    → EmitsAtRow old pictures cycle row hub → hub ≡ SR c → is_punched_at old.stations.second row c ≡ true
 sends-second c (first its reads punched) is = cc
 sends-second {old} {pictures} {cycle} {row} c (second its reads punched) is =
     let same : its ≡ c = cc in subst (λ n. is_punched_at old.stations.second row n ≡ true) same punched
@@ -101,23 +83,23 @@ reads Card is = card_reads
 reads (Prog level ordinal) is = cc
 reads (Head heading) is = cc
 
-module _ (chart : Chart) (plan : Lists) (wiring : Wiring) (cycle : Cycle) (old : MachineState) (pictures : Point → Hub → Bool)
-    (orderly : AreOrderly) (it : IsCycleOf chart plan wiring cycle old pictures) where
-  at_pickup : (n : ℕ) → (pictures (Row Eleven) (PIX n) ≡ true) ↔ SendsTo chart.lines plan old pictures cycle Eleven (PIX n)
+module _ (chart : Chart) (plan : Lists) (wiring : Wiring) (old : MachineState) (cycle : Cycle) (pictures : Point → Hub → Bool)
+    (it : IsPanelCycle chart plan wiring old cycle pictures) where
+  at_pickup : (n : ℕ) → (pictures (Row Eleven) (PIX n) ≡ true) ↔ ArrivesAtRow chart.lines plan old pictures cycle Eleven (PIX n)
   at_pickup n =
-      at_row chart plan wiring cycle old pictures orderly it Eleven (PIX n) refl refl (pickup-plain chart.lines plan n)
+      at_row chart plan wiring old cycle pictures it Eleven (PIX n) refl refl refl
 
   module _ (name : List ℕ) (field : Field) (rule : SignRule) (pilot : ℕ) (named : field_named chart.lines name ≡ Some field)
       (ruled : rule_of field.kind ≡ Some rule) (served : pilot_for plan name ≡ Some pilot) where
     -- what comes to the pickup of the amount's pilot is its sign column
-    sign-came : SendsTo chart.lines plan old pictures cycle Eleven (PIX pilot) → has_sign old.stations.first (column_of_rule rule) ≡ true
+    sign-came : ArrivesAtRow chart.lines plan old pictures cycle Eleven (PIX pilot) → has_sign old.stations.first (column_of_rule rule) ≡ true
     sign-came come =
-        by come.wire.line come.wire.listed come.sends refl (to_pickup chart.lines plan come.wire.line.number come.wire.wire) served
+        by come.wire.line come.wire.listed come.emits refl come.wire.wire served
       where
-        by : (line : Line) → Contains chart.lines line → {exit : Hub} → Sends old pictures cycle Eleven exit → {statement : Statement}
-            → line.statement ≡ statement → {n : ℕ} → ToPickup plan statement exit n → pilot_for plan name ≡ Some n
+        by : (line : Line) → Contains chart.lines line → {exit : Hub} → EmitsAtRow old pictures cycle Eleven exit → {statement : Statement}
+            → line.statement ≡ statement → {n : ℕ} → LineWire chart.lines plan line.number statement exit (PIX n) → pilot_for plan name ≡ Some n
             → has_sign old.stations.first (column_of_rule rule) ≡ true
-        by line listed sends is (picked its its_rule n its_ruled its_served) served =
+        by line listed sends is (pickup its its_rule n its_ruled its_served) served =
             let names : its.name ≡ name = pilot-own plan its.name name n its_served served in
             let its_named : field_named chart.lines its.name ≡ Some its = field-own chart it.panel.lawful line its listed is in
             let fields : Some its ≡ Some field = sym its_named ∙ ap (field_named chart.lines) names ∙ named in
@@ -156,7 +138,7 @@ module _ (chart : Chart) (plan : Lists) (wiring : Wiring) (cycle : Cycle) (old :
         (λ on. sign-came ((at_pickup pilot).0 on))
         (λ on. (at_pickup pilot).1 (record {
           exit = FR (column_of_rule rule);
-          sends = first (column_of_rule rule) (reads cycle moves)
+          emits = first (column_of_rule rule) (reads cycle moves)
               (there-punched old.stations.first (column_of_rule rule) column-within on);
           wire = sign-wire;
         })))

@@ -12,8 +12,6 @@ use Rattle.charts.specs.Field.{columns_of}
 use Rattle.charts.specs.Levels.{level_number}
 use Rattle.charts.specs.declared.chart.Line.{Line}
 use Rattle.charts.specs.declared.level.Level.{Level}
-use Rattle.charts.specs.declared.level.Level.TheVariants as its_level
-use Rattle.charts.specs.declared.statement.BodyLine.TheVariants as body
 use Rattle.charts.specs.declared.statement.Field.{Field}
 use Rattle.charts.specs.declared.statement.Statement.{Statement}
 use Rattle.charts.specs.declared.statement.Statement.TheVariants as says
@@ -22,95 +20,31 @@ use Rattle.hub_table.specs.Ranges.{is_within}
 use Rattle.setups.specs.Wiring.{Wiring}
 use Rattle.hubs.specs.declared.hub.Hub.{Hub}
 use Rattle.hubs.specs.declared.hub.Hub.TheVariants.{SR, CC, PX, SE, SI, SO}
-use Rattle.machine.specs.Machine.{MachineState, closes}
-use Rattle.net.specs.Impulsed.{IsPicture}
-use Rattle.net.specs.Panel.{contact_of}
+use Rattle.machine.specs.Machine.{MachineState}
 use Rattle.net.specs.declared.cycle.Cycle.{Cycle}
 use Rattle.net.specs.declared.cycle.Cycle.TheVariants.{Card}
 use Rattle.net.specs.declared.cycle.Point.{Point}
 use Rattle.net.specs.declared.cycle.Point.TheVariants.{C, Row}
-use Rattle.line_places.specs.Placing.{kind_of}
 use Rattle.stations.specs.Punches.{is_punched_at}
 use Rattle.storage_units.proofs.CycleLemmas.{reads_in_whole, keeps_held}
 use Rattle.storage_units.specs.Storage.{StorageState, storage_place, holds}
 use Rattle.storage_units.specs.WholeCycles.{after_cycle}
 use Rattle.whole_cycles.specs.Between.{HasAllRows}
-use Rattle.whole_cycles.specs.WholeCycles.{control_emits}
 use Rattle.wiring_table.specs.Figures.{IsText}
 use Rattle.wiring_table.specs.Parts.{unit_for}
 use Rattle.wiring_table.specs.Wires.{LineWire, ChartWire}
 use Rattle.wiring_table.specs.Wires.LineWire.{total_text_in, total_text_taken, total_text_given}
 use Rattle.wired_panels.proofs.ChartLines.{same-line}
 use Rattle.wired_panels.proofs.Contacts.{is_card_cycle}
-use Rattle.wired_panels.proofs.JacksAndTape.{same_tests}
+use Rattle.wired_panels.proofs.Ways.{same_tests}
 use Rattle.wired_panels.proofs.PlanPlaces.{unit-own}
 use Rattle.wired_panels.proofs.SaidOnce.{further}
-use Rattle.wired_panels.proofs.Straight.{at_control, at_row, control_reached}
-use Rattle.wired_panels.proofs.ToCarriage.{tells-kind, kind-tells}
+use Rattle.wired_panels.proofs.Straight.{at_control, at_row}
 use Rattle.wired_panels.proofs.ToPilots.{sends-second, column-there}
-use Rattle.wired_panels.specs.Panel.{IsPanel}
-use Rattle.wired_panels.specs.Sensed.{AreOrderly, IsCycleOf, TellsTo, SendsTo, UnitsHold, IsTextPrinted}
-use Rattle.wired_panels.specs.Sources.{Sends, Tells}
-use Rattle.wired_panels.specs.Sources.Sends.{second}
-use Rattle.wired_panels.specs.Sources.Tells.{card as tells_card, prog as tells_prog, head as tells_head}
-
--- a card cycle prints no total line, and neither does a cycle that prints no body line
-pub card-no_total : (level : Level) → ¬ (kind_of Card ≡ Some (level_number level))
-card-no_total its_level.Minor is = let e : 0 ≡ level_number its_level.Minor = cc in omega (arith, e)
-card-no_total its_level.Intermediate is = let e : 0 ≡ level_number its_level.Intermediate = cc in omega (arith, e)
-card-no_total its_level.Major is = let e : 0 ≡ level_number its_level.Major = cc in omega (arith, e)
-card-no_total its_level.Final is = let e : 0 ≡ level_number its_level.Final = cc in omega (arith, e)
-
-pub other-no_total : (cycle : Cycle) → kind_of cycle ≡ None → (level : Level) → ¬ (kind_of cycle ≡ Some (level_number level))
-other-no_total cycle none level is = let e : None ≡ Some (level_number level) = sym none ∙ is in cc
-
--- a wire to an entry of a storage unit, and to the hubs by which it reads in and out
-pub data ToStored (lines : List Line) (plan : Lists) (number : ℕ) : Statement → Hub → ℕ → ℕ → Type 0 where
-  stored : (level : Level) (wheel : ℕ) (name : List ℕ) (field : Field) (unit j : ℕ)
-      → IsText lines name field → j < columns_of field → unit_for plan number ≡ Some unit
-      → ToStored lines plan number (says.TotalText level wheel name) (SR (field.first + j)) unit (j + 1)
-
-pub to_stored :
-    (lines : List Line) (plan : Lists) (number : ℕ) {statement : Statement} {x : Hub} {unit c : ℕ}
-    → LineWire lines plan number statement x (SE unit c) → ToStored lines plan number statement x unit c
-to_stored lines plan number (total_text_in level wheel name field unit j is_text below served) =
-    stored level wheel name field unit j is_text below served
-
-pub data ToReadIn (plan : Lists) (number : ℕ) : Statement → Hub → ℕ → Type 0 where
-  taken : (level : Level) (wheel : ℕ) (name : List ℕ) (unit : ℕ) → unit_for plan number ≡ Some unit
-      → ToReadIn plan number (says.TotalText level wheel name) CC unit
-
-pub to_read_in :
-    (lines : List Line) (plan : Lists) (number : ℕ) {statement : Statement} {x : Hub} {unit : ℕ}
-    → LineWire lines plan number statement x (SI unit) → ToReadIn plan number statement x unit
-to_read_in lines plan number (total_text_taken level wheel name unit served) = taken level wheel name unit served
-
-pub data ToReadOut (plan : Lists) (number : ℕ) : Statement → Hub → ℕ → Type 0 where
-  given : (level : Level) (wheel : ℕ) (name : List ℕ) (unit : ℕ) → unit_for plan number ≡ Some unit
-      → ToReadOut plan number (says.TotalText level wheel name) (PX (level_number level) 3) unit
-
-pub to_read_out :
-    (lines : List Line) (plan : Lists) (number : ℕ) {statement : Statement} {x : Hub} {unit : ℕ}
-    → LineWire lines plan number statement x (SO unit) → ToReadOut plan number statement x unit
-to_read_out lines plan number (total_text_given level wheel name unit served) = given level wheel name unit served
-
-stored-plain : (lines : List Line) (plan : Lists) (unit c : ℕ) (exit : Hub) → ChartWire lines plan exit (SE unit c) → contact_of exit ≡ None
-stored-plain lines plan unit c exit wire = by (to_stored lines plan wire.line.number wire.wire)
-  where
-    by : {statement : Statement} {x : Hub} {n m : ℕ} → ToStored lines plan wire.line.number statement x n m → contact_of x ≡ None
-    by (stored level wheel name field unit j is_text below served) = refl
-
-read_in-plain : (lines : List Line) (plan : Lists) (unit : ℕ) (exit : Hub) → ChartWire lines plan exit (SI unit) → contact_of exit ≡ None
-read_in-plain lines plan unit exit wire = by (to_read_in lines plan wire.line.number wire.wire)
-  where
-    by : {statement : Statement} {x : Hub} {n : ℕ} → ToReadIn plan wire.line.number statement x n → contact_of x ≡ None
-    by (taken level wheel name unit served) = refl
-
-read_out-plain : (lines : List Line) (plan : Lists) (unit : ℕ) (exit : Hub) → ChartWire lines plan exit (SO unit) → contact_of exit ≡ None
-read_out-plain lines plan unit exit wire = by (to_read_out lines plan wire.line.number wire.wire)
-  where
-    by : {statement : Statement} {x : Hub} {n : ℕ} → ToReadOut plan wire.line.number statement x n → contact_of x ≡ None
-    by (given level wheel name unit served) = refl
+use Rattle.wired_panels.specs.PanelCycles.{IsPanelCycle, ArrivesAtControl, ArrivesAtRow, UnitsHold, IsTextPrinted}
+use Rattle.wired_panels.specs.Sources.{EmitsAtRow, EmitsAtControl}
+use Rattle.wired_panels.specs.Sources.EmitsAtRow.{second}
+use Rattle.wired_panels.specs.Sources.EmitsAtControl.{card as tells_card, prog as tells_prog, head as tells_head}
 
 -- a part of a thing that has a hub
 part-there : (one other : Bool) (many n p k before : ℕ)
@@ -136,26 +70,25 @@ in-punched station card row c is within on =
     ap (λ s. is_punched_at s row c) is ∙ (rw within on)
 
 -- the exit of card cycles tells of them alone
-tells-card : {cycle : Cycle} {hub : Hub} → Tells cycle hub → hub ≡ CC → cycle ≡ Card
+tells-card : {cycle : Cycle} {hub : Hub} → EmitsAtControl cycle hub → hub ≡ CC → cycle ≡ Card
 tells-card tells_card is = refl
 tells-card (tells_prog level ordinal) is = cc
 tells-card (tells_head heading) is = cc
 
-module _ (chart : Chart) (plan : Lists) (wiring : Wiring) (cycle : Cycle) (old : MachineState) (pictures : Point → Hub → Bool)
-    (orderly : AreOrderly) (panel : IsPanel chart plan wiring)
-    (control : IsPicture wiring (control_emits cycle) (closes old cycle C) (pictures C)) where
-  at_read_out : (unit : ℕ) → (pictures C (SO unit) ≡ true) ↔ TellsTo chart.lines plan cycle (SO unit)
+module _ (chart : Chart) (plan : Lists) (wiring : Wiring) (old : MachineState) (cycle : Cycle) (pictures : Point → Hub → Bool)
+    (it : IsPanelCycle chart plan wiring old cycle pictures) where
+  at_read_out : (unit : ℕ) → (pictures C (SO unit) ≡ true) ↔ ArrivesAtControl chart.lines plan cycle (SO unit)
   at_read_out unit =
-      control_reached chart plan wiring orderly panel cycle old (pictures C) control (SO unit) refl refl (read_out-plain chart.lines plan unit)
+      at_control chart plan wiring old cycle pictures it (SO unit) refl refl refl
 
   -- A storage unit reads out in the cycle that prints the total line of its text, and in no other.
   pub unit-reads_out : (unit : ℕ) → (pictures C (SO unit) ≡ true) ↔ IsTextPrinted chart.lines plan cycle unit
   unit-reads_out unit = (
     λ on. let come = (at_read_out unit).0 on in
-        by come.wire.line come.wire.listed come.tells refl (to_read_out chart.lines plan come.wire.line.number come.wire.wire),
+        by come.wire.line come.wire.listed come.emits refl come.wire.wire,
     λ text. (at_read_out unit).1 (record {
       exit = PX (level_number text.level) 3;
-      tells = kind-tells cycle (body.Total text.level) text.printed;
+      emits = text.printed;
       wire = record {
         line = text.line;
         listed = text.listed;
@@ -165,9 +98,9 @@ module _ (chart : Chart) (plan : Lists) (wiring : Wiring) (cycle : Cycle) (old :
     }),
   )
     where
-      by : (line : Line) → Contains chart.lines line → {exit : Hub} → Tells cycle exit → {statement : Statement} → line.statement ≡ statement
-          → {n : ℕ} → ToReadOut plan line.number statement exit n → IsTextPrinted chart.lines plan cycle n
-      by line listed tells is (given level wheel name n served) = record {
+      by : (line : Line) → Contains chart.lines line → {exit : Hub} → EmitsAtControl cycle exit → {statement : Statement} → line.statement ≡ statement
+          → {n : ℕ} → LineWire chart.lines plan line.number statement exit (SO n) → IsTextPrinted chart.lines plan cycle n
+      by line listed tells is (total_text_given level wheel name n served) = record {
         line = line;
         listed = listed;
         level = level;
@@ -175,38 +108,28 @@ module _ (chart : Chart) (plan : Lists) (wiring : Wiring) (cycle : Cycle) (old :
         name = name;
         is_text = is;
         served = served;
-        printed = tells-kind (body.Total level) tells refl;
+        printed = tells;
       }
 
-  -- No storage unit reads out in a cycle that prints no total line.
-  pub no-unit-reads_out : (unit : ℕ) → ((level : Level) → ¬ (kind_of cycle ≡ Some (level_number level))) → pictures C (SO unit) ≡ false
-  no-unit-reads_out unit none = by (pictures C (SO unit)) refl
-    where
-      by : (b : Bool) → pictures C (SO unit) ≡ b → b ≡ false
-      by true on = let text = (unit-reads_out unit).0 on in absurd (none text.level text.printed)
-      by false on = refl
-
-module _ (chart : Chart) (plan : Lists) (wiring : Wiring) (cycle : Cycle) (old : MachineState) (pictures : Point → Hub → Bool)
-    (orderly : AreOrderly) (it : IsCycleOf chart plan wiring cycle old pictures) where
   at_stored : (row : CardRow) (unit c : ℕ)
-      → (pictures (Row row) (SE unit c) ≡ true) ↔ SendsTo chart.lines plan old pictures cycle row (SE unit c)
+      → (pictures (Row row) (SE unit c) ≡ true) ↔ ArrivesAtRow chart.lines plan old pictures cycle row (SE unit c)
   at_stored row unit c =
-      at_row chart plan wiring cycle old pictures orderly it row (SE unit c) refl refl (stored-plain chart.lines plan unit c)
+      at_row chart plan wiring old cycle pictures it row (SE unit c) refl refl refl
 
-  at_read_in : (unit : ℕ) → (pictures C (SI unit) ≡ true) ↔ TellsTo chart.lines plan cycle (SI unit)
-  at_read_in unit = at_control chart plan wiring cycle old pictures orderly it (SI unit) refl refl (read_in-plain chart.lines plan unit)
+  at_read_in : (unit : ℕ) → (pictures C (SI unit) ≡ true) ↔ ArrivesAtControl chart.lines plan cycle (SI unit)
+  at_read_in unit = at_control chart plan wiring old cycle pictures it (SI unit) refl refl refl
 
   -- No storage unit reads in but in card cycles.
   no-unit-reads_in : (unit : ℕ) → is_card_cycle cycle ≡ false → pictures C (SI unit) ≡ false
   no-unit-reads_in unit none = by (pictures C (SI unit)) refl
     where
-      card : {exit : Hub} → Tells cycle exit → (number : ℕ) → {statement : Statement} → {n : ℕ} → ToReadIn plan number statement exit n → cycle ≡ Card
-      card tells number (taken level wheel name n served) = tells-card tells refl
+      card : {exit : Hub} → EmitsAtControl cycle exit → (number : ℕ) → {statement : Statement} → {n : ℕ} → LineWire chart.lines plan number statement exit (SI n) → cycle ≡ Card
+      card tells number (total_text_taken level wheel name n served) = tells-card tells refl
 
       by : (b : Bool) → pictures C (SI unit) ≡ b → b ≡ false
       by true on =
           let come = (at_read_in unit).0 on in
-          let is = card come.tells come.wire.line.number (to_read_in chart.lines plan come.wire.line.number come.wire.wire) in
+          let is = card come.emits come.wire.line.number come.wire.wire in
           let e : is_card_cycle cycle ≡ true = ap is_card_cycle is in sym e ∙ none
       by false on = refl
 
@@ -224,7 +147,7 @@ module _ (chart : Chart) (plan : Lists) (wiring : Wiring) (cycle : Cycle) (old :
     reads_in : pictures C (SI unit) ≡ true
     reads_in = (at_read_in unit).1 (record {
       exit = CC;
-      tells = subst (λ c. Tells c CC) (sym is_card) tells_card;
+      emits = subst (λ c. EmitsAtControl c CC) (sym is_card) tells_card;
       wire = record {
         line = line;
         listed = listed;
@@ -234,15 +157,15 @@ module _ (chart : Chart) (plan : Lists) (wiring : Wiring) (cycle : Cycle) (old :
     })
 
     module _ (row : CardRow) (j : ℕ) (below : j < columns_of field) where
-      came : SendsTo chart.lines plan old pictures cycle row (SE unit (j + 1))
+      came : ArrivesAtRow chart.lines plan old pictures cycle row (SE unit (j + 1))
           → has_row (column_of card (field.first + j)) (row_number row) ≡ true
       came come =
-          by come.wire.line come.wire.listed come.sends refl (to_stored chart.lines plan come.wire.line.number come.wire.wire) refl served
+          by come.wire.line come.wire.listed come.emits refl come.wire.wire refl served
         where
-          by : (other : Line) → Contains chart.lines other → {exit : Hub} → Sends old pictures cycle row exit → {statement : Statement}
-              → other.statement ≡ statement → {n c : ℕ} → ToStored chart.lines plan other.number statement exit n c → c ≡ j + 1
+          by : (other : Line) → Contains chart.lines other → {exit : Hub} → EmitsAtRow old pictures cycle row exit → {statement : Statement}
+              → other.statement ≡ statement → {n c : ℕ} → LineWire chart.lines plan other.number statement exit (SE n c) → c ≡ j + 1
               → unit_for plan line.number ≡ Some n → has_row (column_of card (field.first + j)) (row_number row) ≡ true
-          by other its_listed sends is (stored its wheel' name' field' n j' text' below' served') same served =
+          by other its_listed sends is (total_text_in its wheel' name' field' n j' text' below' served') same served =
               let numbers : other.number ≡ line.number = unit-own plan other.number line.number n served' served in
               let lines : other ≡ line = same-line chart.lines chart.end other line rising its_listed listed numbers in
               let statements : says.TotalText its wheel' name' ≡ says.TotalText level wheel name =
@@ -278,7 +201,7 @@ module _ (chart : Chart) (plan : Lists) (wiring : Wiring) (cycle : Cycle) (old :
           (λ on. came ((at_stored row unit (j + 1)).0 on))
           (λ on. (at_stored row unit (j + 1)).1 (record {
             exit = SR (field.first + j);
-            sends = second (field.first + j) is_card (in-punched old.stations.second card row (field.first + j) stands text-column on);
+            emits = second (field.first + j) is_card (in-punched old.stations.second card row (field.first + j) stands text-column on);
             wire = text-wire;
           }))
 
@@ -302,8 +225,8 @@ mapped f (x ∷ list) y (suc k, within, is) =
     let below = mapped f list y (k, omega (arith, within), is) in
     record { item = below.item; listed = further list below.item x below.listed; is = below.is }
 
-module _ (chart : Chart) (plan : Lists) (wiring : Wiring) (cycle : Cycle) (old : MachineState) (pictures : Point → Hub → Bool)
-    (orderly : AreOrderly) (it : IsCycleOf chart plan wiring cycle old pictures) where
+module _ (chart : Chart) (plan : Lists) (wiring : Wiring) (old : MachineState) (cycle : Cycle) (pictures : Point → Hub → Bool)
+    (it : IsPanelCycle chart plan wiring old cycle pictures) where
   -- Behind a card cycle the storage units hold the texts of the card at second reading.
   pub units-hold : (card : List ℕ) → NumbersRise chart.lines chart.end → cycle ≡ Card → old.stations.second ≡ Some card
       → UnitsHold chart.lines plan card (map (after_cycle cycle pictures) old.storage)
@@ -312,7 +235,7 @@ module _ (chart : Chart) (plan : Lists) (wiring : Wiring) (cycle : Cycle) (old :
       let from = mapped (after_cycle cycle pictures) old.storage storage there in
       let long = (All-contains HasAllRows old.storage from.item it.between.storage from.listed).received in
       ap (λ s. holds s row (j + 1)) (sym from.is)
-      ∙ unit-holds chart plan wiring cycle old pictures orderly it rising is_card card stands line level wheel name field unit listed says_it
+      ∙ unit-holds chart plan wiring old cycle pictures it rising is_card card stands line level wheel name field unit listed says_it
       is_text served row j below from.item long (ap storage_place from.is ∙ place)
 
   -- Behind another cycle they hold what they held.
@@ -322,5 +245,5 @@ module _ (chart : Chart) (plan : Lists) (wiring : Wiring) (cycle : Cycle) (old :
       λ line level wheel name field unit storage row j listed says_it is_text served there place below.
       let from = mapped (after_cycle cycle pictures) old.storage storage there in
       ap (λ s. holds s row (j + 1)) (sym from.is)
-      ∙ unit-kept chart plan wiring cycle old pictures orderly it from.item row (j + 1) none
+      ∙ unit-kept chart plan wiring old cycle pictures it from.item row (j + 1) none
       ∙ held line level wheel name field unit from.item row j listed says_it is_text served from.listed (ap storage_place from.is ∙ place) below

@@ -1,5 +1,5 @@
 -- The ways of impulses to the entries of a panel that is wired for a chart.
-use Rattle.std.proofs.Common.{◌≡◌, refl, ap, Bool, true, false, Some, None, is_some, ◌↔◌}
+use Rattle.std.proofs.Common.{◌≡◌, refl, sym, ap, Bool, true, false, Some, None, is_some, ◌↔◌}
 use Rattle.plans.specs.Plans.{Lists}
 use Rattle.charts.specs.Chart.{Chart}
 use Rattle.hubs.specs.Hubs.{is_hub_in_range, number_of}
@@ -7,12 +7,19 @@ use Rattle.setups.specs.Wiring.{Wiring, LeadsToEntries}
 use Rattle.hubs.specs.declared.hub.Hub.{Hub}
 use Rattle.net.specs.Impulsed.{IsPicture}
 use Rattle.net.specs.Panel.{contact_of}
-use Rattle.whole_cycles.specs.Laws.{ContactsAreOneDeep}
-use Rattle.whole_cycles.specs.OneContactDeep.{IsOneContactDeep, IsWithinOneContact, NoCommonEmits}
+use Rattle.whole_cycles.proofs.Contacts.{contacts-one_deep}
+use Rattle.whole_cycles.proofs.Sources.{emit_at_sources}
+use Rattle.whole_cycles.specs.OneContactDeep.{IsOneContactDeep, IsWithinOneContact, SourcesAloneEmit, is_source}
 use Rattle.whole_cycles.specs.OneContactDeep.IsWithinOneContact.{emits, wired, through as passed, behind}
-use Rattle.wired_panels.specs.Panel.{IsPanel, Comes}
-use Rattle.wired_panels.specs.Panel.Comes.{straight, through}
-use Rattle.wired_panels.proofs.Chains.{no_chain, from_exit, to_entry, is_exit_kind}
+use Rattle.wired_panels.specs.Panel.{IsPanel, Arrives}
+use Rattle.wired_panels.specs.Panel.Arrives.{straight, through}
+use Rattle.wired_panels.proofs.Chains.{wire_orderly}
+
+-- tests that hold together are the same
+pub same_tests : (a b : Bool) → (a ≡ true → b ≡ true) → (b ≡ true → a ≡ true) → a ≡ b
+same_tests true b to from = sym (to refl)
+same_tests false true to from = from refl
+same_tests false false to from = refl
 
 -- a hub with a number is in range
 numbered : (hub : Hub) (n : _) → number_of hub ≡ Some n → is_hub_in_range hub ≡ true
@@ -22,8 +29,9 @@ numbered hub n is = ap is_some is
 pub leads : (chart : Chart) (plan : Lists) (wiring : Wiring) → IsPanel chart plan wiring → LeadsToEntries wiring
 leads chart plan wiring panel exit entry wire =
     let given = (panel.wired.wires exit entry).0 wire in
-    let from : is_exit_kind exit ≡ true = from_exit chart.lines plan given.line.number given.wire in
-    let to : is_exit_kind entry ≡ false = to_entry chart.lines plan given.line.number given.wire in
+    let orderly = wire_orderly chart.lines plan given.line.number given.wire in
+    let from = orderly.from in
+    let to = orderly.to in
     let exit_there = numbered exit wire.number wire.numbered in
     let entry_there = numbered entry wire.to wire.entry_numbered in
     (rw (from, exit_there) refl, rw (to, entry_there) refl)
@@ -33,20 +41,20 @@ pub one_deep : (chart : Chart) (plan : Lists) (wiring : Wiring) → IsPanel char
 one_deep chart plan wiring panel = record {
   leads = leads chart plan wiring panel;
   shallow = λ x y wire out to. let given = (panel.wired.wires x y).0 wire in
-      no_chain chart.lines plan given.line.number given.wire out to;
+      (wire_orderly chart.lines plan given.line.number given.wire).shallow out to;
 }
 
--- An entry that is no contact's exit and doesn't emit is impulsed exactly where an impulse comes to it.
-pub comes :
+-- An entry is impulsed exactly where an impulse arrives: at a point whose exits are those of units.
+pub arrives :
     (chart : Chart) (plan : Lists) (wiring : Wiring) (exits closed picture : Hub → Bool) (entry : Hub)
-    → ContactsAreOneDeep → IsPanel chart plan wiring → NoCommonEmits exits → IsPicture wiring exits closed picture
-    → contact_of entry ≡ None → exits entry ≡ false → (picture entry ≡ true) ↔ Comes chart.lines plan exits closed entry
-comes chart plan wiring exits closed picture entry deep panel common is_picture no_contact silent =
-    let ways = deep wiring exits closed entry (one_deep chart plan wiring panel) common in
-    (λ on. by (ways.0 ((is_picture entry).0 on)) no_contact silent, λ come. (is_picture entry).1 (ways.1 (back come)))
+    → IsPanel chart plan wiring → SourcesAloneEmit exits → IsPicture wiring exits closed picture
+    → contact_of entry ≡ None → is_source entry ≡ false → (picture entry ≡ true) ↔ Arrives chart.lines plan exits closed entry
+arrives chart plan wiring exits closed picture entry panel alone is_picture no_contact no_source =
+    let ways = contacts-one_deep wiring exits closed entry (one_deep chart plan wiring panel) (emit_at_sources.no_common exits alone) in
+    (λ on. by (ways.0 ((is_picture entry).0 on)) no_contact (alone entry no_source), λ come. (is_picture entry).1 (ways.1 (back come)))
   where
     by : {hub : Hub} → IsWithinOneContact wiring exits closed hub → contact_of hub ≡ None → exits hub ≡ false
-        → Comes chart.lines plan exits closed hub
+        → Arrives chart.lines plan exits closed hub
     by (emits hub there on) none off = cc
     by (wired exit hub on wire) none off = straight exit hub on ((panel.wired.wires exit hub).0 wire)
     by (passed exit middle hub on wire contact shut) none off = cc
@@ -54,7 +62,7 @@ comes chart plan wiring exits closed picture entry deep panel common is_picture 
         through exit middle contact hub on ((panel.wired.wires exit middle).0 wire) leads shut
         ((panel.wired.wires contact hub).0 last)
 
-    back : {hub : Hub} → Comes chart.lines plan exits closed hub → IsWithinOneContact wiring exits closed hub
+    back : {hub : Hub} → Arrives chart.lines plan exits closed hub → IsWithinOneContact wiring exits closed hub
     back (straight exit hub on wire) = wired exit hub on ((panel.wired.wires exit hub).1 wire)
     back (through exit middle contact hub on wire leads shut last) =
         behind exit middle contact hub on ((panel.wired.wires exit middle).1 wire) leads shut

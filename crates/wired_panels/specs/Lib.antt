@@ -1,9 +1,6 @@
 pub mod Panel
 pub mod Sources
-pub mod ChartAmounts
-pub mod CounterStates
-pub mod Sensed
-pub mod Speakers
-pub mod Spoken
-pub mod WheelLaws
+pub mod Groups
+pub mod PanelCycles
+pub mod CycleRows
 pub mod PanelLaws

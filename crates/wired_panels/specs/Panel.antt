@@ -17,9 +17,9 @@ pub record IsPanel (chart : Chart) (plan : Lists) (wiring : Wiring) : Type 0 whe
   pub wired : WiredFor chart.lines plan wiring
 
 -- The ways of an impulse to an entry: straight from an emitting exit, or from one through one closed contact.
-pub data Comes (lines : List Line) (plan : Lists) (exits closed : Hub → Bool) : Hub → Type 0 where
-  straight : (exit entry : Hub) → exits exit ≡ true → ChartWire lines plan exit entry → Comes lines plan exits closed entry
+pub data Arrives (lines : List Line) (plan : Lists) (exits closed : Hub → Bool) : Hub → Type 0 where
+  straight : (exit entry : Hub) → exits exit ≡ true → ChartWire lines plan exit entry → Arrives lines plan exits closed entry
   through :
       (exit common contact entry : Hub) → exits exit ≡ true → ChartWire lines plan exit common
       → contact_of contact ≡ Some common → closed contact ≡ true → ChartWire lines plan contact entry
-      → Comes lines plan exits closed entry
+      → Arrives lines plan exits closed entry

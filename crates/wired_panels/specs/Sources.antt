@@ -17,11 +17,11 @@ use Rattle.print_unit.specs.Emitters.{emitter_of}
 use Rattle.stations.specs.Punches.{is_punched_at}
 use Rattle.storage_units.specs.Storage.{StorageState, holds, storage_place}
 
--- The exit that tells of a cycle at its control point.
-pub data Tells : Cycle → Hub → Type 0 where
-  card : Tells Card CC
-  prog : (level : Level) (ordinal : Ordinal) → Tells (Prog level ordinal) (PX (level_number level) (ordinal_number ordinal))
-  head : (heading : Ordinal) → Tells (Head heading) (HX (ordinal_number heading))
+-- The exit that emits at the control point of a cycle.
+pub data EmitsAtControl : Cycle → Hub → Type 0 where
+  card : EmitsAtControl Card CC
+  prog : (level : Level) (ordinal : Ordinal) → EmitsAtControl (Prog level ordinal) (PX (level_number level) (ordinal_number ordinal))
+  head : (heading : Ordinal) → EmitsAtControl (Head heading) (HX (ordinal_number heading))
 
 -- the digit of a group at a position, counted from the units
 abbrev pub digit_at : List ℕ → ℕ → ℕ
@@ -34,15 +34,15 @@ pub data ReadsFirst : Cycle → Type 0 where
 
 -- The exits that emit at a row: punches of the two cards, digits of the groups that read out, columns of the storage units that read
 -- out, and the emitter of the cycle.
-pub data Sends (old : MachineState) (pictures : Point → Hub → Bool) (cycle : Cycle) (row : CardRow) : Hub → Type 0 where
+pub data EmitsAtRow (old : MachineState) (pictures : Point → Hub → Bool) (cycle : Cycle) (row : CardRow) : Hub → Type 0 where
   first : (column : ℕ) → ReadsFirst cycle → is_punched_at old.stations.first row column ≡ true
-      → Sends old pictures cycle row (FR column)
+      → EmitsAtRow old pictures cycle row (FR column)
   second : (column : ℕ) → cycle ≡ Card → is_punched_at old.stations.second row column ≡ true
-      → Sends old pictures cycle row (SR column)
+      → EmitsAtRow old pictures cycle row (SR column)
   digit : (group : Counter) (position : ℕ) → Contains old.groups group → pictures C (RO group.name) ≡ true
       → 1 ≤ position → position ≤ length group.digits → digit_at group.digits position ≡ row_number row
-      → Sends old pictures cycle row (GX group.name position)
+      → EmitsAtRow old pictures cycle row (GX group.name position)
   column : (storage : StorageState) (column : ℕ) → Contains old.storage storage
       → pictures C (SO (storage_place storage)) ≡ true → holds storage row column ≡ true
-      → Sends old pictures cycle row (SX (storage_place storage) column)
-  emitter : (emitter : ℕ) → emitter_of cycle ≡ Some emitter → Sends old pictures cycle row (EM emitter (row_number row))
+      → EmitsAtRow old pictures cycle row (SX (storage_place storage) column)
+  emitter : (emitter : ℕ) → emitter_of cycle ≡ Some emitter → EmitsAtRow old pictures cycle row (EM emitter (row_number row))

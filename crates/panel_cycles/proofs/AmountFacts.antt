@@ -1,0 +1,244 @@
+-- The amounts of a chart have the totals of its lines, and are lawful amounts.
+use Rattle.std.proofs.Common.{◌≡◌, ◌∙◌, refl, sym, ap, ℕ, zero, suc, ◌<◌, ◌≤◌, ◌==◌, ◌&&◌, not, nat_lt, Bool, true, false, List, Contains, Option, Some, None, is_some, is_none, option_and_then, arith, if◌then◌else◌}
+use Rattle.std.proofs.lemmas.Bool.Decides.{nat_tests}
+use Rattle.wanted.specs.ChartTotals.{names_signed}
+use Rattle.plans.specs.Plans.{Lists}
+use Rattle.chart_rules.proofs.Laws.{breaks-lawful}
+use Rattle.field_rules.proofs.Places.{is_same_name-equal}
+use Rattle.field_rules.specs.Fields.{field_named}
+use Rattle.field_rules.specs.Names.{names_text}
+use Rattle.chart_rules.specs.Rules.{IsLawful, breaks}
+use Rattle.chart_rules.specs.declared.rule.Rule.{Rule}
+use Rattle.chart_rules.specs.declared.rule.Rule.TheVariants as rule
+use Rattle.charts.specs.Chart.{Chart}
+use Rattle.charts.specs.Field.{sign_column, column_of_rule, is_amount}
+use Rattle.charts.specs.Levels.{level_number}
+use Rattle.charts.specs.Name.{is_same_name}
+use Rattle.charts.specs.declared.chart.Line.{Line}
+use Rattle.charts.specs.declared.statement.Field.{Field}
+use Rattle.charts.specs.declared.statement.FieldKind.{FieldKind}
+use Rattle.charts.specs.declared.statement.FieldKind.TheVariants as holds
+use Rattle.charts.specs.declared.statement.SignRule.{SignRule}
+use Rattle.charts.specs.declared.statement.Statement.{Statement}
+use Rattle.charts.specs.declared.statement.Statement.TheVariants as says
+use Rattle.hubs.specs.declared.hub.Group.{Group}
+use Rattle.totals.proofs.Levels.{lower_less, lower_has}
+use Rattle.totals.specs.Amounts.{lower}
+use Rattle.wiring_table.specs.Figures.{IsAmount, IsSigned, IsUnsigned, rule_of}
+use Rattle.wiring_table.specs.Parts.{HasTotal, IsLowest, group_for}
+use Rattle.wired_panels.proofs.CounterAsksTold.{IsUnder}
+use Rattle.wired_panels.proofs.PlanLists.{split_at, find_passes, find_some}
+use Rattle.wired_panels.proofs.PlanOwners.{level_some, one_total, one_total_line}
+use Rattle.panel_cycles.specs.ChartAmounts.{is_total_at, total_line, digits_of, total_digits, total_group, amount_of}
+use Rattle.wired_panels.specs.Groups.{IsGroupOf}
+
+-- the line that is found has the total
+pub found_total : (lines : List Line) (name : List ℕ) (level : ℕ) (line : Line) → total_line lines name level ≡ Some line
+    → (total : HasTotal lines name level line.number) × (total.line ≡ line)
+found_total lines name level line found =
+    let (on, listed) = find_passes (λ (l : Line). is_total_at name level l.statement) lines line found in
+    by line.statement refl listed on
+  where
+    by : (statement : Statement) → line.statement ≡ statement → Contains lines line → is_total_at name level statement ≡ true
+        → (total : HasTotal lines name level line.number) × (total.line ≡ line)
+    by (says.TotalAmount its wheel its_name digits mark) is listed on = (
+      record {
+        line = line;
+        listed = listed;
+        is_number = refl;
+        its_level = its;
+        wheel = wheel;
+        its_name = its_name;
+        digits = digits;
+        mark = mark;
+        says_total = is;
+        same_level = grind (arith, nat_tests, on);
+        same_name = second (level_number its == level) (is_same_name its_name name) on;
+      },
+      refl,
+    )
+      where
+        second : (a b : Bool) → (a && b) ≡ true → b ≡ true
+        second true b on = on
+        second false b on = cc
+    by other is listed on = cc
+
+-- a total is found
+pub total_found : (lines : List Line) (name : List ℕ) (level number : ℕ) → HasTotal lines name level number
+    → (line : Line) × (total_line lines name level ≡ Some line)
+total_found lines name level number total =
+    let levels : (level_number total.its_level == level) ≡ true = grind (arith, nat_tests, total.same_level) in
+    let on : is_total_at name level total.line.statement ≡ true =
+    ap (is_total_at name level) total.says_total ∙ rw (levels, total.same_name) refl in
+    find_some (λ (l : Line). is_total_at name level l.statement) lines total.line total.listed on
+
+-- an amount has a total where its lines have one
+pub has_it : (lines : List Line) (plan : Lists) (name : List ℕ) (level number : ℕ) → HasTotal lines name level number
+    → (amount_of lines plan name).has level ≡ true
+has_it lines plan name level number total = let (line, is) = total_found lines name level number total in ap is_some is
+
+pub has_from : (lines : List Line) (plan : Lists) (name : List ℕ) (level : ℕ) → (amount_of lines plan name).has level ≡ true
+    → (number : ℕ) × HasTotal lines name level number
+has_from lines plan name level is = by (total_line lines name level) refl is
+  where
+    by : (o : Option Line) → total_line lines name level ≡ o → is_some o ≡ true → (number : ℕ) × HasTotal lines name level number
+    by None found on = cc
+    by (Some line) found on = (line.number, (found_total lines name level line found).0)
+
+-- levels with totals are 1 and up
+pub total_level : {lines : List Line} {name : List ℕ} {level number : ℕ} → HasTotal lines name level number → 1 ≤ level
+total_level total = omega (arith, level_some total.its_level, total.same_level)
+
+-- the digits and the group of a total
+pub digits_are : (chart : Chart) (plan : Lists) (name : List ℕ) (level number : ℕ) → IsLawful chart
+    → (total : HasTotal chart.lines name level number) → (amount_of chart.lines plan name).digits level ≡ total.digits
+digits_are chart plan name level number lawful total =
+    let (line, found) = total_found chart.lines name level number total in
+    let (its, is_line) = found_total chart.lines name level line found in
+    let same = one_total_line chart name level number line.number lawful total its in
+    ap total_digits found ∙ ap (λ (l : Line). digits_of l.statement) (sym is_line ∙ sym same) ∙ ap digits_of total.says_total
+
+pub group_is : (chart : Chart) (plan : Lists) (name : List ℕ) (level : ℕ) (group : Group) → IsLawful chart
+    → IsGroupOf chart.lines plan name level group → total_group chart.lines plan name level ≡ Some group
+group_is chart plan name level group lawful own =
+    let (line, found) = total_found chart.lines name level own.number own.total in
+    let (its, is_line) = found_total chart.lines name level line found in
+    let same = one_total chart name level own.number line.number lawful own.total its in
+    ap (option_and_then (λ (l : Line). group_for chart.lines plan l.number)) found
+    ∙ ap (group_for chart.lines plan) (sym same) ∙ own.served
+
+-- a lower level with a total is not above the next lower one
+pub lower_covers : (has : ℕ → Bool) (level k : ℕ) → k < level → has k ≡ true → k ≤ lower has level
+lower_covers has zero k less on = absurd (omega (arith, less))
+lower_covers has (suc level) k less on = by (has level) refl (λ below. lower_covers has level k below on)
+  where
+    at_level : k ≡ level → has level ≡ true
+    at_level e = ap has (sym e) ∙ on
+
+    no_both : {b : Bool} → b ≡ false → b ≡ true → ⊥
+    no_both a b = cc
+
+    by : (b : Bool) → has level ≡ b → (k < level → k ≤ lower has level) → k ≤ (if b then level else lower has level)
+    by true is below = omega (arith, less)
+    by false is below = not_at (λ e. no_both is (at_level e)) below
+      where
+        not_at : (k ≡ level → ⊥) → (k < level → k ≤ lower has level) → k ≤ lower has level
+        not_at differs below = by_order (nat_lt k level) refl
+          where
+            by_order : (b : Bool) → nat_lt k level ≡ b → k ≤ lower has level
+            by_order true is = below (grind (arith, nat_tests, is))
+            by_order false is = absurd (differs (grind (arith, nat_tests, is, less)))
+
+module _ (lines : List Line) (plan : Lists) (name : List ℕ) (level : ℕ) (some : 1 ≤ level) where
+  -- the lowest total is that below which there is none
+  pub lowest_is : IsLowest lines name level → lower (amount_of lines plan name).has level ≡ 0
+  lowest_is low = by (lower (amount_of lines plan name).has level) refl
+    where
+      by : (k : ℕ) → lower (amount_of lines plan name).has level ≡ k → k ≡ 0
+      by zero is = refl
+      by (suc k) is =
+          let less = lower_less (amount_of lines plan name).has level some in
+          let has = lower_has (amount_of lines plan name).has level (omega (arith, is)) in
+          let (number, total) = has_from lines plan name (lower (amount_of lines plan name).has level) has in
+          absurd (low (lower (amount_of lines plan name).has level) number less total)
+
+  pub lowest_from : lower (amount_of lines plan name).has level ≡ 0 → IsLowest lines name level
+  lowest_from none other number less total =
+      let covered = lower_covers (amount_of lines plan name).has level other less (has_it lines plan name other number total) in
+      absurd (omega (arith, total_level total, covered, none))
+
+  -- the next lower total is that between which and the level there is none
+  pub under_is : (low : ℕ) → IsUnder lines name low level → lower (amount_of lines plan name).has level ≡ low
+  under_is low under =
+      by (nat_lt low (lower (amount_of lines plan name).has level)) refl
+      (lower_covers (amount_of lines plan name).has level low under.below (has_it lines plan name low under.number under.total))
+    where
+      by : (b : Bool) → nat_lt low (lower (amount_of lines plan name).has level) ≡ b
+          → low ≤ lower (amount_of lines plan name).has level → lower (amount_of lines plan name).has level ≡ low
+      by false is covered = grind (arith, nat_tests, is, covered)
+      by true is covered =
+          let above : low < lower (amount_of lines plan name).has level = grind (arith, nat_tests, is) in
+          let less = lower_less (amount_of lines plan name).has level some in
+          let has = lower_has (amount_of lines plan name).has level (omega (arith, above)) in
+          let (number, total) = has_from lines plan name (lower (amount_of lines plan name).has level) has in
+          absurd (under.between (lower (amount_of lines plan name).has level) number above less total)
+
+  pub under_from : (low : ℕ) → (amount_of lines plan name).has low ≡ true → lower (amount_of lines plan name).has level ≡ low
+      → IsUnder lines name low level
+  under_from low has is =
+      let (number, total) = has_from lines plan name low has in
+      let less = lower_less (amount_of lines plan name).has level some in
+      record {
+        number = number;
+        total = total;
+        below = omega (arith, less, is);
+        between =
+            λ middle other above below given.
+            let covered = lower_covers (amount_of lines plan name).has level middle below (has_it lines plan name middle other given) in
+            omega (arith, covered, is, above);
+      }
+
+-- signs
+sign_of : (kind : FieldKind) (rule : SignRule) → rule_of kind ≡ Some rule → sign_column kind ≡ Some (column_of_rule rule)
+sign_of holds.Text rule is = cc
+sign_of (holds.Amount decimals None) rule is = cc
+sign_of (holds.Amount decimals (Some its)) rule is = let same : its ≡ rule = cc in ap (λ r. Some (column_of_rule r)) same
+
+pub signed_is : (lines : List Line) (name : List ℕ) (rule : SignRule) → IsSigned lines name rule
+    → names_signed (field_named lines name) ≡ true
+signed_is lines name rule signed =
+    ap names_signed signed.named ∙ ap is_some (sign_of signed.field.kind rule signed.ruled)
+
+pub unsigned_is : (lines : List Line) (name : List ℕ) → IsUnsigned lines name → names_signed (field_named lines name) ≡ false
+unsigned_is lines name unsigned =
+    ap names_signed unsigned.is_amount.named ∙ by unsigned.field.kind unsigned.unruled
+  where
+    by : (kind : FieldKind) → rule_of kind ≡ None → is_some (sign_column kind) ≡ false
+    by holds.Text is = refl
+    by (holds.Amount decimals None) is = refl
+    by (holds.Amount decimals (Some its)) is = cc
+
+pub signed_from : (lines : List Line) (name : List ℕ) (field : Field) → field_named lines name ≡ Some field
+    → names_signed (field_named lines name) ≡ true → (rule : SignRule) × IsSigned lines name rule
+signed_from lines name field named signed = by field.kind refl (sym (ap names_signed named) ∙ signed)
+  where
+    by : (kind : FieldKind) → field.kind ≡ kind → is_some (sign_column kind) ≡ true → (rule : SignRule) × IsSigned lines name rule
+    by holds.Text is on = cc
+    by (holds.Amount decimals None) is on = cc
+    by (holds.Amount decimals (Some its)) is on = (its, record { field = field; named = named; ruled = ap rule_of is })
+
+pub unsigned_from : (lines : List Line) (name : List ℕ) (field : Field) → IsAmount lines name field
+    → names_signed (field_named lines name) ≡ false → IsUnsigned lines name
+unsigned_from lines name field amount unsigned = by field.kind refl (sym (ap names_signed amount.named) ∙ unsigned)
+  where
+    by : (kind : FieldKind) → field.kind ≡ kind → is_some (sign_column kind) ≡ false → IsUnsigned lines name
+    by holds.Text is on = record { field = field; is_amount = amount; unruled = ap rule_of is }
+    by (holds.Amount decimals None) is on = record { field = field; is_amount = amount; unruled = ap rule_of is }
+    by (holds.Amount decimals (Some its)) is on = cc
+
+-- what a line of a lawful chart keeps
+pub kept : (chart : Chart) (each : Rule) (line : Line) → IsLawful chart → Contains chart.lines line
+    → (earlier : List Line) × (breaks each chart.lines earlier line.statement ≡ false)
+kept chart each line lawful listed =
+    let at = split_at chart.lines line listed in
+    (at.earlier, breaks-lawful each chart at.earlier line at.later lawful at.split)
+
+-- the name of a total stands for an amount
+pub total_field : (chart : Chart) (name : List ℕ) (level number : ℕ) → IsLawful chart → HasTotal chart.lines name level number
+    → (field : Field) × IsAmount chart.lines name field
+total_field chart name level number lawful total =
+    let same = is_same_name-equal total.its_name name total.same_name in
+    let (before, known) = kept chart rule.UnknownName total.line lawful total.listed in
+    let (earlier, right_kind) = kept chart rule.WrongKind total.line lawful total.listed in
+    by (field_named chart.lines name) refl
+    (ap (λ n. is_none (field_named chart.lines n)) (sym same) ∙ sym (ap (breaks rule.UnknownName chart.lines before) total.says_total) ∙ known)
+    (ap (λ n. names_text (field_named chart.lines n)) (sym same) ∙ sym (ap (breaks rule.WrongKind chart.lines earlier) total.says_total) ∙ right_kind)
+  where
+    yes : (b : Bool) → not b ≡ false → b ≡ true
+    yes true is = refl
+    yes false is = cc
+
+    by : (o : Option Field) → field_named chart.lines name ≡ o → is_none o ≡ false → names_text o ≡ false
+        → (field : Field) × IsAmount chart.lines name field
+    by None is there right = cc
+    by (Some field) is there right = (field, record { named = is; holds_amount = yes (is_amount field.kind) right })

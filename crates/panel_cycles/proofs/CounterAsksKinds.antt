@@ -1,0 +1,198 @@
+-- The control hubs of the counter group of a total are impulsed as what is asked of it says, in each kind of cycle.
+use Rattle.std.proofs.Common.{◌≡◌, ◌∙◌, refl, sym, ap, ℕ, ◌≤◌, ◌==◌, ◌&&◌, not, Bool, true, false, List, Some, arith, if◌then◌else◌}
+use Rattle.std.proofs.lemmas.Bool.Decides.{nat_tests}
+use Rattle.counter_cycles.specs.Acts.{Act, act_controls, IsControlled}
+use Rattle.counter_cycles.specs.Acts.Act.{Still}
+use Rattle.wanted.specs.ChartTotals.{names_signed}
+use Rattle.plans.specs.Plans.{Lists}
+use Rattle.field_rules.specs.Fields.{field_named}
+use Rattle.charts.specs.Chart.{Chart, NumbersRise}
+use Rattle.charts.specs.declared.statement.Field.{Field}
+use Rattle.charts.specs.declared.statement.SignRule.{SignRule}
+use Rattle.setups.specs.Wiring.{Wiring}
+use Rattle.hub_table.specs.Ranges.{is_within}
+use Rattle.hubs.specs.declared.hub.Group.{Group}
+use Rattle.hubs.specs.declared.hub.Hub.{Hub}
+use Rattle.hubs.specs.declared.hub.Hub.TheVariants.{CC, PL, MI, RO, BT, PIC}
+use Rattle.machine.specs.Machine.{MachineState}
+use Rattle.net.specs.declared.cycle.Cycle.TheVariants.{Card}
+use Rattle.net.specs.declared.cycle.Point.{Point}
+use Rattle.net.specs.declared.cycle.Point.TheVariants.{C}
+use Rattle.report.specs.Amounts.{is_negated, is_negative_by}
+use Rattle.totals.specs.Amounts.{lower, posted}
+use Rattle.wiring_table.specs.Figures.{IsAmount, IsSigned, rule_of}
+use Rattle.wiring_table.specs.Parts.{IsLowest, pilot_for}
+use Rattle.panel_cycles.proofs.AmountFacts.{total_level, lowest_is, lowest_from, signed_is, unsigned_is, signed_from, unsigned_from}
+use Rattle.wired_panels.proofs.CounterAsksContacts.{pilot_within, negative_closed, positive_closed, negated_is}
+use Rattle.wired_panels.proofs.CounterAsksControls.{shut, Pluses, Minuses, ReadsOut, Tests, numbered, plus_is, minus_is, read_is, test_is}
+use Rattle.wired_panels.proofs.CounterAsksControls.Pluses.{card as adds_card, by_sign, up, by_latch}
+use Rattle.wired_panels.proofs.CounterAsksControls.Minuses.{less_by_sign, less_turned, less_by_latch}
+use Rattle.wired_panels.proofs.CounterAsksControls.ReadsOut.{shows_it, turns_it}
+use Rattle.wired_panels.proofs.CounterAsksControls.Tests.{tests_it}
+use Rattle.wired_panels.proofs.CounterAsksGiven.{gives_plus, gives_minus, to_sign}
+use Rattle.wired_panels.proofs.PlanOwners.{has_pilot}
+use Rattle.panel_cycles.specs.ChartAmounts.{amount_of}
+use Rattle.wired_panels.specs.Groups.{IsGroupOf}
+use Rattle.wired_panels.specs.PanelCycles.{IsPanelCycle, IsCardRead}
+
+-- tests
+pub no_both : {b : Bool} → b ≡ true → b ≡ false → ⊥
+no_both a b = cc
+
+pub not_true : (b : Bool) → (b ≡ true → ⊥) → b ≡ false
+not_true true none = absurd (none refl)
+not_true false none = refl
+
+pub not_is : (b : Bool) → not b ≡ true → b ≡ false
+not_is true is = cc
+not_is false is = refl
+
+-- what a card asks, by whether the total is the lowest and whether the card is subtracted
+abbrev pub card_act : (is_lowest is_negative : Bool) → ℕ → Act
+card_act is_lowest is_negative size = if is_lowest then posted is_negative size else Still
+
+card_plus : (z m p : Bool) (size : ℕ) → (p ≡ true → z ≡ true) → (p ≡ true → m ≡ false) → (z ≡ true → m ≡ false → p ≡ true)
+    → p ≡ (act_controls (card_act z m size)).plus
+card_plus true false true size a b c = refl
+card_plus true false false size a b c = c refl refl
+card_plus true true true size a b c = absurd (no_both refl (b refl))
+card_plus true true false size a b c = refl
+card_plus false m true size a b c = absurd (no_both (a refl) refl)
+card_plus false m false size a b c = refl
+
+card_minus : (z m p : Bool) (size : ℕ) → (p ≡ true → z ≡ true) → (p ≡ true → m ≡ true) → (z ≡ true → m ≡ true → p ≡ true)
+    → p ≡ (act_controls (card_act z m size)).minus
+card_minus true true true size a b c = refl
+card_minus true true false size a b c = c refl refl
+card_minus true false true size a b c = absurd (no_both (b refl) refl)
+card_minus true false false size a b c = refl
+card_minus false m true size a b c = absurd (no_both (a refl) refl)
+card_minus false m false size a b c = refl
+
+card_rest : (z m : Bool) (size : ℕ) → ((act_controls (card_act z m size)).read_out ≡ false) × ((act_controls (card_act z m size)).test ≡ false)
+card_rest true true size = (refl, refl)
+card_rest true false size = (refl, refl)
+card_rest false m size = (refl, refl)
+
+module _ (chart : Chart) (plan : Lists) (wiring : Wiring) (rise : NumbersRise chart.lines chart.end) (old : MachineState)
+    (pictures : Point → Hub → Bool) (name : List ℕ) (level : ℕ) (group : Group) (own : IsGroupOf chart.lines plan name level group) where
+  -- whether the amount is signed, and whether the total is the lowest
+  abbrev signed : Bool
+  signed = names_signed (field_named chart.lines name)
+
+  abbrev below : ℕ
+  below = lower (amount_of chart.lines plan name).has level
+
+  -- the total's level
+  some : 1 ≤ level
+  some = total_level own.total
+
+  module _ (at : IsPanelCycle chart plan wiring old Card pictures) (card : List ℕ) (read : IsCardRead chart plan old card)
+      (field : Field) (amount : IsAmount chart.lines name field) where
+    -- whether a card is subtracted
+    abbrev negative : Bool
+    negative = signed && is_negated field.kind card
+
+    -- the pilot of the amount is one of the panel
+    within_panel : (rule : SignRule) (pilot : ℕ) → IsLowest chart.lines name level → IsSigned chart.lines name rule
+        → pilot_for plan name ≡ Some pilot → is_within pilot 16 ≡ true
+    within_panel rule pilot low is served =
+        let wire = numbered chart plan wiring old Card pictures at rise CC (PIC pilot 1)
+        (to_sign chart plan wiring old Card pictures at rise name level group own rule pilot low is served) in
+        pilot_within pilot wire.to wire.entry_numbered
+
+    -- the rule of the amount is its field's
+    rule_is : (rule : SignRule) → IsSigned chart.lines name rule → is_negated field.kind card ≡ is_negative_by rule card
+    rule_is rule is =
+        let same_some : Some is.field ≡ Some field = sym is.named ∙ amount.named in
+        let same : is.field ≡ field = cc in
+        negated_is field.kind rule card (ap (λ (f : Field). rule_of f.kind) (sym same) ∙ is.ruled)
+
+    pub card_controls : (size : ℕ) → IsControlled group (act_controls (card_act (below == 0) negative size)) pictures
+    card_controls size = record {
+      plus = card_plus (below == 0) negative (pictures C (PL group)) size (λ on. plus_low (adds on)) (λ on. plus_sign (adds on)) plus_given;
+      minus = card_minus (below == 0) negative (pictures C (MI group)) size (λ on. minus_low (subtracts on)) (λ on. minus_sign (subtracts on)) minus_given;
+      read_out = not_true _ (λ on. no_read (reads on)) ∙ sym (card_rest (below == 0) negative size).0;
+      test = not_true _ (λ on. no_test (tests on)) ∙ sym (card_rest (below == 0) negative size).1;
+    }
+      where
+        adds : pictures C (PL group) ≡ true → Pluses chart.lines plan (shut old Card) Card name level
+        adds on = plus_is chart plan wiring old Card pictures at rise name level group own on
+
+        subtracts : pictures C (MI group) ≡ true → Minuses chart.lines plan (shut old Card) Card name level group
+        subtracts on = minus_is chart plan wiring old Card pictures at rise name level group own on
+
+        reads : pictures C (RO group) ≡ true → ReadsOut chart.lines (shut old Card) Card name level group
+        reads on = read_is chart plan wiring old Card pictures at rise name level group own on
+
+        tests : pictures C (BT group) ≡ true → Tests chart.lines Card name level
+        tests on = test_is chart plan wiring old Card pictures at rise name level group own on
+
+        low_is : IsLowest chart.lines name level → (below == 0) ≡ true
+        low_is low = let none = lowest_is chart.lines plan name level some low in grind (arith, nat_tests, none)
+
+        is_low : (below == 0) ≡ true → IsLowest chart.lines name level
+        is_low is = let none : below ≡ 0 = grind (arith, nat_tests, is) in lowest_from chart.lines plan name level some none
+
+        plus_low : Pluses chart.lines plan (shut old Card) Card name level → (below == 0) ≡ true
+        plus_low (adds_card is low unsigned) = low_is low
+        plus_low (by_sign rule pilot is low its_sign served closed) = low_is low
+        plus_low (up low is under unsigned) = absurd is
+        plus_low (by_latch low rule lower is under its_sign given closed) = absurd is
+
+        plus_sign : Pluses chart.lines plan (shut old Card) Card name level → negative ≡ false
+        plus_sign (adds_card is low unsigned) = ap (λ b. b && is_negated field.kind card) (unsigned_is chart.lines name unsigned)
+        plus_sign (by_sign rule pilot is low its_sign served closed) =
+            let sides = positive_closed old Card card rule pilot at.between.ordered (within_panel rule pilot low its_sign served)
+            (read.pilots name its_sign.field rule pilot its_sign.named its_sign.ruled served) in
+            ap (λ b. b && is_negated field.kind card) (signed_is chart.lines name rule its_sign)
+            ∙ rule_is rule its_sign ∙ not_is (is_negative_by rule card) (sym sides ∙ closed)
+        plus_sign (up low is under unsigned) = absurd is
+        plus_sign (by_latch low rule lower is under its_sign given closed) = absurd is
+
+        minus_low : Minuses chart.lines plan (shut old Card) Card name level group → (below == 0) ≡ true
+        minus_low (less_by_sign rule pilot is low its_sign served closed) = low_is low
+        minus_low (less_turned rule is its_sign closed) = absurd is
+        minus_low (less_by_latch low rule lower is under its_sign given closed) = absurd is
+
+        minus_sign : Minuses chart.lines plan (shut old Card) Card name level group → negative ≡ true
+        minus_sign (less_by_sign rule pilot is low its_sign served closed) =
+            let sides = negative_closed old Card card rule pilot at.between.ordered (within_panel rule pilot low its_sign served)
+            (read.pilots name its_sign.field rule pilot its_sign.named its_sign.ruled served) in
+            ap (λ b. b && is_negated field.kind card) (signed_is chart.lines name rule its_sign)
+            ∙ rule_is rule its_sign ∙ sym sides ∙ closed
+        minus_sign (less_turned rule is its_sign closed) = absurd is
+        minus_sign (less_by_latch low rule lower is under its_sign given closed) = absurd is
+
+        no_read : ReadsOut chart.lines (shut old Card) Card name level group → ⊥
+        no_read (shows_it is) = is
+        no_read (turns_it rule is its_sign closed) = is
+
+        no_test : Tests chart.lines Card name level → ⊥
+        no_test (tests_it rule is its_sign) = is
+
+        plus_given : (below == 0) ≡ true → negative ≡ false → pictures C (PL group) ≡ true
+        plus_given low none = gives_plus chart plan wiring old Card pictures at rise name level group own (by signed refl none)
+          where
+            by : (b : Bool) → signed ≡ b → (b && is_negated field.kind card) ≡ false
+                → Pluses chart.lines plan (shut old Card) Card name level
+            by false is none = adds_card tt (is_low low) (unsigned_from chart.lines name field amount is)
+            by true is none =
+                let (rule, its_sign) = signed_from chart.lines name field amount.named is in
+                let (pilot, served) = has_pilot chart.lines plan name level own.number rule at.panel.planned own.total its_sign in
+                let sides = positive_closed old Card card rule pilot at.between.ordered (within_panel rule pilot (is_low low) its_sign served)
+                (read.pilots name its_sign.field rule pilot its_sign.named its_sign.ruled served) in
+                by_sign rule pilot tt (is_low low) its_sign served (sides ∙ ap not (sym (rule_is rule its_sign) ∙ none))
+
+        minus_given : (below == 0) ≡ true → negative ≡ true → pictures C (MI group) ≡ true
+        minus_given low is_so = gives_minus chart plan wiring old Card pictures at rise name level group own (by signed refl is_so)
+          where
+            by : (b : Bool) → signed ≡ b → (b && is_negated field.kind card) ≡ true
+                → Minuses chart.lines plan (shut old Card) Card name level group
+            by false is is_so = cc
+            by true is is_so =
+                let (rule, its_sign) = signed_from chart.lines name field amount.named is in
+                let (pilot, served) = has_pilot chart.lines plan name level own.number rule at.panel.planned own.total its_sign in
+                let sides = negative_closed old Card card rule pilot at.between.ordered (within_panel rule pilot (is_low low) its_sign served)
+                (read.pilots name its_sign.field rule pilot its_sign.named its_sign.ruled served) in
+                less_by_sign rule pilot tt (is_low low) its_sign served (sides ∙ sym (rule_is rule its_sign) ∙ is_so)

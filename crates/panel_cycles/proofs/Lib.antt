@@ -1,0 +1,23 @@
+pub mod ToCarriage
+pub mod JacksAndTape
+pub mod AmountFacts
+pub mod CounterAsksKinds
+pub mod CounterAsksSteps
+pub mod CounterAsksCards
+pub mod CounterAsksEntries
+pub mod CounterAsks
+pub mod AmountsLawful
+pub mod WheelRows
+pub mod WheelRowsText
+pub mod WheelRowsHeading
+pub mod WheelRowsFigure
+pub mod WheelRowsDigits
+pub mod WheelRowsField
+pub mod WheelRowsUnits
+pub mod WheelRowsCard
+pub mod WheelRowsCardLine
+pub mod WheelRowsLaws
+pub mod WheelRowsTotal
+pub mod WheelRowsTotalLine
+pub mod Rings
+mod CycleLaws

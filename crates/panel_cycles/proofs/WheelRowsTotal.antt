@@ -1,0 +1,236 @@
+-- What the print wheels receive in the third program cycle of a level: what the totals, the texts and the literals of its total line send.
+use Rattle.std.proofs.Common.{◌≡◌, ◌∙◌, refl, sym, ap, subst, ℕ, ◌+◌, ◌-◌, ◌<◌, ◌≤◌, ◌==◌, ◌&&◌, ◌||◌, not, nat_lt, Bool, true, false, cond, List, Contains, Option, Some, None, is_some, length, map, slice_get, get_or, option_map, arith}
+use Rattle.std.proofs.lemmas.Bool.Decides.{nat_tests}
+use Rattle.std.proofs.lemmas.List.{length-map, get_or-map}
+use Rattle.counter_cycles.proofs.DigitLemmas.{digit_of-small}
+use Rattle.counter_cycles.specs.Acts.{digit_of}
+use Rattle.card_code.specs.CardCode.{has_row}
+use Rattle.card_code.specs.Rows.{row_number}
+use Rattle.field_rules.specs.Digits.{is_out_of_digits}
+use Rattle.field_rules.specs.Fields.{field_named}
+use Rattle.field_rules.specs.Names.{names_text}
+use Rattle.chart_rules.specs.Rules.{IsLawful, breaks}
+use Rattle.chart_rules.specs.ValidCard.{column_of}
+use Rattle.chart_rules.specs.declared.rule.Rule.TheVariants as rule
+use Rattle.charts.specs.Chart.{Chart}
+use Rattle.charts.specs.Field.{columns_of, decimals_of, is_amount, sign_column}
+use Rattle.charts.specs.Levels.{level_number as chart_number}
+use Rattle.charts.specs.declared.chart.Line.{Line}
+use Rattle.charts.specs.declared.level.Level.{Level as ChartLevel}
+use Rattle.charts.specs.declared.statement.Field.{Field}
+use Rattle.charts.specs.declared.statement.Mark.{Mark}
+use Rattle.charts.specs.declared.statement.Statement.TheVariants as says
+use Rattle.charts.specs.declared.statement.Statement.{Statement}
+use Rattle.counters.specs.Counters.{Counter}
+use Rattle.hub_table.specs.Ranges.{is_within}
+use Rattle.setups.specs.Wiring.{Wiring}
+use Rattle.hubs.specs.declared.hub.Group.{Group}
+use Rattle.hubs.specs.declared.hub.Hub.TheVariants.{BAT, PX, RO, SO}
+use Rattle.net.specs.Cycles.{level_number}
+use Rattle.hubs.specs.declared.hub.Hub.{Hub}
+use Rattle.net.specs.declared.cycle.Cycle.{Cycle}
+use Rattle.net.specs.declared.cycle.Cycle.TheVariants.{Prog}
+use Rattle.net.specs.declared.cycle.Level.{Level}
+use Rattle.net.specs.declared.cycle.Ordinal.TheVariants.{Third}
+use Rattle.net.specs.declared.cycle.Point.TheVariants.{C, Row}
+use Rattle.printed_lines.specs.Shown.Shown.{Characters}
+use Rattle.printed_lines.specs.Shown.{Shown, Printed, digit_set, total_sends}
+use Rattle.report.specs.Amounts.{columns_in}
+use Rattle.report.specs.Edits.{last_digits}
+use Rattle.storage_units.specs.Storage.{StorageState, holds as holds_row, storage_place}
+use Rattle.whole_cycles.proofs.Units.{units-by_name}
+use Rattle.whole_cycles.specs.Units.{IsGroup, group_at}
+use Rattle.wiring_table.specs.Figures.{IsAmount, IsText, HasPunchAt, digit_wheel, mark_wheel, mark_characters}
+use Rattle.wiring_table.specs.Parts.{group_for, unit_for}
+use Rattle.wired_panels.specs.Sources.{EmitsAtControl, digit_at}
+use Rattle.wired_panels.specs.Sources.EmitsAtControl.{card as emits_card, prog as emits_prog, head as emits_head}
+use Rattle.wired_panels.specs.CycleRows.{CycleRow, is_closed}
+use Rattle.panel_cycles.specs.PrintedRows.{IsTotalRow, HoldsTotal}
+use Rattle.wired_panels.proofs.ReadingOut.{total-read, text-read}
+use Rattle.wired_panels.proofs.SpeakersApart.{same-line, group-same, unit-same}
+use Rattle.wired_panels.proofs.SpeakersLawful.{good-field, kept-at}
+use Rattle.panel_cycles.proofs.WheelRows.{SendsRow}
+use Rattle.panel_cycles.proofs.WheelRowsDigits.{digit-row}
+use Rattle.panel_cycles.proofs.WheelRowsField.{right-of}
+use Rattle.panel_cycles.proofs.WheelRowsFigure.FigureSends.{digit as figure_digit, marked as figure_marked}
+use Rattle.panel_cycles.proofs.WheelRowsFigure.{FigureSends, amount_shown, figure-sent}
+use Rattle.panel_cycles.proofs.WheelRowsText.{columns-stand, columns-sent}
+use Rattle.panel_cycles.proofs.WheelRowsUnits.{group-named, group-own, digit-of, unit-own, last-at, last-long}
+
+-- a total in a chart that breaks no rule is of an amount, in as many digits as its field has columns at least
+pub total-amount : (chart : Chart) (place : ℕ) (line : Line) (its : ChartLevel) (wheel : ℕ) (name : List ℕ) (digits : ℕ) (mark : Option Mark)
+    (field : Field) → IsLawful chart → slice_get chart.lines place ≡ Some line → line.statement ≡ says.TotalAmount its wheel name digits mark
+    → field_named chart.lines name ≡ Some field → is_amount field.kind ≡ true
+total-amount chart place line its wheel name digits mark field lawful at says_it named =
+    let kept = kept-at rule.WrongKind chart place line lawful at in
+    let e : names_text (field_named chart.lines name) ≡ false = sym (ap (λ s. breaks rule.WrongKind chart.lines chart.lines s) says_it) ∙ kept in
+    let f : not (is_amount field.kind) ≡ false = sym (ap names_text named) ∙ e in
+    by (is_amount field.kind) f
+  where
+    by : (b : Bool) → not b ≡ false → b ≡ true
+    by true h = refl
+    by false h = cc
+
+pub total-digits : (chart : Chart) (place : ℕ) (line : Line) (its : ChartLevel) (wheel : ℕ) (name : List ℕ) (digits : ℕ) (mark : Option Mark)
+    (field : Field) → IsLawful chart → slice_get chart.lines place ≡ Some line → line.statement ≡ says.TotalAmount its wheel name digits mark
+    → field_named chart.lines name ≡ Some field → decimals_of field.kind ≤ digits
+total-digits chart place line its wheel name digits mark field lawful at says_it named =
+    let kept = kept-at rule.DigitsRange chart place line lawful at in
+    let e : is_out_of_digits (field_named chart.lines name) digits ≡ false
+    = sym (ap (λ s. breaks rule.DigitsRange chart.lines chart.lines s) says_it) ∙ kept in
+    let f : nat_lt digits (columns_of field) ≡ false = first (nat_lt digits (columns_of field)) (nat_lt 8 digits) (is_some (sign_column field.kind) && nat_lt 7 digits) (sym (ap (λ o. is_out_of_digits o digits) named) ∙ e) in
+    let good = (good-field chart name field lawful named).decimals in
+    grind (arith, nat_tests, f, good)
+  where
+    first : (a b c : Bool) → (a || b || c) ≡ false → a ≡ false
+    first true b c h = cc
+    first false b c h = refl
+
+module _ (wiring : Wiring) (its : Level) (held : List ℕ → Printed) (card : List ℕ) (at : CycleRow) (row : IsTotalRow wiring its held card at) where
+  abbrev pub Sends : Statement → ℕ → Type 0
+  Sends statement v = SendsRow (total_sends at.chart.lines (level_number its) held card) statement v (row_number at.row)
+
+  -- lines with one number
+  one-line : (one other : Line) → Contains at.chart.lines one → Contains at.chart.lines other → one.number ≡ other.number → one ≡ other
+  one-line one other here there same = same-line at.chart.lines at.chart.end one other row.rises here there same
+
+  -- a line of the level
+  pub tested : (level : ChartLevel) → chart_number level ≡ level_number its → (chart_number level == level_number its) ≡ true
+  tested level same = grind (arith, nat_tests, same)
+
+  -- the digits that a total shows
+  pub digits-long : (digits : ℕ) (name : List ℕ) → length (map Some (last_digits digits (held name).figure)) ≡ digits
+  digits-long digits name = length-map (last_digits digits (held name).figure) Some ∙ last-long digits (held name).figure
+
+  pub digit-shown : (digits : ℕ) (name : List ℕ) (position row : ℕ) → 1 ≤ position → position ≤ digits
+      → has_row (digit_set (get_or (map Some (last_digits digits (held name).figure)) (digits - position) None)) row
+      ≡ (digit_of (held name).figure position == row)
+  digit-shown digits name position r from to =
+      let long = last-long digits (held name).figure in
+      ap (λ o. has_row (digit_set o) r)
+      (get_or-map Some (last_digits digits (held name).figure) (digits - position) 0 None (omega (arith, from, to, long))
+      ∙ ap Some (last-at digits (held name).figure position from to))
+      ∙ digit-row (digit_of (held name).figure position) r (digit_of-small (held name).figure position)
+
+  pub amount-row : (line : Line) (place : ℕ) (level : ChartLevel) (wheel : ℕ) (name : List ℕ) (digits : ℕ) (mark : Option Mark) (field : Field) {v : ℕ}
+      → slice_get at.chart.lines place ≡ Some line → line.statement ≡ says.TotalAmount level wheel name digits mark
+      → field_named at.chart.lines name ≡ Some field → chart_number level ≡ level_number its
+      → FigureSends wheel digits (decimals_of field.kind) mark (map Some (last_digits digits (held name).figure)) (held name).latch (row_number at.row) v
+      → Sends (says.TotalAmount level wheel name digits mark) v
+  amount-row line place level wheel name digits mark field listed says_it named same sends =
+      let few = total-digits at.chart place line level wheel name digits mark field row.on_panel.panel.lawful listed says_it named in
+      let sent = figure-sent wheel digits (decimals_of field.kind) mark (map Some (last_digits digits (held name).figure)) (held name).latch
+      (row_number at.row) few (digits-long digits name) sends in
+      record {
+        shown = amount_shown wheel digits (decimals_of field.kind) mark (map Some (last_digits digits (held name).figure)) (held name).latch;
+        is_sent = ap (λ b. cond b (option_map shown_of (field_named at.chart.lines name)) None) (tested level same) ∙ ap (option_map shown_of) named;
+        there = sent.0;
+        on = sent.1;
+      }
+    where
+      shown_of : Field → Shown
+      shown_of each = amount_shown wheel digits (decimals_of each.kind) mark (map Some (last_digits digits (held name).figure)) (held name).latch
+
+  -- the level of a total whose group reads out, and of a text whose unit does
+  group-level : (line : Line) (level : ChartLevel) (wheel : ℕ) (name : List ℕ) (digits : ℕ) (mark : Option Mark) (group : Group)
+      → Contains at.chart.lines line → line.statement ≡ says.TotalAmount level wheel name digits mark
+      → group_for at.chart.lines at.plan line.number ≡ Some group → at.pictures C (RO group) ≡ true → chart_number level ≡ level_number its
+  group-level line level wheel name digits mark group listed says_it served out =
+      let (its_name, own) = total-read wiring at row.on_panel row.rises its row.cycle group out in
+      let n = group-same at.chart.lines at.plan own.number line.number group row.on_panel.panel.planned own.served served in
+      let total = own.total in
+      let e = one-line total.line line total.listed listed (total.is_number ∙ n) in
+      by total.its_level total.wheel total.its_name total.digits total.mark (sym total.says_total ∙ ap (λ l. l.statement) e ∙ says_it)
+      total.same_level
+    where
+      by : (other : ChartLevel) (w : ℕ) (n : List ℕ) (d : ℕ) (m : Option Mark) → says.TotalAmount other w n d m ≡ says.TotalAmount level wheel name digits mark
+          → chart_number other ≡ level_number its → chart_number level ≡ level_number its
+      by other w n d m same is = let e : other ≡ level = cc in sym (ap chart_number e) ∙ is
+
+  unit-level : (line : Line) (level : ChartLevel) (wheel : ℕ) (name : List ℕ) (unit : ℕ)
+      → Contains at.chart.lines line → line.statement ≡ says.TotalText level wheel name
+      → unit_for at.plan line.number ≡ Some unit → at.pictures C (SO unit) ≡ true → chart_number level ≡ level_number its
+  unit-level line level wheel name unit listed says_it served out =
+      let u = text-read wiring at row.on_panel its row.cycle unit out in
+      let n = unit-same at.plan u.line.number line.number unit u.served served in
+      let e = one-line u.line line u.listed listed n in
+      by u.level u.wheel u.name (sym u.is_text ∙ ap (λ l. l.statement) e ∙ says_it) (emits_third u.printed refl refl)
+    where
+      emits_third : {n : ℕ} {cycle : Cycle} {hub : Hub} → EmitsAtControl cycle hub → cycle ≡ Prog its Third → hub ≡ PX n 3 → n ≡ level_number its
+      emits_third emits_card is there = cc
+      emits_third (emits_prog level ordinal) is there =
+          let a : level ≡ its = cc in cc
+      emits_third (emits_head heading) is there = cc
+
+      by : (other : ChartLevel) (w : ℕ) (n : List ℕ) → says.TotalText other w n ≡ says.TotalText level wheel name
+          → chart_number other ≡ level_number its → chart_number level ≡ level_number its
+      by other w n same is = let e : other ≡ level = cc in sym (ap chart_number e) ∙ is
+
+  -- the digit of a group is that of the total
+  pub held-digit : (group : Group) (name : List ℕ) (position : ℕ) → IsGroup group → HoldsTotal at group (held name) → 1 ≤ position
+      → position ≤ length (group_at at.old group).digits → digit_at (group_at at.old group).digits position ≡ digit_of (held name).figure position
+  held-digit group name position is holds from to =
+      digit-of at.old row.on_panel.between group position is from to ∙ ap (λ n. digit_of n position) holds.figure
+
+  -- a balance position leads on where the latch is set
+  pub closed-BAT : (group : Group) (position : ℕ) → IsGroup group
+      → is_closed at (BAT group position) ≡ (is_within position 4 && (group_at at.old group).latch)
+  closed-BAT group position is = (units-by_name.groups at.old group row.on_panel.between is).transferred at.cycle (Row at.row) position
+
+  pub digit-sends : (line : Line) (place : ℕ) (level : ChartLevel) (wheel : ℕ) (name : List ℕ) (digits : ℕ) (mark : Option Mark) (field : Field)
+      (counter : Counter) (position : ℕ)
+      → slice_get at.chart.lines place ≡ Some line → Contains at.chart.lines line → line.statement ≡ says.TotalAmount level wheel name digits mark
+      → group_for at.chart.lines at.plan line.number ≡ Some counter.name → IsAmount at.chart.lines name field → 1 ≤ position → position ≤ digits
+      → Contains at.old.groups counter → at.pictures C (RO counter.name) ≡ true → position ≤ length counter.digits
+      → digit_at counter.digits position ≡ row_number at.row
+      → Sends (says.TotalAmount level wheel name digits mark) (digit_wheel wheel digits (decimals_of field.kind) position)
+  digit-sends line place level wheel name digits mark field counter position listed there says_it served is from to among out long shows =
+      let same = group-level line level wheel name digits mark counter.name there says_it served out in
+      let named = group-named at.chart.lines at.plan line.number counter.name row.on_panel.panel.planned served in
+      let holds = row.totals line level wheel name digits mark counter.name there says_it same served in
+      let own : counter ≡ group_at at.old counter.name = group-own at.old row.on_panel.between counter among in
+      let digit_is : digit_at counter.digits position ≡ digit_of (held name).figure position
+      = ap (λ c. digit_at c.digits position) own
+      ∙ held-digit counter.name name position named holds from (subst (λ c. position ≤ length c.digits) own long) in
+      let e : digit_of (held name).figure position ≡ row_number at.row = sym digit_is ∙ shows in
+      let test : (digit_of (held name).figure position == row_number at.row) ≡ true = equal (digit_of (held name).figure position) (row_number at.row) e in
+      amount-row line place level wheel name digits mark field listed says_it is.named same
+      (figure_digit position from to (digit-shown digits name position (row_number at.row) from to ∙ test))
+    where
+      equal : (a b : ℕ) → a ≡ b → (a == b) ≡ true
+      equal a b e = grind (arith, nat_tests, e)
+
+  pub mark-sends : (line : Line) (place : ℕ) (level : ChartLevel) (wheel : ℕ) (name : List ℕ) (digits : ℕ) (mark : Mark) (field : Field)
+      (group : Group) (k : ℕ)
+      → slice_get at.chart.lines place ≡ Some line → Contains at.chart.lines line
+      → line.statement ≡ says.TotalAmount level wheel name digits (Some mark) → group_for at.chart.lines at.plan line.number ≡ Some group
+      → field_named at.chart.lines name ≡ Some field → chart_number level ≡ level_number its
+      → HasPunchAt (mark_characters mark) k (row_number at.row) → is_closed at (BAT group (3 + k)) ≡ true
+      → Sends (says.TotalAmount level wheel name digits (Some mark)) (mark_wheel wheel digits (decimals_of field.kind) + k)
+  mark-sends line place level wheel name digits mark field group k listed there says_it served named same punch shut =
+      let group_is = group-named at.chart.lines at.plan line.number group row.on_panel.panel.planned served in
+      let holds = row.totals line level wheel name digits (Some mark) group there says_it same served in
+      let latch = right-of (is_within (3 + k) 4) (group_at at.old group).latch (sym (closed-BAT group (3 + k) group_is) ∙ shut) in
+      amount-row line place level wheel name digits (Some mark) field listed says_it named same
+      (figure_marked mark k refl (sym holds.latch ∙ latch) punch)
+
+  pub text-sends : (line : Line) (level : ChartLevel) (wheel : ℕ) (name : List ℕ) (field : Field) (storage : StorageState) (j : ℕ)
+      → Contains at.chart.lines line → line.statement ≡ says.TotalText level wheel name → IsText at.chart.lines name field → j < columns_of field
+      → unit_for at.plan line.number ≡ Some (storage_place storage) → Contains at.old.storage storage
+      → at.pictures C (SO (storage_place storage)) ≡ true → holds_row storage at.row (j + 1) ≡ true
+      → Sends (says.TotalText level wheel name) (wheel + j)
+  text-sends line level wheel name field storage j there says_it is within served among out held_row =
+      let same = unit-level line level wheel name (storage_place storage) there says_it served out in
+      let column = row.texts line level wheel name field (storage_place storage) j there says_it same served is.named within in
+      let own = unit-own at.old row.on_panel.between storage among in
+      let punched : has_row (column_of card (field.first + j)) (row_number at.row) ≡ true
+      = sym (ap (λ s. holds_row s at.row (j + 1)) own ∙ column) ∙ held_row in
+      record {
+        shown = Characters wheel (map (column_of card) (columns_in field));
+        is_sent = ap (λ b. cond b (option_map shown_of (field_named at.chart.lines name)) None) (tested level same) ∙ ap (option_map shown_of) is.named;
+        there = columns-stand wheel card field j within;
+        on = ap (λ s. has_row s (row_number at.row)) (columns-sent wheel card field j within) ∙ punched;
+      }
+    where
+      shown_of : Field → Shown
+      shown_of each = Characters wheel (map (column_of card) (columns_in each))

@@ -1,0 +1,342 @@
+-- In the third program cycle of a level what lines send to its total line arrives at its wheels.
+use Rattle.std.proofs.Common.{◌≡◌, ◌∙◌, refl, sym, ap, subst, ℕ, ◌+◌, ◌<◌, ◌≤◌, ◌==◌, Bool, true, false, cond, List, Contains, Option, Some, None, length, map, slice_get, option_map, arith}
+use Rattle.std.proofs.lemmas.Bool.Decides.{nat_tests}
+use Rattle.std.proofs.lemmas.List.{length-map}
+use Rattle.std.proofs.lemmas.Option.{slice_get_within, get_or_from_slice_get}
+use Rattle.counter_cycles.specs.Acts.{digit_of}
+use Rattle.wanted.specs.ChartTotals.{total_of, need_of, names_signed}
+use Rattle.plans.specs.Plans.{Lists, IsFor}
+use Rattle.wanted.specs.declared.total.Total.{Total}
+use Rattle.card_code.specs.CardCode.{has_row}
+use Rattle.card_code.specs.Rows.{row_number}
+use Rattle.field_rules.specs.Fields.{field_named, fields_of}
+use Rattle.print_rules.specs.Items.{item_of, text_item, total_item, figure_width}
+use Rattle.print_rules.specs.Marks.{is_mismatched, is_mismatched_kind}
+use Rattle.field_rules.specs.Names.{names_amount}
+use Rattle.chart_rules.specs.Rules.{IsLawful, breaks}
+use Rattle.chart_rules.specs.ValidCard.{column_of}
+use Rattle.print_rules.specs.Wheels.{HasWheel}
+use Rattle.print_rules.specs.declared.items.Item.{Item}
+use Rattle.print_rules.specs.declared.items.PrintedLine.TheVariants.{Body}
+use Rattle.chart_rules.specs.declared.rule.Rule.TheVariants as rule
+use Rattle.charts.specs.Chart.{Chart, NumbersRise}
+use Rattle.charts.specs.Field.{columns_of, decimals_of, is_amount}
+use Rattle.charts.specs.Levels.{level_number as chart_number}
+use Rattle.charts.specs.declared.chart.Line.{Line}
+use Rattle.charts.specs.declared.level.Level.{Level as ChartLevel}
+use Rattle.charts.specs.declared.statement.BodyLine.TheVariants as body
+use Rattle.charts.specs.declared.statement.Field.{Field}
+use Rattle.charts.specs.declared.statement.FieldKind.TheVariants as holds
+use Rattle.charts.specs.declared.statement.FieldKind.{FieldKind}
+use Rattle.charts.specs.declared.statement.Mark.{Mark}
+use Rattle.charts.specs.declared.statement.SignRule.{SignRule}
+use Rattle.charts.specs.declared.statement.Statement.TheVariants as says
+use Rattle.charts.specs.declared.statement.Statement.{Statement}
+use Rattle.hub_table.specs.Ranges.{is_within}
+use Rattle.setups.specs.Wiring.{Wiring}
+use Rattle.hubs.specs.declared.hub.Group.{Group}
+use Rattle.hubs.specs.declared.hub.Hub.TheVariants.{EM, W, PX, RO, SO}
+use Rattle.net.specs.Cycles.{level_number}
+use Rattle.net.specs.declared.cycle.Cycle.TheVariants.{Prog}
+use Rattle.net.specs.declared.cycle.Level.{Level}
+use Rattle.net.specs.declared.cycle.Ordinal.TheVariants.{Third}
+use Rattle.net.specs.declared.cycle.Point.TheVariants.{C}
+use Rattle.print_unit.specs.Emitters.{emitter_of}
+use Rattle.printed_lines.specs.Shown.Shown.{Characters}
+use Rattle.printed_lines.specs.Shown.{Shown, Printed, set_of_character, total_sends}
+use Rattle.report.specs.Amounts.{columns_in}
+use Rattle.report.specs.Edits.{last_digits}
+use Rattle.storage_units.specs.Storage.{storage_place}
+use Rattle.whole_cycles.proofs.Units.{units-by_name}
+use Rattle.whole_cycles.specs.Units.{group_at, storage_at}
+use Rattle.wiring_table.specs.Figures.IsFigure.{on_total as figure_on_total}
+use Rattle.wiring_table.specs.Figures.IsLiteral.{on_total}
+use Rattle.wiring_table.specs.Figures.{IsText, IsAmount, IsSigned, HasPunchAt, rule_of, mark_characters}
+use Rattle.wiring_table.specs.Parts.{group_for, panel_group}
+use Rattle.wiring_table.specs.Wires.LineWire.{literal, point, total_digit, total_mark_in, total_mark_out, total_text_out}
+use Rattle.wired_panels.specs.CycleRows.{CycleRow}
+use Rattle.wired_panels.specs.Groups.{IsGroupOf}
+use Rattle.panel_cycles.specs.PrintedRows.{IsTotalRow}
+use Rattle.wired_panels.specs.Sources.EmitsAtControl.{prog as emits_prog}
+use Rattle.wired_panels.specs.Sources.EmitsAtRow.{digit, column, emitter}
+use Rattle.wired_panels.specs.Sources.{EmitsAtControl, digit_at}
+use Rattle.wired_panels.proofs.ReadingOut.{reads-total, reads-text}
+use Rattle.wired_panels.proofs.ToCounters.{with_group}
+use Rattle.wired_panels.proofs.ToWheels.{ArrivesThere, Emits, along, along_contact}
+use Rattle.wired_panels.proofs.SpeakersApart.{same-line, group-at}
+use Rattle.wired_panels.proofs.SpeakersLawful.{kept-at}
+use Rattle.wired_panels.proofs.SpeakersServed.{unit-there, group-there}
+use Rattle.panel_cycles.proofs.WheelRows.IsLineOf.{total as its_total}
+use Rattle.panel_cycles.proofs.WheelRows.{IsLineOf, SendsRow, stands_on, sent_on}
+use Rattle.panel_cycles.proofs.WheelRowsCardLine.{at-most, mark-few}
+use Rattle.panel_cycles.proofs.WheelRowsField.{both-of}
+use Rattle.panel_cycles.proofs.WheelRowsFigure.FigureSends.{digit as figure_digit, point as figure_point, marked as figure_marked}
+use Rattle.panel_cycles.proofs.WheelRowsFigure.{FigureSends, amount_shown, figure-of, length-sets}
+use Rattle.panel_cycles.proofs.WheelRowsText.{literal-of, standing, columns-sent, columns-of}
+use Rattle.panel_cycles.proofs.WheelRowsTotal.{total-amount, total-digits, digits-long, digit-shown, held-digit, closed-BAT}
+use Rattle.panel_cycles.proofs.WheelRowsUnits.{group-named, group-listed, counter-is, unit-listed, unit-place, last-long, total-line}
+
+-- what a total line's line sends
+pub record SendsTotal (lines : List Line) (number : ℕ) (held : List ℕ → Printed) (its : ChartLevel) (wheel : ℕ) (name : List ℕ) (digits : ℕ)
+    (mark : Option Mark) (sent : Shown) : Type 0 where
+  pub field : Field
+  pub same : chart_number its ≡ number
+  pub named : field_named lines name ≡ Some field
+  pub is : sent ≡ amount_shown wheel digits (decimals_of field.kind) mark (map Some (last_digits digits (held name).figure)) (held name).latch
+
+pub total-tested : (lines : List Line) (number : ℕ) (held : List ℕ → Printed) (card : List ℕ) (its : ChartLevel) (wheel : ℕ) (name : List ℕ) (digits : ℕ)
+    (mark : Option Mark) (sent : Shown) → total_sends lines number held card (says.TotalAmount its wheel name digits mark) ≡ Some sent
+    → SendsTotal lines number held its wheel name digits mark sent
+total-tested lines number held card its wheel name digits mark sent is = by (chart_number its == number) (field_named lines name) refl refl is
+  where
+    by : (b : Bool) (o : Option Field) → (chart_number its == number) ≡ b → field_named lines name ≡ o
+        → cond b (option_map (λ each. amount_shown wheel digits (decimals_of each.kind) mark (map Some (last_digits digits (held name).figure)) (held name).latch) o) None
+        ≡ Some sent → SendsTotal lines number held its wheel name digits mark sent
+    by true (Some field) same named there = record { field = field; same = grind (arith, nat_tests, same); named = named; is = cc }
+    by true None same named there = cc
+    by false o same named there = cc
+
+pub record SendsText (lines : List Line) (number : ℕ) (card : List ℕ) (its : ChartLevel) (wheel : ℕ) (name : List ℕ) (sent : Shown) : Type 0 where
+  pub field : Field
+  pub same : chart_number its ≡ number
+  pub named : field_named lines name ≡ Some field
+  pub is : sent ≡ Characters wheel (map (column_of card) (columns_in field))
+
+pub text-tested : (lines : List Line) (number : ℕ) (held : List ℕ → Printed) (card : List ℕ) (its : ChartLevel) (wheel : ℕ) (name : List ℕ) (sent : Shown)
+    → total_sends lines number held card (says.TotalText its wheel name) ≡ Some sent → SendsText lines number card its wheel name sent
+text-tested lines number held card its wheel name sent is = by (chart_number its == number) (field_named lines name) refl refl is
+  where
+    by : (b : Bool) (o : Option Field) → (chart_number its == number) ≡ b → field_named lines name ≡ o
+        → cond b (option_map (λ each. Characters wheel (map (column_of card) (columns_in each))) o) None ≡ Some sent
+        → SendsText lines number card its wheel name sent
+    by true (Some field) same named there = record { field = field; same = grind (arith, nat_tests, same); named = named; is = cc }
+    by true None same named there = cc
+    by false o same named there = cc
+
+literal-tested : (lines : List Line) (number : ℕ) (held : List ℕ → Printed) (card : List ℕ) (its : ChartLevel) (wheel : ℕ) (characters : List ℕ) (sent : Shown)
+    → total_sends lines number held card (says.TotalLiteral its wheel characters) ≡ Some sent
+    → (chart_number its ≡ number) × (sent ≡ Characters wheel (map set_of_character characters))
+literal-tested lines number held card its wheel characters sent is = by (chart_number its == number) refl is
+  where
+    by : (b : Bool) → (chart_number its == number) ≡ b → cond b (Some (Characters wheel (map set_of_character characters))) None ≡ Some sent
+        → (chart_number its ≡ number) × (sent ≡ Characters wheel (map set_of_character characters))
+    by true same there = (grind (arith, nat_tests, same), cc)
+    by false same there = cc
+
+-- a total with a mark is of an amount with a sign rule
+total-ruled : (chart : Chart) (place : ℕ) (line : Line) (its : ChartLevel) (wheel : ℕ) (name : List ℕ) (digits : ℕ) (own : Mark) (field : Field)
+    → IsLawful chart → slice_get chart.lines place ≡ Some line → line.statement ≡ says.TotalAmount its wheel name digits (Some own)
+    → field_named chart.lines name ≡ Some field → is_amount field.kind ≡ true → (r : SignRule) × (rule_of field.kind ≡ Some r)
+total-ruled chart place line its wheel name digits own field lawful at says_it named amount =
+    let kept = kept-at rule.MarkMismatch chart place line lawful at in
+    let e : is_mismatched (field_named chart.lines name) (Some own) ≡ false
+    = sym (ap (λ s. breaks rule.MarkMismatch chart.lines chart.lines s) says_it) ∙ kept in
+    by field.kind amount (sym (ap (λ o. is_mismatched o (Some own)) named) ∙ e)
+  where
+    by : (kind : FieldKind) → is_amount kind ≡ true → is_mismatched_kind kind (Some own) ≡ false → (r : SignRule) × (rule_of kind ≡ Some r)
+    by holds.Text amount kept = cc
+    by (holds.Amount decimals None) amount kept = cc
+    by (holds.Amount decimals (Some r)) amount kept = (r, refl)
+
+-- the need of a total on a line
+total-number : (lines : List Line) (number : ℕ) (statement : Statement) (total : Total) → total_of lines number statement ≡ Some total → total.line ≡ number
+total-number lines number (says.TotalAmount its wheel name digits mark) total is =
+    let e : record { level = its; line = number; need = need_of (field_named lines name) digits } ≡ total = cc in ap (λ t. t.line) (sym e)
+total-number lines number other total is = cc
+
+total-need : (lines : List Line) (number : ℕ) (its : ChartLevel) (wheel : ℕ) (name : List ℕ) (digits : ℕ) (mark : Option Mark) (total : Total)
+    → total_of lines number (says.TotalAmount its wheel name digits mark) ≡ Some total → digits ≤ total.need
+total-need lines number its wheel name digits mark total is =
+    let e : record { level = its; line = number; need = need_of (field_named lines name) digits } ≡ total = cc in
+    let f : need_of (field_named lines name) digits ≡ total.need = ap (λ t. t.need) e in
+    least (field_named lines name) f
+  where
+    least : (o : Option Field) → need_of o digits ≡ total.need → digits ≤ total.need
+    least o same = by (names_signed o) same
+      where
+        by : (b : Bool) → digits + cond b 1 0 ≡ total.need → digits ≤ total.need
+        by true e = omega (arith, e)
+        by false e = omega (arith, e)
+
+-- a group is as wide as its total has digits
+pub total-wide : (chart : Chart) (plan : Lists) (line : Line) (its : ChartLevel) (wheel : ℕ) (name : List ℕ) (digits : ℕ) (mark : Option Mark) (group : Group)
+    → NumbersRise chart.lines chart.end → IsFor chart.lines plan → Contains chart.lines line
+    → line.statement ≡ says.TotalAmount its wheel name digits mark → group_for chart.lines plan line.number ≡ Some group → digits ≤ group.width
+total-wide chart plan line its wheel name digits mark group rises planned listed says_it served =
+    let at = group-at chart.lines plan line.number group served in
+    let t = total-line chart.lines chart.lines at.place at.total at.listed in
+    let n : t.line.number ≡ line.number = number_is (sym (total-number chart.lines t.line.number t.line.statement at.total t.is)) at.on in
+    let e : t.line ≡ line = same-line chart.lines chart.end t.line line rises (contained t.place t.at) listed n in
+    let is : total_of chart.lines line.number (says.TotalAmount its wheel name digits mark) ≡ Some at.total
+    = sym (ap (λ l. total_of chart.lines l.number l.statement) e ∙ ap (total_of chart.lines line.number) says_it) ∙ t.is in
+    let need = total-need chart.lines line.number its wheel name digits mark at.total is in
+    let enough = planned.groups.enough at.place at.total at.its_group at.listed at.taken in
+    let wide : at.its_group.width ≡ group.width = ap (λ g. g.width) at.named in
+    omega (arith, need, enough, wide)
+  where
+    number_is : {a b c : ℕ} → a ≡ b → (b == c) ≡ true → a ≡ c
+    number_is e test = grind (arith, nat_tests, e, test)
+
+    contained : {x : Line} (place : ℕ) → slice_get chart.lines place ≡ Some x → Contains chart.lines x
+    contained {x} place got = (place, slice_get_within chart.lines place x got, get_or_from_slice_get chart.lines place x x got)
+
+-- a text on a total line is of a field of characters
+text-kind : (chart : Chart) (place : ℕ) (line : Line) (its : ChartLevel) (wheel : ℕ) (name : List ℕ) (field : Field) → IsLawful chart
+    → slice_get chart.lines place ≡ Some line → line.statement ≡ says.TotalText its wheel name → field_named chart.lines name ≡ Some field
+    → is_amount field.kind ≡ false
+text-kind chart place line its wheel name field lawful at says_it named =
+    let kept = kept-at rule.WrongKind chart place line lawful at in
+    let e : names_amount (field_named chart.lines name) ≡ false = sym (ap (λ s. breaks rule.WrongKind chart.lines chart.lines s) says_it) ∙ kept in
+    sym (ap names_amount named) ∙ e
+
+module _ (wiring : Wiring) (its : Level) (held : List ℕ → Printed) (card : List ℕ) (at : CycleRow) (row : IsTotalRow wiring its held card at) where
+  emits-its : (level : ChartLevel) → chart_number level ≡ level_number its → Emits at (EM (4 + chart_number level) (row_number at.row))
+  emits-its level same = emitter (4 + chart_number level) (ap emitter_of row.cycle ∙ ap (λ n. Some (4 + n)) (sym same))
+
+  figure-arrives : (line : Line) (place : ℕ) (level : ChartLevel) (wheel : ℕ) (name : List ℕ) (digits : ℕ) (mark : Option Mark) (field : Field)
+      (group : Group) {v : ℕ} → slice_get at.chart.lines place ≡ Some line → Contains at.chart.lines line
+      → line.statement ≡ says.TotalAmount level wheel name digits mark → IsAmount at.chart.lines name field → chart_number level ≡ level_number its
+      → group_for at.chart.lines at.plan line.number ≡ Some group
+      → FigureSends wheel digits (decimals_of field.kind) mark (map Some (last_digits digits (held name).figure)) (held name).latch (row_number at.row) v
+      → ArrivesThere at (W v)
+  figure-arrives line place level wheel name digits mark field group listed there says_it is same served (figure_digit position from to on) =
+      let named = group-named at.chart.lines at.plan line.number group row.on_panel.panel.planned served in
+      let holds = row.totals line level wheel name digits mark group there says_it same served in
+      let by_name : (group_at at.old group).name ≡ group = (units-by_name.groups at.old group row.on_panel.between named).named in
+      let wide = total-wide at.chart at.plan line level wheel name digits mark group row.rises row.on_panel.panel.planned there says_it served in
+      let positions : length (group_at at.old group).digits ≡ group.width
+      = (counter-is at.old row.on_panel.between group named).positions ∙ ap (λ g. g.width) by_name in
+      let long : position ≤ length (group_at at.old group).digits = omega (arith, to, wide, positions) in
+      let own : IsGroupOf at.chart.lines at.plan name (level_number its) group
+      = subst (λ n. IsGroupOf at.chart.lines at.plan name n group) same
+      (with_group at.chart.lines at.plan level wheel name digits mark line.number group
+      (record { line = line; listed = there; numbered = refl; says_it = says_it }) served) in
+      let out : at.pictures C (RO group) ≡ true = reads-total wiring at row.on_panel row.rises its row.cycle name group own in
+      let test : (digit_of (held name).figure position == row_number at.row) ≡ true
+      = sym (digit-shown wiring its held card at row digits name position (row_number at.row) from to) ∙ on in
+      let shows : digit_at (group_at at.old group).digits position ≡ row_number at.row
+      = held-digit wiring its held card at row group name position named holds from long
+      ∙ equal (digit_of (held name).figure position) (row_number at.row) test in
+      along wiring at row.on_panel row.rises line there says_it
+      (total_digit level wheel name digits mark field (group_at at.old group).name position (served ∙ ap Some (sym by_name)) is from to)
+      (digit (group_at at.old group) position (group-listed at.old row.on_panel.between group named)
+      (ap (λ g. at.pictures C (RO g)) by_name ∙ out) from long shows)
+    where
+      equal : (a b : ℕ) → (a == b) ≡ true → a ≡ b
+      equal a b e = grind (arith, nat_tests, e)
+  figure-arrives line place level wheel name digits mark field group listed there says_it is same served (figure_point some punch) =
+      along wiring at row.on_panel row.rises line there says_it
+      (point (says.TotalAmount level wheel name digits mark) (4 + chart_number level) wheel
+      (record { digits = digits; decimals = decimals_of field.kind; mark = mark }) (row_number at.row)
+      (figure_on_total level wheel name digits mark field is) some punch) (emits-its level same)
+  figure-arrives line place level wheel name digits None field group listed there says_it is same served (figure_marked own k marked below punch) = cc
+  figure-arrives line place level wheel name digits (Some mark) field group listed there says_it is same served (figure_marked own k marked below punch) =
+      let named = group-named at.chart.lines at.plan line.number group row.on_panel.panel.planned served in
+      let holds = row.totals line level wheel name digits (Some mark) group there says_it same served in
+      let (rule, ruled) = total-ruled at.chart place line level wheel name digits mark field row.on_panel.panel.lawful listed says_it is.named is.holds_amount in
+      let e : own ≡ mark = cc in
+      let few = mark-few own k (row_number at.row) punch in
+      let within : is_within (3 + k) 4 ≡ true = grind (arith, nat_tests, few) in
+      let signed : IsSigned at.chart.lines name rule = record { field = field; named = is.named; ruled = ruled } in
+      let its_punch : HasPunchAt (mark_characters mark) k (row_number at.row) = subst (λ m. HasPunchAt (mark_characters m) k (row_number at.row)) e punch in
+      along_contact wiring at row.on_panel row.rises line there says_it
+      (total_mark_in level wheel name digits mark rule group k (row_number at.row) served signed its_punch) (emits-its level same) refl
+      (closed-BAT wiring its held card at row group (3 + k) named
+      ∙ both-of (is_within (3 + k) 4) (group_at at.old group).latch within (holds.latch ∙ below))
+      (total_mark_out level wheel name digits mark rule field group k (row_number at.row) served signed is.named its_punch)
+
+  -- a text by its storage unit
+  text-arrives : (line : Line) (place : ℕ) (level : ChartLevel) (wheel : ℕ) (name : List ℕ) (field : Field) (j : ℕ)
+      → slice_get at.chart.lines place ≡ Some line → Contains at.chart.lines line → line.statement ≡ says.TotalText level wheel name
+      → IsText at.chart.lines name field → chart_number level ≡ level_number its → j < columns_of field
+      → has_row (column_of card (field.first + j)) (row_number at.row) ≡ true → ArrivesThere at (W (wheel + j))
+  text-arrives line place level wheel name field j listed there says_it is same within punched =
+      let planned = row.on_panel.panel.planned in
+      let served = unit-there at.chart.lines at.plan line place level wheel name planned listed says_it in
+      let few : length at.plan.parts.storage ≤ 4
+      = at-most 4 _ (length at.plan.parts.storage) planned.storage_units (ap (λ parts. length parts.storage) planned.parts) in
+      let from = served.from in
+      let to = served.to in
+      let to_four : served.n ≤ 4 = omega (arith, to, few) in
+      let placed = unit-place at.old row.on_panel.between served.n from to_four in
+      let out : at.pictures C (SO served.n) ≡ true = reads-text wiring at row.on_panel its row.cycle served.n (record {
+        line = line;
+        listed = there;
+        level = level;
+        wheel = wheel;
+        name = name;
+        is_text = says_it;
+        served = served.is;
+        printed = subst (λ n. EmitsAtControl (Prog its Third) (PX n 3)) (sym same) (emits_prog its Third);
+      }) in
+      along wiring at row.on_panel row.rises line there says_it
+      (total_text_out level wheel name field (storage_place (storage_at at.old served.n)) j is within (served.is ∙ ap Some (sym placed)))
+      (column (storage_at at.old served.n) (j + 1) (unit-listed at.old row.on_panel.between served.n from to_four)
+      (ap (λ u. at.pictures C (SO u)) placed ∙ out)
+      (row.texts line level wheel name field served.n j there says_it same served.is is.named within ∙ punched))
+
+  pub sends-arrives : (line : Line) (place : ℕ) (statement : Statement) (v : ℕ) → slice_get at.chart.lines place ≡ Some line
+      → Contains at.chart.lines line → line.statement ≡ statement
+      → SendsRow (total_sends at.chart.lines (level_number its) held card) statement v (row_number at.row) → ArrivesThere at (W v)
+  sends-arrives line place (says.TotalLiteral level wheel characters) v listed there says_it sent =
+      let (same, shown) = literal-tested at.chart.lines (level_number its) held card level wheel characters sent.shown sent.is_sent in
+      let on = literal-of wheel characters v at.row (sym (ap (λ s. stands_on s v) shown) ∙ sent.there)
+      (sym (ap (λ s. has_row (sent_on s v) (row_number at.row)) shown) ∙ sent.on) in
+      subst (λ w. ArrivesThere at (W w)) (sym on.is)
+      (along wiring at row.on_panel row.rises line there says_it
+      (literal (says.TotalLiteral level wheel characters) (4 + chart_number level) wheel characters on.j (row_number at.row)
+      (on_total level wheel characters) on.punch) (emits-its level same))
+  sends-arrives line place (says.TotalText level wheel name) v listed there says_it sent =
+      let t = text-tested at.chart.lines (level_number its) held card level wheel name sent.shown sent.is_sent in
+      let text_kind = text-kind at.chart place line level wheel name t.field row.on_panel.panel.lawful listed says_it t.named in
+      let s = columns-of wheel card t.field v (sym (ap (λ x. stands_on x v) t.is) ∙ sent.there) in
+      let punched : has_row (column_of card (t.field.first + s.j)) (row_number at.row) ≡ true
+      = sym (ap (λ x. has_row (sent_on x v) (row_number at.row)) t.is
+      ∙ ap (λ w. has_row (sent_on (Characters wheel (map (column_of card) (columns_in t.field))) w) (row_number at.row)) s.is
+      ∙ ap (λ x. has_row x (row_number at.row)) (columns-sent wheel card t.field s.j s.within)) ∙ sent.on in
+      subst (λ w. ArrivesThere at (W w)) (sym s.is)
+      (text-arrives line place level wheel name t.field s.j listed there says_it (record { named = t.named; holds_text = text_kind }) t.same s.within punched)
+  sends-arrives line place (says.TotalAmount level wheel name digits mark) v listed there says_it sent =
+      let t = total-tested at.chart.lines (level_number its) held card level wheel name digits mark sent.shown sent.is_sent in
+      let lawful = row.on_panel.panel.lawful in
+      let amount = total-amount at.chart place line level wheel name digits mark t.field lawful listed says_it t.named in
+      let few = total-digits at.chart place line level wheel name digits mark t.field lawful listed says_it t.named in
+      let g = group-there at.chart.lines at.plan line place level wheel name digits mark row.on_panel.panel.planned listed says_it in
+      figure-arrives line place level wheel name digits mark t.field (panel_group g.its) listed there says_it
+      (record { named = t.named; holds_amount = amount }) t.same g.is
+      (figure-of wheel digits (decimals_of t.field.kind) mark (map Some (last_digits digits (held name).figure)) (held name).latch at.row v few
+      (digits-long wiring its held card at row digits name) (sym (ap (λ x. stands_on x v) t.is) ∙ sent.there)
+      (sym (ap (λ x. has_row (sent_on x v) (row_number at.row)) t.is) ∙ sent.on))
+  sends-arrives line place other v listed there says_it sent = let none = sent.is_sent in cc
+
+pub item-of : (chart : Chart) (its : Level) (held : List ℕ → Printed) (card : List ℕ) (v : ℕ) (place : ℕ) (line : Line) (statement : Statement) (sent : Shown)
+    → IsLawful chart → slice_get chart.lines place ≡ Some line → line.statement ≡ statement
+    → total_sends chart.lines (level_number its) held card statement ≡ Some sent → stands_on sent v ≡ true
+    → (item : Item) × (item_of (fields_of chart.lines) statement ≡ Some item) × HasWheel item v × IsLineOf (Prog its Third) item.line
+item-of chart its held card v place line (says.TotalLiteral level wheel characters) sent lawful listed says_it is there =
+    let (same, shown) = literal-tested chart.lines (level_number its) held card level wheel characters sent is in
+    let s = standing (Characters wheel (map set_of_character characters)) v (sym (ap (λ s. stands_on s v) shown) ∙ there) in
+    let n = length-map characters set_of_character in
+    (text_item (Body (body.Total level)) wheel (length characters), refl, (omega (arith, s.is), omega (arith, s.is, s.within, n)), its_total its level same)
+item-of chart its held card v place line (says.TotalText level wheel name) sent lawful listed says_it is there =
+    let t = text-tested chart.lines (level_number its) held card level wheel name sent is in
+    let s = columns-of wheel card t.field v (sym (ap (λ x. stands_on x v) t.is) ∙ there) in (
+      text_item (Body (body.Total level)) wheel (columns_of t.field),
+      ap (option_map (λ field. text_item (Body (body.Total level)) wheel (columns_of field))) t.named,
+      (omega (arith, s.is), omega (arith, s.is, s.within)),
+      its_total its level t.same,
+    )
+item-of chart its held card v place line (says.TotalAmount level wheel name digits mark) sent lawful listed says_it is there =
+    let t = total-tested chart.lines (level_number its) held card level wheel name digits mark sent is in
+    let few = total-digits chart place line level wheel name digits mark t.field lawful listed says_it t.named in
+    let s = standing (amount_shown wheel digits (decimals_of t.field.kind) mark (map Some (last_digits digits (held name).figure)) (held name).latch) v
+    (sym (ap (λ x. stands_on x v) t.is) ∙ there) in
+    let long = length-map (last_digits digits (held name).figure) Some ∙ last-long digits (held name).figure in
+    let n = length-sets digits (decimals_of t.field.kind) mark (map Some (last_digits digits (held name).figure)) (held name).latch few long in
+    let within : s.j < figure_width (record { digits = digits; decimals = decimals_of t.field.kind; mark = mark }) = subst (λ m. s.j < m) n s.within in (
+      total_item level wheel digits mark t.field.kind,
+      ap (option_map (λ field. total_item level wheel digits mark field.kind)) t.named,
+      (omega (arith, s.is), omega (arith, s.is, within)),
+      its_total its level t.same,
+    )
+item-of chart its held card v place line other sent lawful listed says_it is there = cc

@@ -1,0 +1,41 @@
+-- Laws of the counter groups and of the carriage of a panel that is wired for a chart.
+use Rattle.std.specs.Prelude.{◌≡◌, ℕ, Bool, List, Some, None}
+use Rattle.counter_cycles.specs.Acts.{Asks}
+use Rattle.plans.specs.Plans.{Lists}
+use Rattle.carriage.specs.Asked.{nothing_asked}
+use Rattle.charts.specs.Chart.{Chart, NumbersRise}
+use Rattle.setups.specs.Wiring.{Wiring}
+use Rattle.hubs.specs.declared.hub.Group.{Group}
+use Rattle.hubs.specs.declared.hub.Hub.{Hub}
+use Rattle.machine.specs.Machine.{MachineState}
+use Rattle.net.specs.declared.cycle.Cycle.{Cycle}
+use Rattle.net.specs.declared.cycle.Point.{Point}
+use Rattle.line_places.specs.CarriageCycles.{carriage_behind}
+use Rattle.line_places.specs.Placing.{asked_of, kind_of}
+use Rattle.totals.specs.Amounts.{IsSmall, Kind, act_of}
+use Rattle.whole_cycles.specs.Between.{IsBetween}
+use Rattle.whole_cycles.specs.WholeCycles.{WholeCycle}
+use Rattle.panel_cycles.specs.ChartAmounts.{amount_of}
+use Rattle.panel_cycles.specs.CounterStates.{IsKindOf, state_of}
+use Rattle.wired_panels.specs.Groups.{IsGroupOf}
+use Rattle.wired_panels.specs.Panel.{IsPanel}
+use Rattle.wired_panels.specs.PanelCycles.{IsPanelCycle}
+
+-- In each cycle the counter group of a total is asked what the totals of the amount do in a cycle of that kind.
+abbrev pub GroupsAreAskedForTotals : Type 0
+GroupsAreAskedForTotals =
+    (chart : Chart) (plan : Lists) (wiring : Wiring) (old : MachineState) (pictures : Point → Hub → Bool) (name : List ℕ) (level : ℕ)
+    (group : Group) (cycle : Cycle) (kind : Kind)
+    → IsPanelCycle chart plan wiring old cycle pictures → NumbersRise chart.lines chart.end
+    → IsGroupOf chart.lines plan name level group → IsKindOf chart plan old name cycle kind
+    → IsSmall (amount_of chart.lines plan name) kind (state_of old chart.lines plan name)
+    → Asks (act_of (amount_of chart.lines plan name) kind (state_of old chart.lines plan name) level)
+    (state_of old chart.lines plan name level).number group pictures
+
+-- In the cycle of a kind of body line the carriage does what the chart asks for that kind, and in other cycles what the cycle alone makes it do.
+abbrev pub CarriageDoesWhatIsAsked : Type 0
+CarriageDoesWhatIsAsked =
+    (chart : Chart) (plan : Lists) (wiring : Wiring) (cycle : Cycle) (old new : MachineState)
+    → IsPanel chart plan wiring → IsBetween old → WholeCycle wiring cycle old new
+    → ((kind : ℕ) → kind_of cycle ≡ Some kind → new.carriage ≡ carriage_behind old.carriage (asked_of chart.lines kind) cycle)
+    × (kind_of cycle ≡ None → new.carriage ≡ carriage_behind old.carriage nothing_asked cycle)

@@ -1,0 +1,97 @@
+-- Which counter groups read out in a cycle.
+use Rattle.std.proofs.Common.{◌≡◌, ◌∙◌, refl, sym, subst, ℕ, Bool, true, List, ◌↔◌, arith}
+use Rattle.plans.specs.Plans.{Lists}
+use Rattle.charts.specs.Chart.{Chart, NumbersRise}
+use Rattle.setups.specs.Wiring.{Wiring}
+use Rattle.hubs.specs.declared.hub.Group.{Group}
+use Rattle.hubs.specs.declared.hub.Hub.{Hub}
+use Rattle.hubs.specs.declared.hub.Hub.TheVariants.{BAT, RO}
+use Rattle.machine.specs.Machine.{MachineState}
+use Rattle.net.specs.Cycles.{level_number}
+use Rattle.net.specs.declared.cycle.Cycle.{Cycle}
+use Rattle.net.specs.declared.cycle.Cycle.TheVariants.{Card, Head, Prog, RunIn}
+use Rattle.net.specs.declared.cycle.Ordinal.TheVariants.{First, Second, Third}
+use Rattle.net.specs.declared.cycle.Point.{Point}
+use Rattle.net.specs.declared.cycle.Point.TheVariants.{C}
+use Rattle.wiring_table.specs.Wires.{ChartWire}
+use Rattle.wired_panels.proofs.Contacts.{is_set}
+use Rattle.wired_panels.proofs.CounterAsksContacts.{transferred_is}
+use Rattle.wired_panels.proofs.CounterAsksControls.{ReadsOut, read_is, shut}
+use Rattle.wired_panels.proofs.CounterAsksControls.ReadsOut.{shows_it, turns_it}
+use Rattle.wired_panels.proofs.CounterAsksGiven.{gives_read}
+use Rattle.wired_panels.proofs.CounterUnits.{planned_unit}
+use Rattle.wired_panels.proofs.Straight.{control_arrives}
+use Rattle.wired_panels.proofs.ToCounters.{ToReadOut, itself, to_read_out}
+use Rattle.wired_panels.proofs.ToCounters.ToReadOut.{shown as read_shown, turned as read_turned}
+use Rattle.wired_panels.specs.Groups.{IsGroupOf, IsServing, Reading}
+use Rattle.wired_panels.specs.Groups.Reading.{second, third}
+use Rattle.wired_panels.specs.Panel.{Arrives}
+use Rattle.wired_panels.specs.Panel.Arrives.{straight, through}
+use Rattle.wired_panels.specs.PanelCycles.{IsPanelCycle}
+
+module _ (chart : Chart) (plan : Lists) where
+  -- wires lead to the read-out hub of the groups of totals alone
+  read_serving : {group : Group} {exit : Hub} → ToReadOut chart.lines plan group exit → IsServing chart.lines plan group
+  read_serving (read_shown name level given) = record { name = name; level = level; own = given }
+  read_serving (read_turned name level rule given signed) = record { name = name; level = level; own = given }
+
+  -- what comes to a hub comes by a last wire
+  last_wire : {exits closed : Hub → Bool} {hub : Hub} → Arrives chart.lines plan exits closed hub → (exit : Hub) × ChartWire chart.lines plan exit hub
+  last_wire (straight exit entry on given) = (exit, given)
+  last_wire (through exit common contact entry on given leads shut_it last) = (contact, last)
+
+module _ (chart : Chart) (plan : Lists) (wiring : Wiring) (old : MachineState) (cycle : Cycle) (pictures : Point → Hub → Bool)
+    (at : IsPanelCycle chart plan wiring old cycle pictures) where
+  -- a group that reads out is a total's
+  pub read_serves : (group : Group) → pictures C (RO group) ≡ true → IsServing chart.lines plan group
+  read_serves group on =
+      let come = (control_arrives chart plan wiring old cycle pictures at (RO group) refl refl).0 on in
+      let (exit, w) = last_wire chart plan come in
+      read_serving chart plan (to_read_out chart.lines plan w.line.number (itself chart.lines w.line w.listed) w.wire)
+
+-- the groups that read out in a cycle
+module _ (chart : Chart) (plan : Lists) (wiring : Wiring) (rise : NumbersRise chart.lines chart.end) (old : MachineState)
+    (pictures : Point → Hub → Bool) (group : Group) where
+  pub reading : (cycle : Cycle) → IsPanelCycle chart plan wiring old cycle pictures
+      → (pictures C (RO group) ≡ true) ↔ Reading chart plan old group cycle
+  reading cycle at = (λ on. told cycle at on, given cycle at)
+    where
+      latch : (cycle : Cycle) (name : List ℕ) (level : ℕ) → IsPanelCycle chart plan wiring old cycle pictures
+          → IsGroupOf chart.lines plan name level group → shut old cycle (BAT group 1) ≡ is_set old group
+      latch cycle name level at own =
+          transferred_is old cycle group 1 at.between.ordered
+          (planned_unit chart.lines plan own.number group at.panel.planned own.served) refl
+
+      by : (cycle : Cycle) → IsPanelCycle chart plan wiring old cycle pictures → (name : List ℕ) (level : ℕ)
+          → IsGroupOf chart.lines plan name level group → ReadsOut chart.lines (shut old cycle) cycle name level group
+          → Reading chart plan old group cycle
+      by RunIn at name level own (shows_it is) = absurd is
+      by RunIn at name level own (turns_it rule is its_sign closed) = absurd is
+      by Card at name level own (shows_it is) = absurd is
+      by Card at name level own (turns_it rule is its_sign closed) = absurd is
+      by (Head heading) at name level own (shows_it is) = absurd is
+      by (Head heading) at name level own (turns_it rule is its_sign closed) = absurd is
+      by (Prog l First) at name level own (shows_it is) = absurd (omega (arith, is.1))
+      by (Prog l First) at name level own (turns_it rule is its_sign closed) = absurd (omega (arith, is.1))
+      by (Prog l Second) at name level own (shows_it is) = absurd (omega (arith, is.1))
+      by (Prog l Second) at name level own (turns_it rule is its_sign closed) =
+          second l name rule (subst (λ k. IsGroupOf chart.lines plan name k group) (sym is.0) own) its_sign
+          (sym (latch (Prog l Second) name level at own) ∙ closed)
+      by (Prog l Third) at name level own (shows_it is) =
+          third l name (subst (λ k. IsGroupOf chart.lines plan name k group) (sym is.0) own)
+      by (Prog l Third) at name level own (turns_it rule is its_sign closed) = absurd (omega (arith, is.1))
+
+      told : (cycle : Cycle) → IsPanelCycle chart plan wiring old cycle pictures → pictures C (RO group) ≡ true
+          → Reading chart plan old group cycle
+      told cycle at on =
+          let serves = read_serves chart plan wiring old cycle pictures at group on in
+          by cycle at serves.name serves.level serves.own
+          (read_is chart plan wiring old cycle pictures at rise serves.name serves.level group serves.own on)
+
+      given : (cycle : Cycle) → IsPanelCycle chart plan wiring old cycle pictures → Reading chart plan old group cycle
+          → pictures C (RO group) ≡ true
+      given cycle at (third l name own) =
+          gives_read chart plan wiring old (Prog l Third) pictures at rise name (level_number l) group own (shows_it (refl, refl))
+      given cycle at (second l name rule own its_sign is) =
+          gives_read chart plan wiring old (Prog l Second) pictures at rise name (level_number l) group own
+          (turns_it rule (refl, refl) its_sign (latch (Prog l Second) name (level_number l) at own ∙ is))

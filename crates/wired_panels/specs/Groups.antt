@@ -1,0 +1,36 @@
+-- The counter groups that serve the totals of a chart, and those that read out in a cycle.
+use Rattle.std.specs.Prelude.{◌≡◌, ℕ, true, List, Some}
+use Rattle.plans.specs.Plans.{Lists}
+use Rattle.charts.specs.Chart.{Chart}
+use Rattle.charts.specs.declared.chart.Line.{Line}
+use Rattle.charts.specs.declared.statement.SignRule.{SignRule}
+use Rattle.hubs.specs.declared.hub.Group.{Group}
+use Rattle.machine.specs.Machine.{MachineState}
+use Rattle.machine.specs.Steady.{latches_of}
+use Rattle.net.specs.Cycles.{level_number}
+use Rattle.net.specs.declared.cycle.Cycle.{Cycle}
+use Rattle.net.specs.declared.cycle.Cycle.TheVariants.{Prog}
+use Rattle.net.specs.declared.cycle.Level.{Level}
+use Rattle.net.specs.declared.cycle.Ordinal.TheVariants.{Second, Third}
+use Rattle.selectors.specs.Contacts.{is_balance_set}
+use Rattle.wiring_table.specs.Figures.{IsSigned}
+use Rattle.wiring_table.specs.Parts.{HasTotal, group_for}
+
+-- A counter group is that of the total of an amount at a level.
+pub record IsGroupOf (lines : List Line) (plan : Lists) (name : List ℕ) (level : ℕ) (group : Group) : Type 0 where
+  pub number : ℕ
+  pub total : HasTotal lines name level number
+  pub served : group_for lines plan number ≡ Some group
+
+-- A counter group serves a total: it is that of some total of some amount.
+pub record IsServing (lines : List Line) (plan : Lists) (group : Group) : Type 0 where
+  pub name : List ℕ
+  pub level : ℕ
+  pub own : IsGroupOf lines plan name level group
+
+-- In the third program cycle of a level exactly the groups of its totals read out, in the second those of its signed totals with a set
+-- latch, and in the first and in other cycles none.
+pub data Reading (chart : Chart) (plan : Lists) (old : MachineState) (group : Group) : Cycle → Type 0 where
+  third : (l : Level) (name : List ℕ) → IsGroupOf chart.lines plan name (level_number l) group → Reading chart plan old group (Prog l Third)
+  second : (l : Level) (name : List ℕ) (rule : SignRule) → IsGroupOf chart.lines plan name (level_number l) group
+      → IsSigned chart.lines name rule → is_balance_set (latches_of old.groups) group ≡ true → Reading chart plan old group (Prog l Second)
