@@ -14,7 +14,8 @@ use Rattle.chart_rules.specs.Rules.{Broken, IsKept, IsLawful}
 use Rattle.field_rules.specs.Fields.{fields_of}
 use Rattle.chart_rules.specs.ValidCard.{IsValidCard, IsFirstInvalid}
 use Rattle.chart_rules.specs.declared.card.CardFault.{CardFault}
-use Rattle.report.specs.Totals.{first_of}
+use Rattle.report.specs.Misfits.{first_of}
+use Rattle.report.proofs.Fitting.{fit_without_misfits}
 use Rattle.compile407.specs.declared.fault.ChartFault.TheVariants as chart
 use Rattle.compile407.specs.declared.fault.RunFault.{RunFault}
 use Rattle.compile407.specs.declared.fault.RunFault.TheVariants as deck
@@ -62,5 +63,5 @@ runnable_decks_have_no_fault of_cards cards deck.TooManyCards is has = (omega (a
 runnable_decks_have_no_fault of_cards cards (deck.NotText number column) is has = (none_invalid of_cards cards _ is.deck.valid has.1)
 runnable_decks_have_no_fault of_cards cards (deck.NotAmount number column) is has = (none_invalid of_cards cards _ is.deck.valid has.1)
 runnable_decks_have_no_fault of_cards cards (deck.DoesNotFit level name card) is has =
-    let none : None ≡ Some has.1.misfit = ap first_of (sym is.fits) ∙ has.1.is_first in cc
+    let none : None ≡ Some has.1.misfit = ap first_of (sym ((fit_without_misfits of_cards.lines cards).0 is.fits)) ∙ has.1.is_first in cc
 runnable_decks_have_no_fault of_cards cards deck.Memory is has = has

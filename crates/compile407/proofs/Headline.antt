@@ -1,5 +1,5 @@
 -- The pages that the machine prints, wired for a chart, are the chart's report of the deck.
-use Rattle.std.proofs.Common.{◌≡◌, ◌∙◌, ℕ, ◌≤◌, List, length, ap, subst, sym}
+use Rattle.std.proofs.Common.{◌≡◌, ◌∙◌, ℕ, ◌≤◌, List, ◌∷◌, length, ap, subst, sym}
 use Rattle.std.specs.List.{All}
 use Rattle.plans.specs.Plans.{Lists, IsFor}
 use Rattle.placed_lines.specs.declared.placed_line.PlacedLine.{PlacedLine}
@@ -13,7 +13,8 @@ use Rattle.charts.specs.declared.chart.Line.{Line}
 use Rattle.chart_text.proofs.ReadLiterals.{read_literals}
 use Rattle.setups.specs.Wiring.{Wiring}
 use Rattle.machine.proofs.SameSetups.{MachineLines-same}
-use Rattle.machine.proofs.SomeOutcome.{MachineLines-some}
+use Rattle.machine.proofs.SomeOutcome.{FedLines-some, MachineLines-some}
+use Rattle.machine.specs.Machine.{machine_at_start}
 use Rattle.machine.specs.Runs.{MachineLines}
 use Rattle.page_text.specs.Pages.{Pages}
 use Rattle.report.specs.ChartForm.{form_of}
@@ -47,11 +48,13 @@ wired_setups_print_reports chart plan wiring sound serves wired cards deck fits 
       (placed_lines chart plan wiring cards lines sound serves wired deck fits run),
 )
 
--- the lines before those of a card that no misfit stands before
+-- the lines before those of a card before which all totals fit
 pub wired_setups_begin_reports : WiredSetupsBeginReports
-wired_setups_begin_reports chart plan wiring sound serves wired card cards behind left lines deck fit fed =
-    machines_begin_reports chart plan wiring card cards behind left lines
-    (record { lawful = sound.lawful; planned = serves; wired = wired }) sound.rising sound.literals deck.valid deck.long fit fed
+wired_setups_begin_reports chart plan wiring sound serves wired card cards later deck fit = (
+  FedLines-some wiring (machine_at_start wiring) (card ∷ cards),
+  λ left lines fed. machines_begin_reports chart plan wiring card cards later left lines
+      (record { lawful = sound.lawful; planned = serves; wired = wired }) sound.rising sound.literals deck.valid deck.long fit fed,
+)
 
 -- a deck can be run by the chart of a compilation
 pub compiled_deck : (compiled : Compilation) (chart : Chart) (cards : List (List ℕ)) → chart ≡ compiled.chart →

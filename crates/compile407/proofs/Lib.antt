@@ -1,4 +1,6 @@
+pub mod BlankDecks
 pub mod CapacityTold
 pub mod Exclusions
 pub mod Headline
 pub mod OneFault
+pub mod Untold

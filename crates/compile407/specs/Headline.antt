@@ -4,9 +4,9 @@ use Rattle.plans.specs.Plans.{Lists, IsFor}
 use Rattle.placed_lines.specs.declared.placed_line.PlacedLine.{PlacedLine}
 use Rattle.chart_rules.specs.Rules.{IsLawful}
 use Rattle.chart_rules.specs.ValidCard.{IsValidCard}
-use Rattle.printed_reports.specs.Begun.{FitBefore}
 use Rattle.charts.specs.Chart.{Chart, NumbersRise}
 use Rattle.charts.specs.Literals.{HaveLiteralTexts}
+use Rattle.decks.specs.FitBefore.{FitBefore}
 use Rattle.decks.specs.Stands.{report_before}
 use Rattle.setups.specs.Tapes.{IsForm}
 use Rattle.setups.specs.Wiring.{Wiring}
@@ -38,14 +38,15 @@ PrintsReport chart wiring =
     ((lines : List PlacedLine) × MachineLines wiring cards lines)
     × ((lines : List PlacedLine) → MachineLines wiring cards lines → Pages lines (form_of chart.lines).lines ≡ Report chart cards)
 
--- For every such deck, whatever cards lie behind it, where the totals that end before its last card fit: the lines that the machine places
--- before those of this card are those of the report.
+-- For every such deck, whatever cards come after it, where the totals that end before its last card fit: the machine can be fed its cards,
+-- and the lines that it then has placed, which are those before the last card's, are those of the report.
 abbrev pub BeginsReport : Chart → Wiring → Type 0
 BeginsReport chart wiring =
-    (card : List ℕ) (cards behind : List (List ℕ)) (left : MachineState) (lines : List PlacedLine) → IsDeck chart (card ∷ cards) →
-    FitBefore chart (card ∷ (cards ++ behind)) (length cards) →
-    FedLines wiring (machine_at_start wiring) (card ∷ cards) left lines →
-    lines ≡ report_before chart (card ∷ (cards ++ behind)) (length cards)
+    (card : List ℕ) (cards later : List (List ℕ)) → IsDeck chart (card ∷ cards) →
+    FitBefore chart.lines (card ∷ (cards ++ later)) (length cards) →
+    ((left : MachineState) × (lines : List PlacedLine) × FedLines wiring (machine_at_start wiring) (card ∷ cards) left lines)
+    × ((left : MachineState) (lines : List PlacedLine) → FedLines wiring (machine_at_start wiring) (card ∷ cards) left lines →
+    lines ≡ report_before chart (card ∷ (cards ++ later)) (length cards))
 
 -- every setup that is wired for a sound chart by a plan of it prints the chart's reports
 abbrev pub WiredSetupsPrintReports : Type 0

@@ -5,7 +5,7 @@ use Rattle.field_rules.specs.Fields.{fields_of}
 use Rattle.chart_rules.specs.ValidCard.{IsValidCard, IsFirstInvalid}
 use Rattle.chart_rules.specs.declared.card.CardFault.{CardFault}
 use Rattle.chart_rules.specs.declared.card.CardFault.TheVariants as card
-use Rattle.report.specs.Totals.{Misfit, first_of, misfits}
+use Rattle.report.specs.Misfits.{Misfit, first_of, misfits}
 use Rattle.compile407.specs.declared.fault.RunFault.{RunFault}
 use Rattle.compile407.specs.declared.fault.RunFault.TheVariants as deck
 use Rattle.compile407.specs.Headline.{IsDeck}

@@ -1,5 +1,6 @@
 -- Decks that can be run: their cards are valid, not too many, and their totals fit.
-use Rattle.std.specs.Prelude.{ℕ, List}
+use Rattle.std.specs.Prelude.{ℕ, ◌≤◌, List, replicate}
+use Rattle.chart_rules.specs.Rules.{IsLawful}
 use Rattle.charts.specs.Chart.{Chart}
 use Rattle.report.specs.Totals.{Fits}
 use Rattle.compile407.specs.Headline.{IsDeck}
@@ -8,3 +9,11 @@ use Rattle.compile407.specs.Headline.{IsDeck}
 pub record IsRunnable (chart : Chart) (cards : List (List ℕ)) : Type 0 where
   pub deck : IsDeck chart cards
   pub fits : Fits chart.lines cards
+
+-- a card without a punch
+abbrev pub blank_card : List ℕ
+blank_card = replicate 80 0
+
+-- For every chart that breaks no rule, a deck of blank cards can be run: a blank card is valid, and its amounts are 0.
+abbrev pub BlankDecksAreRunnable : Type 0
+BlankDecksAreRunnable = (chart : Chart) (count : ℕ) → IsLawful chart → count ≤ 999999 → IsRunnable chart (replicate count blank_card)

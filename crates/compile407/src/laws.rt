@@ -2,6 +2,7 @@
 
 ghost use Rattle.compile407.specs.Headline.{ReadSetupsPrintAlike};
 ghost use Rattle.compile407.specs.Headline.{WiredSetupsBeginReports, WiredSetupsPrintReports, WrittenSetupsPrintReports};
+ghost use Rattle.compile407.specs.Runnable.{BlankDecksAreRunnable};
 ghost use Rattle.compile407.specs.Outcomes.{ChartsHaveOneFault, CompiledTextsHaveNoFault, DecksHaveOneFault, RunnableDecksHaveNoFault};
 
 /// The headline: for every chart that breaks no rule, whose line numbers rise and whose literals can be printed, as in every chart that
@@ -11,8 +12,8 @@ pub fn wired_setups_print_reports()
     ensures { WiredSetupsPrintReports }
 {}
 
-/// Where not all totals of a deck fit, the lines that the machine places before those of the card at which the first one doesn't are the
-/// lines of the report before that card's.
+/// Where not all totals of a deck fit, the machine can still be fed its cards up to the first at which one doesn't, and the lines that it
+/// places before those of that card are the lines of the report before that card's.
 pub fn wired_setups_begin_reports()
     ensures { WiredSetupsBeginReports }
 {}
@@ -27,6 +28,12 @@ pub fn written_setups_print_reports()
 /// written by `write_setup` and read by `read_setup` prints what it printed before.
 pub fn read_setups_print_alike()
     ensures { ReadSetupsPrintAlike }
+{}
+
+/// A deck of at most 999,999 blank cards can be run for every chart that breaks no rule. So each such chart has decks that the headline
+/// speaks of.
+pub fn blank_decks_are_runnable()
+    ensures { BlankDecksAreRunnable }
 {}
 
 /// A text that compiles has none of the faults of a chart.

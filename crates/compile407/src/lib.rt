@@ -16,8 +16,8 @@ pub use compiled::Compiled;
 pub use compiling::compile;
 pub use fault::{ChartFault, RunFault};
 pub use laws::{
-    charts_have_one_fault, compiled_texts_have_no_fault, decks_have_one_fault,
-    read_setups_print_alike, runnable_decks_have_no_fault, wired_setups_begin_reports,
-    wired_setups_print_reports, written_setups_print_reports,
+    blank_decks_are_runnable, charts_have_one_fault, compiled_texts_have_no_fault,
+    decks_have_one_fault, read_setups_print_alike, runnable_decks_have_no_fault,
+    wired_setups_begin_reports, wired_setups_print_reports, written_setups_print_reports,
 };
 pub use running::{MOST_CARDS, first_misfit, run};

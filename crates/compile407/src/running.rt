@@ -2,7 +2,8 @@
 
 ghost use Rattle.std.specs.Prelude.{◌≡◌, ◌≢◌, ◌≤◌, ◌<◌, ◌+◌, length, IfOk, IfErr, OnOk, All, option_map};
 ghost use Rattle.misfits.specs.Told.{told};
-ghost use Rattle.report.specs.Totals.{Fits, first_of, misfits};
+ghost use Rattle.report.specs.Misfits.{first_of, misfits};
+ghost use Rattle.report.specs.Totals.{Fits};
 ghost use Rattle.compile407.specs.RunFaults.{HasRunFault, IsInvalidDeck, IsMisfit, of_card};
 ghost use Rattle.compile407.specs.declared.fault.RunFault.TheVariants as deck;
 ghost use Rattle.compile407.specs.Headline.{IsDeck};

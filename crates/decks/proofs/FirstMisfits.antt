@@ -3,10 +3,12 @@ use Rattle.std.proofs.Common.{◌≡◌, ◌∙◌, refl, sym, ap, subst, ℕ, z
 use Rattle.std.proofs.lemmas.Bool.Decides.{nat_tests}
 use Rattle.charts.specs.declared.chart.Line.{Line}
 use Rattle.report.specs.Breaks.{ended_behind, no_cards, taking, cleared}
-use Rattle.report.specs.Totals.{Misfit, misfits_in, first_of}
-use Rattle.decks.specs.CardMisfits.{misfits_to, misfits_from, GroupFits, GroupsFit, FitFrom}
+use Rattle.report.specs.Misfits.{Misfit, misfits_in, first_of}
+use Rattle.report.specs.Totals.{GroupFits}
+use Rattle.report.proofs.GroupMisfits.{group_fits, no_misfit_in}
+use Rattle.decks.specs.CardMisfits.{misfits_to, misfits_from, GroupsFit, FitFrom}
 use Rattle.decks.specs.Laws.{GroupsFitBeforeTheFirstMisfit}
-use Rattle.decks.proofs.Numbered.{first-card, none-elsewhere}
+use Rattle.decks.proofs.Numbered.{first-card}
 use Rattle.decks.proofs.Misfits.{misfits_of_cards}
 
 -- the first of two lists is in one of them
@@ -41,8 +43,7 @@ groups_fit lines card (suc level) groups none number some few =
     by true is empty more = more empty.0 (grind (arith, nat_tests, is))
     by false is empty more =
         let last : suc level ≡ number = grind (arith, nat_tests, is, few) in
-        subst (λ n. GroupFits lines n (groups n)) last
-        (λ other. none-elsewhere lines (suc level) card other (groups (suc level)) empty.1)
+        subst (λ n. GroupFits lines n (groups n)) last (group_fits lines (suc level) card (groups (suc level)) empty.1)
 
 -- where all groups fit there are no misfits
 no_misfits : (lines : List Line) (card level : ℕ) (groups : ℕ → List (List ℕ)) → GroupsFit lines level groups
@@ -50,7 +51,7 @@ no_misfits : (lines : List Line) (card level : ℕ) (groups : ℕ → List (List
 no_misfits lines card zero groups fit = refl
 no_misfits lines card (suc level) groups fit =
     let below = no_misfits lines card level groups (λ number some few. fit number some (omega (arith, few))) in
-    let group = fit (suc level) (omega arith) (omega arith) card in
+    let group = no_misfit_in lines (suc level) card (groups (suc level)) (fit (suc level) (omega arith) (omega arith)) in
     λ i. below i ++ group i
 
 -- the first misfit of a card and the cards behind it is not before it

@@ -4,7 +4,7 @@ pub mod FirstMisfits
 pub mod Places
 pub mod Pages
 pub mod Alike
-pub mod Fitting
+pub mod FitBefore
 pub mod Begins
 pub mod Running
 pub mod Feeding

@@ -4,7 +4,7 @@ use Rattle.std.proofs.lemmas.List.{append_assoc, append-nil}
 use Rattle.charts.specs.declared.chart.Line.{Line}
 use Rattle.report.specs.Breaks.{ended_behind, no_cards, taking, cleared, totals_to, flat}
 use Rattle.report.specs.Outline.{OutlineLine, Total}
-use Rattle.report.specs.Totals.{misfits_in, misfits_behind}
+use Rattle.report.specs.Misfits.{misfits_in, misfits_behind}
 use Rattle.report.proofs.OutlineByCards.{deck_by_cards}
 use Rattle.decks.specs.CardMisfits.{misfits_to, misfits_from}
 use Rattle.decks.specs.Laws.{MisfitsGoByCards}

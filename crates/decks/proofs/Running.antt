@@ -8,16 +8,20 @@ use Rattle.charts.specs.declared.chart.Line.{Line}
 use Rattle.report.specs.Breaks.{ended_behind, no_cards, taking, cleared, chunk_of, flat}
 use Rattle.report.specs.Places.{before_all, placed}
 use Rattle.report.specs.Report.{body_of, report_lines}
-use Rattle.report.specs.Totals.{Fits, Misfit, misfits, first_of}
+use Rattle.report.specs.Misfits.{Misfit, misfits, first_of}
+use Rattle.report.specs.Totals.{Fits}
+use Rattle.report.proofs.Fitting.{fit_without_misfits}
 use Rattle.report.proofs.OutlineByCards.{deck_by_cards}
 use Rattle.decks.specs.Alike.{AlikeWith}
 use Rattle.decks.specs.CardMisfits.{FitFrom, FirstFit}
+use Rattle.decks.specs.FitBefore.{FitBefore}
 use Rattle.decks.specs.Left.{bodies_of}
 use Rattle.decks.specs.Runner.{Runner, GoesByCards, Runs, Fed}
 use Rattle.decks.specs.Stands.{Stand, at_first, card_bodies, stand_behind, bodies_before, stand_before, last_of, report_before}
 use Rattle.decks.proofs.Alike.{alike-behind, alike-first}
 use Rattle.decks.proofs.Begins.{reports_begin}
 use Rattle.decks.proofs.FirstMisfits.{fit_before_first}
+use Rattle.decks.proofs.FitBefore.{fit_before_misfits}
 use Rattle.decks.proofs.Pages.{behind-most, card_bodies-few}
 use Rattle.decks.proofs.Places.{placed-append}
 
@@ -90,7 +94,8 @@ runs_follow_decks runner goes (card ∷ cards) placed_lines reads long fits (new
     let lines = runner.chart.lines in
     let begun = goes.starts card new first (All-head runner.Reads card cards reads) feed in
     let fit = (fit_before_first lines (card ∷ cards) (suc (length cards))).1
-    (λ misfit some. absurd (no_misfit (misfits lines (card ∷ cards)) misfit fits some)) in
+    (λ misfit some.
+    absurd (no_misfit (misfits lines (card ∷ cards)) misfit ((fit_without_misfits lines (card ∷ cards)).0 fits) some)) in
     is
     ∙ ap (λ l. l ++ others) begun.0
     ∙ runs_from runner goes at_first card cards new others reads (omega (arith, long)) (alike-first runner.chart.lines card) fit begun.1 run
@@ -119,17 +124,16 @@ fit-before lines so_far card (next ∷ cards) behind fit =
     let ended = ended_behind lines card (Some next) in
     (fit.0, fit-before lines (cleared ended (taking card so_far)) next cards behind fit.1)
 
--- Up to the card of the first misfit a machine that goes by cards has placed the lines of the report that stand before that card.
+-- Up to a card that the first totals fit before, a machine that goes by cards has placed the lines of the report that stand before it.
 pub feeds_begin_reports : {S : Type 0} (runner : Runner S) → GoesByCards runner → (card : List ℕ)
-    (cards behind : List (List ℕ)) (new : S) (placed_lines : List PlacedLine) → All runner.Reads (card ∷ cards)
-    → length (card ∷ cards) ≤ 999999
-    → ((misfit : Misfit) → first_of (misfits runner.chart.lines (card ∷ (cards ++ behind))) ≡ Some misfit
-    → length cards < misfit.card)
+    (cards later : List (List ℕ)) (new : S) (placed_lines : List PlacedLine) → All runner.Reads (card ∷ cards)
+    → length (card ∷ cards) ≤ 999999 → FitBefore runner.chart.lines (card ∷ (cards ++ later)) (length cards)
     → Fed runner runner.start (card ∷ cards) new placed_lines
-    → placed_lines ≡ report_before runner.chart (card ∷ (cards ++ behind)) (length cards)
-feeds_begin_reports runner goes card cards behind new placed_lines reads long late fed =
+    → placed_lines ≡ report_before runner.chart (card ∷ (cards ++ later)) (length cards)
+feeds_begin_reports runner goes card cards later new placed_lines reads long fits fed =
     let lines = runner.chart.lines in
-    let fit = fit-before lines no_cards card cards behind
-    ((fit_before_first lines (card ∷ (cards ++ behind)) (length cards)).1 late) in
+    let deck = card ∷ (cards ++ later) in
+    let fit = fit-before lines no_cards card cards later
+    ((fit_before_first lines deck (length cards)).1 ((fit_before_misfits lines deck (length cards)).0 fits)) in
     (feeds_follow_decks runner goes card cards new placed_lines reads long fit fed).0
-    ∙ sym (reports_begin runner.chart card cards behind).0
+    ∙ sym (reports_begin runner.chart card cards later).0

@@ -1,8 +1,9 @@
 -- Misfits card by card: those of a card are the misfits of the groups that end behind it.
-use Rattle.std.specs.Prelude.{◌≡◌, ℕ, zero, suc, ◌+◌, ◌≤◌, List, [], ◌∷◌, ◌++◌, Some, None}
+use Rattle.std.specs.Prelude.{ℕ, zero, suc, ◌+◌, ◌≤◌, List, [], ◌∷◌, ◌++◌, Some, None}
 use Rattle.charts.specs.declared.chart.Line.{Line}
 use Rattle.report.specs.Breaks.{ended_behind, no_cards, taking, cleared}
-use Rattle.report.specs.Totals.{Misfit, misfits_in}
+use Rattle.report.specs.Misfits.{Misfit, misfits_in}
+use Rattle.report.specs.Totals.{GroupFits}
 
 -- the misfits of the groups of the levels 1 to a given one, behind so many cards
 abbrev pub misfits_to : List Line → (cards level : ℕ) → (ℕ → List (List ℕ)) → List Misfit
@@ -22,10 +23,6 @@ misfits_from lines number so_far card (next ∷ cards) =
 abbrev pub misfits_by_cards : List Line → List (List ℕ) → List Misfit
 misfits_by_cards lines [] = []
 misfits_by_cards lines (card ∷ cards) = misfits_from lines 1 no_cards card cards
-
--- A group of a level fits where no total that its total line shows is a misfit.
-abbrev pub GroupFits : List Line → ℕ → List (List ℕ) → Type 0
-GroupFits lines level group = (card : ℕ) → misfits_in lines level card group ≡ []
 
 -- The groups of the levels 1 to a given one fit.
 abbrev pub GroupsFit : List Line → ℕ → (ℕ → List (List ℕ)) → Type 0

@@ -1,4 +1,5 @@
 pub mod CardMisfits
+pub mod FitBefore
 pub mod Alike
 pub mod Left
 pub mod Stands

@@ -1,13 +1,19 @@
 //! Laws of decks. The functions do nothing: the contract of each is the law.
 
-ghost use Rattle.decks.specs.Laws.{MisfitsGoByCards, GroupsFitBeforeTheFirstMisfit, PlacesSplit, ReportsBeginByCards, PagesAreFew, PagesHaveNumbers, GroupsAreAlike, TotalTextsAreTheLastCards, FittingTotalsHaveRoom};
+ghost use Rattle.decks.specs.Laws.{MisfitsGoByCards, TotalsFitBeforeTheFirstMisfit, GroupsFitBeforeTheFirstMisfit, PlacesSplit};
+ghost use Rattle.decks.specs.Laws.{ReportsBeginByCards, PagesAreFew, PagesHaveNumbers, GroupsAreAlike, TotalTextsAreTheLastCards};
 
 /// The misfits of a deck are those of its cards.
 pub fn misfits_go_by_cards()
     ensures { MisfitsGoByCards }
 {}
 
-/// The groups that end before the card of the first misfit fit.
+/// The totals that end before the card of the first misfit fit.
+pub fn totals_fit_before_the_first_misfit()
+    ensures { TotalsFitBeforeTheFirstMisfit }
+{}
+
+/// The groups that end, card by card, before the card of the first misfit fit.
 pub fn groups_fit_before_the_first_misfit()
     ensures { GroupsFitBeforeTheFirstMisfit }
 {}
@@ -40,9 +46,4 @@ pub fn groups_are_alike()
 /// A text on a total line is that of the group's last card.
 pub fn total_texts_are_the_last_cards()
     ensures { TotalTextsAreTheLastCards }
-{}
-
-/// Each total of a group that fits has room on its total line.
-pub fn fitting_totals_have_room()
-    ensures { FittingTotalsHaveRoom }
 {}

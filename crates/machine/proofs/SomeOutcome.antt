@@ -7,7 +7,7 @@ use Rattle.net.proofs.EachPicture.{each_picture}
 use Rattle.net.specs.declared.cycle.Cycle.{Cycle}
 use Rattle.net.specs.declared.cycle.Point.{Point}
 use Rattle.machine.specs.Cycles.{PointStep, Reached, CycleRun, point_at, line_of}
-use Rattle.machine.specs.Feeds.{Fed, FeedStep, FeedRuns, LinesFrom, begun, due_in, taken}
+use Rattle.machine.specs.Feeds.{Fed, FedLines, FeedStep, FeedRuns, LinesFrom, begun, due_in, taken}
 use Rattle.machine.specs.Machine.{MachineState, machine_at_start, emits, closes, sensed, ended}
 use Rattle.machine.specs.Runs.{MachineLines}
 use Rattle.machine.proofs.FeedsInRuns.{feeds-in-run}
@@ -91,6 +91,26 @@ FeedEnds-some (suc many) wiring fed few = elim (due_or_none (due_in fed)) [
 
 FeedEnds-begun : (wiring : Wiring) (old : MachineState) (next : Option (List ℕ)) → FeedEnds wiring (begun old next)
 FeedEnds-begun wiring old next = FeedEnds-some (left (begun old next)) wiring (begun old next) (omega arith)
+
+-- so do the feeds of some cards
+pub FedLines-some : (wiring : Wiring) (old : MachineState) (cards : List (List ℕ))
+    → (left : MachineState) × (lines : List PlacedLine) × FedLines wiring old cards left lines
+unfolding FedLines
+FedLines-some wiring old [] = (old, [], (refl, refl))
+FedLines-some wiring old (card ∷ cards) =
+    let feed = FeedEnds-begun wiring old (Some card) in
+    let others = FedLines-some wiring feed.new cards in (
+      others.0,
+      feed.lines ++ others.1,
+      (
+        feed.new,
+        feed.lines,
+        others.1,
+        record { cycles = feed.cycles; runs = feed.runs },
+        others.2,
+        refl,
+      ),
+    )
 
 -- the feeds of a deck run one after another
 pub LinesFrom-some : (wiring : Wiring) (old : MachineState) (cards : List (List ℕ))

@@ -42,6 +42,12 @@ abbrev pub RunsHaveAnOutcome : Type 0
 RunsHaveAnOutcome =
     (wiring : Wiring) (cards : List (List ℕ)) → (lines : List PlacedLine) × MachineLines wiring cards lines
 
+-- Every setup can be fed any cards, from every state of the machine.
+abbrev pub FeedsHaveAnOutcome : Type 0
+FeedsHaveAnOutcome =
+    (wiring : Wiring) (old : MachineState) (cards : List (List ℕ))
+    → (left : MachineState) × (lines : List PlacedLine) × FedLines wiring old cards left lines
+
 -- A setup and a deck have one list of lines at most.
 abbrev pub RunsHaveOneOutcome : Type 0
 RunsHaveOneOutcome =

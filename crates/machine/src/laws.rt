@@ -1,7 +1,7 @@
 //! Laws of whole runs, for every setup of the panel and every deck. Each is a function that does nothing: its contract
 //! is the law.
 
-ghost use Rattle.machine.specs.Laws.{FeedsCutRuns, LinesComeInOrder, OneCycleFollows, RunsGoInParts, RunsHaveAnOutcome, RunsHaveFewCycles};
+ghost use Rattle.machine.specs.Laws.{FeedsCutRuns, FeedsHaveAnOutcome, LinesComeInOrder, OneCycleFollows, RunsGoInParts, RunsHaveAnOutcome, RunsHaveFewCycles};
 ghost use Rattle.machine.specs.Laws.{RunsHaveOneOutcome, SameSetupsPrintAlike};
 
 /// A run places the lines that the feeds of its cards, and one for the end, place one after another.
@@ -27,6 +27,11 @@ pub fn one_cycle_follows()
 /// Every setup and every deck have a list of lines.
 pub fn runs_have_an_outcome()
     ensures { RunsHaveAnOutcome }
+{}
+
+/// Every setup can be fed any cards, from every state of the machine.
+pub fn feeds_have_an_outcome()
+    ensures { FeedsHaveAnOutcome }
 {}
 
 /// A setup and a deck have at most one list of lines.

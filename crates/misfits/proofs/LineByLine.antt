@@ -6,7 +6,7 @@ use Rattle.charts.specs.Chart.{Chart}
 use Rattle.charts.specs.declared.chart.Line.{Line}
 use Rattle.chart_rules.specs.Rules.{IsLawful}
 use Rattle.report.specs.Outline.{outline_of}
-use Rattle.report.specs.Totals.{Misfit, misfits, first_of}
+use Rattle.report.specs.Misfits.{Misfit, misfits, first_of}
 use Rattle.misfits.specs.HelperTotals.{IsGoodTotal, earlier, misfits_of}
 use Rattle.misfits.proofs.LawfulTotals.{good_total}
 use Rattle.misfits.proofs.Merging.{merged, outline_rises, all_lines, no_lines}

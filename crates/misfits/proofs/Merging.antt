@@ -11,7 +11,8 @@ use Rattle.charts.specs.declared.statement.Statement.TheVariants as says
 use Rattle.field_rules.specs.Fields.{field_named}
 use Rattle.report.specs.Breaks.{ended_behind, no_cards, taking, cleared, totals_to, flat}
 use Rattle.report.specs.Outline.{OutlineLine, Detail, Total, outline_of}
-use Rattle.report.specs.Totals.{fits_in, total_of, Misfit, misfit_of, misfit_on, misfits_behind, first_of}
+use Rattle.report.specs.Misfits.{fits_in, Misfit, misfit_of, misfit_on, misfits_behind, first_of}
+use Rattle.report.specs.Totals.{total_of}
 use Rattle.report.proofs.OutlineByCards.{deck_by_cards}
 use Rattle.misfits.specs.HelperTotals.{is_before, earlier, misfits_of}
 

@@ -15,7 +15,8 @@ use Rattle.field_rules.specs.Fields.{field_named}
 use Rattle.report.specs.Amounts.{value_of}
 use Rattle.report.specs.Breaks.{ended_behind, no_cards, taking, cleared, totals_to, flat}
 use Rattle.report.specs.Outline.{OutlineLine, Detail, Total, outline_of}
-use Rattle.report.specs.Totals.{fits_in, total_of, Misfit, misfit_of, misfit_on, first_of}
+use Rattle.report.specs.Misfits.{fits_in, Misfit, misfit_of, misfit_on, first_of}
+use Rattle.report.specs.Totals.{total_of}
 use Rattle.report.proofs.GroupLaws.{total-append}
 use Rattle.report.proofs.OutlineByCards.{deck_by_cards}
 use Rattle.misfits.specs.HelperTotals.{after_card, first_over, misfits_of}

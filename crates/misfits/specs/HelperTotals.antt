@@ -9,7 +9,7 @@ use Rattle.charts.specs.declared.statement.Statement.TheVariants as says
 use Rattle.field_rules.specs.Fields.{field_named}
 use Rattle.report.specs.Amounts.{value_of}
 use Rattle.report.specs.Outline.{OutlineLine, Detail, Total}
-use Rattle.report.specs.Totals.{fits_in, misfit_on, Misfit}
+use Rattle.report.specs.Misfits.{fits_in, misfit_on, Misfit}
 use Rattle.misfits.specs.HelperAmounts.{IsGoodAmount}
 use Rattle.misfits.specs.HelperGroups.{ends_group}
 

@@ -3,7 +3,7 @@
 ghost use Rattle.std.specs.Prelude.{◌≡◌, ◌≤◌, ◌∷◌, [], length, option_map};
 ghost use Rattle.chart_rules.specs.Rules.{IsLawful};
 ghost use Rattle.report.specs.Outline.{outline_of};
-ghost use Rattle.report.specs.Totals.{first_of, misfits};
+ghost use Rattle.report.specs.Misfits.{first_of, misfits};
 ghost use Rattle.misfits.specs.HelperTotals.{IsGoodTotal, earlier, is_before, misfits_of};
 ghost use Rattle.misfits.specs.Told.{told};
 

@@ -2,7 +2,7 @@
 
 ghost use Rattle.std.specs.Prelude.{◌≡◌, ◌+◌, ◌<◌, ◌≤◌, ◌^◌, ℕ, pos, length, IfSome};
 ghost use Rattle.report.specs.Edits.{size};
-ghost use Rattle.report.specs.Totals.{fits_in};
+ghost use Rattle.report.specs.Misfits.{fits_in};
 ghost use Rattle.misfits.specs.HelperAmounts.{IsGoodAmount};
 ghost use Rattle.misfits.specs.HelperTotals.{IsWithin, after_card, first_over};
 

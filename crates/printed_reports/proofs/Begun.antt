@@ -3,6 +3,7 @@ use Rattle.std.proofs.Common.{ℕ, List, [], ◌∷◌}
 use Rattle.placed_lines.specs.declared.placed_line.PlacedLine.{PlacedLine}
 use Rattle.charts.specs.Chart.{Chart}
 use Rattle.decks.proofs.Running.{feeds_begin_reports}
+use Rattle.decks.specs.FitBefore.{FitBefore}
 use Rattle.decks.specs.Runner.{Fed}
 use Rattle.decks.specs.Stands.{Stand}
 use Rattle.setups.specs.Wiring.{Wiring}
@@ -25,7 +26,7 @@ cards-fed chart wiring Reads Waits old (card ∷ cards) left lines (mid, first, 
     (mid, first, others, feed, cards-fed chart wiring Reads Waits mid cards left others more, is)
 
 pub machines_begin_reports : MachinesBeginReports
-machines_begin_reports chart plan wiring card cards behind left lines panel rise literals reads long late fed =
+machines_begin_reports chart plan wiring card cards later left lines panel rise literals reads long late fed =
     feeds_begin_reports (runner chart wiring (IsValidCard chart) (Waits chart plan wiring))
-    (goes_by_cards chart wiring panel.lawful (machine_goes chart plan wiring panel rise literals)) card cards behind left lines reads long late
+    (goes_by_cards chart wiring panel.lawful (machine_goes chart plan wiring panel rise literals)) card cards later left lines reads long late
     (cards-fed chart wiring (IsValidCard chart) (Waits chart plan wiring) (machine_at_start wiring) (card ∷ cards) left lines fed)

@@ -1,6 +1,5 @@
 -- What the rules of a chart say of its amounts, and what the totals hold before the first card.
-use Rattle.std.proofs.Common.{◌≡◌, ◌∙◌, refl, sym, ap, subst, ℕ, zero, suc, ◌-◌, ◌<◌, ◌^◌, nat_lt, true, false, List, [], ◌∷◌, Option, Some, None, map, replicate, slice_index_or, is_some, arith}
-use Rattle.std.proofs.lemmas.Bool.Decides.{nat_tests}
+use Rattle.std.proofs.Common.{◌≡◌, ◌∙◌, refl, sym, ap, subst, ℕ, zero, suc, ◌-◌, ◌<◌, ◌^◌, true, false, List, [], ◌∷◌, Option, Some, None, map, replicate, slice_index_or, is_some, arith}
 use Rattle.wanted.specs.ChartTotals.{names_signed}
 use Rattle.plans.specs.Plans.{Lists}
 use Rattle.field_rules.proofs.Places.{is_same_name-equal}
@@ -8,14 +7,11 @@ use Rattle.field_rules.specs.Fields.{field_named}
 use Rattle.chart_rules.specs.Rules.{IsLawful}
 use Rattle.charts.specs.Chart.{Chart}
 use Rattle.charts.specs.Field.{sign_column}
-use Rattle.charts.specs.Levels.{level_number}
 use Rattle.charts.specs.declared.statement.Field.{Field}
 use Rattle.charts.specs.declared.statement.FieldKind.{FieldKind}
 use Rattle.charts.specs.declared.statement.FieldKind.TheVariants as holds
 use Rattle.counters.specs.Counters.{Counter, counter_at_start}
 use Rattle.counters.specs.Numbers.{number}
-use Rattle.decks.proofs.Fitting.{totals_room}
-use Rattle.decks.specs.CardMisfits.{GroupFits}
 use Rattle.setups.specs.Wiring.{Wiring}
 use Rattle.hubs.specs.declared.hub.Group.{Group}
 use Rattle.panel_cycles.proofs.AmountFacts.{digits_are, has_from}
@@ -25,7 +21,7 @@ use Rattle.machine.specs.Machine.{group_units, machine_at_start}
 use Rattle.net.specs.Panel.{unit_of}
 use Rattle.report.specs.Amounts.{is_negated}
 use Rattle.report.specs.Edits.{size}
-use Rattle.report.specs.Totals.{total_of}
+use Rattle.report.specs.Totals.{GroupFits, total_of}
 use Rattle.wiring_table.specs.Figures.{IsAmount}
 use Rattle.printed_reports.specs.Content.{held}
 
@@ -49,15 +45,10 @@ fits chart plan lawful name field k group amount has fit =
     let (n, total) = has_from chart.lines plan name (suc k) has in
     let same = is_same_name-equal total.its_name name total.same_name in
     let named : field_named chart.lines total.its_name ≡ Some field = ap (field_named chart.lines) same ∙ amount.named in
-    let fit_here : GroupFits chart.lines (level_number total.its_level) group
-    = subst (λ l. GroupFits chart.lines l group) (sym total.same_level) fit in
-    let room = totals_room chart.lines total.its_level group total.line total.wheel total.its_name total.digits total.mark field fit_here
-    total.listed total.says_total named in
+    let room = fit total.line total.its_level total.wheel total.its_name total.digits total.mark field total.listed total.says_total
+    total.same_level named in
     let digits = digits_are chart plan name (suc k) n lawful total in
-    subst (λ d. size (total_of field group) < 10 ^ d) (sym digits) (less_from (size (total_of field group)) (10 ^ total.digits) room)
-  where
-    less_from : (a b : ℕ) → nat_lt a b ≡ true → a < b
-    less_from a b is = grind (arith, nat_tests, is)
+    subst (λ d. size (total_of field group) < 10 ^ d) (sym digits) room
 
 -- zeros spell zero
 zeros_spell : (count : ℕ) → number (replicate count 0) ≡ 0

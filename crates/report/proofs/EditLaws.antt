@@ -4,9 +4,9 @@ use Rattle.std.proofs.lemmas.Bool.Decides.{nat_tests}
 use Rattle.std.proofs.lemmas.List.{length-map, length-append, length-drop, length-replicate, length-take}
 use Rattle.charts.specs.declared.statement.Mark.{Mark}
 use Rattle.charts.specs.declared.statement.Mark.TheVariants as mark
-use Rattle.print_rules.specs.Items.{mark_width}
+use Rattle.print_rules.specs.Items.{figure_width, mark_width}
 use Rattle.report.specs.Edits.{last_digits, figure, without_leading_zeros, free_digits, point, marked, size, is_below_zero, edited_digits, edited_blank}
-use Rattle.report.specs.Laws.{amount_width, EditsFillTheirItems}
+use Rattle.report.specs.Laws.{EditsFillTheirItems}
 
 -- so many digits are so many
 last_digits-length : (count number : ℕ) → length (last_digits count number) ≡ count
@@ -51,10 +51,14 @@ sum_up n width free a p m k t w short long f q b l =
 blank_sum : (width free t w : ℕ) → free ≤ width → free + (t + (width - free + w)) ≡ width + t + w
 blank_sum width free t w short = omega (arith, short)
 
+-- the wheels of an amount
+abbrev wheels : (digits decimals : ℕ) → Option Mark → ℕ
+wheels digits decimals mark = figure_width (record { digits = digits; decimals = decimals; mark = mark })
+
 -- digits cut in two parts
 digits_fill :
     (digits : List ℕ) (width decimals : ℕ) (mark : Option Mark) (negative : Bool) → length digits ≡ width → 1 ≤ width
-    → decimals ≤ width → length (edited_digits digits decimals mark negative) ≡ amount_width width decimals mark
+    → decimals ≤ width → length (edited_digits digits decimals mark negative) ≡ wheels width decimals mark
 digits_fill digits width decimals mark negative long some few =
     let free = free_digits (length digits) decimals in
     let front : length (without_leading_zeros (take free digits)) ≡ min free (length digits)
@@ -70,7 +74,7 @@ digits_fill digits width decimals mark negative long some few =
 -- the parts of a blank amount
 blank_fill :
     (width decimals : ℕ) (mark : Option Mark)
-    → length (edited_blank width decimals mark) ≡ amount_width width decimals mark
+    → length (edited_blank width decimals mark) ≡ wheels width decimals mark
 blank_fill width decimals mark =
     let free = free_digits width decimals in
     let short : free ≤ width = omega arith in
@@ -84,8 +88,8 @@ blank_fill width decimals mark =
     (blank_sum width free (if nat_lt 0 decimals then 1 else 0) (mark_width mark) short)
 
 pub edits_fill : EditsFillTheirItems
-edits_fill number digits decimals mark some few = (
-  digits_fill (last_digits digits (size number)) digits decimals mark (is_below_zero number)
-      (last_digits-length digits (size number)) some few,
-  blank_fill digits decimals mark,
+edits_fill number figure some few = (
+  digits_fill (last_digits figure.digits (size number)) figure.digits figure.decimals figure.mark (is_below_zero number)
+      (last_digits-length figure.digits (size number)) some few,
+  blank_fill figure.digits figure.decimals figure.mark,
 )

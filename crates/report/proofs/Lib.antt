@@ -6,6 +6,10 @@ pub mod PageBytes
 pub mod OutlineByCards
 pub mod FewLines
 pub mod Runs
+pub mod Indicated
+pub mod GroupMisfits
+pub mod FittingGroups
+pub mod Fitting
 pub mod LawfulForms
 pub mod NextStops
 pub mod LinePlaces

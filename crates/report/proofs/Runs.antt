@@ -1,12 +1,10 @@
--- Groups are longest runs, and indicated fields stand on first cards.
-use Rattle.std.proofs.Common.{◌≡◌, refl, ap, ℕ, nat_le, Bool, true, false, List, [], ◌∷◌, if◌then◌else◌, arith}
+-- Groups are longest runs.
+use Rattle.std.proofs.Common.{◌≡◌, refl, ℕ, Bool, true, false, List, [], ◌∷◌, if◌then◌else◌}
 use Rattle.std.specs.List.{All}
-use Rattle.std.proofs.lemmas.Bool.Decides.{nat_tests}
 use Rattle.std.proofs.lemmas.List.Elements.{All-nil, All-cons}
-use Rattle.charts.specs.Levels.{control_number}
 use Rattle.charts.specs.declared.chart.Line.{Line}
 use Rattle.report.specs.Groups.{rest_of_run, later_runs, is_same_at}
-use Rattle.report.specs.OutlineLaws.{AreAlike, AreCutAt, GroupsAreLongestRuns, IndicatedOnFirstCards}
+use Rattle.report.specs.OutlineLaws.{AreAlike, AreCutAt, GroupsAreLongestRuns}
 
 module _ (lines : List Line) (level : ℕ) where
   abbrev same : List ℕ → List ℕ → Bool
@@ -58,17 +56,4 @@ longest_runs lines level (card ∷ cards) = (
       (run_alike lines level card cards)
       (later_alike lines level card cards),
   runs_cut lines level card cards,
-)
-
--- the second of two where a test fails, the first where it passes
-second : {X : Type 0} (b : Bool) (one other : X) → b ≡ false → (if b then one else other) ≡ other
-second b one other fails = ap (λ t. if t then one else other) fails
-
-first : {X : Type 0} (b : Bool) (one other : X) → b ≡ true → (if b then one else other) ≡ one
-first b one other passes = ap (λ t. if t then one else other) passes
-
-pub indicated : IndicatedOnFirstCards
-indicated lines wheel name level opens card = (
-  λ less. second (nat_le (control_number level) opens) _ _ (grind (arith, nat_tests, less)),
-  λ reached. first (nat_le (control_number level) opens) _ _ (grind (arith, nat_tests, reached)),
 )

@@ -1,7 +1,7 @@
 -- Control groups. The one group of level 4 is the deck. The groups of a level are the longest runs of consecutive cards, within
 -- a group of the level above, that are equal on all control fields of the level. A level without control fields cuts nothing.
-use Rattle.std.specs.Prelude.{ℕ, ◌==◌, Bool, List, [], ◌∷◌, Option, None, if◌then◌else◌}
-use Rattle.std.specs.List.{filter_map, list_all}
+use Rattle.std.specs.Prelude.{ℕ, zero, suc, ◌==◌, Bool, List, [], ◌∷◌, ◌++◌, Option, None, if◌then◌else◌}
+use Rattle.std.specs.List.{filter_map, flat_map, list_all}
 use Rattle.charts.specs.Levels.{control_number}
 use Rattle.charts.specs.declared.chart.Line.{Line}
 use Rattle.charts.specs.declared.statement.Field.{Field}
@@ -48,3 +48,19 @@ runs same (card ∷ cards) = (card ∷ rest_of_run same card cards) ∷ later_ru
 -- the groups of a level within a group of the level above; no field controls level 0, so all cards are one group there
 abbrev pub groups_within : List Line → ℕ → List (List ℕ) → List (List (List ℕ))
 groups_within lines level cards = runs (is_same_at lines level) cards
+
+-- The groups of a level in a group of the level `above`: that group alone where this is its own level, else those in its parts.
+abbrev pub groups_in : List Line → (above level : ℕ) → List (List ℕ) → List (List (List ℕ))
+groups_in lines zero level group = group ∷ []
+groups_in lines (suc above) level group =
+    if level == suc above then group ∷ [] else flat_map (groups_in lines above level) (groups_within lines above group)
+
+-- the groups of a level of a deck, which is the one group of level 4; a deck without cards has none
+abbrev pub groups_of : List Line → ℕ → List (List ℕ) → List (List (List ℕ))
+groups_of lines level [] = []
+groups_of lines level (card ∷ cards) = groups_in lines 4 level (card ∷ cards)
+
+-- the cards of groups, put together
+abbrev pub cards_of : List (List (List ℕ)) → List (List ℕ)
+cards_of [] = []
+cards_of (group ∷ groups) = group ++ cards_of groups

@@ -4,6 +4,7 @@ pub mod Groups
 pub mod Outline
 pub mod Breaks
 pub mod Totals
+pub mod Misfits
 pub mod BodyLines
 pub mod ChartForm
 pub mod Places

@@ -1,15 +1,16 @@
 -- Laws of groups and of the outline: where groups end, in which order their totals stand, and which cards show an indicated field.
-use Rattle.std.specs.Prelude.{◌≡◌, ℕ, ◌<◌, ◌≤◌, true, false, List, [], ◌∷◌, None}
-use Rattle.std.specs.List.{All}
+use Rattle.std.specs.Prelude.{◌≡◌, ℕ, true, false, List, [], ◌∷◌, Option, None, map}
+use Rattle.std.specs.List.{All, flat_map}
 use Rattle.charts.specs.Levels.{control_number}
 use Rattle.charts.specs.declared.chart.Line.{Line}
 use Rattle.charts.specs.declared.level.ControlLevel.{ControlLevel}
 use Rattle.charts.specs.declared.statement.DetailOption.TheVariants as shown
+use Rattle.charts.specs.declared.statement.Statement.{Statement}
 use Rattle.charts.specs.declared.statement.Statement.TheVariants as says
-use Rattle.report.specs.BodyLines.{a_card_of, card_piece}
+use Rattle.report.specs.BodyLines.{Piece, a_card_of, card_piece}
 use Rattle.report.specs.Breaks.{flat_outline}
-use Rattle.report.specs.Groups.{groups_within, is_same_at}
-use Rattle.report.specs.Outline.{outline_of}
+use Rattle.report.specs.Groups.{groups_of, groups_within, is_same_at}
+use Rattle.report.specs.Outline.{OutlineLine, Detail, Total, outline_of}
 
 -- each card is equal to the one before it on the control fields of a level
 abbrev pub AreAlike : List Line → ℕ → List (List ℕ) → Type 0
@@ -42,11 +43,22 @@ GroupsAreLongestRuns =
 abbrev pub OutlineIsByCards : Type 0
 OutlineIsByCards = (lines : List Line) (cards : List (List ℕ)) → outline_of lines cards ≡ flat_outline lines cards
 
--- An indicated field is not shown on a card that opens no group of its level, and is shown as any field on a card that does.
+-- what a line of the chart puts on the detail lines of an outline, one after another
+abbrev pub pieces_on : List Line → Statement → List OutlineLine → List (Option Piece)
+pieces_on lines item [] = []
+pieces_on lines item (Detail opens card ∷ others) = card_piece lines opens card item ∷ pieces_on lines item others
+pieces_on lines item (Total level group ∷ others) = pieces_on lines item others
+
+-- the cards of a group one after another: something for the first one, nothing for the others
+abbrev pub on_first_card : (List ℕ → Option Piece) → List (List ℕ) → List (Option Piece)
+on_first_card piece [] = []
+on_first_card piece (card ∷ cards) = piece card ∷ map (λ other. None) cards
+
+-- The detail lines of a deck show an indicated field of a level on the first card of each group of that level, as a plain field is
+-- shown, and on no other card.
 abbrev pub IndicatedOnFirstCards : Type 0
 IndicatedOnFirstCards =
-    (lines : List Line) (wheel : ℕ) (name : List ℕ) (level : ControlLevel) (opens : ℕ) (card : List ℕ)
-    → (opens < control_number level → card_piece lines opens card (says.DetailField wheel name (shown.Indicated level)) ≡ None)
-    × (control_number level ≤ opens
-    → card_piece lines opens card (says.DetailField wheel name (shown.Indicated level))
-    ≡ card_piece lines opens card (says.DetailField wheel name shown.Plain))
+    (lines : List Line) (wheel : ℕ) (name : List ℕ) (level : ControlLevel) (cards : List (List ℕ))
+    → pieces_on lines (says.DetailField wheel name (shown.Indicated level)) (outline_of lines cards)
+    ≡ flat_map (on_first_card (λ card. card_piece lines 0 card (says.DetailField wheel name shown.Plain)))
+    (groups_of lines (control_number level) cards)

@@ -1,66 +1,31 @@
 -- Totals, and the decks that fit. The total of an amount over a group is the sum of its values on the group's cards. A deck fits where
 -- each total that a total line shows has no more digits than the line gives it, for each group of the line's level.
-use Rattle.std.specs.Prelude.{◌≡◌, ℕ, ℤ, pos, ◌+ℤ◌, ◌+◌, ◌^◌, ◌==◌, nat_lt, Bool, List, [], ◌∷◌, ◌++◌, Option, Some, None, option_and_then, if◌then◌else◌}
-use Rattle.std.specs.List.{filter_map}
+use Rattle.std.specs.Prelude.{◌≡◌, ℕ, ℤ, pos, ◌+ℤ◌, ◌^◌, ◌<◌, List, [], ◌∷◌, Option, Some}
+use Rattle.std.specs.List.{All, Contains}
 use Rattle.charts.specs.Levels.{level_number}
 use Rattle.charts.specs.declared.chart.Line.{Line}
 use Rattle.charts.specs.declared.level.Level.{Level}
 use Rattle.charts.specs.declared.statement.Field.{Field}
-use Rattle.charts.specs.declared.statement.Statement.{Statement}
+use Rattle.charts.specs.declared.statement.Mark.{Mark}
 use Rattle.charts.specs.declared.statement.Statement.TheVariants as says
 use Rattle.field_rules.specs.Fields.{field_named}
 use Rattle.report.specs.Amounts.{value_of}
 use Rattle.report.specs.Edits.{size}
-use Rattle.report.specs.Outline.{OutlineLine, Detail, Total, outline_of}
+use Rattle.report.specs.Groups.{groups_of}
 
 -- the total of an amount over a group
 abbrev pub total_of : Field → List (List ℕ) → ℤ
 total_of field [] = pos 0
 total_of field (card ∷ cards) = value_of field card +ℤ total_of field cards
 
--- whether a total has at most so many digits
-abbrev pub fits_in : ℕ → ℤ → Bool
-fits_in digits total = nat_lt (size total) (10 ^ digits)
+-- The totals of a group of a level fit: the total of each amount that a total line of that level shows has at most the digits that the
+-- line gives it.
+abbrev pub GroupFits : List Line → ℕ → List (List ℕ) → Type 0
+GroupFits lines level group =
+    (line : Line) (its_level : Level) (wheel : ℕ) (name : List ℕ) (digits : ℕ) (mark : Option Mark) (field : Field)
+    → Contains lines line → line.statement ≡ says.TotalAmount its_level wheel name digits mark → level_number its_level ≡ level
+    → field_named lines name ≡ Some field → size (total_of field group) < 10 ^ digits
 
--- What is told of a total that does not fit: its level, the name of its amount, and the number of its group's last card, from 1.
-pub record Misfit : Type 0 where
-  pub level : Level
-  pub name : List ℕ
-  pub card : ℕ
-
--- the misfit of a total, if it is one
-abbrev pub misfit_of : Level → List ℕ → ℕ → ℕ → List (List ℕ) → Field → Option Misfit
-misfit_of level name digits card group field =
-    if fits_in digits (total_of field group) then None else Some (record { level = level; name = name; card = card })
-
--- the misfit of a line of the chart for a group of a level, if the line shows a total of that level that does not fit
-abbrev pub misfit_on : List Line → ℕ → ℕ → List (List ℕ) → Statement → Option Misfit
-misfit_on lines level card group (says.TotalAmount its_level wheel name digits mark) =
-    if level_number its_level == level
-    then option_and_then (misfit_of its_level name digits card group) (field_named lines name)
-    else None
-misfit_on lines level card group other = None
-
--- the misfits of a group, in the order of the chart's lines
-abbrev pub misfits_in : List Line → ℕ → ℕ → List (List ℕ) → List Misfit
-misfits_in lines level card group = filter_map (λ line. misfit_on lines level card group line.statement) lines
-
--- The misfits of lines of an outline behind so many cards, in order: by the last card of the group, then by level, then by line.
-abbrev pub misfits_behind : List Line → ℕ → List OutlineLine → List Misfit
-misfits_behind lines cards [] = []
-misfits_behind lines cards (Detail opens card ∷ others) = misfits_behind lines (cards + 1) others
-misfits_behind lines cards (Total level group ∷ others) =
-    misfits_in lines level cards group ++ misfits_behind lines cards others
-
--- the misfits of a deck, in order
-abbrev pub misfits : List Line → List (List ℕ) → List Misfit
-misfits lines cards = misfits_behind lines 0 (outline_of lines cards)
-
--- A deck fits where it has no misfit.
+-- A deck fits where the totals of each of its groups fit, at each level.
 abbrev pub Fits : List Line → List (List ℕ) → Type 0
-Fits lines cards = misfits lines cards ≡ []
-
--- the first misfit of a deck, if it has one
-abbrev pub first_of : List Misfit → Option Misfit
-first_of [] = None
-first_of (misfit ∷ others) = Some misfit
+Fits lines cards = (level : Level) → All (GroupFits lines (level_number level)) (groups_of lines (level_number level) cards)

@@ -4,11 +4,16 @@ ghost use Rattle.report.specs.AmountLaws.{EditsReadBack, SignByPunch, SignByAbse
 ghost use Rattle.report.specs.OutlineLaws.{GroupsAreLongestRuns, OutlineIsByCards, IndicatedOnFirstCards};
 ghost use Rattle.report.specs.PageLaws.{PagesHaveTheirLines, ReportLinesPrint, ReportLinesAreOneLine, ReportPagesHaveTheirLines};
 ghost use Rattle.report.specs.PlaceLaws.{LinesStandByTheLineBefore, PlacesRise};
-ghost use Rattle.report.specs.Laws.{GroupsMakeTheWhole, TotalsAddUp, EditsFillTheirItems, LinesHave120Characters, NoCardsNoBytes};
+ghost use Rattle.report.specs.Laws.{GroupsMakeTheDeck, GroupsMakeTheWhole, TotalsAddUp, EditsFillTheirItems, FitWithoutMisfits, LinesHave120Characters, NoCardsNoBytes};
 
 /// The groups of a level, put together, are the group above them, in order.
 pub fn groups_make_the_whole()
     ensures { GroupsMakeTheWhole }
+{}
+
+/// The groups of a level of a deck, put together, are the deck.
+pub fn groups_make_the_deck()
+    ensures { GroupsMakeTheDeck }
 {}
 
 /// The total of a group is the sum of the totals of its parts.
@@ -32,6 +37,11 @@ pub fn values_have_their_signs()
     ensures punch { SignByPunch }
     ensures absence { SignByAbsence }
     ensures size { SizesAreOfDigits }
+{}
+
+/// The totals of a deck fit exactly where it has no misfit.
+pub fn decks_fit_without_misfits()
+    ensures { FitWithoutMisfits }
 {}
 
 /// Every line has 120 characters.
@@ -74,7 +84,7 @@ pub fn the_outline_is_by_cards()
     ensures { OutlineIsByCards }
 {}
 
-/// An indicated field stands on the first cards of the groups of its level alone.
+/// The detail lines of a deck show an indicated field on the first card of each group of its level, and on no other card.
 pub fn indicated_fields_stand_on_first_cards()
     ensures { IndicatedOnFirstCards }
 {}

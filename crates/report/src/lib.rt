@@ -1,7 +1,7 @@
 //! What a planning chart's report of a deck is, said without any machine.
 //!
 //! `specs/` has a file for each notion: amounts and their values, edited amounts, control groups, the outline of a deck, the breaks
-//! between its cards, totals and the decks that fit, the texts of lines, the form, places, and the bytes of the report. It knows
+//! between its cards, totals and the decks that fit, misfits, the texts of lines, the form, places, and the bytes of the report. It knows
 //! fields, groups, sums, lines and pages, and no station, counter or wire. Nothing is evaluated by these definitions: the machine
 //! prints.
 #![tactic(auto)]

@@ -1,6 +1,6 @@
 use Rattle.std.proofs.Common.{◌≡◌, take, option_map}
 use Rattle.report.specs.Outline.{outline_of}
-use Rattle.report.specs.Totals.{first_of}
+use Rattle.report.specs.Misfits.{first_of}
 use Rattle.misfits.specs.HelperTotals.{misfits_of}
 use Rattle.misfits.specs.Told.{told}
 use Rattle.misfits.proofs.misfit.first_misfit.Given as goal

@@ -1,5 +1,5 @@
 use Rattle.std.proofs.Common.{◌∙◌, sym, ap, ℕ, pos, option_map, subst}
-use Rattle.report.specs.Totals.{Misfit}
+use Rattle.report.specs.Misfits.{Misfit}
 use Rattle.misfits.specs.HelperTotals.{IsGoodTotal, first_over}
 use Rattle.misfits.specs.Told.{told}
 use Rattle.misfits.proofs.OneTotal.{of_total, of_unknown, of_other}

@@ -1,4 +1,4 @@
-use Rattle.report.proofs.Runs.{indicated}
+use Rattle.report.proofs.Indicated.{indicated}
 use Rattle.report.proofs.laws.indicated_fields_stand_on_first_cards.Goals as goal
 
 pub returns : goal.returns
