@@ -1,14 +1,19 @@
 -- Laws of whole runs, for every setup of the panel and every deck.
-use Rattle.std.specs.Prelude.{◌≡◌, ℕ, ◌+◌, ◌*◌, ◌≤◌, ◌↔◌, List, ◌++◌, length}
+use Rattle.std.specs.Prelude.{◌≡◌, ℕ, ◌+◌, ◌*◌, ◌≤◌, ◌↔◌, Bool, Option, List, ◌++◌, length}
 use Rattle.placed_lines.specs.InOrder.{IsInOrder}
 use Rattle.placed_lines.specs.declared.placed_line.PlacedLine.{PlacedLine}
+use Rattle.hubs.specs.declared.hub.Hub.{Hub}
 use Rattle.setups.specs.Tapes.{IsForm, SameTape}
 use Rattle.setups.specs.Wiring.{Wiring, SameWires, SameJacks}
 use Rattle.net.specs.declared.cycle.Cycle.{Cycle}
+use Rattle.net.specs.declared.cycle.Point.{Point}
+use Rattle.selectors.specs.Contacts.{closed_contacts}
 use Rattle.machine.specs.Cycles.{CycleRun}
+use Rattle.machine.specs.Fields.{AreInUnitOrder}
 use Rattle.machine.specs.Feeds.{Fed, FedLines, FeedStep, LinesFrom}
-use Rattle.machine.specs.Machine.{MachineState, machine_at_start}
-use Rattle.machine.specs.Runs.{MachineLines, RunsBy, run_at_start}
+use Rattle.machine.specs.Machine.{MachineState, machine_at_start, closes, sensed, ended}
+use Rattle.machine.specs.Runs.{MachineLines, RunsBy, moved_on, run_at_start}
+use Rattle.machine.specs.Steady.{latches_of}
 
 -- A run is what the feeds of its cards, and one for the end, do one after another: the lines are the same.
 abbrev pub FeedsCutRuns : Type 0
@@ -73,3 +78,21 @@ SameSetupsPrintAlike =
     → IsForm one.tape → IsForm other.tape
     → SameWires one other → SameJacks one other → SameTape one.tape other.tape
     → MachineLines one cards lines → MachineLines other cards lines
+
+-- The contacts that the units close are the closed contacts of the panel, which pilots, group indication and the balance latches of
+-- the groups tell, at every point of every cycle. So it is while the groups stand in the order of their units: they do at the start,
+-- and stay so when cards move on, when a picture is sensed and when a cycle ends.
+pub record UnitsCloseThePanelsContacts : Type 0 where
+  pub at_start : (wiring : Wiring) → AreInUnitOrder (machine_at_start wiring).groups
+  pub moving_on :
+      (machine : MachineState) (next : Option (List ℕ))
+      → AreInUnitOrder machine.groups → AreInUnitOrder (moved_on next machine).groups
+  pub sensing :
+      (machine : MachineState) (cycle : Cycle) (point : Point) (picture : Hub → Bool)
+      → AreInUnitOrder machine.groups → AreInUnitOrder (sensed machine cycle point picture).groups
+  pub ending :
+      (machine : MachineState) (cycle : Cycle) → AreInUnitOrder machine.groups → AreInUnitOrder (ended machine cycle).groups
+  pub closed :
+      (machine : MachineState) (cycle : Cycle) (point : Point) (hub : Hub) → AreInUnitOrder machine.groups
+      → closes machine cycle point hub
+      ≡ closed_contacts cycle point machine.pilots machine.indicate (latches_of machine.groups) hub

@@ -2,7 +2,7 @@
 //! is the law.
 
 ghost use Rattle.machine.specs.Laws.{FeedsCutRuns, FeedsHaveAnOutcome, LinesComeInOrder, OneCycleFollows, RunsGoInParts, RunsHaveAnOutcome, RunsHaveFewCycles};
-ghost use Rattle.machine.specs.Laws.{RunsHaveOneOutcome, SameSetupsPrintAlike};
+ghost use Rattle.machine.specs.Laws.{RunsHaveOneOutcome, SameSetupsPrintAlike, UnitsCloseThePanelsContacts};
 
 /// A run places the lines that the feeds of its cards, and one for the end, place one after another.
 pub fn feeds_cut_runs()
@@ -47,4 +47,9 @@ pub fn runs_go_in_parts()
 /// Setups with the same wires, jacks and tape have the same lines.
 pub fn same_setups_print_alike()
     ensures { SameSetupsPrintAlike }
+{}
+
+/// The contacts that the units of a machine close are the closed contacts of the panel, at every point of every cycle.
+pub fn units_close_the_panels_contacts()
+    ensures { UnitsCloseThePanelsContacts }
 {}

@@ -33,7 +33,6 @@ use Rattle.net.specs.declared.cycle.Point.TheVariants.{Row}
 use Rattle.print_unit.specs.Emitters.{emitter_of}
 use Rattle.printed_lines.specs.Shown.Shown.{Characters}
 use Rattle.printed_lines.specs.Shown.{Printed, Shown, card_sends, heading_sends, set_of_character, set_on, total_sends}
-use Rattle.storage_units.specs.Storage.{storage_place}
 use Rattle.wiring_table.specs.Figures.IsFigure.{on_detail as figure_on_detail, on_total as figure_on_total}
 use Rattle.wiring_table.specs.Figures.IsLiteral.{on_heading, on_detail, on_total}
 use Rattle.wiring_table.specs.Wires.LineWire.{detail_text, indicated_text_out, literal, point, detail_digit, split_digit_out, detail_mark_out, total_digit, total_mark_out, total_text_out}
@@ -188,7 +187,7 @@ module _ (wiring : Wiring) (content : Content) (at : CycleRow) (row : IsPrintedR
       in_cycle (Prog level Third) is (total.digit-sends wiring level content.held content.card at (row.totals level is) line place its wheel name
       digits mark field counter position listed there says_it served amount low high among out long shows)
   straight_sends line there says_it (total_text_out its wheel name field _ j text within served) (column storage c among out held) =
-      let (level, is) = unit-third wiring at row.on_panel (storage_place storage) row.prints out in
+      let (level, is) = unit-third wiring at row.on_panel storage.place row.prints out in
       in_cycle (Prog level Third) is (total.text-sends wiring level content.held content.card at (row.totals level is) line its wheel name field
       storage j there says_it text within served among out held)
   straight_sends line there says_it (indicated_text_out wheel name level field j x text within served) emits = silent at _ emits refl

@@ -37,7 +37,7 @@ use Rattle.printed_lines.specs.Shown.Shown.{Characters}
 use Rattle.printed_lines.specs.Shown.{Shown, Printed, digit_set, total_sends}
 use Rattle.report.specs.Amounts.{columns_in}
 use Rattle.report.specs.Edits.{last_digits}
-use Rattle.storage_units.specs.Storage.{StorageState, holds as holds_row, storage_place}
+use Rattle.storage_units.specs.Storage.{StorageState, holds as holds_row}
 use Rattle.whole_cycles.proofs.Units.{units-by_name}
 use Rattle.whole_cycles.specs.Units.{IsGroup, group_at}
 use Rattle.wiring_table.specs.Figures.{IsAmount, IsText, HasPunchAt, digit_wheel, mark_wheel, mark_characters}
@@ -216,12 +216,12 @@ module _ (wiring : Wiring) (its : Level) (held : List ℕ → Printed) (card : L
 
   pub text-sends : (line : Line) (level : ChartLevel) (wheel : ℕ) (name : List ℕ) (field : Field) (storage : StorageState) (j : ℕ)
       → Contains at.chart.lines line → line.statement ≡ says.TotalText level wheel name → IsText at.chart.lines name field → j < columns_of field
-      → unit_for at.plan line.number ≡ Some (storage_place storage) → Contains at.old.storage storage
-      → at.pictures C (SO (storage_place storage)) ≡ true → holds_row storage at.row (j + 1) ≡ true
+      → unit_for at.plan line.number ≡ Some storage.place → Contains at.old.storage storage
+      → at.pictures C (SO storage.place) ≡ true → holds_row storage at.row (j + 1) ≡ true
       → Sends (says.TotalText level wheel name) (wheel + j)
   text-sends line level wheel name field storage j there says_it is within served among out held_row =
-      let same = unit-level line level wheel name (storage_place storage) there says_it served out in
-      let column = row.texts line level wheel name field (storage_place storage) j there says_it same served is.named within in
+      let same = unit-level line level wheel name storage.place there says_it served out in
+      let column = row.texts line level wheel name field storage.place j there says_it same served is.named within in
       let own = unit-own at.old row.on_panel.between storage among in
       let punched : has_row (column_of card (field.first + j)) (row_number at.row) ≡ true
       = sym (ap (λ s. holds_row s at.row (j + 1)) own ∙ column) ∙ held_row in

@@ -46,7 +46,6 @@ use Rattle.printed_lines.specs.Shown.Shown.{Characters}
 use Rattle.printed_lines.specs.Shown.{Shown, Printed, set_of_character, total_sends}
 use Rattle.report.specs.Amounts.{columns_in}
 use Rattle.report.specs.Edits.{last_digits}
-use Rattle.storage_units.specs.Storage.{storage_place}
 use Rattle.whole_cycles.proofs.Units.{units-by_name}
 use Rattle.whole_cycles.specs.Units.{group_at, storage_at}
 use Rattle.wiring_table.specs.Figures.IsFigure.{on_total as figure_on_total}
@@ -270,7 +269,7 @@ module _ (wiring : Wiring) (its : Level) (held : List ℕ → Printed) (card : L
         printed = subst (λ n. EmitsAtControl (Prog its Third) (PX n 3)) (sym same) (emits_prog its Third);
       }) in
       along wiring at row.on_panel row.rises line there says_it
-      (total_text_out level wheel name field (storage_place (storage_at at.old served.n)) j is within (served.is ∙ ap Some (sym placed)))
+      (total_text_out level wheel name field ((storage_at at.old served.n).place) j is within (served.is ∙ ap Some (sym placed)))
       (column (storage_at at.old served.n) (j + 1) (unit-listed at.old row.on_panel.between served.n from to_four)
       (ap (λ u. at.pictures C (SO u)) placed ∙ out)
       (row.texts line level wheel name field served.n j there says_it same served.is is.named within ∙ punched))

@@ -21,7 +21,7 @@ use Rattle.hubs.specs.declared.hub.Group.{Group}
 use Rattle.machine.specs.Machine.{MachineState, group_units, storage_units}
 use Rattle.net.specs.Panel.{unit_of}
 use Rattle.report.specs.Edits.{last_digits}
-use Rattle.storage_units.specs.Storage.{StorageState, storage_number, storage_place, storage_at_start}
+use Rattle.storage_units.specs.Storage.{StorageState, storage_number, storage_at_start}
 use Rattle.whole_cycles.proofs.Places.{in_units, as_many, told_at}
 use Rattle.whole_cycles.proofs.Units.{units-by_name}
 use Rattle.whole_cycles.specs.Between.{IsBetween}
@@ -101,22 +101,22 @@ module _ (machine : MachineState) (between : IsBetween machine) where
       let m = many_units in
       Contains-get_or machine.storage (unit - 1) (storage_at_start (34 + unit)) (omega (arith, low, high, m))
 
-  pub unit-place : (unit : ℕ) → 1 ≤ unit → unit ≤ 4 → storage_place (storage_at machine unit) ≡ unit
+  pub unit-place : (unit : ℕ) → 1 ≤ unit → unit ≤ 4 → (storage_at machine unit).place ≡ unit
   unit-place unit low high =
       let m = many_units in
       let e = told_at storage_number machine.storage storage_units (unit - 1) (storage_at_start (34 + unit)) between.numbered (omega (arith, low, high, m)) in
       let f = storage-at (unit - 1) (omega (arith, low, high)) in
       omega (arith, e, f, low)
 
-  pub unit-own : (storage : StorageState) → Contains machine.storage storage → storage ≡ storage_at machine (storage_place storage)
+  pub unit-own : (storage : StorageState) → Contains machine.storage storage → storage ≡ storage_at machine storage.place
   unit-own storage (k, within, is) =
       let m = many_units in
-      let unit : storage.unit ≡ 35 + k
+      let unit : storage_number storage ≡ 35 + k
       = ap storage_number (sym is) ∙ told_at storage_number machine.storage storage_units k storage between.numbered within
       ∙ storage-at k (omega (arith, within, m)) in
-      let place : storage_place storage - 1 ≡ k = omega (arith, unit) in
-      sym (ap (λ j. get_or machine.storage j (storage_at_start (34 + storage_place storage))) place
-      ∙ same machine.storage k storage (storage_at_start (34 + storage_place storage)) within is)
+      let place : storage.place - 1 ≡ k = omega (arith, unit) in
+      sym (ap (λ j. get_or machine.storage j (storage_at_start (34 + storage.place))) place
+      ∙ same machine.storage k storage (storage_at_start (34 + storage.place)) within is)
     where
       same : (list : List StorageState) (k : ℕ) (x d : StorageState) → k < length list → get_or list k x ≡ x → get_or list k d ≡ x
       same [] k x d within is = absurd (omega (arith, within))

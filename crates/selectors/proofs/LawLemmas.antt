@@ -16,7 +16,7 @@ use Rattle.net.specs.declared.cycle.Point.TheVariants.{C, Row, K}
 use Rattle.selectors.specs.Contacts.{balance_closes, has_balance, is_balance_set, closed_contacts}
 use Rattle.selectors.specs.Indicate.{Latches, indicate_closes}
 use Rattle.selectors.specs.Numbered.{tests_to}
-use Rattle.selectors.specs.Pilots.{PilotStates, is_transferred, moves_pilots, pilots_closes, pilots_sensed, pickups}
+use Rattle.selectors.specs.Pilots.{PilotStates, is_transferred, moves_pilots, no_pilots, pilots_closes, pilots_sensed, pickups}
 use Rattle.selectors.specs.Splits.{split_closes, is_digit_row}
 use Rattle.selectors.specs.WholeCycles.{after_points, after_cycle}
 
@@ -36,6 +36,12 @@ pub pilots_moved : (pilots : PilotStates) (cycle : Cycle) (pictures : Point → 
 pilots_moved pilots RunIn pictures pilot moves = pickup_at (pictures (Row Eleven)) pilot
 pilots_moved pilots Card pictures pilot moves = pickup_at (pictures (Row Eleven)) pilot
 pilots_moved pilots cycle pictures pilot moves = cc
+
+pub pilots_forgotten : (pilots : PilotStates) (cycle : Cycle) (pictures : Point → Hub → Bool) → moves_pilots cycle ≡ true
+    → (after_cycle cycle pictures pilots).picked_up ≡ no_pilots
+pilots_forgotten pilots RunIn pictures moves = refl
+pilots_forgotten pilots Card pictures moves = refl
+pilots_forgotten pilots cycle pictures moves = cc
 
 pub pilots_left : (pilots : PilotStates) (cycle : Cycle) (pictures : Point → Hub → Bool) (pilot : ℕ) → moves_pilots cycle ≡ false
     → is_transferred (after_cycle cycle pictures pilots) pilot ≡ is_transferred pilots pilot

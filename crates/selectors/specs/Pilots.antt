@@ -1,6 +1,7 @@
 -- The pilots: 16 selectors of three positions each. A pickup is sensed at row 11 of the run-in and of card cycles. At
--- the end of such a cycle the pilot is transferred exactly where its pickup was sensed in it, else it is normal. Other
--- cycles leave it as it is. While it is normal its normal contacts are closed, else its transferred ones.
+-- the end of such a cycle the pilot is transferred exactly where its pickup was sensed in it, else it is normal, and the
+-- pickup is forgotten. Other cycles leave it as it is. While it is normal its normal contacts are closed, else its
+-- transferred ones.
 use Rattle.std.specs.Prelude.{ℕ, ◌-◌, ◌&&◌, not, Bool, true, false, List, replicate, slice_index_or, if◌then◌else◌}
 use Rattle.card_code.specs.declared.row.Row.TheVariants as row
 use Rattle.hub_table.specs.Ranges.{is_within}
@@ -12,14 +13,18 @@ use Rattle.net.specs.declared.cycle.Point.{Point}
 use Rattle.net.specs.declared.cycle.Point.TheVariants.{Row}
 use Rattle.selectors.specs.Numbered.{tests_to}
 
--- The pilots 1 to 16: whether each is transferred, and whether its pickup was sensed in the last cycle that senses pickups.
+-- The pilots 1 to 16: whether each is transferred, and whether its pickup was sensed since the last end of a cycle that moves pilots.
 pub record PilotStates : Type 0 where
   pub transferred : List Bool
   pub picked_up : List Bool
 
+-- none of the pilots
+abbrev pub no_pilots : List Bool
+no_pilots = replicate 16 false
+
 -- All pilots start normal.
 abbrev pub pilots_at_start : PilotStates
-pilots_at_start = record { transferred = replicate 16 false; picked_up = replicate 16 false }
+pilots_at_start = record { transferred = no_pilots; picked_up = no_pilots }
 
 -- whether a pilot is transferred; there are no pilots but 1 to 16
 abbrev pub is_transferred : PilotStates → ℕ → Bool
@@ -60,10 +65,10 @@ pilots_sensed pilots cycle point picture = record pilots {
   picked_up = if moves_pilots cycle && is_pickup_point point then pickups picture else pilots.picked_up;
 }
 
--- At the end of a cycle that moves pilots each stands as its pickup was sensed.
+-- At the end of a cycle that moves pilots each stands as its pickup was sensed, and all pickups are forgotten.
 abbrev pub pilots_ended : PilotStates → Cycle → PilotStates
 pilots_ended pilots cycle =
-    record pilots { transferred = if moves_pilots cycle then pilots.picked_up else pilots.transferred }
+    if moves_pilots cycle then record { transferred = pilots.picked_up; picked_up = no_pilots } else pilots
 
 -- their number among the units
 abbrev pub pilots_number : PilotStates → ℕ

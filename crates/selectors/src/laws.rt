@@ -12,16 +12,19 @@ ghost use Rattle.net.specs.declared.cycle.Point.{Point};
 ghost use Rattle.net.specs.declared.cycle.Point.TheVariants.{C, Row, K};
 ghost use Rattle.selectors.specs.Contacts.{balance_closes, has_balance, closed_contacts};
 ghost use Rattle.selectors.specs.Indicate.{Latches};
-ghost use Rattle.selectors.specs.Pilots.{PilotStates, is_transferred, moves_pilots, pilots_closes};
+ghost use Rattle.selectors.specs.Pilots.{PilotStates, is_transferred, moves_pilots, no_pilots, pilots_closes};
 ghost use Rattle.selectors.specs.Splits.{split_closes};
 ghost use Rattle.selectors.specs.WholeCycles.{after_points, after_cycle};
 
 /// After the run-in or a card cycle a pilot is transferred exactly where its pickup was impulsed at row 11 of this cycle,
-/// whatever it was before. After any other cycle it is as it was.
+/// whatever it was before, and the pickup is forgotten. After any other cycle it is as it was.
 pub fn pilots_follow_their_pickups()
     ensures moved { (pilots : PilotStates) (cycle : Cycle) (pictures : Point → Hub → Bool) (pilot : ℕ)
         → moves_pilots cycle ≡ true
         → is_transferred (after_cycle cycle pictures pilots) pilot ≡ (is_within pilot 16 && pictures (Row Eleven) (PIX pilot)) }
+    ensures forgotten { (pilots : PilotStates) (cycle : Cycle) (pictures : Point → Hub → Bool)
+        → moves_pilots cycle ≡ true
+        → (after_cycle cycle pictures pilots).picked_up ≡ no_pilots }
     ensures left { (pilots : PilotStates) (cycle : Cycle) (pictures : Point → Hub → Bool) (pilot : ℕ)
         → moves_pilots cycle ≡ false
         → is_transferred (after_cycle cycle pictures pilots) pilot ≡ is_transferred pilots pilot }

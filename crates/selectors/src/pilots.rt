@@ -23,7 +23,7 @@ const ALL_POSITIONS: u128 = (1 << 48) - 1;
 #[derive(Clone, Copy, Debug, PartialEq, Eq)]
 pub struct Pilots {
     transferred: [bool; PILOTS],
-    // Whether the pickup was sensed in the last cycle that senses pickups.
+    // Whether the pickup was sensed since the last end of a cycle that moves pilots.
     picked_up: [bool; PILOTS],
 }
 
@@ -101,6 +101,7 @@ impl Unit for Pilots {
     fn end_cycle(&mut self, cycle: Cycle) {
         if moves_pilots(cycle) {
             self.transferred = self.picked_up;
+            self.picked_up = [false; PILOTS];
         }
     }
 

@@ -3,3 +3,4 @@ pub mod PositionWords
 pub mod RowWords
 pub mod RowHubs
 pub mod RowSets
+mod FourRows

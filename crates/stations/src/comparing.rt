@@ -1,7 +1,7 @@
 //! Comparing: thirty positions, each with two entries whose rows are compared over a card cycle.
 
-ghost use Rattle.std.specs.Prelude.{◌≡◌, ℕ, ◌+◌, ◌&&◌, nat_lt};
-ghost use Rattle.std.specs.List.{list_any};
+ghost use Rattle.std.specs.Prelude.{◌≡◌, ℕ, ◌+◌, ◌≤◌, ◌&&◌, bit_xor, map, nat_lt};
+ghost use Rattle.std.specs.List.{list_any, slice_range};
 ghost use Rattle.net.specs.HubSets.{is_bit, has_hub};
 ghost use Rattle.stations.specs.Comparing.{positions, is_in_one};
 ghost use Rattle.hubs.specs.declared.hub.Hub.TheVariants.{CA, CB};
@@ -9,6 +9,7 @@ ghost use Rattle.hubs.specs.declared.hub.Hub.TheVariants.{CA, CB};
 use hubs::Hub;
 use net::{Cycle, Picture, Point, Unit};
 use std::marker::Model;
+use std::simd::prelude::*;
 
 /// Comparing, unit 2.
 ///
@@ -117,9 +118,26 @@ fn behind_thirty(bits: u128) -> u128
 fn differences(sets: &[(u32, u32); 12]) -> u32
     ensures { (k : ℕ) → is_bit result k ≡ list_any (is_in_one k) sets.now }
 {
-    let mut joined = 0;
-    for pair in sets {
-        joined |= pair.0 ^ pair.1;
-    }
-    joined
+    let joined = four_differences(sets, 0) | four_differences(sets, 4) | four_differences(sets, 8);
+    joined.reduce_or()
+}
+
+// The positions that differ at each of four rows from a place on, all four taken at once.
+fn four_differences(sets: &[(u32, u32); 12], place: usize) -> u32x4
+    requires { place + 4 ≤ 12 }
+    ensures { result ≡ map (λ pair. bit_xor pair.0 pair.1) (slice_range sets.now place (place + 4)) }
+{
+    let first = u32x4::from_array([
+        sets[place].0,
+        sets[place + 1].0,
+        sets[place + 2].0,
+        sets[place + 3].0,
+    ]);
+    let second = u32x4::from_array([
+        sets[place].1,
+        sets[place + 1].1,
+        sets[place + 2].1,
+        sets[place + 3].1,
+    ]);
+    first ^ second
 }

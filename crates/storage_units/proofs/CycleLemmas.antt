@@ -1,5 +1,5 @@
 -- A storage unit through a cycle.
-use Rattle.std.proofs.Common.{◌≡◌, ◌<◌, ◌+◌, ◌-◌, ◌∙◌, ap, refl, arith, ℕ, Bool, true, false, ◌&&◌, ◌==◌, List, [], ◌∷◌, length, slice_index, slice_set}
+use Rattle.std.proofs.Common.{◌≡◌, ◌<◌, ◌+◌, ◌-◌, ◌∙◌, ap, refl, arith, ℕ, Bool, true, false, ◌&&◌, ◌==◌, List, [], ◌∷◌, slice_index, slice_set}
 use Rattle.std.specs.Prelude.{map}
 use Rattle.std.proofs.lemmas.Bool.Decides.{nat_tests}
 use Rattle.card_code.specs.Rows.{row_place}
@@ -12,37 +12,32 @@ use Rattle.net.specs.HubSets.{is_bit}
 use Rattle.net.specs.declared.cycle.Cycle.{Cycle}
 use Rattle.net.specs.declared.cycle.Point.{Point}
 use Rattle.net.specs.declared.cycle.Point.TheVariants.{C, Row, K}
-use Rattle.storage_units.specs.Storage.{StorageState, storage_place, storage_emits, storage_sensed, storage_ended, holds, columns_in}
+use Rattle.storage_units.specs.Storage.{StorageState, blank, storage_emits, storage_sensed, storage_ended, holds, columns_in}
 use Rattle.storage_units.specs.WholeCycles.{after_points, after_cycle}
 use Rattle.storage_units.specs.Words.{word_of, has_column}
 use Rattle.storage_units.proofs.WordLemmas.{word_of-bit}
 
--- twelve words after each was written
-abbrev written : (CardRow → ℕ) → List ℕ → List ℕ
-written words xs =
-    slice_set (slice_set (slice_set (slice_set (slice_set (slice_set (slice_set (slice_set (slice_set (slice_set (slice_set (slice_set xs
+-- twelve words, blank at first, after each was written
+abbrev written : (CardRow → ℕ) → List ℕ
+written words =
+    slice_set (slice_set (slice_set (slice_set (slice_set (slice_set (slice_set (slice_set (slice_set (slice_set (slice_set (slice_set blank
     0 (words Nine)) 1 (words Eight)) 2 (words Seven)) 3 (words Six)) 4 (words Five)) 5 (words Four)) 6 (words Three)) 7 (words Two))
     8 (words One)) 9 (words Zero)) 10 (words Eleven)) 11 (words Twelve)
 
-written-row : (words : CardRow → ℕ) (a b c d e f g h i j k l : ℕ) (row : CardRow)
-    → slice_index (written words (a ∷ b ∷ c ∷ d ∷ e ∷ f ∷ g ∷ h ∷ i ∷ j ∷ k ∷ l ∷ [])) (row_place row) ≡ words row
-written-row words a b c d e f g h i j k l Nine = refl
-written-row words a b c d e f g h i j k l Eight = refl
-written-row words a b c d e f g h i j k l Seven = refl
-written-row words a b c d e f g h i j k l Six = refl
-written-row words a b c d e f g h i j k l Five = refl
-written-row words a b c d e f g h i j k l Four = refl
-written-row words a b c d e f g h i j k l Three = refl
-written-row words a b c d e f g h i j k l Two = refl
-written-row words a b c d e f g h i j k l One = refl
-written-row words a b c d e f g h i j k l Zero = refl
-written-row words a b c d e f g h i j k l Eleven = refl
-written-row words a b c d e f g h i j k l Twelve = refl
-
 -- each of twelve words is the one that was written
-written-at : (words : CardRow → ℕ) (xs : List ℕ) (row : CardRow) → length xs ≡ 12 → slice_index (written words xs) (row_place row) ≡ words row
-written-at words (a ∷ b ∷ c ∷ d ∷ e ∷ f ∷ g ∷ h ∷ i ∷ j ∷ k ∷ l ∷ []) row long = written-row words a b c d e f g h i j k l row
-written-at words xs row long = absurd (omega (arith, long))
+written-at : (words : CardRow → ℕ) (row : CardRow) → slice_index (written words) (row_place row) ≡ words row
+written-at words Nine = refl
+written-at words Eight = refl
+written-at words Seven = refl
+written-at words Six = refl
+written-at words Five = refl
+written-at words Four = refl
+written-at words Three = refl
+written-at words Two = refl
+written-at words One = refl
+written-at words Zero = refl
+written-at words Eleven = refl
+written-at words Twelve = refl
 
 -- a column is in the word of a test where the test is true
 word_of-column : (test : ℕ → Bool) (column : ℕ) → has_column (word_of test 16) column ≡ (is_within column 16 && test column)
@@ -58,33 +53,33 @@ word_of-column test column = by (is_within column 16) refl
 
 -- a unit that was told so reads in
 pub reads_in_whole : (storage : StorageState) (cycle : Cycle) (pictures : Point → Hub → Bool) (row : CardRow) (column : ℕ)
-    → length storage.received ≡ 12 → pictures C (SI (storage_place storage)) ≡ true
+    → pictures C (SI storage.place) ≡ true
     → holds (after_cycle cycle pictures storage) row column
-    ≡ (is_within column 16 && pictures (Row row) (SE (storage_place storage) column))
-reads_in_whole storage cycle pictures row column long told = by (pictures C (SI (storage_place storage))) told
+    ≡ (is_within column 16 && pictures (Row row) (SE storage.place column))
+reads_in_whole storage cycle pictures row column told = by (pictures C (SI storage.place)) told
   where
     words : CardRow → ℕ
-    words row = columns_in (pictures (Row row)) (storage_place storage)
+    words row = columns_in (pictures (Row row)) storage.place
 
     by : (told : Bool) → told ≡ true
         → holds (storage_ended (after_points cycle pictures (Row Nine ∷ Row Eight ∷ Row Seven ∷ Row Six ∷ Row Five ∷ Row Four ∷ Row Three
         ∷ Row Two ∷ Row One ∷ Row Zero ∷ Row Eleven ∷ Row Twelve ∷ K ∷ [])
-        (record storage { reads_in = told; reads_out = pictures C (SO (storage_place storage)) })) cycle) row column
-        ≡ (is_within column 16 && pictures (Row row) (SE (storage_place storage) column))
-    by true is = ap (λ word. has_column word column) (written-at words storage.received row long)
-        ∙ word_of-column (λ column. pictures (Row row) (SE (storage_place storage) column)) column
+        (record storage { received = blank; reads_in = told; reads_out = pictures C (SO storage.place) })) cycle) row column
+        ≡ (is_within column 16 && pictures (Row row) (SE storage.place column))
+    by true is = ap (λ word. has_column word column) (written-at words row)
+        ∙ word_of-column (λ column. pictures (Row row) (SE storage.place column)) column
     by false is = cc
 
 -- a unit that wasn't told so keeps what it holds
 pub keeps_held : (storage : StorageState) (cycle : Cycle) (pictures : Point → Hub → Bool) (row : CardRow) (column : ℕ)
-    → pictures C (SI (storage_place storage)) ≡ false
+    → pictures C (SI storage.place) ≡ false
     → holds (after_cycle cycle pictures storage) row column ≡ holds storage row column
-keeps_held storage cycle pictures row column told = by (pictures C (SI (storage_place storage))) told
+keeps_held storage cycle pictures row column told = by (pictures C (SI storage.place)) told
   where
     by : (told : Bool) → told ≡ false
         → holds (storage_ended (after_points cycle pictures (Row Nine ∷ Row Eight ∷ Row Seven ∷ Row Six ∷ Row Five ∷ Row Four ∷ Row Three
         ∷ Row Two ∷ Row One ∷ Row Zero ∷ Row Eleven ∷ Row Twelve ∷ K ∷ [])
-        (record storage { reads_in = told; reads_out = pictures C (SO (storage_place storage)) })) cycle) row column
+        (record storage { received = blank; reads_in = told; reads_out = pictures C (SO storage.place) })) cycle) row column
         ≡ holds storage row column
     by false is = refl
     by true is = cc
@@ -98,14 +93,15 @@ emits_as_before cycle pictures (first ∷ others) storage row hub =
 
 -- a unit emits what it held at the start, where it was told to read out
 pub reads_out_start : (storage : StorageState) (cycle : Cycle) (pictures : Point → Hub → Bool) (before : List CardRow) (row : CardRow) (column : ℕ)
-    → storage_emits (after_points cycle pictures (C ∷ map Row before) storage) cycle (Row row) (SX (storage_place storage) column)
-    ≡ (pictures C (SO (storage_place storage)) && holds storage row column)
+    → storage_emits (after_points cycle pictures (C ∷ map Row before) storage) cycle (Row row) (SX storage.place column)
+    ≡ (pictures C (SO storage.place) && holds storage row column)
 reads_out_start storage cycle pictures before row column =
     emits_as_before cycle pictures before (record storage {
-      reads_in = pictures C (SI (storage_place storage));
-      reads_out = pictures C (SO (storage_place storage));
-    }) row (SX (storage_place storage) column)
-    ∙ own_unit (pictures C (SO (storage_place storage))) (storage_place storage) (holds storage row column)
+      received = blank;
+      reads_in = pictures C (SI storage.place);
+      reads_out = pictures C (SO storage.place);
+    }) row (SX storage.place column)
+    ∙ own_unit (pictures C (SO storage.place)) storage.place (holds storage row column)
   where
     own_unit : (out : Bool) (place : ℕ) (held : Bool) → ((out && (place == place)) && held) ≡ (out && held)
     own_unit out place held = grind (arith, nat_tests)

@@ -45,7 +45,7 @@ row_of_columns place bits other from to small =
 
 -- the row of a unit that reads out is what it emits at the row
 pub reads_out_row : (storage : StorageState) (cycle : Cycle) (point : Point) (row : CardRow) (place bits : ℕ) (hub : Hub)
-    → point ≡ Row row → storage.reads_out ≡ true → 1 ≤ place → place ≤ 4 → place ≡ storage.unit - 34
+    → point ≡ Row row → storage.reads_out ≡ true → 1 ≤ place → place ≤ 4 → place ≡ storage.place
     → bits ≡ slice_index storage.held (row_place row) → bits < 2 ^ 16
     → is_in_row (SX place 1) bits hub ≡ storage_emits storage cycle point hub
 reads_out_row storage cycle point row place bits hub at on from to is_place are small =
@@ -54,15 +54,15 @@ reads_out_row storage cycle point row place bits hub at on from to is_place are 
     own : (hub : Hub) → own_columns place bits hub ≡ storage_emits storage cycle (Row row) hub
     own (SX unit column) =
         ap (λ p. (unit == p) && has_column bits column) is_place
-        ∙ ap (λ b. (unit == storage.unit - 34) && has_column b column) are
-        ∙ ap (λ out. (out && (unit == storage.unit - 34)) && holds storage row column) (sym on)
+        ∙ ap (λ b. (unit == storage.place) && has_column b column) are
+        ∙ ap (λ out. (out && (unit == storage.place)) && holds storage row column) (sym on)
     own other = refl
 
 -- a unit that doesn't read out is silent
 pub is_silent : (storage : StorageState) (cycle : Cycle) (point : Point) (hub : Hub) → storage.reads_out ≡ false
     → false ≡ storage_emits storage cycle point hub
 is_silent storage cycle (Row row) (SX unit column) off =
-    ap (λ out. (out && (unit == storage.unit - 34)) && holds storage row column) (sym off)
+    ap (λ out. (out && (unit == storage.place)) && holds storage row column) (sym off)
 is_silent storage cycle point hub off = refl
 
 -- the low columns of a row of the entries are those that are impulsed

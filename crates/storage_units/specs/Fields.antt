@@ -4,4 +4,4 @@ use Rattle.storage_units.specs.declared.storage.Storage.TheInside as storage
 
 -- a storage unit by its fields
 abbrev pub state_of : storage.Inside → StorageState
-state_of s = record { unit = s.unit; held = s.held; received = s.received; reads_in = s.reads_in; reads_out = s.reads_out }
+state_of s = record { place = s.place; held = s.held; received = s.received; reads_in = s.reads_in; reads_out = s.reads_out }

@@ -22,10 +22,11 @@ const UNITS_BEFORE: u8 = 34;
 /// came. It may be told both, and emits the old then.
 #[derive(Clone, Copy, Debug, PartialEq, Eq)]
 pub struct Storage {
-    unit: u8,
+    // Its number among the storage units, 1 to 4, as its hubs have it.
+    place: u8,
     // For each row, in the order of the points, the columns that hold it: bit c - 1 tells of column c.
     held: [u16; 12],
-    // The same of what came in.
+    // The same of what came in since the control point, where it reads in.
     received: [u16; 12],
     reads_in: bool,
     reads_out: bool,
@@ -41,15 +42,15 @@ impl Model for Storage {
 
     ghost view = { state_of };
 
-    ghost invariant = { λ s. (35 ≤ s.unit) × (s.unit ≤ 38) };
+    ghost invariant = { λ s. (1 ≤ s.place) × (s.place ≤ 4) };
 
-    ghost inverse = { λ s. record { unit = s.unit; held = s.held; received = s.received; reads_in = s.reads_in; reads_out = s.reads_out } };
+    ghost inverse = { λ s. record { place = s.place; held = s.held; received = s.received; reads_in = s.reads_in; reads_out = s.reads_out } };
 }
 
 impl Storage {
-    ghost use Rattle.std.specs.Prelude.{◌≡◌, ◌≤◌, ◌+◌, slice_index};
+    ghost use Rattle.std.specs.Prelude.{◌≡◌, ◌≤◌, slice_index};
     ghost use Rattle.card_code.specs.Rows.{row_place};
-    ghost use Rattle.storage_units.specs.Storage.{storage_at_start, storage_place, holds};
+    ghost use Rattle.storage_units.specs.Storage.{storage_at_start, holds};
 
     /// The storage unit with this number among the units, 35 to 38. It holds nothing.
     pub fn new(unit: u8) -> Self
@@ -58,7 +59,7 @@ impl Storage {
         ensures { result ≡ storage_at_start unit }
     {
         Storage {
-            unit,
+            place: unit - UNITS_BEFORE,
             held: [0; 12],
             received: [0; 12],
             reads_in: false,
@@ -79,16 +80,6 @@ impl Storage {
     {
         self.held[row.place()]
     }
-
-    // Its number among the storage units, as its hubs have it.
-    fn place(&self) -> u8
-        ensures value { result ≡ storage_place self.now }
-        ensures from { 1 ≤ result }
-        ensures to { result ≤ 4 }
-        ensures unit { result + UNITS_BEFORE ≡ self.now.unit }
-    {
-        self.unit - UNITS_BEFORE
-    }
 }
 
 impl Unit for Storage {
@@ -108,7 +99,7 @@ impl Unit for Storage {
     fn emit(&self, _cycle: Cycle, point: Point, exits: &mut Picture) {
         match point {
             Point::Row(row) if self.reads_out => {
-                exits.insert_row(Hub::SX(self.place(), 1), u128::from(self.held_at(row)));
+                exits.insert_row(Hub::SX(self.place, 1), u128::from(self.held_at(row)));
             }
             _ => {}
         }
@@ -117,12 +108,12 @@ impl Unit for Storage {
     fn sense(&mut self, _cycle: Cycle, point: Point, picture: &Picture) {
         match point {
             Point::C => {
-                let place = self.place();
-                self.reads_in = picture.has(Hub::SI(place));
-                self.reads_out = picture.has(Hub::SO(place));
+                self.received = [0; 12];
+                self.reads_in = picture.has(Hub::SI(self.place));
+                self.reads_out = picture.has(Hub::SO(self.place));
             }
             Point::Row(row) if self.reads_in => {
-                self.received[row.place()] = columns_in(picture, self.place());
+                self.received[row.place()] = columns_in(picture, self.place);
             }
             _ => {}
         }

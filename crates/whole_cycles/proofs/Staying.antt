@@ -20,9 +20,9 @@ use Rattle.net.specs.declared.cycle.Point.TheVariants.{C, Row, K}
 use Rattle.print_unit.specs.Wheels.{emptied, wheel_at_start}
 use Rattle.print_unit.specs.ZeroControl.{Wheel}
 use Rattle.selectors.specs.Numbered.{tests_to}
-use Rattle.selectors.specs.Pilots.{PilotStates, pickups}
+use Rattle.selectors.specs.Pilots.{PilotStates, no_pilots, pickups}
 use Rattle.selectors.specs.WholeCycles as selectors
-use Rattle.storage_units.specs.Storage.{StorageState, columns_in, storage_at_start, storage_number, storage_place, storage_sensed}
+use Rattle.storage_units.specs.Storage.{StorageState, columns_in, storage_at_start, storage_number, storage_sensed}
 use Rattle.storage_units.specs.WholeCycles as columns
 use Rattle.machine.specs.Machine.{MachineState, machine_at_start, group_units, storage_units}
 use Rattle.whole_cycles.specs.Between.{HasAllRows, IsBetween, IsEmpty, IsIdle}
@@ -92,11 +92,11 @@ group-kept cycle pictures group is = record {
 -- a storage unit has all rows through the points of a cycle
 storage-point : (cycle : Cycle) (point : Point) (picture : Hub → Bool) (storage : StorageState) → HasAllRows storage
     → HasAllRows (storage_sensed storage cycle point picture)
-storage-point cycle C picture storage is = record { held = is.held; received = is.received }
+storage-point cycle C picture storage is = record { held = is.held; received = refl }
 storage-point cycle (Row row) picture storage is = record { held = is.held; received = by storage.reads_in }
   where
-    by : (reads_in : Bool) → length (if reads_in then slice_set storage.received (row_place row) (columns_in picture (storage_place storage)) else storage.received) ≡ 12
-    by true = length-set storage.received (row_place row) (columns_in picture (storage_place storage)) ∙ is.received
+    by : (reads_in : Bool) → length (if reads_in then slice_set storage.received (row_place row) (columns_in picture storage.place) else storage.received) ≡ 12
+    by true = length-set storage.received (row_place row) (columns_in picture storage.place) ∙ is.received
     by false = is.received
 storage-point cycle K picture storage is = is
 
@@ -123,16 +123,15 @@ pickups-many : (picture : Hub → Bool) → length (pickups picture) ≡ 16
 unfolding tests_to
 pickups-many picture = length-map-range_with_len (λ pilot. picture (PIX pilot)) 1 16
 
-record AreSixteen (pilots : PilotStates) : Type 0 where
+-- sixteen pilots that have forgotten their pickups
+record HaveForgotten (pilots : PilotStates) : Type 0 where
   transferred : length pilots.transferred ≡ 16
-  picked_up : length pilots.picked_up ≡ 16
+  picked_up : pilots.picked_up ≡ no_pilots
 
-pilots-kept : (cycle : Cycle) (pictures : Point → Hub → Bool) (pilots : PilotStates) → AreSixteen pilots
-    → AreSixteen (selectors.after_cycle cycle pictures pilots)
-pilots-kept RunIn pictures pilots is =
-    record { transferred = pickups-many (pictures (Row Eleven)); picked_up = pickups-many (pictures (Row Eleven)) }
-pilots-kept Card pictures pilots is =
-    record { transferred = pickups-many (pictures (Row Eleven)); picked_up = pickups-many (pictures (Row Eleven)) }
+pilots-kept : (cycle : Cycle) (pictures : Point → Hub → Bool) (pilots : PilotStates) → HaveForgotten pilots
+    → HaveForgotten (selectors.after_cycle cycle pictures pilots)
+pilots-kept RunIn pictures pilots is = record { transferred = pickups-many (pictures (Row Eleven)); picked_up = refl }
+pilots-kept Card pictures pilots is = record { transferred = pickups-many (pictures (Row Eleven)); picked_up = refl }
 pilots-kept (Prog level ordinal) pictures pilots is = record { transferred = is.transferred; picked_up = is.picked_up }
 pilots-kept (Head heading) pictures pilots is = record { transferred = is.transferred; picked_up = is.picked_up }
 
@@ -141,8 +140,8 @@ pub stays : (wiring : Wiring) (cycle : Cycle) (old new : MachineState)
     → IsBetween old → WholeCycle wiring cycle old new → IsBetween new
 stays wiring cycle old new between whole =
     let pictures : Point → Hub → Bool = whole.pictures in
-    let sixteen : AreSixteen new.pilots =
-    subst AreSixteen (sym whole.pilots)
+    let pilots : HaveForgotten new.pilots =
+    subst HaveForgotten (sym whole.pilots)
     (pilots-kept cycle pictures old.pilots (record { transferred = between.transferred; picked_up = between.picked_up })) in
     record {
       comparing = whole.comparing;
@@ -157,8 +156,8 @@ stays wiring cycle old new between whole =
       storage =
           All-same HasAllRows new.storage _ whole.storage
           (all-kept HasAllRows (columns.after_cycle cycle pictures) (storage-kept cycle pictures) old.storage between.storage);
-      transferred = sixteen.transferred;
-      picked_up = sixteen.picked_up;
+      transferred = pilots.transferred;
+      picked_up = pilots.picked_up;
       many_wheels =
           ap (λ (ws : List Wheel). length ws) whole.wheels ∙ length-map old.wheels.wheels emptied ∙ between.many_wheels;
       wheels =

@@ -14,7 +14,7 @@ use Rattle.hubs.specs.declared.hub.Hub.TheVariants.{GX, CO, CI, BAN, BAT, SX, RO
 use Rattle.net.specs.Panel.{unit_of}
 use Rattle.net.specs.declared.cycle.Point.{Point}
 use Rattle.net.specs.declared.cycle.Point.TheVariants.{C}
-use Rattle.storage_units.specs.Storage.{StorageState, holds, storage_at_start, storage_number, storage_place}
+use Rattle.storage_units.specs.Storage.{StorageState, holds, storage_at_start, storage_number}
 use Rattle.storage_units.specs.WholeCycles as columns
 use Rattle.machine.specs.Machine.{MachineState, group_units, machine_at_start, storage_units}
 use Rattle.whole_cycles.specs.Between.{IsBetween, IsIdle}
@@ -103,21 +103,21 @@ by_name machine name between is =
 
 -- a storage unit reads out at exits of its own number
 storage-silent : (pictures : Point → Hub → Bool) (row : CardRow) (number column : ℕ) (storage : StorageState)
-    → number ≢ storage_place storage → storage_reads_out pictures row storage (SX number column) ≡ false
+    → number ≢ storage.place → storage_reads_out pictures row storage (SX number column) ≡ false
 storage-silent pictures row number column storage differ =
-    by (pictures C (SO (storage_place storage))) (holds storage row column)
+    by (pictures C (SO storage.place)) (holds storage row column)
   where
-    by : (a b : Bool) → ((a && (number == storage_place storage)) && b) ≡ false
+    by : (a b : Bool) → ((a && (number == storage.place)) && b) ≡ false
     by a b = grind (arith, nat_tests, differ)
 
 storage-here : (pictures : Point → Hub → Bool) (row : CardRow) (number column : ℕ) (storage : StorageState)
-    → storage_place storage ≡ number
+    → storage.place ≡ number
     → storage_reads_out pictures row storage (SX number column) ≡ (pictures C (SO number) && holds storage row column)
 storage-here pictures row number column storage same =
-    by (pictures C (SO (storage_place storage))) (holds storage row column)
+    by (pictures C (SO storage.place)) (holds storage row column)
     ∙ ap (λ (n : ℕ). pictures C (SO n) && holds storage row column) same
   where
-    by : (a b : Bool) → ((a && (number == storage_place storage)) && b) ≡ (a && b)
+    by : (a b : Bool) → ((a && (number == storage.place)) && b) ≡ (a && b)
     by a b = grind (arith, nat_tests, same)
 
 by_number : (machine : MachineState) (number : ℕ) → IsBetween machine → 1 ≤ number → number ≤ 4 → IsStorageByNumber machine number
@@ -129,16 +129,16 @@ by_number machine number between low high =
     let unit_at : (j : ℕ) → j < length machine.storage → storage_number (get_or machine.storage j d) ≡ 35 + j =
     λ j within. told_at storage_number machine.storage storage_units j d between.numbered within
     ∙ get_or-range_with_len 35 4 j 0 (omega (arith, within, many)) in
-    let unit : (storage_at machine number).unit ≡ 34 + number = (let is = unit_at k inside in omega (arith, is, low)) in
+    let place : (storage_at machine number).place ≡ number = (let is = unit_at k inside in omega (arith, is, low)) in
     record {
-      numbered = unit;
+      placed = place;
       has_rows = between.storage k d inside;
       reads_out = λ pictures cycle row column.
           at_columns machine pictures cycle row number column
           ∙ any-one (λ storage. storage_reads_out pictures row storage (SX number column)) machine.storage k d inside
           (λ j within other. storage-silent pictures row number column (get_or machine.storage j d)
           (λ same. let is = unit_at j within in other (omega (arith, is, same, low))))
-          ∙ storage-here pictures row number column (storage_at machine number) (omega (arith, unit));
+          ∙ storage-here pictures row number column (storage_at machine number) place;
       behind = λ wiring cycle new whole.
           ap (λ (us : List StorageState). get_or us k d) whole.storage
           ∙ get_or-map (columns.after_cycle cycle whole.pictures) machine.storage k d d inside;

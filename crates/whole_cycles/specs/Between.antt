@@ -1,6 +1,6 @@
--- The machine between cycles: comparing, the counter groups and the wheels have nothing left of what they gathered in the cycle before, and
--- what the setup fixes stands. The pickups of the pilots, the rows that storage units received and the level called stay until a cycle
--- replaces them.
+-- The machine between cycles: comparing, the counter groups, the pilots and the wheels have nothing left of what they gathered in the
+-- cycle before, and what the setup fixes stands. The rows that storage units received stay until the next control point, and the level
+-- called until a card cycle replaces it.
 use Rattle.std.specs.Prelude.{◌≡◌, false, All, length, replicate, map}
 use Rattle.std.specs.List.{range_with_len}
 use Rattle.counters.specs.Counters.{Counter, no_controls}
@@ -10,6 +10,7 @@ use Rattle.hubs.specs.declared.hub.Hub.TheVariants.{CO, CI}
 use Rattle.net.specs.Printing.{printing_of}
 use Rattle.print_unit.specs.Wheels.{wheel_at_start}
 use Rattle.print_unit.specs.ZeroControl.{Wheel}
+use Rattle.selectors.specs.Pilots.{no_pilots}
 use Rattle.stations.specs.Comparing.{comparing_at_start}
 use Rattle.storage_units.specs.Storage.{StorageState, storage_number}
 use Rattle.machine.specs.Fields.{AreInUnitOrder}
@@ -30,8 +31,8 @@ pub record HasAllRows (storage : StorageState) : Type 0 where
 abbrev pub IsEmpty : Wheel → Type 0
 IsEmpty wheel = wheel.received ≡ replicate 12 false
 
--- The machine between cycles: comparing has forgotten its sets, the groups are idle and the wheels empty, and the units are in
--- number and order those of the panel.
+-- The machine between cycles: comparing has forgotten its sets and the pilots their pickups, the groups are idle and the wheels empty,
+-- and the units are in number and order those of the panel.
 pub record IsBetween (machine : MachineState) : Type 0 where
   pub comparing : machine.comparing ≡ comparing_at_start
   pub ordered : AreInUnitOrder machine.groups
@@ -39,7 +40,7 @@ pub record IsBetween (machine : MachineState) : Type 0 where
   pub numbered : map storage_number machine.storage ≡ storage_units
   pub storage : All HasAllRows machine.storage
   pub transferred : length machine.pilots.transferred ≡ 16
-  pub picked_up : length machine.pilots.picked_up ≡ 16
+  pub picked_up : machine.pilots.picked_up ≡ no_pilots
   pub many_wheels : length machine.wheels.wheels ≡ 120
   pub wheels : All IsEmpty machine.wheels.wheels
 

@@ -58,7 +58,7 @@ pub record IsGroupByName (machine : MachineState) (name : Group) : Type 0 where
 
 -- A storage unit alone emits at its exits, and goes through a cycle by itself.
 pub record IsStorageByNumber (machine : MachineState) (number : ℕ) : Type 0 where
-  pub numbered : (storage_at machine number).unit ≡ 34 + number
+  pub placed : (storage_at machine number).place ≡ number
   pub has_rows : HasAllRows (storage_at machine number)
   pub reads_out :
       (pictures : Point → Hub → Bool) (cycle : Cycle) (row : CardRow) (column : ℕ)

@@ -27,7 +27,7 @@ use Rattle.selectors.specs.Indicate.{indicate_ended}
 use Rattle.selectors.specs.WholeCycles as selectors
 use Rattle.stations.specs.Comparing.{comparing_at_start, are_unlike}
 use Rattle.stations.specs.Stations.{stations_emits}
-use Rattle.storage_units.specs.Storage.{StorageState, storage_place, holds}
+use Rattle.storage_units.specs.Storage.{StorageState, holds}
 use Rattle.storage_units.specs.WholeCycles as storage_units
 use Rattle.machine.specs.Machine.{MachineState, closes}
 
@@ -42,7 +42,7 @@ group_reads_out pictures row group hub = pictures C (RO group.name) && shows gro
 -- A storage unit told to read out at the control point emits the rows that its columns hold at the start.
 abbrev pub storage_reads_out : (Point → Hub → Bool) → CardRow → StorageState → Hub → Bool
 storage_reads_out pictures row storage (SX unit column) =
-    (pictures C (SO (storage_place storage)) && (unit == storage_place storage)) && holds storage row column
+    (pictures C (SO storage.place) && (unit == storage.place)) && holds storage row column
 storage_reads_out pictures row storage hub = false
 
 -- What is emitted at a row: the punches of the cards at the stations, the digits of the groups and the columns of the storage

@@ -20,7 +20,7 @@ use Rattle.net.specs.declared.cycle.Point.TheVariants.{C, Row}
 use Rattle.print_unit.specs.Emitters.{emits_row}
 use Rattle.stations.specs.Punches.{is_punched_at}
 use Rattle.stations.specs.Stations.{stations_emits}
-use Rattle.storage_units.specs.Storage.{holds, storage_place}
+use Rattle.storage_units.specs.Storage.{holds}
 use Rattle.whole_cycles.specs.WholeCycles.{control_emits, row_emits, group_reads_out, storage_reads_out}
 use Rattle.wired_panels.specs.Sources.{EmitsAtControl, EmitsAtRow, ReadsFirst, digit_at}
 use Rattle.wired_panels.specs.Sources.ReadsFirst.{run_in, card as card_reads}
@@ -133,11 +133,11 @@ sending old pictures cycle row n (digit group position listed out low high is) t
     (both (pictures C (RO group.name)) (shows group.name (row_number row) group.digits (GX group.name position)) out
     (showing group.name (row_number row) group.digits position n low high is there)))
 sending old pictures cycle row n (column storage c listed out held) there =
-    let same : (storage_place storage == storage_place storage) ≡ true = grind (arith, nat_tests) in
-    third_of (stations_emits old.stations cycle (Row row) (SX (storage_place storage) c)) _ _ _
-    (any_from (λ s. storage_reads_out pictures row s (SX (storage_place storage) c)) old.storage storage listed
-    (both (pictures C (SO (storage_place storage)) && (storage_place storage == storage_place storage)) (holds storage row c)
-    (both (pictures C (SO (storage_place storage))) _ out same) held))
+    let same : (storage.place == storage.place) ≡ true = grind (arith, nat_tests) in
+    third_of (stations_emits old.stations cycle (Row row) (SX storage.place c)) _ _ _
+    (any_from (λ s. storage_reads_out pictures row s (SX storage.place c)) old.storage storage listed
+    (both (pictures C (SO storage.place) && (storage.place == storage.place)) (holds storage row c)
+    (both (pictures C (SO storage.place)) _ out same) held))
 sending old pictures cycle row n (emitter e is) there =
     fourth_of (stations_emits old.stations cycle (Row row) (EM e (row_number row))) _ _ _
     (ap (λ o. emits_row o row (EM e (row_number row))) is ∙ own (EM e (row_number row)) n there)

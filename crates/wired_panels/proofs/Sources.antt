@@ -19,7 +19,7 @@ use Rattle.net.specs.declared.cycle.Point.TheVariants.{C, Row}
 use Rattle.print_unit.specs.Emitters.{emitter_of, emits_row, emitters_emit}
 use Rattle.stations.specs.Punches.{is_punched_at}
 use Rattle.stations.specs.Stations.{first_emits, second_emits, stations_emits}
-use Rattle.storage_units.specs.Storage.{StorageState, holds, storage_place}
+use Rattle.storage_units.specs.Storage.{StorageState, holds}
 use Rattle.whole_cycles.specs.WholeCycles.{control_emits, row_emits, group_reads_out, storage_reads_out}
 use Rattle.wired_panels.specs.Sources.{EmitsAtControl, EmitsAtRow, digit_at}
 use Rattle.wired_panels.specs.Sources.EmitsAtControl.{card as tells_card, prog as tells_prog, head as tells_head}
@@ -104,17 +104,17 @@ shown_source name given (d ∷ below) hub on =
 -- a column that a storage unit gives
 stored_source :
     (pictures : Point → Hub → Bool) (row : CardRow) (storage : StorageState) (hub : Hub) → storage_reads_out pictures row storage hub ≡ true
-    → (c : ℕ) × (hub ≡ SX (storage_place storage) c) × (pictures C (SO (storage_place storage)) ≡ true)
+    → (c : ℕ) × (hub ≡ SX storage.place c) × (pictures C (SO storage.place) ≡ true)
     × (holds storage row c ≡ true)
 stored_source pictures row storage (SX unit c) on =
-    by (pictures C (SO (storage_place storage))) (unit == storage_place storage) (holds storage row c) refl refl refl on
+    by (pictures C (SO storage.place)) (unit == storage.place) (holds storage row c) refl refl refl on
   where
-    by : (a b d : Bool) → pictures C (SO (storage_place storage)) ≡ a → (unit == storage_place storage) ≡ b
+    by : (a b d : Bool) → pictures C (SO storage.place) ≡ a → (unit == storage.place) ≡ b
         → holds storage row c ≡ d → ((a && b) && d) ≡ true
-        → (n : ℕ) × (SX unit c ≡ SX (storage_place storage) n) × (pictures C (SO (storage_place storage)) ≡ true)
+        → (n : ℕ) × (SX unit c ≡ SX storage.place n) × (pictures C (SO storage.place) ≡ true)
         × (holds storage row n ≡ true)
     by true true true given same held all =
-        let is : unit ≡ storage_place storage = grind (arith, nat_tests, same) in
+        let is : unit ≡ storage.place = grind (arith, nat_tests, same) in
         (c, ap (λ u. SX u c) is, given, held)
     by true true false given same held all = cc
     by true false d given same held all = cc

@@ -1,6 +1,5 @@
 -- What the storage units of a panel hold behind a card cycle, and in which cycles they read out.
-use Rattle.std.proofs.Common.{◌≡◌, ◌∙◌, refl, sym, ap, subst, ℕ, ◌+◌, ◌-◌, ◌<◌, ◌&&◌, Bool, true, false, List, [], ◌∷◌, Contains, Option, Some, None, option_map, ◌↔◌, if◌then◌else◌, slice_index, length, zero, suc, arith, map}
-use Rattle.std.proofs.lemmas.List.Elements.{All-contains}
+use Rattle.std.proofs.Common.{◌≡◌, ◌∙◌, refl, sym, ap, subst, ℕ, ◌+◌, ◌-◌, ◌<◌, ◌&&◌, Bool, true, false, List, [], ◌∷◌, Contains, Option, Some, None, option_map, ◌↔◌, if◌then◌else◌, slice_index, zero, suc, arith, map}
 use Rattle.plans.specs.Plans.{Lists}
 use Rattle.card_code.specs.CardCode.{has_row}
 use Rattle.card_code.specs.Rows.{row_number}
@@ -27,7 +26,7 @@ use Rattle.net.specs.declared.cycle.Point.{Point}
 use Rattle.net.specs.declared.cycle.Point.TheVariants.{C, Row}
 use Rattle.stations.specs.Punches.{is_punched_at}
 use Rattle.storage_units.proofs.CycleLemmas.{reads_in_whole, keeps_held}
-use Rattle.storage_units.specs.Storage.{StorageState, storage_place, holds}
+use Rattle.storage_units.specs.Storage.{StorageState, holds}
 use Rattle.storage_units.specs.WholeCycles.{after_cycle}
 use Rattle.whole_cycles.specs.Between.{HasAllRows}
 use Rattle.wiring_table.specs.Figures.{IsText}
@@ -137,7 +136,7 @@ module _ (chart : Chart) (plan : Lists) (wiring : Wiring) (old : MachineState) (
   pub unit-kept : (storage : StorageState) (row : CardRow) (column : ℕ) → is_card_cycle cycle ≡ false
       → holds (after_cycle cycle pictures storage) row column ≡ holds storage row column
   unit-kept storage row column none =
-      keeps_held storage cycle pictures row column (no-unit-reads_in (storage_place storage) none)
+      keeps_held storage cycle pictures row column (no-unit-reads_in storage.place none)
 
   -- In a card cycle
   module _ (rising : NumbersRise chart.lines chart.end) (is_card : cycle ≡ Card) (card : List ℕ) (stands : old.stations.second ≡ Some card)
@@ -206,10 +205,10 @@ module _ (chart : Chart) (plan : Lists) (wiring : Wiring) (old : MachineState) (
           }))
 
       -- the unit holds the columns of its text
-      pub unit-holds : (storage : StorageState) → length storage.received ≡ 12 → storage_place storage ≡ unit
+      pub unit-holds : (storage : StorageState) → storage.place ≡ unit
           → holds (after_cycle cycle pictures storage) row (j + 1) ≡ has_row (column_of card (field.first + j)) (row_number row)
-      unit-holds storage long same =
-          reads_in_whole storage cycle pictures row (j + 1) long (ap (λ u. pictures C (SI u)) same ∙ reads_in)
+      unit-holds storage same =
+          reads_in_whole storage cycle pictures row (j + 1) (ap (λ u. pictures C (SI u)) same ∙ reads_in)
           ∙ rw unit-column (ap (λ u. pictures (Row row) (SE u (j + 1))) same ∙ is-stored)
 
 -- an element of a mapped list comes from one of the list
@@ -233,10 +232,9 @@ module _ (chart : Chart) (plan : Lists) (wiring : Wiring) (old : MachineState) (
   units-hold card rising is_card stands =
       λ line level wheel name field unit storage row j listed says_it is_text served there place below.
       let from = mapped (after_cycle cycle pictures) old.storage storage there in
-      let long = (All-contains HasAllRows old.storage from.item it.between.storage from.listed).received in
       ap (λ s. holds s row (j + 1)) (sym from.is)
       ∙ unit-holds chart plan wiring old cycle pictures it rising is_card card stands line level wheel name field unit listed says_it
-      is_text served row j below from.item long (ap storage_place from.is ∙ place)
+      is_text served row j below from.item (ap (λ (s : StorageState). s.place) from.is ∙ place)
 
   -- Behind another cycle they hold what they held.
   pub units-kept : (card : List ℕ) → is_card_cycle cycle ≡ false → UnitsHold chart.lines plan card old.storage
@@ -246,4 +244,4 @@ module _ (chart : Chart) (plan : Lists) (wiring : Wiring) (old : MachineState) (
       let from = mapped (after_cycle cycle pictures) old.storage storage there in
       ap (λ s. holds s row (j + 1)) (sym from.is)
       ∙ unit-kept chart plan wiring old cycle pictures it from.item row (j + 1) none
-      ∙ held line level wheel name field unit from.item row j listed says_it is_text served from.listed (ap storage_place from.is ∙ place) below
+      ∙ held line level wheel name field unit from.item row j listed says_it is_text served from.listed (ap (λ (s : StorageState). s.place) from.is ∙ place) below

@@ -25,7 +25,7 @@ use Rattle.net.specs.declared.cycle.Point.{Point}
 use Rattle.net.specs.declared.cycle.Point.TheVariants.{C, Row}
 use Rattle.selectors.specs.Indicate.{Latches, is_latch_set}
 use Rattle.selectors.specs.Pilots.{PilotStates, is_transferred}
-use Rattle.storage_units.specs.Storage.{StorageState, holds, storage_place}
+use Rattle.storage_units.specs.Storage.{StorageState, holds}
 use Rattle.whole_cycles.specs.Between.{IsBetween}
 use Rattle.whole_cycles.specs.WholeCycles.{control_emits, row_emits, closing_emits}
 use Rattle.wiring_table.specs.Figures.{IsText, rule_of}
@@ -84,7 +84,7 @@ abbrev pub UnitsHold : List Line → Lists → List ℕ → List StorageState �
 UnitsHold lines plan card units =
     (line : Line) (level : Level) (wheel : ℕ) (name : List ℕ) (field : Field) (unit : ℕ) (storage : StorageState) (row : CardRow) (j : ℕ)
     → Contains lines line → line.statement ≡ says.TotalText level wheel name → IsText lines name field
-    → unit_for plan line.number ≡ Some unit → Contains units storage → storage_place storage ≡ unit → j < columns_of field
+    → unit_for plan line.number ≡ Some unit → Contains units storage → storage.place ≡ unit → j < columns_of field
     → holds storage row (j + 1) ≡ has_row (column_of card (field.first + j)) (row_number row)
 
 -- A storage unit serves a text on the total line of the level whose third program cycle it is.

@@ -15,7 +15,7 @@ use Rattle.net.specs.declared.cycle.Point.{Point}
 use Rattle.net.specs.declared.cycle.Point.TheVariants.{C}
 use Rattle.print_unit.specs.Emitters.{emitter_of}
 use Rattle.stations.specs.Punches.{is_punched_at}
-use Rattle.storage_units.specs.Storage.{StorageState, holds, storage_place}
+use Rattle.storage_units.specs.Storage.{StorageState, holds}
 
 -- The exit that emits at the control point of a cycle.
 pub data EmitsAtControl : Cycle → Hub → Type 0 where
@@ -43,6 +43,6 @@ pub data EmitsAtRow (old : MachineState) (pictures : Point → Hub → Bool) (cy
       → 1 ≤ position → position ≤ length group.digits → digit_at group.digits position ≡ row_number row
       → EmitsAtRow old pictures cycle row (GX group.name position)
   column : (storage : StorageState) (column : ℕ) → Contains old.storage storage
-      → pictures C (SO (storage_place storage)) ≡ true → holds storage row column ≡ true
-      → EmitsAtRow old pictures cycle row (SX (storage_place storage) column)
+      → pictures C (SO storage.place) ≡ true → holds storage row column ≡ true
+      → EmitsAtRow old pictures cycle row (SX storage.place column)
   emitter : (emitter : ℕ) → emitter_of cycle ≡ Some emitter → EmitsAtRow old pictures cycle row (EM emitter (row_number row))

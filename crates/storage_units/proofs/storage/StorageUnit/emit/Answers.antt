@@ -7,8 +7,8 @@ use Rattle.storage_units.proofs.storage.StorageUnit.emit.Goals as goal
 pub returns-in-Row : goal.returns-in-Row
 returns-in-Row c hub = c.insert_row.ensures hub
     ∙ ap (λ gained. has_hub c.args.exits.now hub || gained)
-    (reads_out_row c.args.self.now c.args._cycle c.args.point c.in-Row.row c.place.result c.from.result hub c.in-Row.is
-    (ap (λ s. s.reads_out) (sym c.self.view_is) ∙ c.if-self.true) c.place.ensures.from c.place.ensures.to c.place.ensures.value
+    (reads_out_row c.args.self.now c.args._cycle c.args.point c.in-Row.row c.self.inside.place c.from.result hub c.in-Row.is
+    (ap (λ s. s.reads_out) (sym c.self.view_is) ∙ c.if-self.true) c.self.invariant.0 c.self.invariant.1 (ap (λ s. s.place) c.self.view_is)
     (c.from.ensures ∙ c.held_at.ensures) (omega (arith, c.from.ensures, c.held_at.type_inv)))
 
 pub returns-else-self : goal.returns-else-self
