@@ -2,7 +2,7 @@
 use Rattle.std.proofs.Common.{◌≡◌, ◌≢◌, refl, sym, ap, ◌∙◌, ℕ, ◌<◌, ◌≤◌, ◌+◌, zero, suc, eqb, cond, arith}
 use Rattle.std.proofs.Common.{Bool, true, false, not, ◌&&◌, List, [], ◌∷◌, length, get_or}
 use Rattle.std.specs.List.{count_by}
-use Rattle.std.proofs.lemmas.Bool.{and_parts, eq-eqb, false≢true}
+use Rattle.std.proofs.lemmas.Bool.{and_parts, eq-eqb, false≢true, not-true}
 use Rattle.std.proofs.lemmas.Bool.Decides.{nat_tests}
 use Rattle.std.proofs.lemmas.List.Sums.{sum_by-cons}
 
@@ -125,7 +125,7 @@ count-injective p f n (suc m) below single =
     (λ k within both.
     let parts = and_parts _ _ both in
     let low : f k < suc m = below k within parts.0 in
-    let other : eqb (f k) m ≡ false = not_true _ parts.1 in
+    let other : eqb (f k) m ≡ false = not-true _ parts.1 in
     let differs : f k ≢ m = λ same. false≢true (sym other ∙ eq-eqb (f k) m same) in
     omega arith)
     (λ j k within other is_in other_in.
@@ -136,10 +136,6 @@ count-injective p f n (suc m) below single =
     single j k within other is_in other_in (left j is_in is_out ∙ sym (left k other_in other_out))) in
     omega arith
   where
-    not_true : (b : Bool) → not b ≡ true → b ≡ false
-    not_true false e = refl
-    not_true true e = cc
-
     left : (k : ℕ) → p k ≡ true → but p f m k ≡ false → f k ≡ m
     left k is_in is_out = grind (arith, nat_tests)
 

@@ -90,14 +90,9 @@ Tells-fault wanted machine fault.Memory has = absurd has
 same_told : (wanted : Wanted) (first : Capacity) (count there line its_line : ℕ)
     → (first ≡ of.StorageWidth → IsLowestOf wanted.wide_texts line) → (first ≡ of.StorageWidth → IsLowestOf wanted.wide_texts its_line)
     → told_of first count there line ≡ told_of first count there its_line
-same_told wanted (of.Counters width) count there line its_line is also = refl
-same_told wanted of.Pilots count there line its_line is also = refl
-same_told wanted of.Comparing count there line its_line is also = refl
 same_told wanted of.StorageWidth count there line its_line is also =
     ap fault.StorageWidth (same_lowest wanted.wide_texts line its_line (is refl) (also refl))
-same_told wanted of.StorageUnits count there line its_line is also = refl
-same_told wanted of.Splits count there line its_line is also = refl
-same_told wanted (of.Indicate level) count there line its_line is also = refl
+same_told wanted other count there line its_line is also = refl
 
 -- and what is told of the same capacity
 same_fault : (wanted : Wanted) (machine : Capacities) (one other : CapacityFault) → Tells wanted machine one

@@ -5,7 +5,7 @@ use Rattle.std.specs.Int.Bits.{bit_and, bit_or}
 use Rattle.std.specs.Int.{bit_at, bit_not, trailing_zeros, Width, w64}
 use Rattle.std.proofs.lemmas.Bool.Decides.{nat_tests}
 use Rattle.std.proofs.lemmas.Nat.{and_le_l, and_mask, shr_split, shr-shr, pow_pos, one_shl}
-use Rattle.std.proofs.lemmas.Bool.{cases_eq, cases_lt, false≢true}
+use Rattle.std.proofs.lemmas.Bool.{cases_eq, cases_lt, false≢true, and_parts}
 use Rattle.std.proofs.Math.Bool.{and-false}
 use Rattle.std.proofs.Math.Nat.{zero-mul}
 use Rattle.std.proofs.lemmas.Nat.Bits.{bit_at_or, bit_at_and, bit_at-lt, bit_at_cat_low, bit_at_cat_high, bit_at-pow_same, bit_at-pow_other, bit_at-zero, bit_at_above, bit_at_not, bit_at_ones, bit_at_ones_above, bit_at_clear_same, bit_at_clear_other, bit_at-trailing_zeros, shr_and_one}
@@ -154,9 +154,7 @@ none_set n e j = ap (λ m. is_bit m j) e ∙ is_bit-zero j
 
 -- what is cut has no bit that was not there
 pub is_bit-kept : (a b j : ℕ) → is_bit (bit_and a b) j ≡ true → is_bit a j ≡ true
-is_bit-kept a b j at = left (is_bit a j) (is_bit b j) (sym (is_bit-and a b j) ∙ at) where
-  left : (x y : Bool) → (x && y) ≡ true → x ≡ true
-  left x y e = grind (arith, nat_tests)
+is_bit-kept a b j at = (and_parts (is_bit a j) (is_bit b j) (sym (is_bit-and a b j) ∙ at)).0
 
 -- a word is less without its lowest bit
 pub taken_lower : (n : ℕ) → 0 < n → n < 2 ^ 64

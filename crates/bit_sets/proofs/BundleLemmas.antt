@@ -5,7 +5,7 @@ use Rattle.std.proofs.lemmas.Grind.{common_steps}
 use Rattle.std.specs.Prelude.{nat_le, nat_lt, ◌==◌, All}
 use Rattle.std.specs.Int.Bits.{bit_and}
 use Rattle.std.proofs.lemmas.Bool.Decides.{nat_tests}
-use Rattle.std.proofs.lemmas.Bool.{cases_eq, cases_lt, false≢true}
+use Rattle.std.proofs.lemmas.Bool.{cases_eq, cases_lt, false≢true, eqb-true, ltb-true, leb-true, and_from, and_parts, or_right, or_left, or_cases, eq-eqb}
 use Rattle.std.proofs.Math.Bool.{and-false, or-false}
 use Rattle.bit_sets.specs.Bits.{is_bit, has_place, is_in_run}
 use Rattle.bit_sets.specs.Bundles.{follows_run, follows, IsBundle, AreCovered, AreRows}
@@ -16,25 +16,6 @@ use Rattle.bit_sets.proofs.BitLemmas.{is_bit-and, none_set}
 use Rattle.bit_sets.proofs.ContactLemmas.{IsRow}
 use Rattle.bit_sets.proofs.LedLemmas.{GainsLed-like, are_zeros, leads-past, leads-zeros, length-zeros}
 
-either : (a b : Bool) → (a || b) ≡ true → (a ≡ true) ⊎ (b ≡ true)
-either true b e = inl refl
-either false b e = inr e
-
-from_left : (a b : Bool) → a ≡ true → (a || b) ≡ true
-from_left a b e = grind (arith, nat_tests)
-
-from_right : (a b : Bool) → b ≡ true → (a || b) ≡ true
-from_right a b e = grind (arith, nat_tests)
-
-left : (a b : Bool) → (a && b) ≡ true → a ≡ true
-left a b e = grind (arith, nat_tests)
-
-right : (a b : Bool) → (a && b) ≡ true → b ≡ true
-right a b e = grind (arith, nat_tests)
-
-both : (a b : Bool) → a ≡ true → b ≡ true → (a && b) ≡ true
-both a b e f = grind (arith, nat_tests)
-
 all : (a b c : Bool) → a ≡ true → b ≡ true → c ≡ true → (a && (b && c)) ≡ true
 all a b c e f g = grind (arith, nat_tests)
 
@@ -42,18 +23,10 @@ all a b c e f g = grind (arith, nat_tests)
 pub contact_parts : (run : Run) (from to : ℕ) → is_contact run from to ≡ true
     → (run.exits ≤ to) × (to - run.exits < run.count) × (from ≡ run.common + (to - run.exits))
 contact_parts run from to is =
-    let a : nat_le run.exits to ≡ true = left _ _ is in
-    let b : nat_lt (to - run.exits) run.count ≡ true = left _ _ (right (nat_le run.exits to) _ is) in
-    let c : (from == run.common + (to - run.exits)) ≡ true = right _ _ (right (nat_le run.exits to) _ is) in
-    (at_most _ _ a, less _ _ b, same _ _ c) where
-      at_most : (m n : ℕ) → nat_le m n ≡ true → m ≤ n
-      at_most m n e = grind (arith, nat_tests)
-
-      less : (m n : ℕ) → nat_lt m n ≡ true → m < n
-      less m n e = grind (arith, nat_tests)
-
-      same : (m n : ℕ) → (m == n) ≡ true → m ≡ n
-      same m n e = grind (arith, nat_tests)
+    let a : nat_le run.exits to ≡ true = (and_parts _ _ is).0 in
+    let b : nat_lt (to - run.exits) run.count ≡ true = (and_parts _ _ (and_parts (nat_le run.exits to) _ is).1).0 in
+    let c : (from == run.common + (to - run.exits)) ≡ true = (and_parts _ _ (and_parts (nat_le run.exits to) _ is).1).1 in
+    (leb-true _ _ a, ltb-true _ _ b, eqb-true _ _ c)
 
 -- the bits that a run leads on are those of its places
 pub run_follows : (run : Run) (new : List ℕ) (commons ones place : ℕ) → IsRunInRange run → IsRow commons new run.common
@@ -132,19 +105,17 @@ followed_by new [] to at = cc
 followed_by new (run ∷ runs) to at =
     ⊎_elim
     (λ here.
-    let low : nat_le run.exits to ≡ true = left _ _ here in
-    let far = right (nat_le run.exits to) _ here in
-    let near : nat_lt (to - run.exits) run.count ≡ true = left _ _ far in
+    let low : nat_le run.exits to ≡ true = (and_parts _ _ here).0 in
+    let far = (and_parts (nat_le run.exits to) _ here).1 in
+    let near : nat_lt (to - run.exits) run.count ≡ true = (and_parts _ _ far).0 in
     let wire : is_contact run (run.common + (to - run.exits)) to ≡ true =
-    all _ _ _ low near (itself (run.common + (to - run.exits))) in (
+    all _ _ _ low near ((eq-eqb (run.common + (to - run.exits)) (run.common + (to - run.exits)) refl)) in (
       run.common + (to - run.exits),
-      right (nat_lt (to - run.exits) run.count) _ far,
-      from_left (is_contact run (run.common + (to - run.exits)) to) (is_any_contact runs (run.common + (to - run.exits)) to) wire,
+      (and_parts (nat_lt (to - run.exits) run.count) _ far).1,
+      or_left (is_contact run (run.common + (to - run.exits)) to) (is_any_contact runs (run.common + (to - run.exits)) to) wire,
     ))
-    (λ there. let rest = followed_by new runs to there in (rest.0, rest.1, from_right (is_contact run rest.0 to) _ rest.2))
-    (either (follows_run new run to) (follows new runs to) at) where
-      itself : (n : ℕ) → (n == n) ≡ true
-      itself n = grind (arith, nat_tests)
+    (λ there. let rest = followed_by new runs to there in (rest.0, rest.1, or_right (is_contact run rest.0 to) _ rest.2))
+    (or_cases (follows_run new run to) (follows new runs to) at)
 
 pub follows_from : (new : List ℕ) (runs : List Run) (from to : ℕ) → has_place new from ≡ true
     → is_any_contact runs from to ≡ true → follows new runs to ≡ true
@@ -153,12 +124,12 @@ follows_from new (run ∷ runs) from to at wire =
     ⊎_elim
     (λ here.
     let parts = contact_parts run from to here in
-    let low : nat_le run.exits to ≡ true = left _ _ here in
-    let near : nat_lt (to - run.exits) run.count ≡ true = left _ _ (right (nat_le run.exits to) _ here) in
+    let low : nat_le run.exits to ≡ true = (and_parts _ _ here).0 in
+    let near : nat_lt (to - run.exits) run.count ≡ true = (and_parts _ _ (and_parts (nat_le run.exits to) _ here).1).0 in
     let led : follows_run new run to ≡ true = all _ _ _ low near (ap (has_place new) (sym parts.2) ∙ at) in
-    from_left (follows_run new run to) (follows new runs to) led)
-    (λ there. from_right (follows_run new run to) _ (follows_from new runs from to at there))
-    (either (is_contact run from to) (is_any_contact runs from to) wire)
+    or_left (follows_run new run to) (follows new runs to) led)
+    (λ there. or_right (follows_run new run to) _ (follows_from new runs from to at there))
+    (or_cases (is_contact run from to) (is_any_contact runs from to) wire)
 
 -- the wires of runs are among those of the rows
 pub bundled_any : (rows : List (List ℕ)) (runs : List Run) → All (IsBundle rows) runs → (from to : ℕ)
@@ -168,7 +139,7 @@ bundled_any rows (run ∷ runs) bundled from to wire =
     ⊎_elim
     (λ here. let first = bundled 0 run (omega arith) in first.wired from to here)
     (λ there. bundled_any rows runs (λ i d inside. bundled (suc i) d (omega (arith, inside))) from to there)
-    (either (is_contact run from to) (is_any_contact runs from to) wire)
+    (or_cases (is_contact run from to) (is_any_contact runs from to) wire)
 
 -- the marked places are all that lead anywhere
 pub GainsLed-marked : (rows : List (List ℕ)) (marked apart new : List ℕ) (runs : List Run) (old after : List ℕ)
@@ -176,7 +147,7 @@ pub GainsLed-marked : (rows : List (List ℕ)) (marked apart new : List ℕ) (ru
     → GainsLed rows (has_place new) old after
 GainsLed-marked rows marked apart new runs old after are_rows gains =
     GainsLed-like rows (λ place. has_place new place && has_place marked place) (has_place new) old after
-    (λ from to at leads. both _ _ at (are_rows.marks from to leads)) (λ from at. left _ _ at) gains
+    (λ from to at leads. and_from _ _ at (are_rows.marks from to leads)) (λ from at. (and_parts _ _ at).0) gains
 
 -- the runs and the places kept apart are all that lead anywhere
 pub GainsLed-bundled : (rows : List (List ℕ)) (marked apart new : List ℕ) (runs : List Run) (old now after : List ℕ)
@@ -185,22 +156,22 @@ pub GainsLed-bundled : (rows : List (List ℕ)) (marked apart new : List ℕ) (r
     → GainsLed rows (λ place. has_place new place && has_place apart place) now after
     → GainsLed rows (has_place new) old after
 GainsLed-bundled rows marked apart new runs old now after are_rows gained gains = record {
-  kept = λ place held. gains.kept place (gained place ∙ from_left _ _ held);
+  kept = λ place held. gains.kept place (gained place ∙ or_left _ _ held);
   led = λ from to at leads. ⊎_elim
-      (λ is_apart. gains.led from to (both _ _ at is_apart) leads)
+      (λ is_apart. gains.led from to (and_from _ _ at is_apart) leads)
       (λ wire.
       let inside = are_rows.within from to leads in
       let low : nat_lt to 1984 ≡ true = grind (arith, nat_tests, inside) in
-      gains.kept to (gained to ∙ from_right (has_place old to) _ (both _ _ low (follows_from new runs from to at wire))))
+      gains.kept to (gained to ∙ or_right (has_place old to) _ (and_from _ _ low (follows_from new runs from to at wire))))
       (are_rows.covered from to leads);
   only = λ to held. ⊎_elim
       (λ at_now. ⊎_elim
       (λ at_old. inl at_old)
       (λ led.
-      let by = followed_by new runs to (right (nat_lt to 1984) _ led) in
+      let by = followed_by new runs to (and_parts (nat_lt to 1984) _ led).1 in
       inr (by.0, by.1, bundled_any rows runs are_rows.bundled by.0 to by.2))
-      (either (has_place old to) (nat_lt to 1984 && follows new runs to) (sym (gained to) ∙ at_now)))
-      (λ by. inr (by.0, left _ _ by.1, by.2))
+      (or_cases (has_place old to) (nat_lt to 1984 && follows new runs to) (sym (gained to) ∙ at_now)))
+      (λ by. inr (by.0, (and_parts _ _ by.1).0, by.2))
       (gains.only to held);
 }
 
@@ -217,14 +188,14 @@ pub AreCovered-more : (rows : List (List ℕ)) (runs : List Run) (at : ℕ) (old
     → AreCoveredBelow (at + 1) new runs rows
 AreCovered-more rows runs at old new is_covered before gained covers from to low leads_on = ⊎_elim
     (λ (same : from ≡ at). here is_covered refl same)
-    (λ other. ⊎_elim (λ is_apart. inl (gained from ∙ from_left _ _ is_apart)) inr (before from to (omega arith) leads_on))
+    (λ other. ⊎_elim (λ is_apart. inl (gained from ∙ or_left _ _ is_apart)) inr (before from to (omega arith) leads_on))
     (cases_eq from at) where
       here : (b : Bool) → is_covered ≡ b → from ≡ at → (has_place new from ≡ true) ⊎ (is_any_contact runs from to ≡ true)
       here true is same =
           inr (ap (λ n. is_any_contact runs n to) same ∙ covers is to (ap (λ n. leads rows n to) (sym same) ∙ leads_on))
       here false is same =
           let equal : (from == at) ≡ true = grind (arith, nat_tests, same) in
-          inl (gained from ∙ from_right (has_place old from) _ (both _ _ (ap not is) equal))
+          inl (gained from ∙ or_right (has_place old from) _ (and_from _ _ (ap not is) equal))
 
 -- as far as there are rows is all
 pub AreCovered-all : (rows : List (List ℕ)) (runs : List Run) (end : ℕ) (apart : List ℕ) → length rows ≤ 1040 → 1040 ≤ end

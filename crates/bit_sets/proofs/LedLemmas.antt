@@ -4,24 +4,13 @@ use Rattle.std.specs.Prelude.{nat_le, nat_lt, ◌==◌}
 use Rattle.std.specs.Int.{bit_not, w64}
 use Rattle.std.specs.Int.Bits.{bit_and}
 use Rattle.std.proofs.lemmas.Bool.Decides.{nat_tests}
-use Rattle.std.proofs.lemmas.Bool.{cases_lt, false≢true}
+use Rattle.std.proofs.lemmas.Bool.{cases_lt, false≢true, and_parts, and_from, or_right, or_left, or_cases, eq-eqb}
 use Rattle.std.proofs.lemmas.List.{get_or_past, get_or-replicate, length-replicate}
 use Rattle.std.proofs.Math.Bool.{and-false}
 use Rattle.bit_sets.specs.Bits.{is_bit, has_place, is_in_run}
 use Rattle.bit_sets.specs.Rows.{GainsLed, is_in_entries, leads}
 use Rattle.bit_sets.proofs.BitLemmas.{is_bit-and, is_bit-taken, is_bit-above, none_set}
 use Rattle.bit_sets.proofs.PlaceLemmas.{has_place-past, has_place-zeros, word_bits}
-
--- one of two that are true
-either : (a b : Bool) → (a || b) ≡ true → (a ≡ true) ⊎ (b ≡ true)
-either true b e = inl refl
-either false b e = inr e
-
-from_left : (a b : Bool) → a ≡ true → (a || b) ≡ true
-from_left a b e = grind (arith, nat_tests)
-
-from_right : (a b : Bool) → b ≡ true → (a || b) ≡ true
-from_right a b e = grind (arith, nat_tests)
 
 -- whether a place is one of a word's bits, and no longer one of those that are left
 abbrev pub is_done : ℕ → ℕ → ℕ → ℕ → Bool
@@ -44,10 +33,10 @@ module _ (rows : List (List ℕ)) where
     kept = λ place held. then.kept place (first.kept place held);
     led = λ from to at leads.
         ⊎_elim (λ at_one. then.kept to (first.led from to at_one leads)) (λ at_other. then.led from to at_other leads)
-        (either (one from) (other from) at);
+        (or_cases (one from) (other from) at);
     only = λ to held. ⊎_elim
-        (λ at_now. ⊎_elim (λ at_old. inl at_old) (λ by_one. inr (by_one.0, from_left _ _ by_one.1, by_one.2)) (first.only to at_now))
-        (λ by_other. inr (by_other.0, from_right (one by_other.0) _ by_other.1, by_other.2))
+        (λ at_now. ⊎_elim (λ at_old. inl at_old) (λ by_one. inr (by_one.0, or_left _ _ by_one.1, by_one.2)) (first.only to at_now))
+        (λ by_other. inr (by_other.0, or_right (one by_other.0) _ by_other.1, by_other.2))
         (then.only to held);
   }
 
@@ -80,18 +69,15 @@ module _ (rows : List (List ℕ)) where
       → ((place : ℕ) → has_place new place ≡ (has_place old place || is_in_entries row place))
       → GainsLed rows (λ place. place == from) old new
   GainsLed-row from row old new is joined = record {
-    kept = λ place held. joined place ∙ from_left _ _ held;
+    kept = λ place held. joined place ∙ or_left _ _ held;
     led = λ place to at leads.
         let same : place ≡ from = grind (arith, nat_tests, at) in
-        joined to ∙ from_right (has_place old to) _ (of_row place to same leads);
+        joined to ∙ or_right (has_place old to) _ (of_row place to same leads);
     only = λ to held. ⊎_elim
         (λ at_old. inl at_old)
-        (λ at_row. inr (from, itself from, ap (λ (r : List ℕ). is_in_entries r to) is ∙ at_row))
-        (either (has_place old to) (is_in_entries row to) (sym (joined to) ∙ held));
+        (λ at_row. inr (from, (eq-eqb from from refl), ap (λ (r : List ℕ). is_in_entries r to) is ∙ at_row))
+        (or_cases (has_place old to) (is_in_entries row to) (sym (joined to) ∙ held));
   } where
-    itself : (n : ℕ) → (n == n) ≡ true
-    itself n = grind (arith, nat_tests)
-
     of_row : (place to : ℕ) → place ≡ from → leads rows place to ≡ true → is_in_entries row to ≡ true
     of_row place to same at =
         sym (ap (λ n. leads rows n to) same ∙ ap (λ (r : List ℕ). is_in_entries r to) is) ∙ at
@@ -180,46 +166,37 @@ module _ (rows : List (List ℕ)) (marked new : List ℕ) (short : length rows �
       (λ from to is leads. ⊎_elim
       (λ (low : from < 64 * number).
       let yes : nat_lt from (64 * number) ≡ true = grind (arith, nat_tests) in
-      from_left _ _ (ap (λ b. b && (has_place new from && has_place marked from)) yes ∙ right _ _ is))
+      or_left _ _ (ap (λ b. b && (has_place new from && has_place marked from)) yes ∙ (and_parts _ _ is).1))
       (λ high.
-      let test : nat_lt from (64 * (number + 1)) ≡ true = left _ _ is in
+      let test : nat_lt from (64 * (number + 1)) ≡ true = (and_parts _ _ is).0 in
       let near : from < 64 * (number + 1) = grind (arith, nat_tests, test) in
       let there : nat_le (64 * number) from ≡ true = grind (arith, nat_tests) in
-      from_right (is_new_below marked new number from) _
+      or_right (is_new_below marked new number from) _
       (ap (λ b. b && is_bit (bit_and (slice_index_or new number 0) (slice_index_or marked number 0)) (from - 64 * number)) there
-      ∙ at_word from high near ∙ right _ _ is))
+      ∙ at_word from high near ∙ (and_parts _ _ is).1))
       (cases_lt from (64 * number)))
       (λ from is. ⊎_elim
       (λ before.
-      let low : nat_lt from (64 * number) ≡ true = left _ _ before in
+      let low : nat_lt from (64 * number) ≡ true = (and_parts _ _ before).0 in
       let yes : nat_lt from (64 * (number + 1)) ≡ true = grind (arith, nat_tests) in
-      both _ _ yes (right _ _ before))
+      and_from _ _ yes (and_parts _ _ before).1)
       (λ in_run.
-      let test : nat_le (64 * number) from ≡ true = left _ _ in_run in
+      let test : nat_le (64 * number) from ≡ true = (and_parts _ _ in_run).0 in
       let there : 64 * number ≤ from = grind (arith, nat_tests, test) in
       let bit : (is_bit (slice_index_or new number 0) (from - 64 * number)
       && is_bit (slice_index_or marked number 0) (from - 64 * number)) ≡ true =
-      sym (is_bit-and (slice_index_or new number 0) (slice_index_or marked number 0) (from - 64 * number)) ∙ right _ _ in_run in
+      sym (is_bit-and (slice_index_or new number 0) (slice_index_or marked number 0) (from - 64 * number)) ∙ (and_parts _ _ in_run).1 in
       ⊎_elim
       (λ (near : from < 64 * (number + 1)).
       let yes : nat_lt from (64 * (number + 1)) ≡ true = grind (arith, nat_tests) in
-      both _ _ yes (sym (at_word from there near) ∙ right _ _ in_run))
+      and_from _ _ yes (sym (at_word from there near) ∙ (and_parts _ _ in_run).1))
       (λ far. absurd (false≢true
-      (sym (is_bit-above (slice_index_or new number 0) 64 (from - 64 * number) small (omega arith)) ∙ left _ _ bit)))
+      (sym (is_bit-above (slice_index_or new number 0) 64 (from - 64 * number) small (omega arith)) ∙ (and_parts _ _ bit).0)))
       (cases_lt from (64 * (number + 1))))
-      (either (is_new_below marked new number from)
+      (or_cases (is_new_below marked new number from)
       (is_in_run (64 * number) (bit_and (slice_index_or new number 0) (slice_index_or marked number 0)) from) is))
       (GainsLed-then rows (is_new_below marked new number)
       (is_in_run (64 * number) (bit_and (slice_index_or new number 0) (slice_index_or marked number 0))) old now after before gains) where
-        left : (a b : Bool) → (a && b) ≡ true → a ≡ true
-        left a b e = grind (arith, nat_tests)
-
-        right : (a b : Bool) → (a && b) ≡ true → b ≡ true
-        right a b e = grind (arith, nat_tests)
-
-        both : (a b : Bool) → a ≡ true → b ≡ true → (a && b) ≡ true
-        both a b e f = grind (arith, nat_tests)
-
         at_word : (from : ℕ) → 64 * number ≤ from → from < 64 * (number + 1)
             → is_bit (bit_and (slice_index_or new number 0) (slice_index_or marked number 0)) (from - 64 * number)
             ≡ (has_place new from && has_place marked from)
@@ -241,9 +218,7 @@ module _ (rows : List (List ℕ)) (marked new : List ℕ) (short : length rows �
       ap (λ b. b && (has_place new from && has_place marked from)) yes ∙ is)
       (λ high. absurd (false≢true (sym (leads-past rows from to (omega (arith, short, high))) ∙ leads)))
       (cases_lt from 1088))
-      (λ from is. right _ _ is) gains where
-        right : (a b : Bool) → (a && b) ≡ true → b ≡ true
-        right a b e = grind (arith, nat_tests)
+      (λ from is. (and_parts _ _ is).1) gains
 
 -- rows of zeros lead nowhere
 abbrev pub are_zeros : ℕ → List (List ℕ)

@@ -2,7 +2,7 @@
 use Rattle.std.proofs.Common.{⊎_elim, ◌⊎◌, inl, inr, ◌↔◌, ◌≡◌, ℕ, zero, suc, ◌+◌, ◌-◌, ◌<◌, ◌≤◌, ◌∙◌, sym, ap, refl, arith, Bool, true, false, not, ◌&&◌, ◌||◌, List, [], ◌∷◌, length}
 use Rattle.std.specs.Prelude.{nat_le, nat_lt, ◌==◌, if◌then◌else◌}
 use Rattle.std.proofs.lemmas.Bool.Decides.{nat_tests}
-use Rattle.std.proofs.lemmas.Bool.{cases_lt, false≢true}
+use Rattle.std.proofs.lemmas.Bool.{cases_lt, false≢true, and_parts, or_right, or_left, or_cases}
 use Rattle.bit_sets.specs.Bits.{has_place}
 use Rattle.bit_sets.specs.Contacts.{is_contact, is_any_contact, passes, passes_run}
 use Rattle.bit_sets.specs.Reached.{IsReached}
@@ -73,21 +73,7 @@ pub record IsPassed (closed words : List ℕ) (runs : List Run) (to : ℕ) : Typ
 all_five : (a b c d e : Bool) → (a && (b && (c && (d && not e)))) ≡ true
     → (a ≡ true) × (b ≡ true) × (c ≡ true) × (d ≡ true) × (e ≡ false)
 all_five true true true true false e = (refl, refl, refl, refl, refl)
-all_five true true true true true e = cc
-all_five true true true false x e = cc
-all_five true true false d x e = cc
-all_five true false c d x e = cc
-all_five false b c d x e = cc
-
-either : (a b : Bool) → (a || b) ≡ true → (a ≡ true) ⊎ (b ≡ true)
-either true b e = inl refl
-either false b e = inr e
-
-from_left : (a b : Bool) → a ≡ true → (a || b) ≡ true
-from_left a b e = grind (arith, nat_tests)
-
-from_right : (a b : Bool) → b ≡ true → (a || b) ≡ true
-from_right a b e = grind (arith, nat_tests)
+all_five other another third fourth fifth e = cc
 
 -- what is passed on is passed by a contact
 by_others : (closed words : List ℕ) (run : Run) (runs : List Run) (to : ℕ) → IsPassed closed words runs to
@@ -95,7 +81,7 @@ by_others : (closed words : List ℕ) (run : Run) (runs : List Run) (to : ℕ) �
 by_others closed words run runs to passed = record {
   from = passed.from;
   at = passed.at;
-  contact = from_right (is_contact run passed.from to) _ passed.contact;
+  contact = or_right (is_contact run passed.from to) _ passed.contact;
   shut = passed.shut;
   out = passed.out;
 }
@@ -104,7 +90,7 @@ pub passed_by : (closed words : List ℕ) (runs : List Run) (to : ℕ) → passe
 passed_by closed words [] to at = cc
 passed_by closed words (run ∷ runs) to at =
     ⊎_elim here (λ others. by_others closed words run runs to (passed_by closed words runs to others))
-    (either (passes_run closed words run to) (passes closed words runs to) at) where
+    (or_cases (passes_run closed words run to) (passes closed words runs to) at) where
       here : passes_run closed words run to ≡ true → IsPassed closed words (run ∷ runs) to
       here at =
           let parts = all_five (nat_le run.exits to) (nat_lt (to - run.exits) run.count) (has_place closed to)
@@ -112,7 +98,7 @@ passed_by closed words (run ∷ runs) to at =
           record {
             from = run.common + (to - run.exits);
             at = parts.3;
-            contact = from_left _ _ (is _ _ (run.common + (to - run.exits)) parts.0 parts.1);
+            contact = or_left _ _ (is _ _ (run.common + (to - run.exits)) parts.0 parts.1);
             shut = parts.2;
             out = parts.4;
           } where
@@ -126,9 +112,9 @@ pub passes_on : (closed words : List ℕ) (runs : List Run) (from to : ℕ) → 
 passes_on closed words [] from to at contact shut out = cc
 passes_on closed words (run ∷ runs) from to at contact shut out =
     ⊎_elim
-    (λ here. from_left _ _ (by_run here))
-    (λ there. from_right (passes_run closed words run to) _ (passes_on closed words runs from to at there shut out))
-    (either (is_contact run from to) (is_any_contact runs from to) contact) where
+    (λ here. or_left _ _ (by_run here))
+    (λ there. or_right (passes_run closed words run to) _ (passes_on closed words runs from to at there shut out))
+    (or_cases (is_contact run from to) (is_any_contact runs from to) contact) where
       by_run : is_contact run from to ≡ true → passes_run closed words run to ≡ true
       by_run is =
           let same : from ≡ run.common + (to - run.exits) = number (nat_le run.exits to) (nat_lt (to - run.exits) run.count) from _ is in
@@ -187,12 +173,10 @@ module _ (rows : List (List ℕ)) (runs : List Run) (emits closed words new now 
     (joins : (place : ℕ) → has_place after place ≡ (has_place now place || has_place next place))
     (none : has ≡ false → (place : ℕ) → has_place next place ≡ false) where
   at_next : (place : ℕ) → has_place next place ≡ true → IsPassed closed now runs place
-  at_next place at = passed_by closed now runs place (right (nat_lt place 1984) _ (sym (passed_on place) ∙ at)) where
-    right : (a b : Bool) → (a && b) ≡ true → b ≡ true
-    right a b e = grind (arith, nat_tests)
+  at_next place at = passed_by closed now runs place (and_parts (nat_lt place 1984) _ (sym (passed_on place) ∙ at)).1
 
   into_after : IsWithin now after
-  into_after place at = joins place ∙ from_left _ _ at
+  into_after place at = joins place ∙ or_left _ _ at
 
   sound_now : (place : ℕ) → has_place now place ≡ true → IsReached rows runs emits closed place
   sound_now place at =
@@ -222,18 +206,18 @@ module _ (rows : List (List ℕ)) (runs : List Run) (emits closed words new now 
         (λ is_new.
         let passed = at_next place is_new in
         by_contact passed.from place (sound_now passed.from passed.at) passed.contact passed.shut)
-        (either (has_place now place) (has_place next place) (sym (joins place) ∙ at));
-    new_in = λ place at. joins place ∙ from_right (has_place now place) _ at;
+        (or_cases (has_place now place) (has_place next place) (sym (joins place) ∙ at));
+    new_in = λ place at. joins place ∙ or_right (has_place now place) _ at;
     joined = λ from to at out leads.
         ⊎_elim
         (λ at_now. into_after to (joined_now from to at_now leads))
         (λ is_new. absurd (false≢true (sym out ∙ is_new)))
-        (either (has_place now from) (has_place next from) (sym (joins from) ∙ at));
+        (or_cases (has_place now from) (has_place next from) (sym (joins from) ∙ at));
     passed = λ over from to at contact shut.
         ⊎_elim
         (λ at_now. into_after to (in_now over from to at_now contact shut (has_place now to) refl))
         (λ is_new. absurd (false≢true (sym (none over from) ∙ is_new)))
-        (either (has_place now from) (has_place next from) (sym (joins from) ∙ at));
+        (or_cases (has_place now from) (has_place next from) (sym (joins from) ∙ at));
     none = none;
   } where
     in_now : has ≡ false → (from to : ℕ) → has_place now from ≡ true → is_any_contact runs from to ≡ true
@@ -260,13 +244,11 @@ module _ (rows : List (List ℕ)) (runs : List Run) (emits closed words new now 
     by true is =
         let found = some is in
         let passed = at_next found.0 found.1 in
-        let low : nat_lt found.0 1984 ≡ true = left (nat_lt found.0 1984) _ (sym (passed_on found.0) ∙ found.1) in
+        let low : nat_lt found.0 1984 ≡ true = (and_parts (nat_lt found.0 1984) _ (sym (passed_on found.0) ∙ found.1)).0 in
         let below : found.0 < 1984 = grind (arith, nat_tests, low) in
-        let less = missing-less now after into_after found.0 passed.out (joins found.0 ∙ from_right (has_place now found.0) _ found.1) 1984 below in
+        let less = missing-less now after into_after found.0 passed.out (joins found.0 ∙ or_right (has_place now found.0) _ found.1) 1984 below in
         let fewer = missing-fewer words now gains.kept 1984 in
-        omega (arith, less, fewer) where
-          left : (a b : Bool) → (a && b) ≡ true → a ≡ true
-          left a b e = grind (arith, nat_tests)
+        omega (arith, less, fewer)
 
 -- and so the loop's measure is less
 pub smaller : (now before : ℕ) (had : Bool) → had ≡ true → now ≤ before → now < before + (if had then 1 else 0)

@@ -1,7 +1,7 @@
 -- The carriage, unit 44: the place on the form and the restore latch. It emits nothing and has no contacts. At the control
 -- point of every cycle it senses what is asked for. At the end of every cycle it moves as the cycle wants, a printing
 -- cycle then places its line, and a skip and a restore that were asked for follow.
-use Rattle.std.specs.Prelude.{ℕ, Bool, true, false, Option, Some, None, if◌then◌else◌}
+use Rattle.std.specs.Prelude.{ℕ, Bool, true, Option, Some, None, if◌then◌else◌}
 use Rattle.setups.specs.Tapes.{Form}
 use Rattle.setups.specs.Wiring.{Wiring}
 use Rattle.hubs.specs.declared.hub.Hub.{Hub}
@@ -35,14 +35,6 @@ carriage_at_start wiring = record {
   asked = nothing_asked;
   printed = None;
 }
-
--- it emits nothing
-abbrev pub carriage_emits : CarriageState → Cycle → Point → Hub → Bool
-carriage_emits carriage cycle point hub = false
-
--- it has no contacts
-abbrev pub carriage_closes : CarriageState → Cycle → Point → Hub → Bool
-carriage_closes carriage cycle point hub = false
 
 -- at the control point it senses what is asked for, at the others nothing
 abbrev pub carriage_sensed : CarriageState → Cycle → Point → (Hub → Bool) → CarriageState

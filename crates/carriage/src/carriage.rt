@@ -89,17 +89,12 @@ impl Carriage {
 
 impl Unit for Carriage {
     ghost use Rattle.std.proofs.Common.{refl};
-    ghost use Rattle.carriage.specs.Carriage.{
-      carriage_emits,
-      carriage_closes,
-      carriage_sensed,
-      carriage_ended,
-      carriage_number,
-    };
+    ghost use Rattle.net.specs.Nothing.{emits_nothing, closes_nothing};
+    ghost use Rattle.carriage.specs.Carriage.{carriage_sensed, carriage_ended, carriage_number};
 
-    ghost emits = { carriage_emits };
+    ghost emits = { emits_nothing };
 
-    ghost closes = { carriage_closes };
+    ghost closes = { closes_nothing };
 
     ghost sensed = { carriage_sensed };
 

@@ -11,22 +11,7 @@ use Rattle.chart_rules.specs.HelperOrder.{in_order, AreKept, IsFirstAmong}
 pub in_order-at : (each : Rule) → slice_get in_order (rule_number each - 21) ≡ Some each
 unfolding in_order
 in_order-at rule.NameTwice = refl
-in_order-at rule.Columns = refl
-in_order-at rule.AmountSize = refl
-in_order-at rule.UnknownName = refl
-in_order-at rule.WrongKind = refl
-in_order-at rule.LineTwice = refl
-in_order-at rule.NoControl = refl
-in_order-at rule.TotalTextNotControl = refl
-in_order-at rule.DigitsRange = refl
-in_order-at rule.DigitsShrink = refl
-in_order-at rule.MarkMismatch = refl
-in_order-at rule.WheelRange = refl
-in_order-at rule.WheelOverlap = refl
-in_order-at rule.WheelClash = refl
-in_order-at rule.PrintKind = refl
-in_order-at rule.Form = refl
-in_order-at rule.Tape = refl
+in_order-at other = refl
 
 -- the rules of a list have numbers in a row
 abbrev pub AreNumbered : ℕ → List Rule → Type 0

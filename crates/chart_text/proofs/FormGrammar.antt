@@ -179,10 +179,6 @@ field_kind_is name first last n a b is_n is_a is_b word (decimals ∷ sign) kind
 
 field_is : (operands : List (List ℕ)) (s : Statement) → field_of operands ≡ Some s → Says (codes "FIELD" ∷ operands) s
 unfolding field_of
-field_is [] s read = cc
-field_is (name ∷ []) s read = cc
-field_is (name ∷ word ∷ []) s read = cc
-field_is (name ∷ word ∷ first ∷ []) s read = cc
 field_is (name ∷ word ∷ first ∷ last ∷ others) s read =
     let n = bound (name_of name) _ s read in
     let a = bound (number_of first) _ s n.2 in
@@ -191,6 +187,7 @@ field_is (name ∷ word ∷ first ∷ last ∷ others) s read =
     subst (Says (codes "FIELD" ∷ name ∷ word ∷ first ∷ last ∷ others)) (same_Some _ s k.2)
     (field_kind_is name first last n.0 a.0 b.0 (name_is name n.0 n.1) (number_is first a.0 a.1)
     (number_is last b.0 b.1) word others k.0 k.1)
+field_is other s read = cc
 
 control_is : (operands : List (List ℕ)) (s : Statement) → control_of operands ≡ Some s
     → Says (codes "CONTROL" ∷ operands) s
@@ -217,16 +214,13 @@ print_is (word ∷ next ∷ others) s read = cc
 
 head_is : (operands : List (List ℕ)) (s : Statement) → head_of operands ≡ Some s → Says (codes "HEAD" ∷ operands) s
 unfolding head_of
-head_is [] s read = cc
-head_is (line ∷ []) s read = cc
-head_is (line ∷ wheel ∷ []) s read = cc
 head_is (line ∷ wheel ∷ literal ∷ []) s read =
     let h = bound (heading_line_of line) _ s read in
     let w = bound (number_of wheel) _ s h.2 in
     let cs = bound (literal_of literal) _ s w.2 in
     subst (Says (codes "HEAD" ∷ line ∷ wheel ∷ literal ∷ [])) (same_Some _ s cs.2)
     (head (heading_line_is line h.0 h.1) (number_is wheel w.0 w.1) (literal_is literal cs.0 cs.1))
-head_is (line ∷ wheel ∷ literal ∷ next ∷ others) s read = cc
+head_is other s read = cc
 
 detail_item_is : (wheel item : List ℕ) (others : List (List ℕ)) (s : Statement) (characters : Option (List ℕ))
     → literal_of item ≡ characters
@@ -330,16 +324,13 @@ after_is operands s read =
 
 form_is : (operands : List (List ℕ)) (s : Statement) → form_of operands ≡ Some s → Says (codes "FORM" ∷ operands) s
 unfolding form_of
-form_is [] s read = cc
-form_is (size ∷ []) s read = cc
-form_is (size ∷ first ∷ []) s read = cc
 form_is (size ∷ first ∷ overflow ∷ []) s read =
     let p = bound (number_of size) _ s read in
     let t = bound (number_of first) _ s p.2 in
     let o = bound (number_of overflow) _ s t.2 in
     subst (Says (codes "FORM" ∷ size ∷ first ∷ overflow ∷ [])) (same_Some _ s o.2)
     (form (number_is size p.0 p.1) (number_is first t.0 t.1) (number_is overflow o.0 o.1))
-form_is (size ∷ first ∷ overflow ∷ next ∷ others) s read = cc
+form_is other s read = cc
 
 tape_is : (operands : List (List ℕ)) (s : Statement) → tape_of operands ≡ Some s → Says (codes "TAPE" ∷ operands) s
 unfolding tape_of stops_of

@@ -56,9 +56,7 @@ spacing_has n s read =
 
 level_numbered : (l : Level) → level_with (level_number l) ≡ Some l
 level_numbered level.Minor = refl
-level_numbered level.Intermediate = refl
-level_numbered level.Major = refl
-level_numbered level.Final = refl
+level_numbered other = refl
 
 control_numbered : (l : ControlLevel) → control_with (control_number l) ≡ Some l
 control_numbered control.Minor = refl

@@ -78,11 +78,7 @@ latch-behind : (act : Act) (is_ring : Bool) (power : ℕ) (held : Held)
     → (if (act_controls act).test then nat_le (9 * power) (10 * number_after is_ring power act held.number) else held.latch)
     ≡ latch_after power act held
 latch-behind Still is_ring power held = refl
-latch-behind Test is_ring power held = refl
-latch-behind Turn is_ring power held = refl
-latch-behind Show is_ring power held = refl
-latch-behind (Plus n) is_ring power held = refl
-latch-behind (Minus n) is_ring power held = refl
+latch-behind other is_ring power held = refl
 
 -- A group that ends a cycle under the controls of what is asked, by what its number becomes.
 done-by : (act : Act) (counter : Counter) (cycle : Cycle) (entered : List ℕ)

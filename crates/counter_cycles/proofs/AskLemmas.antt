@@ -46,7 +46,7 @@ all-asked act held name = (
 )
 
 -- zeros spell 0
-number-zeros : (count : ℕ) → number (replicate count 0) ≡ 0
+pub number-zeros : (count : ℕ) → number (replicate count 0) ≡ 0
 number-zeros zero = refl
 number-zeros (suc count) = omega (arith, number-zeros count)
 

@@ -13,7 +13,7 @@ use Rattle.net.specs.declared.cycle.Point.TheVariants.{K, Row}
 use Rattle.counters.specs.Counters.{Counter, all_taken, counter_sensed, taken, takes}
 use Rattle.counters.specs.declared.controls.Controls.{Controls}
 use Rattle.counter_cycles.specs.Acts.{Spells}
-use Rattle.counter_cycles.specs.GroupCycles.{counter_after_points}
+use Rattle.net.specs.WholeCycles.{after_points}
 use Rattle.counter_cycles.proofs.DigitLemmas.{length-listed, listed, listed-same}
 
 -- the positions whose entries are impulsed at a row
@@ -29,7 +29,7 @@ rows_taken controls name pictures (row ∷ others) entered =
 
 -- a group behind some rows has entered what they give, and no more
 pub after_rows : (cycle : Cycle) (pictures : Point → Hub → Bool) (some : List CardRow) (counter : Counter)
-    → counter_after_points cycle pictures (map Row some ++ (K ∷ [])) counter
+    → after_points counter_sensed cycle pictures (map Row some ++ (K ∷ [])) counter
     ≡ record counter { entered = rows_taken counter.controls counter.name pictures some counter.entered }
 after_rows cycle pictures [] counter = refl
 after_rows cycle pictures (first ∷ others) counter =

@@ -1,7 +1,7 @@
 -- Groups keep to their own hubs.
 use Rattle.std.proofs.Common.{◌≡◌, ◌∙◌, refl, sym, ap, ℕ, ◌+◌, ◌-◌, ◌≤◌, ◌&&◌, ◌||◌, Bool, true, false, List, [], ◌∷◌, length, arith, if◌then◌else◌}
 use Rattle.std.specs.Prelude.{◌==◌}
-use Rattle.std.proofs.lemmas.Bool.{false≢true}
+use Rattle.std.proofs.lemmas.Bool.{false≢true, and_parts}
 use Rattle.std.proofs.lemmas.Bool.Decides.{nat_tests}
 use Rattle.card_code.specs.Rows.{row_number}
 use Rattle.hubs.specs.declared.hub.Group.{Group}
@@ -41,11 +41,7 @@ emits-own : (counter : Counter) (cycle : Cycle) (point : Point) (hub : Hub)
 emits-own counter cycle C hub e = absurd (false≢true e)
 emits-own counter cycle (Row row) hub e =
     shown-own counter.name (row_number row) counter.digits hub
-    (second counter.controls.read_out (shows counter.name (row_number row) counter.digits hub) e)
-  where
-    second : (a b : Bool) → (a && b) ≡ true → b ≡ true
-    second true b e = e
-    second false b e = absurd (false≢true e)
+    (and_parts counter.controls.read_out (shows counter.name (row_number row) counter.digits hub) e).1
 emits-own counter cycle K hub e = absurd (false≢true e)
 
 own_balance : (one other : ℕ) (a b : Bool) → (((one == other) && a) && b) ≡ true → one ≡ other

@@ -5,7 +5,7 @@ use Rattle.std.proofs.lemmas.List.Elements.{All-nil, All-cons, All-append, All-w
 use Rattle.placed_lines.specs.declared.placed_line.PlacedLine.{PlacedLine}
 use Rattle.charts.specs.declared.chart.Line.{Line}
 use Rattle.report.specs.Breaks.{ended_behind, chunk_of}
-use Rattle.report.specs.ChartForm.{headings}
+use Rattle.report.specs.ChartForm.{heading_count}
 use Rattle.report.specs.Places.{BodyText, Left, before_all, page_of, line_below, left_by, heading_on, headed, placed}
 use Rattle.report.specs.Report.{body_lines}
 use Rattle.report.proofs.FewLines.{bodies-few, chunk-few, body_lines-few}
@@ -44,7 +44,7 @@ heads-most lines page most (number ∷ numbers) few =
 
 headed-most : (lines : List Line) (page most : ℕ) (line : Option ℕ) → page + 1 ≤ most
     → All (λ (line : PlacedLine). line.page ≤ most) (headed lines (record { page = page; line = line }))
-headed-most lines page most None few = heads-most lines (page + 1) most (range_with_len 1 (headings lines)) few
+headed-most lines page most None few = heads-most lines (page + 1) most (range_with_len 1 (heading_count lines)) few
 headed-most lines page most (Some line) few = All-nil (λ (line : PlacedLine). line.page ≤ most)
 
 placed-most : (lines : List Line) (left : Left) (bodies : List BodyText)

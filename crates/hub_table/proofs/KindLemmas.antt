@@ -13,7 +13,7 @@ use Rattle.hub_table.specs.declared.letters.Letters.{Letters}
 use Rattle.hub_table.specs.declared.letters.Letters.TheVariants.{FR, SR, CX, GX, CO, BAN, BAT, PIN, PIT, SX, IX, CSD, CSZ, EM, CC, PX, HX, CA, CB, GE, PL, MI, RO, BT, CI, BAC, PIC, PIX, SE, SI, SO, IE, CSE, W, ST, SP, SK, RS}
 
 -- an element of a list is its first, or one of the others
-first_or_other : {X : Type 0} (y : X) (xs : List X) (x : X) → Contains (y ∷ xs) x → (x ≡ y) ⊎ Contains xs x
+pub first_or_other : {X : Type 0} (y : X) (xs : List X) (x : X) → Contains (y ∷ xs) x → (x ≡ y) ⊎ Contains xs x
 first_or_other y xs x (zero, within, is) = inl (sym is)
 first_or_other y xs x (suc k, within, is) = inr (k, omega arith, is)
 
@@ -120,43 +120,7 @@ is_listed RS = (37, omega arith, refl)
 found_by_letters : (letters : Letters) → kind_spelled (row_of letters).spelled (exit_kinds ++ entry_kinds) ≡ Some letters
 unfolding exit_kinds entry_kinds
 found_by_letters FR = refl
-found_by_letters SR = refl
-found_by_letters CX = refl
-found_by_letters GX = refl
-found_by_letters CO = refl
-found_by_letters BAN = refl
-found_by_letters BAT = refl
-found_by_letters PIN = refl
-found_by_letters PIT = refl
-found_by_letters SX = refl
-found_by_letters IX = refl
-found_by_letters CSD = refl
-found_by_letters CSZ = refl
-found_by_letters EM = refl
-found_by_letters CC = refl
-found_by_letters PX = refl
-found_by_letters HX = refl
-found_by_letters CA = refl
-found_by_letters CB = refl
-found_by_letters GE = refl
-found_by_letters PL = refl
-found_by_letters MI = refl
-found_by_letters RO = refl
-found_by_letters BT = refl
-found_by_letters CI = refl
-found_by_letters BAC = refl
-found_by_letters PIC = refl
-found_by_letters PIX = refl
-found_by_letters SE = refl
-found_by_letters SI = refl
-found_by_letters SO = refl
-found_by_letters IE = refl
-found_by_letters CSE = refl
-found_by_letters W = refl
-found_by_letters ST = refl
-found_by_letters SP = refl
-found_by_letters SK = refl
-found_by_letters RS = refl
+found_by_letters other = refl
 
 -- the exits, then the entries
 pub exits_are_unbroken : is_unbroken 0 1040 exit_kinds ≡ true
@@ -197,43 +161,7 @@ is_on_its_side letters =
 
 stands_on_its_side : (letters : Letters) → is_on_its_side letters ≡ true
 stands_on_its_side FR = refl
-stands_on_its_side SR = refl
-stands_on_its_side CX = refl
-stands_on_its_side GX = refl
-stands_on_its_side CO = refl
-stands_on_its_side BAN = refl
-stands_on_its_side BAT = refl
-stands_on_its_side PIN = refl
-stands_on_its_side PIT = refl
-stands_on_its_side SX = refl
-stands_on_its_side IX = refl
-stands_on_its_side CSD = refl
-stands_on_its_side CSZ = refl
-stands_on_its_side EM = refl
-stands_on_its_side CC = refl
-stands_on_its_side PX = refl
-stands_on_its_side HX = refl
-stands_on_its_side CA = refl
-stands_on_its_side CB = refl
-stands_on_its_side GE = refl
-stands_on_its_side PL = refl
-stands_on_its_side MI = refl
-stands_on_its_side RO = refl
-stands_on_its_side BT = refl
-stands_on_its_side CI = refl
-stands_on_its_side BAC = refl
-stands_on_its_side PIC = refl
-stands_on_its_side PIX = refl
-stands_on_its_side SE = refl
-stands_on_its_side SI = refl
-stands_on_its_side SO = refl
-stands_on_its_side IE = refl
-stands_on_its_side CSE = refl
-stands_on_its_side W = refl
-stands_on_its_side ST = refl
-stands_on_its_side SP = refl
-stands_on_its_side SK = refl
-stands_on_its_side RS = refl
+stands_on_its_side other = refl
 
 pub exits_end : (letters : Letters) → (row_of letters).is_exit ≡ true
     → (row_of letters).before + count_of (row_of letters).shape ≤ 1040
@@ -253,43 +181,7 @@ entries_start letters is_entry = on_side (row_of letters).is_exit _ _ is_entry (
 -- no kind has a number above 255
 pub kinds_have_small_lasts : (letters : Letters) → has_small_lasts (row_of letters).shape ≡ true
 kinds_have_small_lasts FR = refl
-kinds_have_small_lasts SR = refl
-kinds_have_small_lasts CX = refl
-kinds_have_small_lasts GX = refl
-kinds_have_small_lasts CO = refl
-kinds_have_small_lasts BAN = refl
-kinds_have_small_lasts BAT = refl
-kinds_have_small_lasts PIN = refl
-kinds_have_small_lasts PIT = refl
-kinds_have_small_lasts SX = refl
-kinds_have_small_lasts IX = refl
-kinds_have_small_lasts CSD = refl
-kinds_have_small_lasts CSZ = refl
-kinds_have_small_lasts EM = refl
-kinds_have_small_lasts CC = refl
-kinds_have_small_lasts PX = refl
-kinds_have_small_lasts HX = refl
-kinds_have_small_lasts CA = refl
-kinds_have_small_lasts CB = refl
-kinds_have_small_lasts GE = refl
-kinds_have_small_lasts PL = refl
-kinds_have_small_lasts MI = refl
-kinds_have_small_lasts RO = refl
-kinds_have_small_lasts BT = refl
-kinds_have_small_lasts CI = refl
-kinds_have_small_lasts BAC = refl
-kinds_have_small_lasts PIC = refl
-kinds_have_small_lasts PIX = refl
-kinds_have_small_lasts SE = refl
-kinds_have_small_lasts SI = refl
-kinds_have_small_lasts SO = refl
-kinds_have_small_lasts IE = refl
-kinds_have_small_lasts CSE = refl
-kinds_have_small_lasts W = refl
-kinds_have_small_lasts ST = refl
-kinds_have_small_lasts SP = refl
-kinds_have_small_lasts SK = refl
-kinds_have_small_lasts RS = refl
+kinds_have_small_lasts other = refl
 
 -- what none of all kinds is, no kind is
 pub none_of_all : (P : Letters → Type 0) (found : Option Letters) → IfNone found (All P (exit_kinds ++ entry_kinds))

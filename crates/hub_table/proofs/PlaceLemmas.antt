@@ -27,7 +27,7 @@ row_place-range r p e = grind (arith, nat_tests)
 row_place-same : (r s p : ℕ) → row_place r ≡ Some p → row_place s ≡ Some p → r ≡ s
 row_place-same r s p e f = grind (arith, nat_tests)
 
-width_place-range : (w p : ℕ) → width_place w ≡ Some p → (1 ≤ p) × (p ≤ 4)
+pub width_place-range : (w p : ℕ) → width_place w ≡ Some p → (1 ≤ p) × (p ≤ 4)
 width_place-range w p e = grind (arith, nat_tests)
 
 width_place-same : (w v p : ℕ) → width_place w ≡ Some p → width_place v ≡ Some p → w ≡ v

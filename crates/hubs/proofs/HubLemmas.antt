@@ -9,7 +9,7 @@ use Rattle.hub_table.specs.HubTable.{row_of, HasNumber}
 use Rattle.hubs.specs.Hubs.{letters_of, numbers_of, hub_named, number_of, is_hub_in_range, is_exit_hub, is_entry_hub}
 use Rattle.hub_table.specs.Places.{place_of, AreSmall}
 use Rattle.hubs.specs.declared.hub.Hub.{Hub}
-use Rattle.hubs.specs.declared.hub.Hub.TheVariants.{FR, SR, CX, GX, CO, BAN, BAT, PIN, PIT, SX, IX, CSD, CSZ, EM, CC, PX, HX, CA, CB, GE, PL, MI, RO, BT, CI, BAC, PIC, PIX, SE, SI, SO, IE, CSE, W, ST, SP, SK, RS}
+use Rattle.hubs.specs.declared.hub.Hub.TheVariants.{FR, SR, W}
 use Rattle.hub_table.specs.declared.letters.Letters.{Letters}
 use Rattle.hub_table.specs.declared.letters.Letters.TheVariants as kind
 use Rattle.hub_table.specs.declared.shape.Numbers.{Numbers}
@@ -18,43 +18,7 @@ use Rattle.hub_table.specs.declared.shape.Numbers.TheVariants.{Bare, One, Two, T
 -- a hub is the one with its letters and its numbers
 pub hub_named-own : (hub : Hub) → hub_named (letters_of hub) (numbers_of hub) ≡ Some hub
 hub_named-own (FR column) = refl
-hub_named-own (SR column) = refl
-hub_named-own (CX position) = refl
-hub_named-own (GX group position) = refl
-hub_named-own (CO group) = refl
-hub_named-own (BAN group position) = refl
-hub_named-own (BAT group position) = refl
-hub_named-own (PIN pilot position) = refl
-hub_named-own (PIT pilot position) = refl
-hub_named-own (SX unit column) = refl
-hub_named-own (IX level position) = refl
-hub_named-own (CSD split) = refl
-hub_named-own (CSZ split) = refl
-hub_named-own (EM emitter row) = refl
-hub_named-own CC = refl
-hub_named-own (PX level cycle) = refl
-hub_named-own (HX heading) = refl
-hub_named-own (CA position) = refl
-hub_named-own (CB position) = refl
-hub_named-own (GE group position) = refl
-hub_named-own (PL group) = refl
-hub_named-own (MI group) = refl
-hub_named-own (RO group) = refl
-hub_named-own (BT group) = refl
-hub_named-own (CI group) = refl
-hub_named-own (BAC group position) = refl
-hub_named-own (PIC pilot position) = refl
-hub_named-own (PIX pilot) = refl
-hub_named-own (SE unit column) = refl
-hub_named-own (SI unit) = refl
-hub_named-own (SO unit) = refl
-hub_named-own (IE level position) = refl
-hub_named-own (CSE split) = refl
-hub_named-own (W wheel) = refl
-hub_named-own (ST level) = refl
-hub_named-own (SP lines) = refl
-hub_named-own (SK channel) = refl
-hub_named-own RS = refl
+hub_named-own other = refl
 
 -- the hub with some letters and numbers has these
 pub record IsNamed (letters : Letters) (numbers : Numbers) (hub : Hub) : Type 0 where

@@ -1,1 +1,2 @@
 pub mod HubLemmas
+pub mod JackLemmas

@@ -14,7 +14,7 @@ use Rattle.charts.specs.declared.statement.Statement.TheVariants as says
 use Rattle.setups.specs.Wiring.{Wiring}
 use Rattle.hubs.specs.declared.jack.Jack.{Jack}
 use Rattle.hubs.specs.declared.jack.Jack.TheVariants as jack
-use Rattle.report.specs.ChartForm.{headings, is_total_item, prints_details, prints_totals}
+use Rattle.report.specs.ChartForm.{heading_count, is_total_item, prints_details, prints_totals}
 use Rattle.wiring_table.proofs.Listed.{any-passing}
 use Rattle.jacks_and_tape.proofs.Plugging.{plugs-as, plugs-both, plugs-none}
 use Rattle.jacks_and_tape.specs.HelperJacks.{FigureJacks, links, suppresses, symbols, JacksBefore, LineJacks, Plugs, Ranged, ranged, TotalsBelow, level}
@@ -121,7 +121,7 @@ jacks-all {lines} {place} {old} {new} added same =
 pub data FourKinds (lines : List Line) (each : Jack) : Type 0 where
   lists : each ≡ jack.List → prints_details lines ≡ true → FourKinds lines each
   totals : TotalsBelow lines 5 each → FourKinds lines each
-  heads : Ranged jack.Head 1 (headings lines + 1) each → FourKinds lines each
+  heads : Ranged jack.Head 1 (heading_count lines + 1) each → FourKinds lines each
   amounts : JacksBefore lines (length lines) each → FourKinds lines each
 
 has-figure : (lines : List Line) (each : Jack) (before : JacksBefore lines (length lines) each)
@@ -179,7 +179,7 @@ abbrev Pair : List Line → Jack → Type 0
 Pair lines each = ((each ≡ jack.List) × (prints_details lines ≡ true)) ⊎ TotalsBelow lines 5 each
 
 abbrev Rest : List Line → Jack → Type 0
-Rest lines each = Ranged jack.Head 1 (headings lines + 1) each ⊎ JacksBefore lines (length lines) each
+Rest lines each = Ranged jack.Head 1 (heading_count lines + 1) each ⊎ JacksBefore lines (length lines) each
 
 abbrev Sum : List Line → Jack → Type 0
 Sum lines each = Pair lines each ⊎ Rest lines each
@@ -187,7 +187,7 @@ Sum lines each = Pair lines each ⊎ Rest lines each
 -- the jacks of a chart, plugged kind by kind
 pub chart-jacks : (lines : List Line) (heads_end : ℕ) (old one two three new : Wiring)
     → Plugs (λ each. (each ≡ jack.List) × (prints_details lines ≡ true)) old one → Plugs (TotalsBelow lines 5) one two
-    → Plugs (Ranged jack.Head 1 heads_end) two three → heads_end ≡ headings lines + 1 → Plugs (JacksBefore lines (length lines)) three new
+    → Plugs (Ranged jack.Head 1 heads_end) two three → heads_end ≡ heading_count lines + 1 → Plugs (JacksBefore lines (length lines)) three new
     → Plugs (ChartJack lines) old new
 chart-jacks lines heads_end old one two three new a b c e d =
     let P : ℕ → Type 0 = λ n. Plugs (Ranged jack.Head 1 n) two three in
@@ -214,9 +214,9 @@ chart-jacks lines heads_end old one two three new a b c e d =
 -- the same, where the lines were read as a list
 pub panel-jacks : (lines shown : List Line) (heads_end : ℕ) (old one two three new : Wiring) → shown ≡ lines
     → Plugs (λ each. (each ≡ jack.List) × (prints_details shown ≡ true)) old one → Plugs (TotalsBelow shown 5) one two
-    → Plugs (Ranged jack.Head 1 heads_end) two three → heads_end ≡ headings shown + 1 → Plugs (JacksBefore lines (length lines)) three new
+    → Plugs (Ranged jack.Head 1 heads_end) two three → heads_end ≡ heading_count shown + 1 → Plugs (JacksBefore lines (length lines)) three new
     → Plugs (ChartJack lines) old new
 panel-jacks lines shown heads_end old one two three new same a b c e d =
     let A : List Line → Type 0 = λ ls. Plugs (λ each. (each ≡ jack.List) × (prints_details ls ≡ true)) old one in
     let B : List Line → Type 0 = λ ls. Plugs (TotalsBelow ls 5) one two in
-    chart-jacks lines heads_end old one two three new (subst A same a) (subst B same b) c (e ∙ ap (λ ls. headings ls + 1) same) d
+    chart-jacks lines heads_end old one two three new (subst A same a) (subst B same b) c (e ∙ ap (λ ls. heading_count ls + 1) same) d

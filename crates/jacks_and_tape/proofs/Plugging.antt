@@ -1,30 +1,12 @@
 -- Plugging step by step: what one step plugs and what the next plugs are what both plug.
 use Rattle.std.proofs.Common.{◌≡◌, ℕ, ◌+◌, ◌<◌, ◌≤◌, ◌⊎◌, inl, inr, Bool, true, false, ◌||◌, refl, sym, ap, ◌∙◌, subst, arith}
 use Rattle.std.proofs.lemmas.Bool.{cases_lt}
-use Rattle.std.proofs.lemmas.Bool.Decides.{nat_tests}
+use Rattle.std.proofs.Math.Bool.{or-true}
 use Rattle.hubs.specs.Jacks.{is_same_jack}
 use Rattle.setups.specs.Wiring.{Wiring, HasJack, AddsJack, SameWires, is_plugged}
 use Rattle.hubs.specs.declared.jack.Jack.{Jack}
-use Rattle.hubs.specs.declared.jack.Jack.TheVariants as jack
+use Rattle.hubs.proofs.JackLemmas.{same_jack, own_jack}
 use Rattle.jacks_and_tape.specs.HelperJacks.{Plugs, Ranged, ranged}
-
--- jacks that pass the test are the same
-pub same-jack : (former latter : Jack) → is_same_jack former latter ≡ true → former ≡ latter
-same-jack jack.List jack.List is = refl
-same-jack (jack.Total a) (jack.Total b) is = let e : a ≡ b = grind (arith, nat_tests, is) in ap jack.Total e
-same-jack (jack.Head a) (jack.Head b) is = let e : a ≡ b = grind (arith, nat_tests, is) in ap jack.Head e
-same-jack (jack.Link a) (jack.Link b) is = let e : a ≡ b = grind (arith, nat_tests, is) in ap jack.Link e
-same-jack (jack.Suppress a) (jack.Suppress b) is = let e : a ≡ b = grind (arith, nat_tests, is) in ap jack.Suppress e
-same-jack (jack.Symbol a) (jack.Symbol b) is = let e : a ≡ b = grind (arith, nat_tests, is) in ap jack.Symbol e
-same-jack former latter is = cc
-
-itself : (each : Jack) → is_same_jack each each ≡ true
-itself jack.List = refl
-itself (jack.Total a) = grind (arith, nat_tests)
-itself (jack.Head a) = grind (arith, nat_tests)
-itself (jack.Link a) = grind (arith, nat_tests)
-itself (jack.Suppress a) = grind (arith, nat_tests)
-itself (jack.Symbol a) = grind (arith, nat_tests)
 
 -- one jack more
 pub plugs-one : {plugged : Jack} {old new : Wiring} → AddsJack old new plugged → SameWires old new → new.tape ≡ old.tape
@@ -38,17 +20,13 @@ plugs-one {plugged} {old} {new} adds wires tape = record {
     onward : (each : Jack) (before same : Bool) → is_plugged old each ≡ before → is_same_jack each plugged ≡ same
         → (before || same) ≡ true → HasJack old each ⊎ (each ≡ plugged)
     onward each true same e f is = inl e
-    onward each false true e f is = inr (same-jack each plugged f)
+    onward each false true e f is = inr (same_jack each plugged f)
     onward each false false e f is = cc
-
-    or-true : (a : Bool) → (a || true) ≡ true
-    or-true true = refl
-    or-true false = refl
 
     back : (each : Jack) → HasJack old each ⊎ (each ≡ plugged) → HasJack new each
     back each (inl had) = adds each ∙ ap (λ b. b || is_same_jack each plugged) had
     back each (inr same) =
-        adds each ∙ ap (λ b. is_plugged old each || b) (ap (is_same_jack each) (sym same) ∙ itself each) ∙ or-true (is_plugged old each)
+        adds each ∙ ap (λ b. is_plugged old each || b) (ap (is_same_jack each) (sym same) ∙ own_jack each) ∙ or-true (is_plugged old each)
 
 -- no jack
 pub plugs-none : {R : Jack → Type 0} {setup : Wiring} → ((each : Jack) → R each → ⊥) → Plugs R setup setup

@@ -4,6 +4,7 @@ use Rattle.std.proofs.lemmas.Bool.{cases_lt}
 use Rattle.std.proofs.lemmas.Bool.Decides.{nat_tests}
 use Rattle.std.proofs.lemmas.Option.{slice_get-get_or, get_or_from_slice_get}
 use Rattle.std.specs.List.{All, Contains}
+use Rattle.std.proofs.Math.Bool.{or-true}
 use Rattle.charts.specs.declared.chart.Line.{Line}
 use Rattle.setups.specs.Tapes.{AddsStop, Form, HasStops, has_stop}
 use Rattle.report.specs.ChartForm.{form_of, stops_of}
@@ -54,10 +55,6 @@ punches-more channel index stops {old} {mid} {new} within so_far added = record 
         let line : l ≡ get_or stops index 0 = grind (arith, nat_tests, f) in
         inr (same, (index, omega arith, read-alike stops index l 0 within ∙ sym line))
     onward c l false false e f is = cc
-
-    or-true : (a : Bool) → (a || true) ≡ true
-    or-true true = refl
-    or-true false = refl
 
     back : (c l : ℕ) → (has_stop old c l ≡ true) ⊎ Among channel stops (index + 1) c l → has_stop new c l ≡ true
     back c l (inl had) =

@@ -11,7 +11,7 @@ use Rattle.setups.specs.Wiring.{Wiring, HasJack, SameWires}
 use Rattle.hubs.specs.declared.jack.Jack.{Jack}
 use Rattle.hubs.specs.declared.jack.Jack.TheVariants as jack
 use Rattle.report.specs.ChartForm.{form_of, prints_totals, stops_of}
-use Rattle.wiring_table.specs.Figures.{IsFigure, mark_wheel, suppressed_digits}
+use Rattle.wiring_table.specs.Figures.{IsFigure, mark_wheel, free_digits}
 
 -- the new setup has the old one's jacks and some more, and the old one's wires and tape
 pub record Plugs (jacks_of : Jack → Type 0) (old new : Wiring) : Type 0 where
@@ -26,7 +26,7 @@ pub data Ranged (make : ℕ → Jack) (from end : ℕ) : Jack → Type 0 where
 -- the jacks of an amount from a wheel on
 pub data FigureJacks (wheel : ℕ) (figure : Figure) (each : Jack) : Type 0 where
   links : Ranged jack.Link (wheel + 1) (wheel + figure_width figure) each → FigureJacks wheel figure each
-  suppresses : Ranged jack.Suppress wheel (wheel + suppressed_digits figure.digits figure.decimals) each → FigureJacks wheel figure each
+  suppresses : Ranged jack.Suppress wheel (wheel + free_digits figure.digits figure.decimals) each → FigureJacks wheel figure each
   symbols : Ranged jack.Symbol (mark_wheel wheel figure.digits figure.decimals) (wheel + figure_width figure) each
       → FigureJacks wheel figure each
 

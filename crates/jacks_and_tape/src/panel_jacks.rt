@@ -4,7 +4,7 @@ ghost use Rattle.std.specs.Prelude.{◌≡◌, ◌+◌, ◌≤◌, ℕ, Some, sl
 ghost use Rattle.print_rules.specs.Items.{figure_width};
 ghost use Rattle.hubs.specs.declared.jack.Jack.TheVariants as jack;
 ghost use Rattle.report.specs.ChartForm as form;
-ghost use Rattle.wiring_table.specs.Figures.{mark_wheel, suppressed_digits};
+ghost use Rattle.wiring_table.specs.Figures.{mark_wheel, free_digits};
 ghost use Rattle.jacks_and_tape.specs.HelperJacks.{FigureJacks, FiguresAre, IsGoodFigure, JacksBefore, LineJacks, Plugs, Ranged, TotalsBelow};
 ghost use Rattle.wiring_table.specs.Jacks.{ChartJack};
 ghost use Rattle.charts.specs.declared.chart.Line.{Line};
@@ -12,6 +12,7 @@ ghost use Rattle.charts.specs.declared.chart.Line.{Line};
 use chart_rules::{Chart, Figure};
 use charts::{Line, Printing, Statement};
 use hubs::Jack;
+use print_rules::heading_count;
 use setups::Setup;
 
 // Plugs LINK on the wheels from one on and before another.
@@ -76,29 +77,6 @@ fn prints_totals(lines: &[Line], level: u8) -> bool
     lines
         .iter()
         .any(|line| is_total_item(level, &line.statement))
-}
-
-// The heading line that a line names, or 0.
-fn heading_of(statement: &Statement) -> u8
-    ensures value { result ≡ form.heading_of statement.now }
-    ensures few { result ≤ 3 }
-{
-    match statement {
-        Statement::Head { line, .. } => line.number(),
-        _ => 0,
-    }
-}
-
-// How many heading lines each page has.
-fn headings(lines: &[Line]) -> u8
-    ensures value { result ≡ form.headings lines.now }
-    ensures few { result ≤ 3 }
-{
-    let mut most = 0;
-    for line in lines {
-        most = most.max(heading_of(&line.statement));
-    }
-    most
 }
 
 // Plugs LIST where cards have lines.
@@ -194,7 +172,7 @@ pub fn plug_jacks(setup: &mut Setup, chart: &Chart)
     ensures { Plugs (ChartJack chart.now.lines) setup.old setup.new }
 {
     let lines = chart.lines();
-    let heads = headings(lines);
+    let heads = heading_count(lines);
     plug_list(setup, lines);
     plug_totals(setup, lines);
     plug_heads(setup, heads + 1);

@@ -4,9 +4,9 @@ use Rattle.std.proofs.lemmas.Bool.Decides.{nat_tests}
 use Rattle.setups.specs.Tapes.{Form}
 use Rattle.net.specs.Printing.{prints}
 use Rattle.net.specs.declared.cycle.Cycle.{Cycle}
-use Rattle.net.specs.declared.cycle.Cycle.TheVariants.{RunIn, Card, Prog, Head}
+use Rattle.net.specs.declared.cycle.Cycle.TheVariants.{Card, Prog}
 use Rattle.net.specs.declared.cycle.Level.TheVariants.{Minor, Intermediate, Major, Final}
-use Rattle.net.specs.declared.cycle.Ordinal.TheVariants.{First, Second, Third}
+use Rattle.net.specs.declared.cycle.Ordinal.TheVariants.{Third}
 use Rattle.carriage.specs.Carriage.{CarriageState, carriage_ended, ended_at, spaced}
 use Rattle.carriage.specs.Moves.{down_by, skipped, skipped_to, restored}
 use Rattle.carriage.specs.declared.spot.Spot.{Spot}
@@ -29,28 +29,22 @@ spot_at page line latch = record { page = page; line = line; latch = latch }
 -- the jacks of a chart print what it prints
 pub jacks-print : (lines : List Line) (cycle : Cycle) (kind : ℕ) → kind_of cycle ≡ Some kind
     → prints (printing_of_chart lines) cycle ≡ prints_kind lines kind
-jacks-print lines RunIn kind is = cc
 jacks-print lines Card kind is = let same : 0 ≡ kind = cc in ap (prints_kind lines) same
-jacks-print lines (Prog level First) kind is = cc
-jacks-print lines (Prog level Second) kind is = cc
 jacks-print lines (Prog Minor Third) kind is = let same : 1 ≡ kind = cc in ap (prints_kind lines) same
 jacks-print lines (Prog Intermediate Third) kind is = let same : 2 ≡ kind = cc in ap (prints_kind lines) same
 jacks-print lines (Prog Major Third) kind is = let same : 3 ≡ kind = cc in ap (prints_kind lines) same
 jacks-print lines (Prog Final Third) kind is = let same : 4 ≡ kind = cc in ap (prints_kind lines) same
-jacks-print lines (Head heading) kind is = cc
+jacks-print lines other kind is = cc
 
 -- a cycle that prints a body line goes down by its spacing
 ended-printing : (carriage : CarriageState) (cycle : Cycle) (kind : ℕ) → kind_of cycle ≡ Some kind
     → prints carriage.printing cycle ≡ true
     → carriage_ended carriage cycle ≡ ended_at carriage true (down_by carriage.form carriage.asked.lines carriage.spot)
-ended-printing carriage RunIn kind is printing = cc
 ended-printing carriage Card kind is printing =
     ap (λ b. ended_at carriage b (spaced carriage.form b carriage.asked.lines carriage.spot)) printing
-ended-printing carriage (Prog level First) kind is printing = cc
-ended-printing carriage (Prog level Second) kind is printing = cc
 ended-printing carriage (Prog level Third) kind is printing =
     ap (λ b. ended_at carriage b (spaced carriage.form b carriage.asked.lines carriage.spot)) printing
-ended-printing carriage (Head heading) kind is printing = cc
+ended-printing carriage other kind is printing = cc
 
 -- the overflow line is noticed from above it
 latch-from_above : (line to overflow its : ℕ) → its ≡ overflow → line < overflow

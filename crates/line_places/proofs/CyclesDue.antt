@@ -6,7 +6,7 @@ use Rattle.net.specs.Printing.{prints}
 use Rattle.net.specs.declared.cycle.Cycle.{Cycle}
 use Rattle.net.specs.declared.cycle.Cycle.TheVariants.{Card, Prog, Head}
 use Rattle.net.specs.declared.cycle.Level.{Level}
-use Rattle.net.specs.declared.cycle.Level.TheVariants.{Minor, Intermediate, Major, Final}
+use Rattle.net.specs.declared.cycle.Level.TheVariants.{Minor, Final}
 use Rattle.net.specs.declared.cycle.Ordinal.{Ordinal}
 use Rattle.net.specs.declared.cycle.Ordinal.TheVariants.{First, Second, Third}
 use Rattle.net.specs.declared.printing.Printing.{Printing}
@@ -14,7 +14,7 @@ use Rattle.carriage.specs.declared.spot.Spot.{Spot}
 use Rattle.program_unit.specs.CycleOrder.{levels_to, level_above, top_level, has_level_left, headed, behind_heading, cycle_behind, is_over_at, card_over}
 use Rattle.program_unit.specs.Program.{ProgramState, stage_ended}
 use Rattle.program_unit.specs.declared.stage.Stage.{Stage}
-use Rattle.program_unit.specs.declared.stage.Stage.TheVariants.{Fresh, RanIn, RanCard, RanProg, BeforeCard, BeforeTotal}
+use Rattle.program_unit.specs.declared.stage.Stage.TheVariants.{RanIn, RanCard, RanProg, BeforeCard, BeforeTotal}
 use Rattle.charts.specs.declared.chart.Line.{Line}
 use Rattle.report.specs.Places.{Left}
 use Rattle.line_places.specs.Placing.{IsOnLine, IsAt}
@@ -45,27 +45,19 @@ none-left false level card none = refl
 card-follows : (program : ProgramState) (stage : Stage) (restore : Bool) → is_between stage ≡ true
     → is_over_at program stage true ≡ true
     → cycle_behind program stage restore true ≡ Some (headed program.printing restore Card)
-card-follows program Fresh restore between over = cc
 card-follows program RanIn restore between over = refl
 card-follows program RanCard restore between over =
     none-left (has_level_left program None true) (Some (Prog Minor First)) (Some (headed program.printing restore Card)) over
-card-follows program (RanProg level First) restore between over = cc
-card-follows program (RanProg level Second) restore between over = cc
 card-follows program (RanProg level Third) restore between over =
     none-left (has_level_left program (Some level) true) (Some (Prog (level_above (Some level)) First)) (Some (headed program.printing restore Card)) over
-card-follows program (BeforeCard heading) restore between over = cc
-card-follows program (BeforeTotal level heading) restore between over = cc
+card-follows program other restore between over = cc
 
 -- behind heading cycles that come there the card waits on
 card-waits : (stage : Stage) → is_between stage ≡ true → stage_ended stage (Head First) ≡ BeforeCard First
-card-waits Fresh between = cc
 card-waits RanIn between = refl
 card-waits RanCard between = refl
-card-waits (RanProg level First) between = cc
-card-waits (RanProg level Second) between = cc
 card-waits (RanProg level Third) between = refl
-card-waits (BeforeCard heading) between = cc
-card-waits (BeforeTotal level heading) between = cc
+card-waits other between = cc
 
 -- which cycle is due at a stage
 abbrev due_at : ProgramState → Stage → Bool → Bool → Bool → Option Cycle
@@ -110,19 +102,14 @@ levels-due program done restore more is =
 levels-few : (top : Option Level) → levels_to top ≤ 4
 levels-few None = omega arith
 levels-few (Some Minor) = omega arith
-levels-few (Some Intermediate) = omega arith
-levels-few (Some Major) = omega arith
-levels-few (Some Final) = omega arith
+levels-few other = omega arith
 
 -- the level that is left is the one above
 pub levels-rise : (program : ProgramState) (done : Option Level) (more : Bool) → has_level_left program done more ≡ true
     → level_number (level_above done) ≡ levels_to done + 1
-levels-rise program None more is_left = refl
-levels-rise program (Some Minor) more is_left = refl
-levels-rise program (Some Intermediate) more is_left = refl
-levels-rise program (Some Major) more is_left = refl
 levels-rise program (Some Final) more is_left =
     let few = levels-few (top_level program more) in absurd (grind (arith, nat_tests, is_left, few))
+levels-rise program other more is_left = refl
 
 -- a cycle that is due whether a card waits or not
 due-anyway : {X : Type 0} (waits : Bool) (next : Option X) → (if waits || true then next else None) ≡ next

@@ -14,7 +14,7 @@ use Rattle.placed_lines.specs.declared.placed_line.PlacedLine.{PlacedLine}
 use Rattle.carriage.specs.declared.spot.Spot.{Spot}
 use Rattle.charts.specs.declared.chart.Line.{Line}
 use Rattle.report.specs.BodyLines.{heading_line}
-use Rattle.report.specs.ChartForm.{form_of, headings}
+use Rattle.report.specs.ChartForm.{form_of, heading_count}
 use Rattle.report.specs.Places.{Left, heading_on}
 use Rattle.line_places.specs.Placing.{IsCarriageOf, IsAt, IsReady}
 use Rattle.line_places.specs.CarriageCycles.{carriage_behind, carriage_behind_all, line_at, lines_placed, heading_cycles}
@@ -79,11 +79,8 @@ third_line count first = if nat_le 3 count then second_line count first + 1 else
 
 -- the third line is the last heading line, or the first line where there is none
 third-line : (count first : ℕ) → count ≤ 3 → third_line count first ≡ first + max count 1 - 1
-third-line zero first few = omega arith
-third-line (suc zero) first few = omega arith
-third-line (suc (suc zero)) first few = omega arith
-third-line (suc (suc (suc zero))) first few = omega arith
 third-line (suc (suc (suc (suc more)))) first few = absurd (omega (arith, few))
+third-line other first few = omega arith
 
 -- the lines do not rise up the page
 second-line : (count first : ℕ) → second_line count first ≤ third_line count first
@@ -127,7 +124,7 @@ heads-placed lines page (suc (suc (suc (suc more)))) texts few are = absurd (ome
 
 -- the place of the heading line with a number, if the chart has it, where the carriage stands on a line at the end of its cycle
 abbrev place_on : List Line → ℕ → ℕ → ℕ → Option (ℕ × ℕ)
-place_on lines page number line = carriages.placed (nat_le number (headings lines)) (spot_at page line false)
+place_on lines page number line = carriages.placed (nat_le number (heading_count lines)) (spot_at page line false)
 
 -- The states behind the three heading cycles.
 record AreBegun (lines : List Line) (page : ℕ) (carriage : CarriageState) : Type 0 where
@@ -136,19 +133,19 @@ record AreBegun (lines : List Line) (page : ℕ) (carriage : CarriageState) : Ty
       (place_on lines page 1 (form_of lines).first)
   two : (printed : Option (ℕ × ℕ))
       → carriage_behind (standing carriage.form carriage.printing (spot_at page (form_of lines).first false) printed) nothing_asked (Head Second)
-      ≡ standing carriage.form carriage.printing (spot_at page (second_line (headings lines) (form_of lines).first) false)
-      (place_on lines page 2 (second_line (headings lines) (form_of lines).first))
+      ≡ standing carriage.form carriage.printing (spot_at page (second_line (heading_count lines) (form_of lines).first) false)
+      (place_on lines page 2 (second_line (heading_count lines) (form_of lines).first))
   three : (printed : Option (ℕ × ℕ))
-      → carriage_behind (standing carriage.form carriage.printing (spot_at page (second_line (headings lines) (form_of lines).first) false) printed) nothing_asked (Head Third)
-      ≡ standing carriage.form carriage.printing (spot_at page (third_line (headings lines) (form_of lines).first) false)
-      (place_on lines page 3 (third_line (headings lines) (form_of lines).first))
+      → carriage_behind (standing carriage.form carriage.printing (spot_at page (second_line (heading_count lines) (form_of lines).first) false) printed) nothing_asked (Head Third)
+      ≡ standing carriage.form carriage.printing (spot_at page (third_line (heading_count lines) (form_of lines).first) false)
+      (place_on lines page 3 (third_line (heading_count lines) (form_of lines).first))
 
 begun : (lines : List Line) (page : ℕ) (carriage : CarriageState) → HasGoodForm lines → IsCarriageOf lines carriage
     → next_page carriage.spot.page ≡ page → AreBegun lines page carriage
 begun lines page carriage good is is_page =
     let first = (form_of lines).first in
     let overflow = (form_of lines).overflow in
-    let count = headings lines in
+    let count = heading_count lines in
     let top = good.room.top in
     let bottom = good.room.bottom in
     let length = is.form.length in
@@ -171,24 +168,24 @@ begun lines page carriage good is is_page =
 -- behind the three heading cycles the carriage stands at the last heading line, or at the first line
 behind-all : (lines : List Line) (page : ℕ) (carriage : CarriageState) (texts : ℕ → List ℕ) → AreBegun lines page carriage
     → carriage_behind_all carriage (heading_cycles texts)
-    ≡ standing carriage.form carriage.printing (spot_at page (third_line (headings lines) (form_of lines).first) false)
-    (place_on lines page 3 (third_line (headings lines) (form_of lines).first))
+    ≡ standing carriage.form carriage.printing (spot_at page (third_line (heading_count lines) (form_of lines).first) false)
+    (place_on lines page 3 (third_line (heading_count lines) (form_of lines).first))
 behind-all lines page carriage texts are =
     ap (λ c. carriage_behind (carriage_behind c nothing_asked (Head Second)) nothing_asked (Head Third)) are.one
     ∙ ap (λ c. carriage_behind c nothing_asked (Head Third)) (are.two (place_on lines page 1 (form_of lines).first))
-    ∙ are.three (place_on lines page 2 (second_line (headings lines) (form_of lines).first))
+    ∙ are.three (place_on lines page 2 (second_line (heading_count lines) (form_of lines).first))
 
 -- the lines that the heading cycles place, by where the carriage stands at the end of each
 placed-all : (lines : List Line) (page : ℕ) (carriage : CarriageState) (texts : ℕ → List ℕ) → AreBegun lines page carriage
     → lines_placed carriage (heading_cycles texts)
     ≡ line_at (place_on lines page 1 (form_of lines).first) (texts 1)
-    ++ (line_at (place_on lines page 2 (second_line (headings lines) (form_of lines).first)) (texts 2)
-    ++ (line_at (place_on lines page 3 (third_line (headings lines) (form_of lines).first)) (texts 3)
+    ++ (line_at (place_on lines page 2 (second_line (heading_count lines) (form_of lines).first)) (texts 2)
+    ++ (line_at (place_on lines page 3 (third_line (heading_count lines) (form_of lines).first)) (texts 3)
     ++ []))
 placed-all lines page carriage texts are =
     let first : Option (ℕ × ℕ) = place_on lines page 1 (form_of lines).first in
     let second : Option (ℕ × ℕ) =
-    place_on lines page 2 (second_line (headings lines) (form_of lines).first) in
+    place_on lines page 2 (second_line (heading_count lines) (form_of lines).first) in
     let behind_second : CarriageState → CarriageState = λ c. carriage_behind c nothing_asked (Head Second) in
     let behind_third : CarriageState → CarriageState = λ c. carriage_behind c nothing_asked (Head Third) in
     ap (λ c. line_at c.printed (texts 1) ++ (line_at (behind_second c).printed (texts 2) ++ (line_at (behind_third (behind_second c)).printed (texts 3) ++ []))) are.one
@@ -203,13 +200,13 @@ headings-placed lines left carriage texts good is at starts below are_texts =
     let are = begun lines (left.page + 1) carriage good is (ap next_page at.page ∙ page-turned left.page below) in
     let leaves : left ≡ record { page = left.page; line = None } = λ i. record { page = left.page; line = starts i } in
     let behind = behind-all lines (left.page + 1) carriage texts are in
-    let top = third-line (headings lines) (form_of lines).first good.room.few_headings in
+    let top = third-line (heading_count lines) (form_of lines).first good.room.few_headings in
     let P : CarriageState → Type 0 = λ c. IsReady lines (record { page = left.page; line = None }) c.spot in
     let Q : Left → Type 0 = λ l. AreHeadingsPlaced lines l carriage texts in
     subst Q (sym leaves)
     (record {
       heads = placed-all lines (left.page + 1) carriage texts are
-          ∙ heads-placed lines (left.page + 1) (headings lines) texts good.room.few_headings are_texts;
+          ∙ heads-placed lines (left.page + 1) (heading_count lines) texts good.room.few_headings are_texts;
       ready = subst P (sym behind)
           (record {
             page = refl;

@@ -2,6 +2,7 @@
 use Rattle.std.proofs.Common.{◌≡◌, ◌≢◌, ℕ, ◌==◌, ◌||◌, not, Bool, true, false, List, [], ◌∷◌, Some, None, refl, ap, subst, ◌∙◌, ◌⊎◌, inl, inr, if◌then◌else◌}
 use Rattle.std.specs.List.{list_any}
 use Rattle.std.proofs.lemmas.Bool.Decides.{eqb_tells}
+use Rattle.std.proofs.lemmas.Bool.{not-false, or_parts}
 use Rattle.net.specs.Printing.{prints}
 use Rattle.net.specs.declared.cycle.Cycle.{Cycle}
 use Rattle.net.specs.declared.cycle.Cycle.TheVariants.{RunIn, Card, Prog, Head}
@@ -28,7 +29,7 @@ use Rattle.line_places.specs.Placing.{prints_kind, channel_of, turns_page, kind_
 use Rattle.line_places.specs.CarriageCycles.{carriage_behind, begins_page}
 use Rattle.line_places.proofs.BodyLines.{jacks-print}
 use Rattle.line_places.proofs.Placements.{quiet-stays}
-use Rattle.line_places.proofs.LawfulForms.{neither, not_false, none-breaks, lacks-none}
+use Rattle.line_places.proofs.LawfulForms.{none-breaks, lacks-none}
 
 -- no line breaks the rule on what is printed
 abbrev Keeps : List Line → List Line → Type 0
@@ -37,7 +38,7 @@ Keeps whole rest = list_any (λ line. breaks_print_kind whole line.statement) re
 keeps-parts : (whole : List Line) (line : Line) (rest : List Line) → Keeps whole (line ∷ rest)
     → (breaks_print_kind whole line.statement ≡ false) × Keeps whole rest
 keeps-parts whole line rest kept =
-    neither (breaks_print_kind whole line.statement) (list_any (λ l. breaks_print_kind whole l.statement) rest) kept
+    or_parts (breaks_print_kind whole line.statement) (list_any (λ l. breaks_print_kind whole l.statement) rest) kept
 
 kinds-kept : (chart : Chart) → IsLawful chart → Keeps chart.lines chart.lines
 kinds-kept chart lawful =
@@ -94,7 +95,7 @@ totals-printed (line ∷ lines) its has = by line.statement has (totals-printed 
 kind-printed : (chart : Chart) (kind : BodyLine) → IsLawful chart → has_item_of chart.lines kind ≡ true
     → prints_kind chart.lines (kind_number kind) ≡ true
 kind-printed chart body.Detail lawful has =
-    detail-or_group chart.lines (not_false (has_print chart.lines) (lacks-none rule.PrintKind chart lawful))
+    detail-or_group chart.lines (not-false (has_print chart.lines) (lacks-none rule.PrintKind chart lawful))
     (details-alone chart.lines chart.lines (kinds-kept chart lawful) has)
 kind-printed chart (body.Total level.Minor) lawful has = totals-printed chart.lines level.Minor has
 kind-printed chart (body.Total level.Intermediate) lawful has = totals-printed chart.lines level.Intermediate has
@@ -112,7 +113,7 @@ spoken-of whole kind its none keeps false is = refl
 spoken-of whole kind its none keeps true is = absurd (by (eqb_tells (kind_number its) kind))
   where
     by : ((kind_number its == kind) ≡ true) × (kind_number its ≡ kind) ⊎ ((kind_number its == kind) ≡ false) × (kind_number its ≢ kind) → ⊥
-    by (inl same) = none its (same.1) (not_false (has_item_of whole its) keeps)
+    by (inl same) = none its (same.1) (not-false (has_item_of whole its) keeps)
     by (inr apart) = let is_not = apart.0 in absurd (cc)
 
 -- the spacing of a kind without items is single

@@ -6,6 +6,7 @@ use Rattle.net.specs.declared.cycle.Ordinal.TheVariants.{First, Second, Third}
 use Rattle.carriage.specs.Asked.{nothing_asked}
 use Rattle.carriage.specs.Carriage.{CarriageState, carriage_ended}
 use Rattle.carriage.specs.declared.asked.Asked.{Asked}
+pub use Rattle.placed_lines.specs.Lines.{line_at}
 use Rattle.placed_lines.specs.declared.placed_line.PlacedLine.{PlacedLine}
 use Rattle.charts.specs.declared.chart.Line.{Line}
 use Rattle.line_places.specs.Placing.{asked_of}
@@ -19,11 +20,6 @@ pub record CarriageCycle : Type 0 where
 -- the carriage behind a cycle in which it was asked for something
 abbrev pub carriage_behind : CarriageState → Asked → Cycle → CarriageState
 carriage_behind carriage asked cycle = carriage_ended (record carriage { asked = asked }) cycle
-
--- a line at the place where the carriage put it, if it put one
-abbrev pub line_at : Option (ℕ × ℕ) → List ℕ → List PlacedLine
-line_at None text = []
-line_at (Some place) text = record { page = place.0; line = place.1; text = text } ∷ []
 
 -- the carriage behind some cycles
 abbrev pub carriage_behind_all : CarriageState → List CarriageCycle → CarriageState

@@ -3,7 +3,7 @@ use Rattle.std.specs.Prelude.{◌≡◌, ℕ, ◌+◌, ◌<◌, ◌≤◌, true,
 use Rattle.print_rules.specs.Tapes.{rise_above, are_within}
 use Rattle.charts.specs.declared.chart.Line.{Line}
 use Rattle.charts.specs.declared.statement.After.TheVariants as action
-use Rattle.report.specs.ChartForm.{form_of, headings, spacing_of, after_of, stops_of}
+use Rattle.report.specs.ChartForm.{form_of, heading_count, spacing_of, after_of, stops_of}
 use Rattle.report.specs.Places.{top_line}
 
 -- A page has room for the heading lines above the overflow line, and for a line of any spacing behind one that stands above it.
@@ -12,7 +12,7 @@ pub record HasRoom (lines : List Line) : Type 0 where
   pub top : top_line lines < (form_of lines).overflow
   pub bottom : (form_of lines).overflow + 2 ≤ (form_of lines).lines
   pub long : (form_of lines).lines ≤ 144
-  pub few_headings : headings lines ≤ 3
+  pub few_headings : heading_count lines ≤ 3
   pub spacing_from : (kind : ℕ) → 1 ≤ spacing_of lines kind
   pub spacing_to : (kind : ℕ) → spacing_of lines kind ≤ 3
 

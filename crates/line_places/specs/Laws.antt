@@ -13,7 +13,7 @@ use Rattle.charts.specs.Chart.{Chart}
 use Rattle.charts.specs.declared.chart.Line.{Line}
 use Rattle.chart_rules.specs.Rules.{IsLawful}
 use Rattle.report.specs.BodyLines.{heading_line}
-use Rattle.report.specs.ChartForm.{headings}
+use Rattle.report.specs.ChartForm.{heading_count}
 use Rattle.report.specs.Places.{BodyText, Left, before_all, page_of, line_below, left_by, headed, placed}
 use Rattle.line_places.specs.Placing.{printing_of_chart, kind_of, prints_kind, asked_of, IsCarriageOf, IsAt, IsReady}
 use Rattle.line_places.specs.CarriageCycles.{carriage_behind, carriage_behind_all, lines_placed, heading_cycles, cycles_for, begins_page, begun_by}
@@ -56,7 +56,7 @@ BodyLinesArePlaced =
 -- the texts of a chart's heading lines, by their numbers
 abbrev pub AreHeadingTexts : List Line → (ℕ → List ℕ) → Type 0
 AreHeadingTexts lines texts =
-    (number : ℕ) → 1 ≤ number → number ≤ headings lines → texts number ≡ heading_line lines number
+    (number : ℕ) → 1 ≤ number → number ≤ heading_count lines → texts number ≡ heading_line lines number
 
 -- The heading cycles placed a page's heading lines, and the carriage stands ready for its first body line.
 pub record AreHeadingsPlaced (lines : List Line) (left : Left) (carriage : CarriageState) (texts : ℕ → List ℕ) : Type 0 where

@@ -14,7 +14,7 @@ use Rattle.carriage.specs.declared.spot.Spot.{Spot}
 use Rattle.charts.specs.declared.chart.Line.{Line}
 use Rattle.charts.specs.declared.statement.After.{After}
 use Rattle.charts.specs.declared.statement.After.TheVariants as action
-use Rattle.report.specs.ChartForm.{form_of, headings, prints_details, prints_totals, spacing_of, after_of, stops_of}
+use Rattle.report.specs.ChartForm.{form_of, heading_count, prints_details, prints_totals, spacing_of, after_of, stops_of}
 use Rattle.report.specs.Places.{Left, page_of, top_line}
 
 -- A carriage tape is that of a chart: its lines are those of the chart's form, and channels 2 to 11 have the chart's stops.
@@ -33,9 +33,9 @@ printing_of_chart lines = record {
   intermediate_totals = prints_totals lines 2;
   major_totals = prints_totals lines 3;
   final_totals = prints_totals lines 4;
-  first_heading = nat_le 1 (headings lines);
-  second_heading = nat_le 2 (headings lines);
-  third_heading = nat_le 3 (headings lines);
+  first_heading = nat_le 1 (heading_count lines);
+  second_heading = nat_le 2 (heading_count lines);
+  third_heading = nat_le 3 (heading_count lines);
 }
 
 -- the kind of body line that a cycle prints, if it is one that can

@@ -3,7 +3,7 @@ use Rattle.std.specs.Prelude.{ℕ, ◌+◌, ◌≤◌, length, Option, Some, Non
 use Rattle.charts.specs.declared.statement.After.{After}
 use Rattle.charts.specs.declared.statement.After.TheVariants as action
 use Rattle.charts.specs.declared.statement.Mark.{Mark}
-use Rattle.wiring_table.specs.Figures.{mark_characters}
+use Rattle.wiring_table.specs.Figures.{mark_text}
 
 -- a channel that a line skips to is one of the carriage
 abbrev pub HasChannel : After → Type 0
@@ -13,4 +13,4 @@ HasChannel (action.Skip channel) = (1 ≤ channel) × (channel ≤ 12)
 -- a mark stands on wheels of the machine from a wheel on
 abbrev pub HasWheelsForMark : (wheel : ℕ) → Option Mark → Type 0
 HasWheelsForMark wheel None = Unit {0}
-HasWheelsForMark wheel (Some mark) = (1 ≤ wheel) × (wheel + length (mark_characters mark) ≤ 121)
+HasWheelsForMark wheel (Some mark) = (1 ≤ wheel) × (wheel + length (mark_text mark) ≤ 121)

@@ -15,7 +15,7 @@ use Rattle.charts.specs.declared.statement.Mark.{Mark}
 use Rattle.charts.specs.declared.statement.SignRule.{SignRule}
 use Rattle.hubs.specs.declared.hub.Hub.{Hub}
 use Rattle.hubs.specs.declared.hub.Hub.TheVariants.{FR, SR, CX, IX, CSD, EM, CA, CB, PIC, PIX, IE, CSE, W, ST, SP, SK, RS}
-use Rattle.wiring_table.specs.Figures.{digit_wheel, point_wheel, mark_characters, detail_emitter}
+use Rattle.wiring_table.specs.Figures.{digit_wheel, point_wheel, mark_text, detail_emitter}
 use Rattle.line_wires.specs.HelperAdds.{One, Both, Upto, OfSome, Where, Punched}
 use Rattle.wiring_table.specs.Parts.{pilot_for, comparing_for, indicate_for, split_for, negative_side, source_of}
 
@@ -83,7 +83,7 @@ MarkWires emitter wheel text common side =
 -- the mark of an amount on the line of a card, through the positions 2 and 3 of its pilot
 abbrev pub DetailMark : SignRule → (pilot wheel : ℕ) → Mark → Wires
 DetailMark rule pilot wheel mark =
-    MarkWires detail_emitter wheel (mark_characters mark) (λ k. PIC pilot (2 + k)) (λ k. negative_side rule pilot (2 + k))
+    MarkWires detail_emitter wheel (mark_text mark) (λ k. PIC pilot (2 + k)) (λ k. negative_side rule pilot (2 + k))
 
 -- the sign column of an amount at first reading to its pilot
 abbrev pub PickupWires : Lists → Field → Wires

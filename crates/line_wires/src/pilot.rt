@@ -3,7 +3,7 @@
 ghost use Rattle.std.specs.Prelude.{◌≡◌, ◌+◌, ◌≤◌, OnOk, None, IfSome, true, length};
 ghost use Rattle.charts.specs.Field.{sign_column};
 ghost use Rattle.hubs.specs.Hubs.{is_exit_hub, carry_out_of};
-ghost use Rattle.wiring_table.specs.Figures.{rule_of, mark_characters};
+ghost use Rattle.wiring_table.specs.Figures.{rule_of, mark_text};
 ghost use Rattle.line_wires.specs.HelperAdds.{Adds};
 ghost use Rattle.line_wires.specs.HelperRows.{DetailMark, PickupWires};
 ghost use Rattle.wiring_table.specs.Parts.{negative_side, positive_side};
@@ -31,8 +31,8 @@ pub fn rule_of(kind: FieldKind) -> Option<SignRule>
 
 /// The characters of a mark.
 pub fn mark_characters(mark: Mark) -> &'static [u8]
-    ensures value { result.now ≡ mark_characters mark }
-    ensures few { length (mark_characters mark) ≤ 2 }
+    ensures value { result.now ≡ mark_text mark }
+    ensures few { length (mark_text mark) ≤ 2 }
 {
     match mark {
         Mark::Credit => b"CR",
@@ -90,7 +90,7 @@ pub(crate) fn wire_detail_mark(
     mark: Mark,
 ) -> Result<(), AllocError>
     requires pilot { (1 ≤ pilot) × (pilot ≤ 16) }
-    requires wheels { (1 ≤ wheel) × (wheel + length (mark_characters mark) ≤ 121) }
+    requires wheels { (1 ≤ wheel) × (wheel + length (mark_text mark) ≤ 121) }
     ensures { OnOk result (Adds (DetailMark rule pilot wheel mark) setup.old setup.new) }
 {
     for (k, character) in mark_characters(mark).iter().enumerate() {

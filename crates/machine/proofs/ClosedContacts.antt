@@ -2,11 +2,13 @@
 use Rattle.std.proofs.Common.{◌≡◌, ℕ, zero, suc, ◌-◌, ◌<◌, ◌≤◌, ◌==◌, Bool, true, false, not, ◌&&◌, ◌||◌, nat_le, List, [], ◌∷◌, Option, Some, None, map, length, get_or, refl, sym, ap, ◌∙◌, arith, if◌then◌else◌}
 use Rattle.std.proofs.lemmas.Bool.Decides.{nat_tests}
 use Rattle.std.specs.List.{list_any}
+use Rattle.std.proofs.Math.Bool.{or-false}
 use Rattle.card_code.specs.declared.row.Row.{Row as CardRow}
 use Rattle.card_code.specs.declared.row.Row.TheVariants as rows
 use Rattle.counters.specs.Counters.{Counter, counter_number, counter_closes, counter_sensed}
 use Rattle.hub_table.specs.Places.{width_place, up_to, part_place}
 use Rattle.hub_table.specs.Ranges.{is_within}
+use Rattle.hub_table.proofs.PlaceLemmas.{width_place-range}
 use Rattle.hubs.specs.declared.hub.Group.{Group}
 use Rattle.hubs.specs.declared.hub.Hub.{Hub}
 use Rattle.hubs.specs.declared.hub.Hub.TheVariants.{BAN, BAT, PIN, PIT, CSD, CSZ}
@@ -77,11 +79,7 @@ latch-here u k within test latch latches = by (u == k) (nat_le (suc k) u) refl r
     by true false is over =
         let none : u - k ≡ 0 = grind (arith, nat_tests) in
         let reached : nat_le k u ≡ true = grind (arith, nat_tests) in
-        rw (none, reached) (or_none (within && test latch))
-      where
-        or_none : (b : Bool) → (b || false) ≡ b
-        or_none true = refl
-        or_none false = refl
+        rw (none, reached) (or-false (within && test latch))
     by false true is over =
         let one : u - k ≡ suc (u - suc k) = grind (arith, nat_tests) in
         let reached : nat_le k u ≡ true = grind (arith, nat_tests) in
@@ -104,9 +102,6 @@ tells_at-in test [] place inside = absurd (omega (arith, inside))
 tells_at-in test (latch ∷ latches) zero inside = refl
 tells_at-in test (latch ∷ latches) (suc place) inside = tells_at-in test latches place (omega (arith, inside))
 
-width_place-four : (w p : ℕ) → width_place w ≡ Some p → (1 ≤ p) × (p ≤ 4)
-width_place-four w p is = (grind (arith, nat_tests), grind (arith, nat_tests))
-
 up_to-last : (last n p : ℕ) → up_to last n ≡ Some p → (1 ≤ p) × (p ≤ last)
 up_to-last last n p is = (grind (arith, nat_tests), grind (arith, nat_tests))
 
@@ -121,7 +116,7 @@ unit_of-place (Some w) (Some n) first second =
 
 pub unit_of-last : (group : Group) → unit_of group < 35
 unit_of-last group =
-    unit_of-place (width_place group.width) (up_to 8 group.number) (width_place-four group.width) (up_to-last 8 group.number)
+    unit_of-place (width_place group.width) (up_to 8 group.number) (width_place-range group.width) (up_to-last 8 group.number)
 
 length-latches : (groups : List Counter) → length (latches_of groups) ≡ length groups
 length-latches [] = refl
@@ -139,7 +134,7 @@ latch-of groups group within test ordered =
     ∙ ap (λ (b : Bool). nat_le 3 (unit_of group) && within && b)
     (tells_at-in test (latches_of groups) (unit_of group - 3) (omega (arith, long, last)))
 
-none-of : {X : Type 0} → (xs : List X) → list_any (λ x. false) xs ≡ false
+pub none-of : {X : Type 0} → (xs : List X) → list_any (λ x. false) xs ≡ false
 none-of [] = refl
 none-of (x ∷ xs) = none-of xs
 
@@ -223,12 +218,8 @@ steady-closed cycle closed machine latches ordered same is digits zones point hu
 counter-steady : (group : Counter) (cycle : Cycle) (at point : Point) (picture : Hub → Bool) (hub : Hub)
     → counter_closes (counter_sensed group cycle at picture) cycle point hub ≡ counter_closes group cycle point hub
 counter-steady group cycle C point picture (BAN name position) = refl
-counter-steady group cycle C point picture (BAT name position) = refl
-counter-steady group cycle C point picture other = refl
 counter-steady group cycle (Row row) point picture (BAN name position) = refl
-counter-steady group cycle (Row row) point picture (BAT name position) = refl
-counter-steady group cycle (Row row) point picture other = refl
-counter-steady group cycle K point picture hub = refl
+counter-steady group cycle other point picture hub = refl
 
 pilots-steady : (pilots : PilotStates) (cycle : Cycle) (at point : Point) (picture : Hub → Bool) (hub : Hub)
     → pilots_closes (pilots_sensed pilots cycle at picture) cycle point hub ≡ pilots_closes pilots cycle point hub

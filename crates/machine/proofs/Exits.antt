@@ -17,7 +17,3 @@ pub all-emit : (before stations comparing groups storage emitters program : Bool
 all-emit true stations comparing groups storage emitters program = refl
 all-emit false stations comparing groups storage emitters program =
     rw (none-three (stations || comparing || groups || storage), none-two (stations || comparing || groups || storage || emitters)) refl
-
-pub or-none : (a : Bool) → (a || false) ≡ a
-or-none true = refl
-or-none false = refl

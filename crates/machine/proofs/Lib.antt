@@ -15,7 +15,7 @@ mod Exits
 mod Moving
 mod Parts
 mod Going
-mod Pictures
+pub mod Pictures
 mod Points
 mod Rest
 mod UnitOrder

@@ -1,6 +1,7 @@
 -- What the end of a cycle makes of the carriage's place.
-use Rattle.std.proofs.Common.{◌≡◌, ℕ, ◌+◌, ◌-◌, ◌^◌, ◌<◌, ◌≤◌, ◌⊎◌, inl, inr, Bool, true, false, ◌||◌, nat_le, nat_lt, List, [], ◌∷◌, ◌++◌, Option, Some, None, ⊎_elim, refl, ◌∙◌, arith}
+use Rattle.std.proofs.Common.{◌≡◌, ℕ, ◌+◌, ◌-◌, ◌^◌, ◌<◌, ◌≤◌, ◌⊎◌, inl, inr, Bool, true, false, nat_le, nat_lt, List, [], ◌∷◌, ◌++◌, Option, Some, None, ⊎_elim, refl, ◌∙◌, arith}
 use Rattle.std.proofs.lemmas.Bool.Decides.{nat_tests}
+use Rattle.std.proofs.lemmas.Bool.{or_parts}
 use Rattle.carriage.proofs.Descents.{down_by-on_form, down_by-to_next}
 use Rattle.carriage.proofs.StopSteps.{next_stop-tells}
 use Rattle.carriage.specs.Carriage.{CarriageState, carriage_ended, moved, spaced, placed}
@@ -30,10 +31,6 @@ pub record MovesDown (form : Form) (old new : Spot) : Type 0 where
   pub line : 1 ≤ new.line
   pub down : old.page ≡ new.page → old.line < new.line
 
-or_reset : (a b : Bool) → (a || b) ≡ false → a ≡ false
-or_reset true b is = is
-or_reset false b is = refl
-
 next_page-up : (page : ℕ) → page < 2 ^ 32 → next_page page ≡ page + 1
 next_page-up page below = grind (arith, nat_tests)
 
@@ -52,7 +49,7 @@ down_by-moves form spot lines is_form asks inside below = by (nat_le (spot.line 
             page_to = omega arith;
             not_back = λ same. omega arith;
             inside = fits;
-            latch = λ reset. inl (or_reset spot.latch _ reset);
+            latch = λ reset. inl (or_parts spot.latch _ reset).0;
           };
           line = omega (arith, asks.from);
           down = λ same. omega (arith, asks.from);
@@ -68,7 +65,7 @@ down_by-moves form spot lines is_form asks inside below = by (nat_le (spot.line 
             page_to = omega (arith, up);
             not_back = λ same. absurd (omega (arith, up, same));
             inside = omega (arith, inside, three);
-            latch = λ reset. inl (or_reset spot.latch _ reset);
+            latch = λ reset. inl (or_parts spot.latch _ reset).0;
           };
           line = omega (arith, passes);
           down = λ same. absurd (omega (arith, up, same));
@@ -108,7 +105,7 @@ skipped-skips form (Some channel) spot inside = by (next_stop form channel spot.
           page = refl;
           line = omega arith;
           inside = omega (arith, to, next.on_form);
-          latch = λ reset. or_reset spot.latch _ reset;
+          latch = λ reset. (or_parts spot.latch _ reset).0;
         })
 
 restored-skips : (form : Form) (restore : Bool) (spot : Spot) → spot.line ≤ form.lines → Skips form spot (restored restore spot)

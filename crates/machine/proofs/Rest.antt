@@ -4,6 +4,7 @@ use Rattle.std.proofs.lemmas.Bool.Decides.{nat_tests}
 use Rattle.std.proofs.lemmas.Nat.Bits.{bit_at-zero}
 use Rattle.std.specs.Int.{bit_at}
 use Rattle.std.specs.List.{list_any}
+use Rattle.std.proofs.lemmas.Bool.{and_right}
 use Rattle.card_code.specs.Rows.{row_number}
 use Rattle.counters.specs.Counters.{Counter, no_controls, controls_of, counter_emits, counter_sensed, counter_ended, counter_at_start, all_taken, takes, shows}
 use Rattle.counters.specs.declared.controls.Controls.{Controls}
@@ -97,16 +98,12 @@ near : (place : Option ℕ) (before : ℕ) → 1268 ≤ before → before ≤ 13
 near None before low high from to = absurd (omega (arith, from))
 near (Some p) before low high from to = grind (arith, nat_tests, low, high, from, to)
 
-and-false : (a b : Bool) → b ≡ false → (a && b) ≡ false
-and-false true b is = is
-and-false false b is = refl
-
 none-at : (first number : Option ℕ) → is_bit_from first 0 number ≡ false
 unfolding is_bit
 none-at None number = refl
 none-at (Some first) None = refl
 none-at (Some first) (Some number) =
-    and-false (nat_le first number) (bit_at 0 (number - first) == 1)
+    and_right (nat_le first number) (bit_at 0 (number - first) == 1)
     (ap (λ (n : ℕ). n == 1) (bit_at-zero (number - first)))
 
 silent-hub : (set : HubSet) (bits : ℕ) (first hub : Hub) → bits ≡ 0

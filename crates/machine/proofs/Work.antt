@@ -1,12 +1,12 @@
 -- How many cycles a feed can still have.
-use Rattle.std.proofs.Common.{◌≡◌, ℕ, ◌+◌, ◌*◌, ◌-◌, ◌<◌, ◌≤◌, Bool, true, false, not, ◌&&◌, ◌||◌, nat_lt, Option, Some, None, if◌then◌else◌, refl, subst, arith}
-use Rattle.std.proofs.lemmas.Bool.Decides.{nat_tests}
+use Rattle.std.proofs.Common.{◌≡◌, ℕ, ◌+◌, ◌*◌, ◌-◌, ◌<◌, ◌≤◌, Bool, true, false, not, ◌&&◌, ◌||◌, Option, Some, None, if◌then◌else◌, refl, subst, arith}
+use Rattle.std.proofs.lemmas.Bool.{ltb-true}
 use Rattle.net.specs.Cycles.{level_number, ordinal_number}
 use Rattle.net.specs.Printing.{prints}
 use Rattle.net.specs.declared.cycle.Cycle.{Cycle}
 use Rattle.net.specs.declared.cycle.Cycle.TheVariants.{RunIn, Card, Prog, Head}
 use Rattle.net.specs.declared.cycle.Level.{Level}
-use Rattle.net.specs.declared.cycle.Level.TheVariants.{Minor, Intermediate, Major, Final}
+use Rattle.net.specs.declared.cycle.Level.TheVariants.{Minor, Final}
 use Rattle.net.specs.declared.cycle.Ordinal.TheVariants.{First, Second, Third}
 use Rattle.program_unit.specs.CycleOrder.{cycle_behind, behind, headed, levels_to, level_above, top_level, has_level_left, is_over_at}
 use Rattle.program_unit.specs.Program.{ProgramState, stage_ended}
@@ -41,9 +41,7 @@ top_of program more = levels_to (top_level program more)
 levels_to-four : (level : Option Level) → levels_to level ≤ 4
 levels_to-four None = omega arith
 levels_to-four (Some Minor) = omega arith
-levels_to-four (Some Intermediate) = omega arith
-levels_to-four (Some Major) = omega arith
-levels_to-four (Some Final) = omega arith
+levels_to-four other = omega arith
 
 pub top_of-four : (program : ProgramState) (more : Bool) → top_of program more ≤ 4
 top_of-four program more = levels_to-four (top_level program more)
@@ -66,11 +64,8 @@ card-falls stage top false restore true cycle here fresh waiting is =
 card-falls stage top printing restore false cycle here fresh waiting is = cc
 
 level_above-next : (done : Option Level) → levels_to done < 4 → level_number (level_above done) ≡ levels_to done + 1
-level_above-next None below = refl
-level_above-next (Some Minor) below = refl
-level_above-next (Some Intermediate) below = refl
-level_above-next (Some Major) below = refl
 level_above-next (Some Final) below = absurd (omega (arith, below))
+level_above-next other below = refl
 
 same_some : {X : Type 0} → (one other : X) → ◌≡◌ {A = Option X} (Some one) (Some other) → one ≡ other
 same_some one other same = cc
@@ -82,9 +77,6 @@ level-falls stage top true done four below here fresh =
     let next = level_above-next done (omega (arith, four, below)) in rw (next, here, fresh) (omega (arith, below))
 level-falls stage top false done four below here fresh =
     let next = level_above-next done (omega (arith, four, below)) in rw (next, here) (omega (arith, below))
-
-below_top : (done top : ℕ) → nat_lt done top ≡ true → done < top
-below_top done top is = grind (arith, nat_tests)
 
 -- behind the cycles of a card, or of one of its levels
 behind-falls : (program : ProgramState) (stage : Stage) (done : Option Level) (restore more waits : Bool) (cycle : Cycle)
@@ -105,7 +97,7 @@ behind-falls program stage done restore more waits cycle here fresh waiting = by
         → (waits || not (not left)) ≡ true → Falls stage top waits cycle
     by true card is due going =
         subst (λ (c : Cycle). Falls stage top waits c) (same_some (Prog (level_above done) First) cycle due)
-        (level-falls stage top waits done (top_of-four program more) (below_top (levels_to done) top is) here fresh)
+        (level-falls stage top waits done (top_of-four program more) (ltb-true (levels_to done) top is) here fresh)
     by false true is due going = waiting_then waits going
       where
         waiting_then : (w : Bool) → (w || not (not false)) ≡ true → Falls stage top w cycle

@@ -1,6 +1,7 @@
 -- A cycle of the machine. At each of its fourteen points all units emit by their states, wires and closed contacts make of that
 -- the picture of the impulsed hubs, and all units sense it. Behind the last point every unit ends the cycle.
-use Rattle.std.specs.Prelude.{◌≡◌, ℕ, zero, suc, Bool, List, [], ◌∷◌, Option, Some, None, slice_index_or}
+use Rattle.std.specs.Prelude.{◌≡◌, ℕ, zero, suc, Bool, List, slice_index_or}
+pub use Rattle.placed_lines.specs.Lines.{line_at}
 use Rattle.placed_lines.specs.declared.placed_line.PlacedLine.{PlacedLine}
 use Rattle.setups.specs.Wiring.{Wiring}
 use Rattle.hubs.specs.declared.hub.Hub.{Hub}
@@ -32,11 +33,6 @@ pub record CycleRun (wiring : Wiring) (cycle : Cycle) (old new : MachineState) :
   pub at_end : MachineState
   pub reached : Reached wiring cycle 14 old at_end
   pub is_new : new ≡ ended at_end cycle
-
--- a line at the place where the carriage put it, if it put one
-abbrev pub line_at : Option (ℕ × ℕ) → List ℕ → List PlacedLine
-line_at None text = []
-line_at (Some place) text = record { page = place.0; line = place.1; text = text } ∷ []
 
 -- the line that the cycle that ended last placed, if it placed one
 abbrev pub line_of : MachineState → List PlacedLine

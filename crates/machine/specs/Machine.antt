@@ -2,23 +2,24 @@
 -- ends a cycle unit by unit, each unit by its own state alone.
 use Rattle.std.specs.Prelude.{ℕ, Bool, ◌||◌, List, [], ◌∷◌, map}
 use Rattle.std.specs.List.{list_any}
-use Rattle.carriage.specs.Carriage.{CarriageState, carriage_at_start, carriage_emits, carriage_closes, carriage_sensed, carriage_ended}
+use Rattle.carriage.specs.Carriage.{CarriageState, carriage_at_start, carriage_sensed, carriage_ended}
 use Rattle.counters.specs.Counters.{Counter, counter_at_start, counter_emits, counter_closes, counter_sensed, counter_ended}
 use Rattle.setups.specs.Wiring.{Wiring}
 use Rattle.hubs.specs.declared.hub.Hub.{Hub}
 use Rattle.net.specs.declared.cycle.Cycle.{Cycle}
 use Rattle.net.specs.declared.cycle.Point.{Point}
-use Rattle.print_unit.specs.Emitters.{emitters_at_start, emitters_emit, emitters_close, emitters_sensed, emitters_ended}
-use Rattle.print_unit.specs.Wheels.{WheelsState, wheels_at_start, wheels_emit, wheels_close, wheels_sensed, wheels_ended}
+use Rattle.net.specs.Nothing.{emits_nothing, closes_nothing, senses_nothing, ends_unchanged}
+use Rattle.print_unit.specs.Emitters.{emitters_at_start, emitters_emit}
+use Rattle.print_unit.specs.Wheels.{WheelsState, wheels_at_start, wheels_sensed, wheels_ended}
 use Rattle.print_unit.specs.declared.emitters.Emitters.{Emitters}
-use Rattle.program_unit.specs.Program.{ProgramState, program_at_start, program_emits, program_closes, program_sensed, program_ended}
-use Rattle.selectors.specs.Indicate.{Latches, indicate_at_start, indicate_emits, indicate_closes, indicate_sensed, indicate_ended}
-use Rattle.selectors.specs.Pilots.{PilotStates, pilots_at_start, pilots_emits, pilots_closes, pilots_sensed, pilots_ended}
-use Rattle.selectors.specs.Splits.{splits_emits, splits_closes, splits_sensed, splits_ended}
+use Rattle.program_unit.specs.Program.{ProgramState, program_at_start, program_emits, program_sensed, program_ended}
+use Rattle.selectors.specs.Indicate.{Latches, indicate_at_start, indicate_closes, indicate_ended}
+use Rattle.selectors.specs.Pilots.{PilotStates, pilots_at_start, pilots_closes, pilots_sensed, pilots_ended}
+use Rattle.selectors.specs.Splits.{splits_closes}
 use Rattle.selectors.specs.declared.splits.Splits.{Splits}
-use Rattle.stations.specs.Comparing.{Compared, comparing_at_start, comparing_emits, comparing_closes, comparing_sensed, comparing_ended}
-use Rattle.stations.specs.Stations.{StationCards, stations_at_start, stations_emits, stations_closes, stations_sensed, stations_ended}
-use Rattle.storage_units.specs.Storage.{StorageState, storage_at_start, storage_emits, storage_closes, storage_sensed, storage_ended}
+use Rattle.stations.specs.Comparing.{Compared, comparing_at_start, comparing_emits, comparing_sensed, comparing_ended}
+use Rattle.stations.specs.Stations.{StationCards, stations_at_start, stations_emits, stations_ended}
+use Rattle.storage_units.specs.Storage.{StorageState, storage_at_start, storage_emits, storage_sensed, storage_ended}
 
 -- The states of all units. The counter groups are the units 3 to 34, and the storage units are 35 to 38, in this order.
 pub record MachineState : Type 0 where
@@ -67,40 +68,40 @@ emits machine cycle point exit =
     || comparing_emits machine.comparing cycle point exit
     || list_any (λ group. counter_emits group cycle point exit) machine.groups
     || list_any (λ storage. storage_emits storage cycle point exit) machine.storage
-    || pilots_emits machine.pilots cycle point exit
-    || indicate_emits machine.indicate cycle point exit
-    || splits_emits machine.splits cycle point exit
+    || emits_nothing machine.pilots cycle point exit
+    || emits_nothing machine.indicate cycle point exit
+    || emits_nothing machine.splits cycle point exit
     || emitters_emit machine.emitters cycle point exit
-    || wheels_emit machine.wheels cycle point exit
-    || carriage_emits machine.carriage cycle point exit
+    || emits_nothing machine.wheels cycle point exit
+    || emits_nothing machine.carriage cycle point exit
     || program_emits machine.program cycle point exit
 
 -- whether some unit closes the contact with an exit
 abbrev pub closes : MachineState → Cycle → Point → Hub → Bool
 closes machine cycle point exit =
-    stations_closes machine.stations cycle point exit
-    || comparing_closes machine.comparing cycle point exit
+    closes_nothing machine.stations cycle point exit
+    || closes_nothing machine.comparing cycle point exit
     || list_any (λ group. counter_closes group cycle point exit) machine.groups
-    || list_any (λ storage. storage_closes storage cycle point exit) machine.storage
+    || list_any (λ storage. closes_nothing storage cycle point exit) machine.storage
     || pilots_closes machine.pilots cycle point exit
     || indicate_closes machine.indicate cycle point exit
     || splits_closes machine.splits cycle point exit
-    || emitters_close machine.emitters cycle point exit
-    || wheels_close machine.wheels cycle point exit
-    || carriage_closes machine.carriage cycle point exit
-    || program_closes machine.program cycle point exit
+    || closes_nothing machine.emitters cycle point exit
+    || closes_nothing machine.wheels cycle point exit
+    || closes_nothing machine.carriage cycle point exit
+    || closes_nothing machine.program cycle point exit
 
 -- each unit as it is behind a point whose picture it has sensed
 abbrev pub sensed : MachineState → Cycle → Point → (Hub → Bool) → MachineState
 sensed machine cycle point picture = record {
-  stations = stations_sensed machine.stations cycle point picture;
+  stations = senses_nothing machine.stations cycle point picture;
   comparing = comparing_sensed machine.comparing cycle point picture;
   groups = map (λ group. counter_sensed group cycle point picture) machine.groups;
   storage = map (λ storage. storage_sensed storage cycle point picture) machine.storage;
   pilots = pilots_sensed machine.pilots cycle point picture;
-  indicate = indicate_sensed machine.indicate cycle point picture;
-  splits = splits_sensed machine.splits cycle point picture;
-  emitters = emitters_sensed machine.emitters cycle point picture;
+  indicate = senses_nothing machine.indicate cycle point picture;
+  splits = senses_nothing machine.splits cycle point picture;
+  emitters = senses_nothing machine.emitters cycle point picture;
   wheels = wheels_sensed machine.wheels cycle point picture;
   carriage = carriage_sensed machine.carriage cycle point picture;
   program = program_sensed machine.program cycle point picture;
@@ -115,8 +116,8 @@ ended machine cycle = record {
   storage = map (λ storage. storage_ended storage cycle) machine.storage;
   pilots = pilots_ended machine.pilots cycle;
   indicate = indicate_ended machine.indicate cycle;
-  splits = splits_ended machine.splits cycle;
-  emitters = emitters_ended machine.emitters cycle;
+  splits = ends_unchanged machine.splits cycle;
+  emitters = ends_unchanged machine.emitters cycle;
   wheels = wheels_ended machine.wheels cycle;
   carriage = carriage_ended machine.carriage cycle;
   program = program_ended machine.program cycle;

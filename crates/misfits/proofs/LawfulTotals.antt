@@ -1,6 +1,7 @@
 -- The totals of a lawful chart keep the bounds.
 use Rattle.std.proofs.Common.{◌≡◌, ◌∙◌, refl, sym, ap, ℕ, ◌≤◌, ◌&&◌, ◌||◌, not, nat_le, nat_lt, Bool, true, false, List, ◌∷◌, ◌++◌, Option, Some, None, is_some, arith}
 use Rattle.std.proofs.lemmas.Bool.Decides.{nat_tests}
+use Rattle.std.proofs.lemmas.Bool.{not-false}
 use Rattle.charts.specs.Chart.{Chart}
 use Rattle.charts.specs.Field.{columns_of, sign_column, is_amount}
 use Rattle.charts.specs.declared.chart.Line.{Line}
@@ -41,11 +42,7 @@ good_column (Some column) good = by (nat_le 1 column) (nat_le column 80) refl re
     by false b one other both = cc
 
 sign_part : (a b c d : Bool) → not (a && b && c && d) ≡ false → d ≡ true
-sign_part true true true d kept = by d kept
-  where
-    by : (e : Bool) → not e ≡ false → e ≡ true
-    by true h = refl
-    by false h = cc
+sign_part true true true d kept = not-false d kept
 sign_part true true false d kept = cc
 sign_part true false c d kept = cc
 sign_part false b c d kept = cc
@@ -87,11 +84,7 @@ good_total chart earlier line later lawful split =
     amount : (field : Field) (o : Option Field) → o ≡ Some field → names_text o ≡ false → is_amount field.kind ≡ true
     amount field None is kept = cc
     amount field (Some other) is kept =
-        let same : other ≡ field = cc in ap (λ f. is_amount f.kind) (sym same) ∙ turned (is_amount other.kind) kept
-      where
-        turned : (b : Bool) → not b ≡ false → b ≡ true
-        turned true h = refl
-        turned false h = cc
+        let same : other ≡ field = cc in ap (λ f. is_amount f.kind) (sym same) ∙ not-false (is_amount other.kind) kept
 
     by : (statement : Statement) → breaks rule.WrongKind chart.lines earlier statement ≡ false
         → breaks rule.DigitsRange chart.lines earlier statement ≡ false → IsGoodTotal chart.lines statement

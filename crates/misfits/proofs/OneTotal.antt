@@ -24,9 +24,7 @@ use Rattle.misfits.specs.HelperTotals.{after_card, first_over, misfits_of}
 -- a level is 1 to 4
 level-range : (each : Level) → (1 ≤ level_number each) × (level_number each ≤ 4)
 level-range level.Minor = (omega arith, omega arith)
-level-range level.Intermediate = (omega arith, omega arith)
-level-range level.Major = (omega arith, omega arith)
-level-range level.Final = (omega arith, omega arith)
+level-range other = (omega arith, omega arith)
 
 -- the misfits of a line that has none for any group
 pub none_on : (lines : List Line) (line : Line)

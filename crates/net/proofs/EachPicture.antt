@@ -1,7 +1,7 @@
 -- Each set of emitting exits has a picture. The panel's hubs are numbered, so it is grown number by number.
 use Rattle.std.proofs.Common.{◌≡◌, ◌∙◌, ap, sym, refl, ℕ, ◌+◌, ◌-◌, ◌<◌, ◌≤◌, ◌&&◌, ◌||◌, Bool, true, false, Option, Some, None, ◌⊎◌, inl, inr, subst, arith}
 use Rattle.std.specs.Prelude.{option_map, is_some}
-use Rattle.std.proofs.lemmas.Bool.{and_from, and_parts, cases_lt, or_cases, false≢true}
+use Rattle.std.proofs.lemmas.Bool.{and_from, and_parts, cases_lt, or_cases, false≢true, or_right, or_left}
 use Rattle.std.proofs.lemmas.Option.{same_Some}
 use Rattle.hubs.proofs.HubLemmas.{hub_numbered, in_range, number_of-injective, number_of-range}
 use Rattle.setups.proofs.WiredLemmas.{HasWire-is_wired}
@@ -96,14 +96,6 @@ contact_in_range from (CSD split) n is numbered =
 contact_in_range from (CSZ split) n is numbered =
     exit_numbered 912 1782 n _ (same_common (CSE split) from n is numbered)
 contact_in_range from other n is numbered = cc
-
-or_left : (a b : Bool) → a ≡ true → (a || b) ≡ true
-or_left true b at = refl
-or_left false b at = cc
-
-or_right : (a b : Bool) → b ≡ true → (a || b) ≡ true
-or_right true b at = refl
-or_right false b at = at
 
 same_place : (one other : ℕ) → ◌≡◌ {A = Option ℕ} (Some (one + 1)) (Some (other + 1)) → one ≡ other
 same_place one other same = let numbers = same_Some _ _ same in omega (arith, numbers)

@@ -1,7 +1,7 @@
 -- Sets of numbers below a bound, grown by one number after another until they have all that their numbers lead to.
 use Rattle.std.proofs.Common.{◌≡◌, ◌≢◌, ℕ, zero, suc, ◌+◌, ◌<◌, ◌≤◌, ◌&&◌, ◌||◌, not, Bool, true, false, ◌⊎◌, inl, inr, refl, arith}
 use Rattle.std.specs.Prelude.{◌==◌, if◌then◌else◌}
-use Rattle.std.proofs.lemmas.Bool.{cases_Bool, cases_eq, or_cases}
+use Rattle.std.proofs.lemmas.Bool.{cases_Bool, cases_eq, or_cases, or_left, eqb-true}
 use Rattle.std.proofs.lemmas.Bool.Decides.{nat_tests}
 
 -- one of two things holds of each number: so the first of some number below a bound, or the other of all
@@ -18,13 +18,6 @@ below P Q each (suc bound) = by (each bound) (below P Q each bound) where
     at : (number : ℕ) → number < suc bound → (number ≡ bound) ⊎ (number ≢ bound) → Q number
     at number low (inl same) = rw same here
     at number low (inr other) = others number (omega (arith, low, other))
-
-same_number : (one other : ℕ) → (one == other) ≡ true → one ≡ other
-same_number one other same = grind (arith, nat_tests, same)
-
-or_left : (a b : Bool) → a ≡ true → (a || b) ≡ true
-or_left true b at = refl
-or_left false b at = cc
 
 -- how many numbers below a bound a set lacks
 abbrev missing : (ℕ → Bool) → ℕ → ℕ
@@ -123,7 +116,7 @@ module _ (bound : ℕ) (leads : ℕ → ℕ → Bool) (P : ℕ → Type 0)
       → (number : ℕ) → number < bound → with_number to set number ≡ true → P number
   more_only set to P_to only number low at = elim (or_cases (set number) (number == to) at) [
     | inl before ↦ only number low before
-    | inr same ↦ rw (same_number number to same) P_to
+    | inr same ↦ rw (eqb-true number to same) P_to
   ]
 
   more_set : (set all : ℕ → Bool) (to : ℕ) → IsGrown bound leads P (with_number to set) all

@@ -26,7 +26,7 @@ impulsed_least wiring exits closed = record {
 }
 
 -- no hub is an exit and an entry
-no_exit_is_entry : (hub : Hub) → is_exit_hub hub ≡ true → is_entry_hub hub ≡ true → ⊥
+pub no_exit_is_entry : (hub : Hub) → is_exit_hub hub ≡ true → is_entry_hub hub ≡ true → ⊥
 no_exit_is_entry hub exit entry = by (row_of (letters_of hub)).is_exit (is_hub_in_range hub) exit entry where
   by : (a b : Bool) → (a && b) ≡ true → (not a && b) ≡ true → ⊥
   by true b e f = cc

@@ -1,8 +1,9 @@
 -- The table of contacts by letters, and as runs of places: they say the same.
-use Rattle.std.proofs.Common.{⊎_elim, ◌≡◌, ℕ, ◌+◌, ◌-◌, ◌<◌, ◌≤◌, ◌&&◌, ◌||◌, Bool, true, false, List, [], ◌∷◌, Option, Some, None, ◌⊎◌, inl, inr, sym, ap, ◌∙◌, refl, arith}
+use Rattle.std.proofs.Common.{⊎_elim, ◌≡◌, ℕ, ◌+◌, ◌-◌, ◌<◌, ◌≤◌, ◌&&◌, Bool, true, List, [], ◌∷◌, Option, Some, None, ◌⊎◌, inl, inr, sym, ap, ◌∙◌, refl, arith}
 use Rattle.std.specs.Prelude.{◌==◌, nat_le, nat_lt, option_map, if◌then◌else◌}
 use Rattle.std.proofs.lemmas.Bool.Decides.{nat_tests}
 use Rattle.std.proofs.lemmas.Option.{same_Some}
+use Rattle.std.proofs.lemmas.Bool.{or_right, or_left, or_cases}
 use Rattle.hubs.proofs.HubLemmas.{number_of-injective, number_of-kind}
 use Rattle.hubs.specs.Hubs.{number_of}
 use Rattle.hubs.specs.declared.hub.Hub.{Hub}
@@ -41,26 +42,16 @@ of_run run from to at =
       all : (a b c : Bool) → a ≡ true → b ≡ true → c ≡ true → (a && (b && c)) ≡ true
       all a b c e f g = grind (arith, nat_tests)
 
-either : (a b : Bool) → (a || b) ≡ true → (a ≡ true) ⊎ (b ≡ true)
-either true b e = inl refl
-either false b e = inr e
-
-from_left : (a b : Bool) → a ≡ true → (a || b) ≡ true
-from_left a b e = grind (arith, nat_tests)
-
-from_right : (a b : Bool) → b ≡ true → (a || b) ≡ true
-from_right a b e = grind (arith, nat_tests)
-
 pub in_runs : (runs : List Run) (from to : ℕ) → is_any_contact runs from to ≡ true → IsInRuns runs from to
 in_runs [] from to at = cc
 in_runs (run ∷ runs) from to at =
     ⊎_elim (λ here. inl (in_run run from to here)) (λ there. inr (in_runs runs from to there))
-    (either (is_contact run from to) (is_any_contact runs from to) at)
+    (or_cases (is_contact run from to) (is_any_contact runs from to) at)
 
 pub of_runs : (runs : List Run) (from to : ℕ) → IsInRuns runs from to → is_any_contact runs from to ≡ true
 of_runs [] from to at = absurd at
-of_runs (run ∷ runs) from to (inl here) = from_left _ _ (of_run run from to here)
-of_runs (run ∷ runs) from to (inr there) = from_right (is_contact run from to) _ (of_runs runs from to there)
+of_runs (run ∷ runs) from to (inl here) = or_left _ _ (of_run run from to here)
+of_runs (run ∷ runs) from to (inr there) = or_right (is_contact run from to) _ (of_runs runs from to there)
 
 -- a place is the exit of one contact at most
 common_at : ℕ → ℕ

@@ -1,7 +1,7 @@
 -- Rows of hubs that follow one another, as tests by letters, and tests that are added one after another.
 use Rattle.std.proofs.Common.{◌≡◌, ◌≢◌, ◌∙◌, ⊎_elim, sym, ap, refl, ℕ, ◌+◌, ◌-◌, ◌^◌, ◌<◌, ◌&&◌, ◌||◌, Bool, true, false, Option, Some, None, arith}
-use Rattle.std.specs.Prelude.{◌==◌, nat_le, nat_lt}
-use Rattle.std.proofs.lemmas.Bool.{cases_lt}
+use Rattle.std.specs.Prelude.{nat_le, nat_lt}
+use Rattle.std.proofs.lemmas.Bool.{cases_lt, eq-eqb}
 use Rattle.std.proofs.lemmas.Bool.Decides.{nat_tests}
 use Rattle.std.proofs.Math.Bool.{and-false}
 use Rattle.hubs.proofs.HubLemmas.{number_of-injective}
@@ -37,9 +37,7 @@ is_hub-same one other same = by (number_of one) (number_of other) refl refl same
 
 -- a hub of the panel is the same hub as itself
 pub is_hub-own : (hub : Hub) (n : ℕ) → number_of hub ≡ Some n → is_hub hub hub ≡ true
-is_hub-own hub n is = ap (λ m. is_same_number m m) is ∙ same n where
-  same : (n : ℕ) → (n == n) ≡ true
-  same n = grind (arith, nat_tests)
+is_hub-own hub n is = ap (λ m. is_same_number m m) is ∙ (eq-eqb n n refl)
 
 -- the hub that is k behind the first one of a row has bit k
 pub row_here : (first hub : Hub) (n k bits : ℕ) → number_of first ≡ Some n → number_of hub ≡ Some (n + k)

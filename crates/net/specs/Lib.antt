@@ -6,3 +6,5 @@ pub mod NetRows
 pub mod Nets
 pub mod Panel
 pub mod Printing
+pub mod WholeCycles
+pub mod Nothing

@@ -1,6 +1,7 @@
 -- The amounts of a chart have the totals of its lines, and are lawful amounts.
-use Rattle.std.proofs.Common.{◌≡◌, ◌∙◌, refl, sym, ap, ℕ, zero, suc, ◌<◌, ◌≤◌, ◌==◌, ◌&&◌, not, nat_lt, Bool, true, false, List, Contains, Option, Some, None, is_some, is_none, option_and_then, arith, if◌then◌else◌}
+use Rattle.std.proofs.Common.{◌≡◌, ◌∙◌, refl, sym, ap, ℕ, zero, suc, ◌<◌, ◌≤◌, ◌==◌, ◌&&◌, nat_lt, Bool, true, false, List, Contains, Option, Some, None, is_some, is_none, option_and_then, arith, if◌then◌else◌}
 use Rattle.std.proofs.lemmas.Bool.Decides.{nat_tests}
+use Rattle.std.proofs.lemmas.Bool.{not-false, both_ways, and_parts}
 use Rattle.wanted.specs.ChartTotals.{names_signed}
 use Rattle.plans.specs.Plans.{Lists}
 use Rattle.chart_rules.proofs.Laws.{breaks-lawful}
@@ -53,14 +54,10 @@ found_total lines name level line found =
         mark = mark;
         says_total = is;
         same_level = grind (arith, nat_tests, on);
-        same_name = second (level_number its == level) (is_same_name its_name name) on;
+        same_name = (and_parts (level_number its == level) (is_same_name its_name name) on).1;
       },
       refl,
     )
-      where
-        second : (a b : Bool) → (a && b) ≡ true → b ≡ true
-        second true b on = on
-        second false b on = cc
     by other is listed on = cc
 
 -- a total is found
@@ -115,12 +112,9 @@ lower_covers has (suc level) k less on = by (has level) refl (λ below. lower_co
     at_level : k ≡ level → has level ≡ true
     at_level e = ap has (sym e) ∙ on
 
-    no_both : {b : Bool} → b ≡ false → b ≡ true → ⊥
-    no_both a b = cc
-
     by : (b : Bool) → has level ≡ b → (k < level → k ≤ lower has level) → k ≤ (if b then level else lower has level)
     by true is below = omega (arith, less)
-    by false is below = not_at (λ e. no_both is (at_level e)) below
+    by false is below = not_at (λ e. both_ways _ is (at_level e)) below
       where
         not_at : (k ≡ level → ⊥) → (k < level → k ≤ lower has level) → k ≤ lower has level
         not_at differs below = by_order (nat_lt k level) refl
@@ -234,11 +228,7 @@ total_field chart name level number lawful total =
     (ap (λ n. is_none (field_named chart.lines n)) (sym same) ∙ sym (ap (breaks rule.UnknownName chart.lines before) total.says_total) ∙ known)
     (ap (λ n. names_text (field_named chart.lines n)) (sym same) ∙ sym (ap (breaks rule.WrongKind chart.lines earlier) total.says_total) ∙ right_kind)
   where
-    yes : (b : Bool) → not b ≡ false → b ≡ true
-    yes true is = refl
-    yes false is = cc
-
     by : (o : Option Field) → field_named chart.lines name ≡ o → is_none o ≡ false → names_text o ≡ false
         → (field : Field) × IsAmount chart.lines name field
     by None is there right = cc
-    by (Some field) is there right = (field, record { named = is; holds_amount = yes (is_amount field.kind) right })
+    by (Some field) is there right = (field, record { named = is; holds_amount = not-false (is_amount field.kind) right })

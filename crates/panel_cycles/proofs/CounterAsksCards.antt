@@ -6,6 +6,7 @@ use Rattle.std.proofs.lemmas.List.FromFn.{get_or-map-range_with_len, length-map-
 use Rattle.std.proofs.lemmas.List.Sums.{sum_by-cons}
 use Rattle.std.proofs.lemmas.Option.{slice_get_read}
 use Rattle.std.specs.List.{count_by, range_with_len}
+use Rattle.std.proofs.lemmas.Bool.{both_ways}
 use Rattle.counter_cycles.proofs.ShownLemmas.{digits-tell}
 use Rattle.counter_cycles.specs.Acts.{digit_of}
 use Rattle.card_code.specs.CardCode.{has_row}
@@ -25,7 +26,9 @@ use Rattle.counters.specs.Laws.{IsDigit}
 use Rattle.counters.specs.Numbers.{number}
 use Rattle.report.specs.Amounts.{digit_in, digits_on, number_in}
 use Rattle.wiring_table.specs.Figures.{IsAmount}
-use Rattle.wired_panels.proofs.PlanLists.{first_or_behind, find_passes}
+use Rattle.wiring_table.proofs.Listed.{listed-cases}
+use Rattle.wired_panels.proofs.PlanLists.{find_passes}
+use Rattle.wired_panels.proofs.JacksAndTape.{same_tests}
 
 -- a digit, a blank counting 0
 abbrev pub digit_value : Option ℕ → ℕ
@@ -48,7 +51,7 @@ number_values (None ∷ digits) = let below = number_values digits in omega (ari
 -- the digits 0 to 9
 in_range : (a n d : ℕ) → Contains (range_with_len a n) d → d < a + n
 in_range a zero d (k, within, is) = absurd (omega (arith, within))
-in_range a (suc n) d there = by (first_or_behind a (range_with_len (a + 1) n) d there) (λ later. in_range (a + 1) n d later)
+in_range a (suc n) d there = by (listed-cases d a (range_with_len (a + 1) n) there) (λ later. in_range (a + 1) n d later)
   where
     by : (a ≡ d) ⊎ Contains (range_with_len (a + 1) n) d → (Contains (range_with_len (a + 1) n) d → d < a + 1 + n) → d < a + suc n
     by (inl e) later = omega (arith, e)
@@ -111,15 +114,12 @@ count_some : (p : CardRow → Bool) (rows : List CardRow) (row : CardRow) → Co
 count_some p [] row (k, within, is) on = absurd (omega (arith, within))
 count_some p (r ∷ rs) row there on =
     subst (λ n. 1 ≤ n) (sym (sum_by-cons (λ x. cond (p x) 1 0) r rs))
-    (by (p r) refl (first_or_behind r rs row there) (λ later. count_some p rs row later on))
+    (by (p r) refl (listed-cases row r rs there) (λ later. count_some p rs row later on))
   where
-    no_both : {b : Bool} → b ≡ true → b ≡ false → ⊥
-    no_both a b = cc
-
     by : (b : Bool) → p r ≡ b → (r ≡ row) ⊎ Contains rs row → (Contains rs row → 1 ≤ count_by p rs)
         → 1 ≤ cond b 1 0 + count_by p rs
     by true is either later = omega arith
-    by false is (inl e) later = absurd (no_both (ap p e ∙ on) is)
+    by false is (inl e) later = absurd (both_ways _ is (ap p e ∙ on))
     by false is (inr there) later = omega (arith, later there)
 
 -- of rows of which one at most is punched, the punched one is found
@@ -128,14 +128,11 @@ only_one : (column : ℕ) (rows : List CardRow) (row : CardRow) → Contains row
     → find (λ d. has_row column d) (map row_number rows) ≡ Some (row_number row)
 only_one column [] row (k, within, is) few on = absurd (omega (arith, within))
 only_one column (r ∷ rs) row there few on =
-    by (has_row column (row_number r)) refl (first_or_behind r rs row there)
+    by (has_row column (row_number r)) refl (listed-cases row r rs there)
     (subst (λ n. n ≤ 1) (sum_by-cons (λ x. cond (has_row column (row_number x)) 1 0) r rs) few)
     (λ later less. only_one column rs row later less on)
     (λ later. count_some (λ x. has_row column (row_number x)) rs row later on)
   where
-    no_both : {b : Bool} → b ≡ true → b ≡ false → ⊥
-    no_both a b = cc
-
     by : (b : Bool) → has_row column (row_number r) ≡ b → (r ≡ row) ⊎ Contains rs row
         → cond b 1 0 + count_by (λ x. has_row column (row_number x)) rs ≤ 1
         → (Contains rs row → count_by (λ x. has_row column (row_number x)) rs ≤ 1
@@ -144,7 +141,7 @@ only_one column (r ∷ rs) row there few on =
         → cond b (Some (row_number r)) (find (λ d. has_row column d) (map row_number rs)) ≡ Some (row_number row)
     by true is (inl e) few later some = ap (λ x. Some (row_number x)) e
     by true is (inr there) few later some = absurd (omega (arith, few, some there))
-    by false is (inl e) few later some = absurd (no_both (ap (λ x. has_row column (row_number x)) e ∙ on) is)
+    by false is (inl e) few later some = absurd (both_ways _ is (ap (λ x. has_row column (row_number x)) e ∙ on))
     by false is (inr there) few later some = later there (omega (arith, few))
 
 -- the rows of the digits
@@ -172,7 +169,7 @@ pub column_row : (column : ℕ) (row : CardRow) → 1 ≤ row_number row → row
     → has_row column (row_number row) ≡ (digit_value (digit_in column) == row_number row)
 unfolding digit_count
 column_row column row from to few =
-    by (has_row column (row_number row)) (digit_value (digit_in column) == row_number row)
+    same_tests (has_row column (row_number row)) (digit_value (digit_in column) == row_number row)
     (λ on. given (ap (λ ds. find (λ d. has_row column d) ds) (sym digit_numbers) ∙ only_one column digit_rows row (digit_row row to) few on)) back
   where
     given : digit_in column ≡ Some (row_number row) → (digit_value (digit_in column) == row_number row) ≡ true
@@ -185,12 +182,6 @@ column_row column row from to few =
         on None is e = absurd (omega (arith, e, from))
         on (Some digit) is e =
             ap (has_row column) (sym e) ∙ (find_passes (λ d. has_row column d) (range_with_len 0 10) digit is).0
-
-    by : (a b : Bool) → (a ≡ true → b ≡ true) → (b ≡ true → a ≡ true) → a ≡ b
-    by true true f g = refl
-    by true false f g = sym (f refl)
-    by false true f g = g refl
-    by false false f g = refl
 
 -- the columns of an amount on a valid card have one digit at most
 pub few_digits : (chart : Chart) (card : List ℕ) (name : List ℕ) (field : Field) (column : ℕ) → IsValidCard chart card
@@ -208,9 +199,6 @@ few_digits chart card name field column valid amount from to =
         by true less = let none = digits.blanks column from (grind (arith, nat_tests, less)) in omega (arith, none)
         by false more = let one = digits.digits column (grind (arith, nat_tests, more)) to in omega (arith, one)
 
-    no_both : {b : Bool} → b ≡ true → b ≡ false → ⊥
-    no_both a b = cc
-
     of_kind : (kind : FieldKind) → field.kind ≡ kind → IsValidKind kind field card → digit_count (column_of card column) ≤ 1
-    of_kind holds.Text is text = absurd (no_both (sym (ap is_amount is) ∙ amount.holds_amount) refl)
+    of_kind holds.Text is text = absurd (both_ways _ refl (sym (ap is_amount is) ∙ amount.holds_amount))
     of_kind (holds.Amount decimals rule) is given = of_digits given.digits

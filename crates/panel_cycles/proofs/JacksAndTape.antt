@@ -10,7 +10,7 @@ use Rattle.hubs.specs.declared.jack.Jack.TheVariants as jack
 use Rattle.net.specs.Printing.{printing_of}
 use Rattle.line_places.specs.Placing.{IsFormOf, printing_of_chart}
 use Rattle.printed_lines.specs.Shown.{HasJacksOf}
-use Rattle.report.specs.ChartForm.{headings, prints_details, prints_totals}
+use Rattle.report.specs.ChartForm.{heading_count, prints_details, prints_totals}
 use Rattle.wiring_table.specs.Jacks.{ChartJack}
 use Rattle.wiring_table.specs.Jacks.ChartJack.{list, total, head}
 use Rattle.wired_panels.proofs.Ways.{same_tests}
@@ -23,7 +23,7 @@ listing lines (list is) = is
 totalling : (lines : List Line) {level : ℕ} → ChartJack lines (jack.Total level) → prints_totals lines level ≡ true
 totalling lines (total level is) = is
 
-heading : (lines : List Line) {n : ℕ} → ChartJack lines (jack.Head n) → nat_le n (headings lines) ≡ true
+heading : (lines : List Line) {n : ℕ} → ChartJack lines (jack.Head n) → nat_le n (heading_count lines) ≡ true
 heading lines (head n low high) = grind (arith, nat_tests, high)
 
 module _ (chart : Chart) (plan : Lists) (wiring : Wiring) (panel : IsPanel chart plan wiring) where
@@ -36,9 +36,9 @@ module _ (chart : Chart) (plan : Lists) (wiring : Wiring) (panel : IsPanel chart
   totals : (level : ℕ) → is_plugged wiring (jack.Total level) ≡ prints_totals chart.lines level
   totals level = plugged (jack.Total level) (prints_totals chart.lines level) (totalling chart.lines) (total level)
 
-  heads : (n : ℕ) → 1 ≤ n → is_plugged wiring (jack.Head n) ≡ nat_le n (headings chart.lines)
+  heads : (n : ℕ) → 1 ≤ n → is_plugged wiring (jack.Head n) ≡ nat_le n (heading_count chart.lines)
   heads n low =
-      plugged (jack.Head n) (nat_le n (headings chart.lines)) (heading chart.lines)
+      plugged (jack.Head n) (nat_le n (heading_count chart.lines)) (heading chart.lines)
       (λ on. head n low (let high = on in grind (arith, nat_tests, high)))
 
   -- The cycles that print are those of the chart.

@@ -18,17 +18,8 @@ use Rattle.panel_cycles.proofs.WheelRows.{no_rows}
 -- a digit has one row
 digit-set : (d : ℕ) → d ≤ 9 → set_of_character (48 + d) ≡ 2 ^ d
 unfolding rows_of code
-digit-set zero few = refl
-digit-set (suc zero) few = refl
-digit-set (suc (suc zero)) few = refl
-digit-set (suc (suc (suc zero))) few = refl
-digit-set (suc (suc (suc (suc zero)))) few = refl
-digit-set (suc (suc (suc (suc (suc zero))))) few = refl
-digit-set (suc (suc (suc (suc (suc (suc zero)))))) few = refl
-digit-set (suc (suc (suc (suc (suc (suc (suc zero))))))) few = refl
-digit-set (suc (suc (suc (suc (suc (suc (suc (suc zero)))))))) few = refl
-digit-set (suc (suc (suc (suc (suc (suc (suc (suc (suc zero))))))))) few = refl
 digit-set (suc (suc (suc (suc (suc (suc (suc (suc (suc (suc d)))))))))) few = absurd (omega (arith, few))
+digit-set other few = refl
 
 pub digit-row : (d row : ℕ) → d ≤ 9 → has_row (digit_set (Some d)) row ≡ (d == row)
 digit-row d row few = ap (λ s. has_row s row) (digit-set d few) ∙ by (d == row) refl

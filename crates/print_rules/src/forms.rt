@@ -1,13 +1,14 @@
 //! The rule on the form: its lines leave room for the heading lines and for the overflow.
 
-ghost use Rattle.std.specs.Prelude.{◌≡◌};
+ghost use Rattle.std.specs.Prelude.{◌≡◌, ◌≤◌};
 ghost use Rattle.print_rules.specs.Forms as rule;
 
 use charts::{Line, Statement};
 
 /// The number of the heading line that a HEAD line names, and 0 for other lines.
 fn heading_of(statement: &Statement) -> u8
-    ensures { result ≡ rule.heading_of statement.now }
+    ensures value { result ≡ rule.heading_of statement.now }
+    ensures few { result ≤ 3 }
 {
     match statement {
         Statement::Head { line, .. } => line.number(),
@@ -16,8 +17,9 @@ fn heading_of(statement: &Statement) -> u8
 }
 
 /// How many heading lines a chart has: the highest that a HEAD line names, or 0.
-fn heading_count(lines: &[Line]) -> u8
-    ensures { result ≡ rule.heading_count lines.now }
+pub fn heading_count(lines: &[Line]) -> u8
+    ensures value { result ≡ rule.heading_count lines.now }
+    ensures few { result ≤ 3 }
 {
     let mut highest = 0;
     for line in lines {

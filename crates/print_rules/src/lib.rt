@@ -16,7 +16,7 @@ mod printing;
 mod tapes;
 mod wheels;
 
-pub use forms::{breaks_form, lacks_form};
+pub use forms::{breaks_form, heading_count, lacks_form};
 pub use items::{Figure, Item, PrintedLine};
 pub use marks::breaks_mark_mismatch;
 pub use printing::{breaks_print_kind, lacks_print};

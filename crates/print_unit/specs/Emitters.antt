@@ -39,18 +39,6 @@ emitters_emit emitters cycle C hub = false
 emitters_emit emitters cycle (Row row) hub = emits_row (emitter_of cycle) row hub
 emitters_emit emitters cycle K hub = false
 
--- they have no contacts
-abbrev pub emitters_close : Emitters → Cycle → Point → Hub → Bool
-emitters_close emitters cycle point hub = false
-
--- they sense nothing
-abbrev pub emitters_sensed : Emitters → Cycle → Point → (Hub → Bool) → Emitters
-emitters_sensed emitters cycle point picture = emitters
-
--- a cycle's end changes nothing
-abbrev pub emitters_ended : Emitters → Cycle → Emitters
-emitters_ended emitters cycle = emitters
-
 -- their number among the units
 abbrev pub emitters_number : Emitters → ℕ
 emitters_number emitters = 42

@@ -31,14 +31,6 @@ wheel_at_start wiring v = record {
 abbrev pub wheels_at_start : Wiring → WheelsState
 wheels_at_start wiring = record { wheels = map (wheel_at_start wiring) (range_with_len 1 120); line = replicate 120 32 }
 
--- they emit nothing
-abbrev pub wheels_emit : WheelsState → Cycle → Point → Hub → Bool
-wheels_emit wheels cycle point hub = false
-
--- they have no contacts
-abbrev pub wheels_close : WheelsState → Cycle → Point → Hub → Bool
-wheels_close wheels cycle point hub = false
-
 -- the rows of a wheel with one more where the wheel is impulsed at its point
 abbrev pub with_impulse : CardRow → Bool → List Bool → List Bool
 with_impulse row impulsed received =

@@ -27,21 +27,16 @@ impl Emitters {
 
 impl Unit for Emitters {
     ghost use Rattle.std.proofs.Common.{refl};
-    ghost use Rattle.print_unit.specs.Emitters.{
-      emitters_emit,
-      emitters_close,
-      emitters_sensed,
-      emitters_ended,
-      emitters_number,
-    };
+    ghost use Rattle.net.specs.Nothing.{closes_nothing, senses_nothing, ends_unchanged};
+    ghost use Rattle.print_unit.specs.Emitters.{emitters_emit, emitters_number};
 
     ghost emits = { emitters_emit };
 
-    ghost closes = { emitters_close };
+    ghost closes = { closes_nothing };
 
-    ghost sensed = { emitters_sensed };
+    ghost sensed = { senses_nothing };
 
-    ghost ended = { emitters_ended };
+    ghost ended = { ends_unchanged };
 
     ghost number = { emitters_number };
 

@@ -68,11 +68,12 @@ impl Wheels {
 
 impl Unit for Wheels {
     ghost use Rattle.std.proofs.Common.{refl};
-    ghost use Rattle.print_unit.specs.Wheels.{wheels_emit, wheels_close, wheels_sensed, wheels_ended, wheels_number};
+    ghost use Rattle.net.specs.Nothing.{emits_nothing, closes_nothing};
+    ghost use Rattle.print_unit.specs.Wheels.{wheels_sensed, wheels_ended, wheels_number};
 
-    ghost emits = { wheels_emit };
+    ghost emits = { emits_nothing };
 
-    ghost closes = { wheels_close };
+    ghost closes = { closes_nothing };
 
     ghost sensed = { wheels_sensed };
 

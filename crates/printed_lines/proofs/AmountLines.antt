@@ -9,6 +9,7 @@ use Rattle.chart_rules.specs.ValidCard.{IsValidAmount}
 use Rattle.report.specs.Amounts.{number_in, digits_on, is_blank_on, is_negated, signed, value_of}
 use Rattle.report.specs.BodyLines.{amount_on}
 use Rattle.report.specs.Edits.{last_digits, free_digits, marked, size, is_below_zero, edited, edited_blank, edited_digits}
+use Rattle.report.proofs.ReadBack.{signed-size}
 use Rattle.print_unit.specs.ZeroControl.{printed_from}
 use Rattle.printed_lines.specs.Held.{HoldsTotal}
 use Rattle.printed_lines.specs.Shown.{Amount, Printed}
@@ -17,12 +18,6 @@ use Rattle.printed_lines.proofs.CardDigits.{OnCard, blank, numeral, OnCard-valid
 use Rattle.printed_lines.proofs.ItemText.{Spells}
 use Rattle.printed_lines.proofs.LawfulItems.{IsGoodField}
 use Rattle.printed_lines.proofs.Numbers.{value, any_above_zero, AreDigits, AreSmall-numeral, IsNumeral-digits, number_in-small, last_digits-columns, any_above_zero-number}
-
--- the size and the sign of a number that is negated or not
-size-signed : (negated : Bool) (number : ℕ) → size (signed negated number) ≡ number
-size-signed false number = refl
-size-signed true zero = refl
-size-signed true (suc number) = refl
 
 below-signed : (negated : Bool) (number : ℕ) → is_below_zero (signed negated number) ≡ (not (number == 0) && negated)
 below-signed false zero = refl
@@ -77,7 +72,7 @@ card-amount field card wheel mark good valid = by (OnCard-valid field card good 
         own = sym (last_digits-columns digits (AreSmall-numeral digits is))
 
         spelled : map value digits ≡ last_digits (columns_of field) (size (value_of field card))
-        spelled = own ∙ ap₂ last_digits (digits-length field card) (sym (size-signed negated number))
+        spelled = own ∙ ap₂ last_digits (digits-length field card) (sym (signed-size negated number))
 
         sign : (any_above_zero (map value digits) && negated) ≡ is_below_zero (value_of field card)
         sign =

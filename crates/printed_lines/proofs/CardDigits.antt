@@ -4,6 +4,7 @@ use Rattle.std.specs.List.{count_by, list_any, range_with_len}
 use Rattle.std.proofs.lemmas.Bool.Decides.{nat_tests}
 use Rattle.std.proofs.lemmas.List.Sums.{sum_by-cons}
 use Rattle.std.proofs.lemmas.List.FromFn.{length-map-range_with_len}
+use Rattle.std.proofs.Math.Bool.{or-true}
 use Rattle.card_code.specs.CardCode.{has_row}
 use Rattle.charts.specs.Field.{columns_of, decimals_of}
 use Rattle.charts.specs.declared.statement.Field.{Field}
@@ -137,11 +138,7 @@ some-digit count [] are some = absurd (omega (arith, some))
 some-digit zero (None ∷ columns) are some = absurd are
 some-digit zero (Some digit ∷ columns) are some = refl
 some-digit (suc count) (column ∷ columns) are some =
-    ap (λ b. is_some column || b) (some-digit count columns are (omega (arith, some))) ∙ always (is_some column)
-  where
-    always : (b : Bool) → (b || true) ≡ true
-    always true = refl
-    always false = refl
+    ap (λ b. is_some column || b) (some-digit count columns are (omega (arith, some))) ∙ or-true (is_some column)
 
 -- An amount on a card is blank, or it is a numeral whose last columns, those that always print, are digits.
 pub data OnCard (field : Field) (card : List ℕ) : Type 0 where

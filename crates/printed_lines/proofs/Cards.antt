@@ -92,10 +92,7 @@ card-items lines opens card other shown sent = cc
 -- the items of cards stand on one line
 card-line : (first second : PrintedLine) → on_card_line first ≡ true → on_card_line second ≡ true → is_same_line first second ≡ true
 card-line (Body body.Detail) (Body body.Detail) on also = refl
-card-line (Body (body.Total level)) second on also = cc
-card-line (Heading heading) second on also = cc
-card-line (Body body.Detail) (Body (body.Total level)) on also = cc
-card-line (Body body.Detail) (Heading heading) on also = cc
+card-line other another on also = cc
 
 card-body : (on : PrintedLine) → on_card_line on ≡ true → is_body on ≡ true
 card-body (Body body.Detail) on = refl

@@ -1,7 +1,7 @@
 -- What a wheel makes of the set of rows that it received: its character, and whether that is a figure or a zero.
 use Rattle.std.proofs.Common.{◌≡◌, ◌∙◌, refl, sym, ap, ℕ, ◌+◌, ◌<◌, ◌==◌, ◌&&◌, not, Bool, true, false, List, [], ◌∷◌, map, length, get_or, zero, suc, Option, Some, None, if◌then◌else◌, Contains, arith, is_some}
 use Rattle.std.specs.List.{list_all, range_with_len}
-use Rattle.std.proofs.lemmas.Bool.{eqb-true}
+use Rattle.std.proofs.lemmas.Bool.{eqb-true, and_parts}
 use Rattle.std.proofs.lemmas.List.FromFn.{get_or-range_with_len, length-range_with_len}
 use Rattle.card_code.specs.CardCode.{has_row, code, deck_character, rows_of, print_character, printed_for}
 use Rattle.card_code.specs.Rows.{row_number, rows}
@@ -14,19 +14,14 @@ use Rattle.printed_lines.specs.Shown.{set_of_character, digit_set}
 abbrev pub received : ℕ → List Bool
 received set = map (λ row. has_row set (row_number row)) rows
 
--- both halves of a test
-pub both_true : (a b : Bool) → (a && b) ≡ true → (a ≡ true) × (b ≡ true)
-both_true true b is = (refl, is)
-both_true false b is = cc
-
 -- an element of a list passes a test that all of them pass
 pub passes : {X : Type 0} (test : X → Bool) (xs : List X) (x : X) → list_all test xs ≡ true → Contains xs x → test x ≡ true
 passes test xs x all (k, within, is) = at xs k all within is
   where
     at : (ys : List _) (k : ℕ) → list_all test ys ≡ true → k < length ys → get_or ys k x ≡ x → test x ≡ true
     at [] k all within is = absurd (omega (arith, within))
-    at (y ∷ ys) zero all within is = ap test (sym is) ∙ (both_true (test y) (list_all test ys) all).0
-    at (y ∷ ys) (suc k) all within is = at ys k (both_true (test y) (list_all test ys) all).1 (omega (arith, within)) is
+    at (y ∷ ys) zero all within is = ap test (sym is) ∙ (and_parts (test y) (list_all test ys) all).0
+    at (y ∷ ys) (suc k) all within is = at ys k (and_parts (test y) (list_all test ys) all).1 (omega (arith, within)) is
 
 -- a digit is one of ten
 is_digit : (digit : ℕ) → digit < 10 → Contains (range_with_len 0 10) digit
@@ -62,7 +57,7 @@ itself character other = by (character == 33) other
 pub prints-literal : (character : ℕ) → is_printable character ≡ true → character_of (received (set_of_character character)) ≡ character
 unfolding rows_of prints_code
 prints-literal character printable =
-    by (rows_of character) refl (both_true (is_some (rows_of character)) (not (character == 33)) printable)
+    by (rows_of character) refl (and_parts (is_some (rows_of character)) (not (character == 33)) printable)
   where
     by : (o : Option ℕ) → rows_of character ≡ o → (is_some o ≡ true) × (not (character == 33) ≡ true)
         → character_of (received (set_of_character character)) ≡ character
@@ -106,8 +101,8 @@ pub IsDigitSet-digit : (digit : ℕ) → digit < 10 → IsDigitSet digit
 unfolding prints_figure
 IsDigitSet-digit digit below =
     let all = passes prints_figure (range_with_len 0 10) digit all_figures (is_digit digit below) in
-    let first = both_true (character_of (received (digit_set (Some digit))) == 48 + digit) _ all in
-    let rest = both_true (same_answer (is_zero (received (digit_set (Some digit)))) (digit == 0)) _ first.1 in
+    let first = and_parts (character_of (received (digit_set (Some digit))) == 48 + digit) _ all in
+    let rest = and_parts (same_answer (is_zero (received (digit_set (Some digit)))) (digit == 0)) _ first.1 in
     record {
       prints = eqb-true (character_of (received (digit_set (Some digit)))) (48 + digit) first.0;
       zero = tests_are _ _ rest.0;

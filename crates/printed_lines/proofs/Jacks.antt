@@ -14,7 +14,7 @@ use Rattle.print_rules.specs.Items.{item_of, detail_item, total_item, figure_ite
 use Rattle.print_rules.specs.Wheels.{is_body}
 use Rattle.hubs.specs.declared.jack.Jack.{Jack}
 use Rattle.hubs.specs.declared.jack.Jack.TheVariants as jack
-use Rattle.wiring_table.specs.Figures.{IsFigure, on_detail, on_total, mark_wheel, suppressed_digits}
+use Rattle.wiring_table.specs.Figures.{IsFigure, on_detail, on_total, mark_wheel, free_digits}
 use Rattle.wiring_table.specs.Jacks.{ChartJack, HasFigure, list, total, head, link, suppress, symbol}
 
 -- An amount of the chart as an item of a body line.
@@ -62,7 +62,7 @@ abbrev pub LinksAt : ℕ → ℕ → Figure → Type 0
 LinksAt v wheel figure = (wheel < v) × (v < wheel + figure_width figure)
 
 abbrev pub SuppressesAt : ℕ → ℕ → Figure → Type 0
-SuppressesAt v wheel figure = (wheel ≤ v) × (v < wheel + suppressed_digits figure.digits figure.decimals)
+SuppressesAt v wheel figure = (wheel ≤ v) × (v < wheel + free_digits figure.digits figure.decimals)
 
 abbrev pub MarksAt : ℕ → ℕ → Figure → Type 0
 MarksAt v wheel figure = (mark_wheel wheel figure.digits figure.decimals ≤ v) × (v < wheel + figure_width figure)

@@ -1,7 +1,7 @@
 -- What the rules on print wheels say of two items of a lawful chart that have a wheel in common.
 use Rattle.std.proofs.Common.{◌≡◌, ◌∙◌, ◌⊎◌, inl, inr, refl, sym, ap, ap₂, ℕ, zero, suc, ◌==◌, ◌&&◌, ◌||◌, not, Bool, true, false, List, [], ◌∷◌, ◌++◌, Contains, Option, Some, None, is_none, arith}
 use Rattle.std.specs.List.{list_any}
-use Rattle.std.proofs.lemmas.Bool.{eqb-true}
+use Rattle.std.proofs.lemmas.Bool.{eqb-true, and_parts}
 use Rattle.std.proofs.lemmas.Bool.Decides.{nat_tests}
 use Rattle.charts.specs.Chart.{Chart}
 use Rattle.charts.specs.declared.chart.Line.{Line}
@@ -15,7 +15,6 @@ use Rattle.print_rules.specs.Items.{item_of, is_same_line}
 use Rattle.chart_rules.specs.Rules.{IsLawful}
 use Rattle.print_rules.specs.Wheels.{HasWheel, meet, overlap, clash, is_body, may_share, is_same_style, is_same_mark}
 use Rattle.chart_rules.proofs.Laws.{breaks-lawful}
-use Rattle.printed_lines.proofs.Characters.{both_true}
 
 -- where a line stands among others
 pub record Place (lines : List Line) (line : Line) : Type 0 where
@@ -60,7 +59,7 @@ Order-lines (first ∷ lines) one other (suc k, within, is) (suc j, within_other
     (Order-lines lines one other (k, omega (arith, within), is) (j, omega (arith, within_other), is_other))
 
 -- a test that no line of a list passes is not passed by one that stands among them
-not_there : (test : Line → Bool) (a : List Line) (line : Line) (b : List Line) → list_any test (a ++ line ∷ b) ≡ false
+pub not_there : (test : Line → Bool) (a : List Line) (line : Line) (b : List Line) → list_any test (a ++ line ∷ b) ≡ false
     → test line ≡ false
 not_there test [] line b none = by (test line) none
   where
@@ -90,11 +89,7 @@ marks-same : (one other : Option Mark) → is_same_mark one other ≡ true → o
 marks-same None None is = refl
 marks-same (Some mark.Credit) (Some mark.Credit) is = refl
 marks-same (Some mark.Minus) (Some mark.Minus) is = refl
-marks-same None (Some other) is = cc
-marks-same (Some mark.Credit) None is = cc
-marks-same (Some mark.Minus) None is = cc
-marks-same (Some mark.Credit) (Some mark.Minus) is = cc
-marks-same (Some mark.Minus) (Some mark.Credit) is = cc
+marks-same other another is = cc
 
 -- items that may share wheels agree
 Agree-shared : (one other : Item) → may_share one other ≡ true → Agree one other
@@ -103,8 +98,8 @@ Agree-shared one other shared = by one.figure other.figure refl refl shared
     same : (f g : Figure) → one.figure ≡ Some f → other.figure ≡ Some g
         → ((one.end == other.end) && ((f.decimals == g.decimals) && is_same_mark f.mark g.mark)) ≡ true → Agree one other
     same f g first second test =
-        let parts = both_true (one.end == other.end) _ test in
-        let style = both_true (f.decimals == g.decimals) _ parts.1 in
+        let parts = and_parts (one.end == other.end) _ test in
+        let style = and_parts (f.decimals == g.decimals) _ parts.1 in
         amounts f g first second (eqb-true one.end other.end parts.0) (eqb-true f.decimals g.decimals style.0)
         (marks-same f.mark g.mark style.1)
 
@@ -142,10 +137,7 @@ clash-false one other none first second apart meets =
     by : (a b c d e : Bool) → (a && b && not c && d && not e) ≡ false → a ≡ true → b ≡ true → c ≡ false → d ≡ true → e ≡ true
     by true true false true true none first second apart meets = refl
     by true true false true false none first second apart meets = sym none
-    by false b c d e none first second apart meets = cc
-    by true false c d e none first second apart meets = cc
-    by true true true d e none first second apart meets = cc
-    by true true false false e none first second apart meets = cc
+    by other another third fourth e none first second apart meets = cc
 
 -- what the rules on wheels say of an item and a later one
 pub record KeepApart (one other : Item) : Type 0 where

@@ -10,7 +10,7 @@ use Rattle.print_rules.specs.Items.{item_of, figure_item, figure_width, mark_wid
 use Rattle.chart_rules.specs.Rules.{IsLawful}
 use Rattle.print_rules.specs.Wheels.{HasWheel, is_body}
 use Rattle.hubs.specs.declared.jack.Jack.TheVariants as jack
-use Rattle.wiring_table.specs.Figures.{mark_wheel, suppressed_digits}
+use Rattle.wiring_table.specs.Figures.{mark_wheel, free_digits}
 use Rattle.wiring_table.specs.Jacks.{ChartJack, HasFigure, link, suppress, symbol}
 use Rattle.printed_lines.specs.Shown.{HasJacksOf}
 use Rattle.printed_lines.proofs.Meeting.{Agree, texts, amounts, same-or-agree}
@@ -67,7 +67,7 @@ point_width decimals = if nat_lt 0 decimals then 1 else 0
 -- so their digits that may be blank end alike
 free-alike : (wheel : ℕ) (figure : Figure) (other_wheel : ℕ) (other : Figure) → EndAlike wheel figure other_wheel other
     → IsGoodFigure figure → IsGoodFigure other
-    → wheel + suppressed_digits figure.digits figure.decimals ≡ other_wheel + suppressed_digits other.digits other.decimals
+    → wheel + free_digits figure.digits figure.decimals ≡ other_wheel + free_digits other.digits other.decimals
 free-alike wheel figure other_wheel other same good good_other =
     by figure.digits figure.decimals other.digits other.decimals (point_width figure.decimals) (point_width other.decimals)
     (mark_width figure.mark) (mark_width other.mark) same.decimals (ap point_width same.decimals) (ap mark_width same.mark) same.end
@@ -127,7 +127,7 @@ on-wheels chart lawful wheel figure item =
     let on = item-on_wheels chart lawful item.line (figure_item item.on wheel figure) item.there item.is_item in (on.first, on.end)
 
 -- the digits that may be blank are some of the wheels
-free-within : (figure : Figure) → suppressed_digits figure.digits figure.decimals ≤ figure_width figure
+free-within : (figure : Figure) → free_digits figure.digits figure.decimals ≤ figure_width figure
 free-within figure = by figure.digits figure.decimals (point_width figure.decimals) (mark_width figure.mark)
   where
     by : (n d p t : ℕ) → n - max d 1 ≤ n + p + t
@@ -154,9 +154,9 @@ own-link chart lawful links suppresses symbols jacks wheel figure v own low high
 pub own-suppress : (chart : Chart) → IsLawful chart → (link suppress symbol : ℕ → Bool)
     → HasJacksOf chart.lines link suppress symbol
     → (wheel : ℕ) (figure : Figure) (v : ℕ) → OwnAmount chart wheel figure → wheel ≤ v → v < wheel + figure_width figure
-    → suppress v ≡ nat_lt v (wheel + suppressed_digits figure.digits figure.decimals)
+    → suppress v ≡ nat_lt v (wheel + free_digits figure.digits figure.decimals)
 own-suppress chart lawful links suppresses symbols jacks wheel figure v own low high =
-    same_test (suppresses v) (nat_lt v (wheel + suppressed_digits figure.digits figure.decimals)) to from
+    same_test (suppresses v) (nat_lt v (wheel + free_digits figure.digits figure.decimals)) to from
   where
     on : (1 ≤ wheel) × (wheel + figure_width figure ≤ 121)
     on = on-wheels chart lawful wheel figure own.item
@@ -164,7 +164,7 @@ own-suppress chart lawful links suppresses symbols jacks wheel figure v own low 
     at : (suppresses v ≡ true) ↔ ChartJack chart.lines (jack.Suppress v)
     at = jacks.suppresses v (let first = on.0 in omega (arith, low, first)) (let end = on.1 in omega (arith, high, end))
 
-    to : suppresses v ≡ true → nat_lt v (wheel + suppressed_digits figure.digits figure.decimals) ≡ true
+    to : suppresses v ≡ true → nat_lt v (wheel + free_digits figure.digits figure.decimals) ≡ true
     to plugged =
         let other = plugs-suppress chart.lines v (at.0 plugged) in
         let low_other = other.inside_it.0 in
@@ -174,10 +174,10 @@ own-suppress chart lawful links suppresses symbols jacks wheel figure v own low 
         (omega (arith, high_other, free)) in
         let ends = free-alike wheel figure other.wheel other.figure same (amount-good chart lawful wheel figure own.item)
         (amount-good chart lawful other.wheel other.figure other.item) in
-        let below : v < wheel + suppressed_digits figure.digits figure.decimals = omega (arith, high_other, ends) in
+        let below : v < wheel + free_digits figure.digits figure.decimals = omega (arith, high_other, ends) in
         grind (arith, nat_tests, below)
 
-    from : nat_lt v (wheel + suppressed_digits figure.digits figure.decimals) ≡ true → suppresses v ≡ true
+    from : nat_lt v (wheel + free_digits figure.digits figure.decimals) ≡ true → suppresses v ≡ true
     from test = at.1 (suppress wheel figure v own.has low (grind (arith, nat_tests, test)))
 
 -- SYMBOL is plugged on its mark

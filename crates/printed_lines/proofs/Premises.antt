@@ -40,7 +40,7 @@ pub unsigned_totals : UnsignedTotalsHaveNoSign
 unsigned_totals field group none = ap is_below_zero (unsigned-total field group none).1
 
 -- a field that is no amount is a text
-text-kind : (kind : FieldKind) → is_amount kind ≡ false → kind ≡ holds.Text
+pub text-kind : (kind : FieldKind) → is_amount kind ≡ false → kind ≡ holds.Text
 text-kind holds.Text is = refl
 text-kind (holds.Amount decimals rule) is = cc
 

@@ -3,6 +3,7 @@ use Rattle.std.proofs.Common.{◌≡◌, ◌∙◌, refl, sym, ap, ap₂, ℕ, z
 use Rattle.std.specs.List.{list_all, range_with_len}
 use Rattle.std.proofs.lemmas.List.{length-map}
 use Rattle.std.proofs.lemmas.List.FromFn.{length-map-range_with_len}
+use Rattle.std.proofs.lemmas.Bool.{and_parts}
 use Rattle.card_code.specs.CardCode.{deck_character, print_character}
 use Rattle.charts.specs.Field.{columns_of}
 use Rattle.charts.specs.Literal.{is_printable}
@@ -14,7 +15,7 @@ use Rattle.chart_rules.specs.ValidCard.{column_of, is_printed}
 use Rattle.print_unit.specs.ZeroControl.{character_of}
 use Rattle.report.specs.Amounts.{columns_in}
 use Rattle.printed_lines.specs.Shown.{Characters, Amount, set_of_character}
-use Rattle.printed_lines.proofs.Characters.{received, prints-set, prints-literal, both_true}
+use Rattle.printed_lines.proofs.Characters.{received, prints-set, prints-literal}
 use Rattle.printed_lines.proofs.ItemText.{amount-width}
 use Rattle.printed_lines.proofs.Sending.{item_for}
 
@@ -23,7 +24,7 @@ pub literal-spelled : (literal : List ℕ) → IsTrue (list_all is_printable lit
     → map (λ set. character_of (received set)) (map set_of_character literal) ≡ literal
 literal-spelled [] printable = refl
 literal-spelled (character ∷ literal) printable =
-    let parts = both_true (is_printable character) (list_all is_printable literal) printable in
+    let parts = and_parts (is_printable character) (list_all is_printable literal) printable in
     ap₂ (λ c text. c ∷ text) (prints-literal character parts.0) (literal-spelled literal parts.1)
 
 -- columns that hold characters spell the print characters of columns that are the same

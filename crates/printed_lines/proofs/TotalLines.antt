@@ -1,6 +1,7 @@
 -- The total line of a level: what the chart's lines send to it comes from their items, and spells what the report puts there.
-use Rattle.std.proofs.Common.{◌≡◌, ◌∙◌, refl, ap, subst, ℕ, ◌==◌, not, if◌then◌else◌, Bool, true, false, List, length, map, Contains, Option, Some, None, option_map, arith}
+use Rattle.std.proofs.Common.{◌≡◌, ◌∙◌, refl, ap, subst, ℕ, ◌==◌, if◌then◌else◌, Bool, true, false, List, length, map, Contains, Option, Some, None, option_map, arith}
 use Rattle.std.proofs.lemmas.Bool.Decides.{nat_tests}
+use Rattle.std.proofs.lemmas.Bool.{not-false}
 use Rattle.charts.specs.Chart.{Chart}
 use Rattle.charts.specs.Field.{columns_of, decimals_of, is_amount}
 use Rattle.charts.specs.Levels.{level_number}
@@ -46,20 +47,12 @@ on_total_line level other = false
 total-line : (level : ℕ) (first second : PrintedLine) → on_total_line level first ≡ true → on_total_line level second ≡ true
     → is_same_line first second ≡ true
 total-line level (Body (body.Total one)) (Body (body.Total other)) on also = grind (arith, nat_tests, on, also)
-total-line level (Body body.Detail) second on also = cc
-total-line level (Heading heading) second on also = cc
-total-line level (Body (body.Total one)) (Body body.Detail) on also = cc
-total-line level (Body (body.Total one)) (Heading heading) on also = cc
+total-line level other another on also = cc
 
 total-body : (level : ℕ) (on : PrintedLine) → on_total_line level on ≡ true → is_body on ≡ true
 total-body level (Body (body.Total its_level)) on = refl
 total-body level (Body body.Detail) on = cc
 total-body level (Heading heading) on = cc
-
--- what is no text is an amount
-no_text : (b : Bool) → not b ≡ false → b ≡ true
-no_text true is = refl
-no_text false is = cc
 
 -- what is sent to a total line comes from its items
 total-items : (lines : List Line) (level : ℕ) (held : List ℕ → Printed) (card : List ℕ) (statement : Statement) (shown : Shown)
@@ -123,7 +116,7 @@ total-items lines level held card (says.TotalAmount its_level wheel name digits 
           amount = (
             total_emitter (level_number its_level),
             on_total its_level wheel name digits mark field
-                (record { named = named; holds_amount = no_text (is_amount field.kind) kept }),
+                (record { named = named; holds_amount = not-false (is_amount field.kind) kept }),
             long,
           );
           line = Body (body.Total its_level);

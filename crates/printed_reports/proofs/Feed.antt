@@ -24,7 +24,7 @@ use Rattle.line_places.specs.Placing.{IsCarriageOf, IsAt, prints_kind, printing_
 use Rattle.program_unit.specs.CycleOrder.{card_over, is_fresh, levels_to, top_level, headed as headed_by}
 use Rattle.program_unit.specs.Program.{stage_ended}
 use Rattle.program_unit.specs.declared.stage.Stage.{Stage}
-use Rattle.program_unit.specs.declared.stage.Stage.TheVariants.{Fresh, RanIn, RanCard, RanProg, BeforeCard, BeforeTotal}
+use Rattle.program_unit.specs.declared.stage.Stage.TheVariants.{Fresh, BeforeCard}
 use Rattle.report.proofs.FewLines.{ended-few}
 use Rattle.report.specs.BodyLines.{card_line}
 use Rattle.report.specs.Breaks.{ended_behind, taking, totals_to}
@@ -115,11 +115,7 @@ pub record CardFed (chart : Chart) (Behind : ℕ → MachineState → Type 0) (s
 -- stages between cards are not the first one
 not_fresh : (stage : Stage) → is_between stage ≡ true → is_fresh stage ≡ false
 not_fresh Fresh between = cc
-not_fresh RanIn between = refl
-not_fresh RanCard between = refl
-not_fresh (RanProg level ordinal) between = refl
-not_fresh (BeforeCard heading) between = refl
-not_fresh (BeforeTotal level heading) between = refl
+not_fresh other between = refl
 
 -- behind levels a card waits between cards
 stages_between : (done : Option Level) → is_between (stage_behind done) ≡ true

@@ -84,9 +84,7 @@ group_done wiring cycle old new group act signed is is_new all there ring fits a
 -- levels are numbered from 1
 some_level : (its : ChartLevel) → 1 ≤ level_number its
 some_level chart_level.Minor = omega arith
-some_level chart_level.Intermediate = omega arith
-some_level chart_level.Major = omega arith
-some_level chart_level.Final = omega arith
+some_level other = omega arith
 
 module _ (chart : Chart) (plan : Lists) (wiring : Wiring) (panel : IsPanel chart plan wiring) (rise : NumbersRise chart.lines chart.end)
   where

@@ -28,7 +28,7 @@ use Rattle.program_unit.specs.CycleOrder.{headed as headed_by, behind_heading}
 use Rattle.program_unit.specs.Program.{ProgramState, stage_ended}
 use Rattle.program_unit.specs.declared.stage.Stage.{Stage}
 use Rattle.report.specs.BodyLines.{heading_line}
-use Rattle.report.specs.ChartForm.{headings}
+use Rattle.report.specs.ChartForm.{heading_count}
 use Rattle.report.specs.Places.{Left, headed}
 use Rattle.printed_reports.proofs.Steps.{fed_with, GoesFrom, Stepped, stepped}
 use Rattle.printed_reports.specs.Goes.{HeadsKeep}
@@ -96,11 +96,11 @@ module _ (chart : Chart) (wiring : Wiring) (Content : MachineState → Type 0) (
   }
 
   -- the texts of the heading lines
-  text : (number : ℕ) → 1 ≤ number → number ≤ headings chart.lines
+  text : (number : ℕ) → 1 ≤ number → number ≤ heading_count chart.lines
       → {one two three : List ℕ}
-      → (1 ≤ headings chart.lines → one ≡ heading_line chart.lines 1)
-      → (2 ≤ headings chart.lines → two ≡ heading_line chart.lines 2)
-      → (3 ≤ headings chart.lines → three ≡ heading_line chart.lines 3)
+      → (1 ≤ heading_count chart.lines → one ≡ heading_line chart.lines 1)
+      → (2 ≤ heading_count chart.lines → two ≡ heading_line chart.lines 2)
+      → (3 ≤ heading_count chart.lines → three ≡ heading_line chart.lines 3)
       → texts_of one two three number ≡ heading_line chart.lines number
   text zero from to one two three = absurd (omega (arith, from))
   text (suc zero) from to one two three = one to

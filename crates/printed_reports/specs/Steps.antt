@@ -18,7 +18,7 @@ use Rattle.program_unit.specs.Program.{program_ended}
 use Rattle.program_unit.specs.declared.stage.Stage.TheVariants.{RanCard}
 use Rattle.report.specs.BodyLines.{card_line, heading_line, total_line}
 use Rattle.report.specs.Breaks.{ended_behind, taking}
-use Rattle.report.specs.ChartForm.{headings, prints_details, prints_totals}
+use Rattle.report.specs.ChartForm.{heading_count, prints_details, prints_totals}
 
 -- A cycle other than a card cycle leaves the cards and goes on; the carriage was asked for the given.
 pub record GoesOn (cycle : Cycle) (asked : _) (old new : MachineState) : Type 0 where
@@ -29,7 +29,7 @@ pub record GoesOn (cycle : Cycle) (asked : _) (old new : MachineState) : Type 0 
 -- A heading cycle prints its heading line.
 pub record Heads (chart : Chart) (heading : Ordinal) (old new : MachineState) : Type 0 where
   pub goes : GoesOn (Head heading) nothing_asked old new
-  pub line : ordinal_number heading ≤ headings chart.lines → new.wheels.line ≡ heading_line chart.lines (ordinal_number heading)
+  pub line : ordinal_number heading ≤ heading_count chart.lines → new.wheels.line ≡ heading_line chart.lines (ordinal_number heading)
 
 -- The card cycle of a card with the next one behind it, if there is one; the cards have moved on before it.
 pub record RunsCard (chart : Chart) (stand : Stand) (card : List ℕ) (next : Option (List ℕ)) (old new : MachineState) :

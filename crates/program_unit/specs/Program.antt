@@ -48,10 +48,6 @@ program_emits program cycle C hub = tells cycle hub
 program_emits program cycle (Row row) hub = false
 program_emits program cycle K hub = false
 
--- it has no contacts
-abbrev pub program_closes : ProgramState → Cycle → Point → Hub → Bool
-program_closes program cycle point exit = false
-
 -- the highest level that is called for
 abbrev pub called_for : (Hub → Bool) → Option Level
 called_for picture =

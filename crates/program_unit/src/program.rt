@@ -159,17 +159,12 @@ impl Program {
 
 impl Unit for Program {
     ghost use Rattle.std.specs.Prelude.{refl};
-    ghost use Rattle.program_unit.specs.Program.{
-      program_emits,
-      program_closes,
-      program_sensed,
-      program_ended,
-      program_number,
-    };
+    ghost use Rattle.net.specs.Nothing.{closes_nothing};
+    ghost use Rattle.program_unit.specs.Program.{program_emits, program_sensed, program_ended, program_number};
 
     ghost emits = { program_emits };
 
-    ghost closes = { program_closes };
+    ghost closes = { closes_nothing };
 
     ghost sensed = { program_sensed };
 

@@ -9,7 +9,7 @@ use Rattle.report.specs.Edits.{last_digits, figure, without_leading_zeros, free_
 use Rattle.report.specs.Laws.{EditsFillTheirItems}
 
 -- so many digits are so many
-last_digits-length : (count number : ℕ) → length (last_digits count number) ≡ count
+pub last_digits-length : (count number : ℕ) → length (last_digits count number) ≡ count
 last_digits-length zero number = refl
 last_digits-length (suc count) number = ap suc (last_digits-length count number)
 

@@ -5,7 +5,7 @@ use Rattle.charts.specs.declared.chart.Line.{Line}
 use Rattle.charts.specs.declared.statement.After.{After}
 use Rattle.charts.specs.declared.statement.After.TheVariants as action
 use Rattle.print_rules.specs.Tapes.{rise_above}
-use Rattle.report.specs.ChartForm.{form_of, headings, spacing_of, after_of, stops_of}
+use Rattle.report.specs.ChartForm.{form_of, heading_count, spacing_of, after_of, stops_of}
 use Rattle.report.specs.PlaceLaws.{ComesTo, stays, skips, EndsPage, full, asked, no_stop, standing, headings_on, first_body_line, Follow, no_more, on_its_page, on_the_next, Stand, nothing, from_page_1, LinesStandByTheLineBefore}
 use Rattle.report.specs.Places.{BodyText, before_all, top_line, next_stop, after_action, above_overflow, placed}
 use Rattle.report.specs.Report.{body_lines}
@@ -48,10 +48,10 @@ module _ (lines : List Line) (rise : (channel : ℕ) → rise_above 0 (stops_of 
 
   -- the line from which the first body line of a page is spaced
   top : (kind : ℕ) → top_line lines + spacing_of lines kind ≡ first_body_line lines kind
-  top kind = by (headings lines == 0) refl
+  top kind = by (heading_count lines == 0) refl
     where
-      by : (b : Bool) → (headings lines == 0) ≡ b → top_line lines + spacing_of lines kind
-          ≡ (if b then (form_of lines).first else (form_of lines).first + headings lines - 1) + spacing_of lines kind
+      by : (b : Bool) → (heading_count lines == 0) ≡ b → top_line lines + spacing_of lines kind
+          ≡ (if b then (form_of lines).first else (form_of lines).first + heading_count lines - 1) + spacing_of lines kind
       by true none = grind (arith, nat_tests, none)
       by false some = grind (arith, nat_tests, some)
 

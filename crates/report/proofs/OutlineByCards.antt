@@ -14,8 +14,6 @@ use Rattle.report.specs.OutlineLaws.{OutlineIsByCards}
 -- no line names a control field of level 0
 none_at_0 : (lines : List Line) (statement : Statement) → control_field lines 0 statement ≡ None
 none_at_0 lines (says.Control control.Minor name) = refl
-none_at_0 lines (says.Control control.Intermediate name) = refl
-none_at_0 lines (says.Control control.Major name) = refl
 none_at_0 lines other = refl
 
 no_fields_at_0 : (lines some : List Line) → filter_map (λ line. control_field lines 0 line.statement) some ≡ []

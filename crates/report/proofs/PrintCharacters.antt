@@ -4,6 +4,7 @@ use Rattle.std.specs.List.{All, AllPass, list_all, filter_map, cons_option, flat
 use Rattle.std.proofs.lemmas.List.Elements.{All-nil, All-cons, All-head, All-tail, All-append, All-map, All-take, All-drop, All-replicate, All-weaker, All-contains_itself}
 use Rattle.std.proofs.lemmas.List.FromFn.{get_or-range_with_len, length-range_with_len}
 use Rattle.std.proofs.lemmas.List.Sums.{AllPass-from_list_all}
+use Rattle.std.proofs.lemmas.Bool.{and_parts}
 use Rattle.card_code.specs.CardCode.{code, character_in, deck_character, print_character, printed_for, rows_of}
 use Rattle.placed_lines.specs.declared.placed_line.PlacedLine.{PlacedLine}
 use Rattle.charts.specs.Field.{columns_of, decimals_of}
@@ -24,7 +25,7 @@ use Rattle.print_rules.specs.Items.{mark_shown, mark_width}
 use Rattle.chart_rules.specs.ValidCard.{column_of}
 use Rattle.report.specs.Amounts.{columns_in, is_blank_on, value_of}
 use Rattle.report.specs.BodyLines.{Piece, piece_at, char_at, line_of, text_on, amount_on, field_on, is_shown, card_piece, card_line, a_card_of, total_piece, total_line, heading_piece, heading_line}
-use Rattle.report.specs.ChartForm.{headings, prints_details, prints_totals}
+use Rattle.report.specs.ChartForm.{heading_count, prints_details, prints_totals}
 use Rattle.report.specs.Edits.{last_digits, figure, without_leading_zeros, free_digits, point, mark_text, marked, size, is_below_zero, edited, edited_digits, edited_blank}
 use Rattle.report.specs.Outline.{OutlineLine, Detail, Total, outline_of}
 use Rattle.report.specs.PageLaws.{HasPrintCharacters, ReportLinesPrint}
@@ -43,11 +44,6 @@ blank : IsPrinted 32
 unfolding rows_of code
 blank = refl
 
--- both halves of a test
-both : (a b : Bool) → (a && b) ≡ true → (a ≡ true) × (b ≡ true)
-both true b is = (refl, is)
-both false b is = cc
-
 -- what a wheel prints for the set of a deck character
 is_coded : ℕ × ℕ → Bool
 is_coded pair = is_printable (printed_for (Some pair.0))
@@ -60,7 +56,7 @@ in-code : (pairs : List (ℕ × ℕ)) (set : ℕ) → list_all is_coded pairs �
 unfolding is_coded
 in-code [] set all = blank
 in-code (pair ∷ pairs) set all =
-    let parts = both (is_coded pair) (list_all is_coded pairs) all in
+    let parts = and_parts (is_coded pair) (list_all is_coded pairs) all in
     by (pair.1 == set) parts.0 (in-code pairs set parts.1)
   where
     by : (b : Bool) → IsPrinted (printed_for (Some pair.0)) → IsPrinted (printed_for (character_in pairs set))
@@ -299,10 +295,10 @@ module _ (lines : List Line) (texts : HaveLiteralTexts lines) where
     where
       by : (line : Option ℕ)
           → All HasPrintCharacters
-          (elim line [ None ↦ map (heading_on lines (left.page + 1)) (range_with_len 1 (headings lines)) | Some at ↦ [] ])
+          (elim line [ None ↦ map (heading_on lines (left.page + 1)) (range_with_len 1 (heading_count lines)) | Some at ↦ [] ])
       by None =
-          All-map HasPrintCharacters (heading_on lines (left.page + 1)) (range_with_len 1 (headings lines))
-          (λ k d within. heading-line (get_or (range_with_len 1 (headings lines)) k d))
+          All-map HasPrintCharacters (heading_on lines (left.page + 1)) (range_with_len 1 (heading_count lines))
+          (λ k d within. heading-line (get_or (range_with_len 1 (heading_count lines)) k d))
       by (Some at) = All-nil HasPrintCharacters
 
   placed-print : (left : Left) (bodies : List BodyText) → All BodyPrints bodies → All HasPrintCharacters (placed lines left bodies)

@@ -205,7 +205,7 @@ below true zero = (λ h. cc, λ h. absurd (omega (arith, h.1)))
 below true (suc number) = (λ h. (refl, omega arith), λ h. refl)
 below false number = (λ h. cc, λ h. let no : false ≡ true = h.0 in cc)
 
-signed-size : (negated : Bool) (number : ℕ) → size (signed negated number) ≡ number
+pub signed-size : (negated : Bool) (number : ℕ) → size (signed negated number) ≡ number
 signed-size true zero = refl
 signed-size true (suc number) = refl
 signed-size false number = refl

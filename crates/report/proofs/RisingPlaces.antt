@@ -5,14 +5,14 @@ use Rattle.std.proofs.lemmas.Bool.Decides.{nat_tests}
 use Rattle.placed_lines.specs.InOrder.{IsAfter, FollowInOrder, IsInOrder}
 use Rattle.placed_lines.specs.declared.placed_line.PlacedLine.{PlacedLine}
 use Rattle.charts.specs.declared.chart.Line.{Line}
-use Rattle.report.specs.ChartForm.{form_of, headings, spacing_of}
+use Rattle.report.specs.ChartForm.{form_of, heading_count, spacing_of}
 use Rattle.report.specs.PlaceLaws.{ComesTo, stays, skips, standing, headings_on, first_body_line, Follow, no_more, on_its_page, on_the_next, Stand, nothing, from_page_1, PlacesRise}
 use Rattle.report.specs.Places.{BodyText, heading_on}
 use Rattle.report.proofs.FewLines.{body_lines-few}
 use Rattle.report.proofs.LawfulForms.{HasRoom, room_of, spacing-range}
 use Rattle.report.proofs.LinePlaces.{lines_stand}
 
-module _ (lines : List Line) (room : HasRoom (headings lines) (form_of lines)) where
+module _ (lines : List Line) (room : HasRoom (heading_count lines) (form_of lines)) where
   abbrev long : ℕ
   long = (form_of lines).lines
 
@@ -20,23 +20,23 @@ module _ (lines : List Line) (room : HasRoom (headings lines) (form_of lines)) w
   at number = (form_of lines).first + number - 1
 
   -- the first body line of a page stands below its heading lines, and on the form
-  below_headings : (kind : ℕ) → (1 ≤ first_body_line lines kind) × ((form_of lines).first + headings lines ≤ first_body_line lines kind) × (first_body_line lines kind ≤ long)
-  below_headings kind = by (headings lines == 0) refl
+  below_headings : (kind : ℕ) → (1 ≤ first_body_line lines kind) × ((form_of lines).first + heading_count lines ≤ first_body_line lines kind) × (first_body_line lines kind ≤ long)
+  below_headings kind = by (heading_count lines == 0) refl
     where
-      by : (b : Bool) → (headings lines == 0) ≡ b
-          → (1 ≤ (if b then (form_of lines).first else at (headings lines)) + spacing_of lines kind)
-          × ((form_of lines).first + headings lines ≤ (if b then (form_of lines).first else at (headings lines)) + spacing_of lines kind)
-          × ((if b then (form_of lines).first else at (headings lines)) + spacing_of lines kind ≤ long)
+      by : (b : Bool) → (heading_count lines == 0) ≡ b
+          → (1 ≤ (if b then (form_of lines).first else at (heading_count lines)) + spacing_of lines kind)
+          × ((form_of lines).first + heading_count lines ≤ (if b then (form_of lines).first else at (heading_count lines)) + spacing_of lines kind)
+          × ((if b then (form_of lines).first else at (heading_count lines)) + spacing_of lines kind ≤ long)
       by true none =
           let space = spacing-range lines kind in
-          let none_at : headings lines ≡ 0 = grind (arith, nat_tests, none) in (
+          let none_at : heading_count lines ≡ 0 = grind (arith, nat_tests, none) in (
             omega (arith, room.first_line),
             omega (arith, none_at),
             grind (arith, nat_tests, none_at, space.1, room.overflow_line, room.last_line),
           )
       by false some =
           let space = spacing-range lines kind in
-          let one : 1 ≤ headings lines = grind (arith, nat_tests, some) in (
+          let one : 1 ≤ heading_count lines = grind (arith, nat_tests, some) in (
             omega (arith, room.first_line, one),
             omega (arith, space.0, one),
             grind (arith, nat_tests, one, space.1, room.overflow_line, room.last_line),
@@ -66,7 +66,7 @@ module _ (lines : List Line) (room : HasRoom (headings lines) (form_of lines)) w
       → FollowInOrder long page line (headings_on lines (page + 1) ++ (standing body (page + 1) (first_body_line lines body.kind) ∷ others))
   turn page line body others most more =
       let place = below_headings body.kind in
-      heads (page + 1) 1 (headings lines) (first_body_line lines body.kind) _ (omega arith) (omega (arith, most)) (omega arith)
+      heads (page + 1) 1 (heading_count lines) (first_body_line lines body.kind) _ (omega arith) (omega (arith, most)) (omega arith)
       (omega (arith, place.1)) place.2
       (λ before above after. (
         after,

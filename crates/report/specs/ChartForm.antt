@@ -1,8 +1,7 @@
 -- What a chart says of the form: its lines, its heading lines, the spacing of each kind of line, what follows it, and the stops of
 -- the channels.
-use Rattle.std.specs.Prelude.{ℕ, ◌==◌, Bool, true, false, List, [], ◌∷◌, Option, Some, None, max, if◌then◌else◌}
+use Rattle.std.specs.Prelude.{ℕ, ◌==◌, Bool, true, false, List, [], ◌∷◌, Option, Some, None, if◌then◌else◌}
 use Rattle.std.specs.List.{list_any}
-use Rattle.charts.specs.Headings.{heading_number}
 use Rattle.charts.specs.Levels.{level_number}
 use Rattle.charts.specs.Spacings.{spacing_number}
 use Rattle.charts.specs.declared.chart.Line.{Line}
@@ -12,6 +11,7 @@ use Rattle.charts.specs.declared.statement.BodyLine.TheVariants as body
 use Rattle.charts.specs.declared.statement.Printing.TheVariants as prints
 use Rattle.charts.specs.declared.statement.Statement.{Statement}
 use Rattle.charts.specs.declared.statement.Statement.TheVariants as says
+pub use Rattle.print_rules.specs.Forms.{heading_count}
 
 -- A form: how many lines a page has, its first line, and the line at which it is full.
 pub record Form : Type 0 where
@@ -48,16 +48,6 @@ is_total_item level other = false
 -- whether the report has a total line for each group of a level
 abbrev pub prints_totals : List Line → ℕ → Bool
 prints_totals lines level = list_any (λ line. is_total_item level line.statement) lines
-
--- the heading line that a line of the chart names, or 0
-abbrev pub heading_of : Statement → ℕ
-heading_of (says.Head line wheel literal) = heading_number line
-heading_of other = 0
-
--- how many heading lines each page has: up to the highest that a line of the chart names
-abbrev pub headings : List Line → ℕ
-headings [] = 0
-headings (line ∷ lines) = max (heading_of line.statement) (headings lines)
 
 -- the kind of a body line as a number: 0 for the line of a card, the level for a total line
 abbrev pub kind_number : BodyLine → ℕ

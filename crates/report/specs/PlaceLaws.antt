@@ -8,7 +8,7 @@ use Rattle.charts.specs.declared.chart.Line.{Line}
 use Rattle.charts.specs.declared.statement.After.TheVariants as action
 use Rattle.chart_rules.specs.Rules.{IsLawful}
 use Rattle.report.specs.BodyLines.{heading_line}
-use Rattle.report.specs.ChartForm.{form_of, headings, spacing_of, after_of, stops_of}
+use Rattle.report.specs.ChartForm.{form_of, heading_count, spacing_of, after_of, stops_of}
 use Rattle.report.specs.Places.{BodyText}
 use Rattle.report.specs.Report.{body_lines, report_lines}
 
@@ -46,12 +46,12 @@ standing body page line = record { page = page; line = line; text = body.text }
 abbrev pub headings_on : List Line → ℕ → List PlacedLine
 headings_on lines page =
     map (λ number. record { page = page; line = (form_of lines).first + number - 1; text = heading_line lines number })
-    (range_with_len 1 (headings lines))
+    (range_with_len 1 (heading_count lines))
 
 -- the line of the first body line of a page: its spacing below the last heading line, or below the form's first line
 abbrev pub first_body_line : List Line → ℕ → ℕ
 first_body_line lines kind =
-    (if headings lines == 0 then (form_of lines).first else (form_of lines).first + headings lines - 1) + spacing_of lines kind
+    (if heading_count lines == 0 then (form_of lines).first else (form_of lines).first + heading_count lines - 1) + spacing_of lines kind
 
 -- Body lines stand behind a line of a kind on a page and a line: each its spacing below where the line before it comes to, above the
 -- overflow line, or first on the next page where the line before it ends its page.

@@ -8,7 +8,7 @@ use Rattle.charts.specs.declared.chart.Line.{Line}
 use Rattle.charts.specs.declared.statement.After.{After}
 use Rattle.charts.specs.declared.statement.After.TheVariants as action
 use Rattle.report.specs.BodyLines.{heading_line}
-use Rattle.report.specs.ChartForm.{form_of, headings, spacing_of, after_of, stops_of}
+use Rattle.report.specs.ChartForm.{form_of, heading_count, spacing_of, after_of, stops_of}
 
 -- A body line: its kind, 0 for the line of a card and the level for a total line, and its characters.
 pub record BodyText : Type 0 where
@@ -26,7 +26,7 @@ before_all = record { page = 0; line = None }
 
 -- the line from which a page's first body line is spaced: the last heading line, or the form's first line
 abbrev pub top_line : List Line → ℕ
-top_line lines = (form_of lines).first + max (headings lines) 1 - 1
+top_line lines = (form_of lines).first + max (heading_count lines) 1 - 1
 
 -- the page of the next line
 abbrev pub page_of : Left → ℕ
@@ -67,7 +67,7 @@ heading_on lines page number =
 -- the heading lines before a line that starts a page
 abbrev pub headed : List Line → Left → List PlacedLine
 headed lines left =
-    elim left.line [ None ↦ map (heading_on lines (left.page + 1)) (range_with_len 1 (headings lines)) | Some line ↦ [] ]
+    elim left.line [ None ↦ map (heading_on lines (left.page + 1)) (range_with_len 1 (heading_count lines)) | Some line ↦ [] ]
 
 -- body lines with their places and the heading lines between them, from where the line before them left the form
 abbrev pub placed : List Line → Left → List BodyText → List PlacedLine

@@ -1,5 +1,5 @@
 -- Rows of contacts against the definitions of which of them are closed.
-use Rattle.std.proofs.Common.{◌≡◌, ◌≤◌, ◌<◌, ◌+◌, ◌-◌, ◌*◌, ◌∙◌, ap, refl, sym, arith, ℕ, zero, suc, Bool, true, false, not, ◌==◌, ◌&&◌, ◌||◌, nat_le, List, [], ◌∷◌, length, slice_index_or, Option, Some, None, if◌then◌else◌}
+use Rattle.std.proofs.Common.{◌≡◌, ◌≤◌, ◌<◌, ◌+◌, ◌-◌, ◌*◌, ◌∙◌, ap, refl, sym, arith, ℕ, suc, Bool, true, false, not, ◌==◌, ◌&&◌, ◌||◌, nat_le, List, [], ◌∷◌, length, slice_index_or, Option, Some, None, if◌then◌else◌}
 use Rattle.std.specs.Prelude.{option_map}
 use Rattle.std.proofs.lemmas.Bool.Decides.{nat_tests}
 use Rattle.std.proofs.lemmas.Nat.Bits.{bit_at_ones}
@@ -162,11 +162,8 @@ balance_rows latches other long = one_row _ _ _
 latch_of_level : (a b c : Bool) (level : ℕ)
     → (is_within level 3 && slice_index_or (a ∷ b ∷ c ∷ []) (level - 1) false)
     ≡ (if level == 1 then a else if level == 2 then b else if level == 3 then c else false)
-latch_of_level a b c zero = refl
-latch_of_level a b c (suc zero) = refl
-latch_of_level a b c (suc (suc zero)) = refl
-latch_of_level a b c (suc (suc (suc zero))) = refl
 latch_of_level a b c (suc (suc (suc (suc n)))) = grind (arith, nat_tests)
+latch_of_level a b c other = refl
 
 -- the row of the contacts of group indication in a card cycle
 pub indicate_row : (latches : Latches) (point : Point) (hub : Hub)

@@ -1,8 +1,8 @@
 -- The pickups in a row of hubs.
-use Rattle.std.proofs.Common.{◌≡◌, ◌<◌, ◌+◌, ◌-◌, ◌∙◌, inl, inr, ap, refl, sym, arith, ℕ, zero, suc, Bool, true, false, List, [], ◌∷◌, length, get_or, slice_index_or, slice_set}
+use Rattle.std.proofs.Common.{◌≡◌, ◌<◌, ◌+◌, ◌-◌, ◌∙◌, inl, inr, ap, sym, arith, ℕ, Bool, true, false, List, length, get_or, slice_index_or, slice_set}
 use Rattle.std.proofs.lemmas.Bool.{cases_eq}
 use Rattle.std.proofs.lemmas.Bool.Decides.{nat_tests}
-use Rattle.std.proofs.lemmas.List.{get_or-set_same, get_or-set_other, same_lists}
+use Rattle.std.proofs.lemmas.List.{get_or-set_same, get_or-set_other, same_lists, get_or_default}
 use Rattle.std.proofs.lemmas.List.FromFn.{get_or-map-range_with_len}
 use Rattle.hubs.specs.declared.hub.Hub.{Hub}
 use Rattle.hubs.specs.declared.hub.Hub.TheVariants.{PIX}
@@ -30,12 +30,6 @@ pickups-more picked_up index k bit test long within is so_far below = elim (case
   | inr other ↦ get_or-set_other picked_up index k bit false other ∙ so_far k (omega (arith, below, other))
 ]
 
--- what stands at a place of a list is the same whatever stands for none
-any_default : {X : Type 0} (xs : List X) (k : ℕ) (d e : X) → k < length xs → get_or xs k d ≡ get_or xs k e
-any_default [] k d e within = absurd (omega (arith, within))
-any_default (x ∷ xs) zero d e within = refl
-any_default (x ∷ xs) (suc k) d e within = any_default xs k d e (omega (arith, within))
-
 -- all pilots
 pub pickups-all : (picked_up : List Bool) (test : ℕ → Bool) → length picked_up ≡ 16
     → ((k : ℕ) → k < 16 → slice_index_or picked_up k false ≡ test (k + 1)) → picked_up ≡ tests_to 16 test
@@ -43,5 +37,5 @@ unfolding tests_to
 pickups-all picked_up test long is = same_lists picked_up (tests_to 16 test) long at
   where
     at : (k : ℕ) (d : Bool) → k < length picked_up → get_or picked_up k d ≡ get_or (tests_to 16 test) k d
-    at k d within = any_default picked_up k d false within ∙ is k (omega (arith, within, long))
+    at k d within = get_or_default picked_up k d false within ∙ is k (omega (arith, within, long))
         ∙ sym (get_or-map-range_with_len test 1 16 k (k + 1) d (omega (arith, within, long)) (omega arith))

@@ -1,11 +1,10 @@
 -- Words that have as many bits for each thing of a list.
-use Rattle.std.proofs.Common.{◌≡◌, ◌≤◌, ◌<◌, ◌+◌, ◌-◌, ◌*◌, ◌^◌, ◌%◌, ◌∙◌, inl, inr, ap, refl, sym, arith, ℕ, zero, suc, Bool, true, false, ◌==◌, max, bit_or, List, [], ◌∷◌, length, drop, get_or, slice_index_or}
+use Rattle.std.proofs.Common.{◌≡◌, ◌≤◌, ◌<◌, ◌+◌, ◌-◌, ◌*◌, ◌^◌, ◌%◌, ◌∙◌, ap, refl, sym, arith, ℕ, zero, suc, Bool, true, false, ◌==◌, bit_or, List, [], ◌∷◌, length, drop, get_or, slice_index_or}
 use Rattle.std.specs.Prelude.{if◌then◌else◌}
 use Rattle.std.specs.Int.{bit_at}
-use Rattle.std.proofs.lemmas.Bool.{cases_lt}
 use Rattle.std.proofs.lemmas.List.{length-drop}
-use Rattle.std.proofs.lemmas.Nat.{pow_pos, pow-add}
-use Rattle.std.proofs.lemmas.Nat.Bits.{bit_at_or, bit_at-zero, bit_at_above, bit_at_ones, bit_at_cat_low, bit_at_cat_high, same_from_bits}
+use Rattle.std.proofs.lemmas.Nat.{pow_pos, pow-add, or_shifted}
+use Rattle.std.proofs.lemmas.Nat.Bits.{bit_at-zero, bit_at_ones, bit_at_cat_low, bit_at_cat_high}
 use Rattle.std.proofs.Math.Nat.{mod-eq_of_lt, mul-le-mul_right, pow-le-pow_right}
 use Rattle.std.proofs.Math.Seq.{drop-cons}
 use Rattle.net.specs.HubSets.{is_bit}
@@ -20,26 +19,10 @@ moved_high : (a k i : ℕ) → k ≤ i → bit_at (a * 2 ^ k) i ≡ bit_at a (i 
 moved_high a k i high = let e : a * 2 ^ k ≡ a * 2 ^ k + 0 = omega arith in
     ap (λ n. bit_at n i) e ∙ bit_at_cat_high a k 0 i (pow_pos k) high
 
--- low bits joined to a word moved up are added to it
-pub joined_below : (a k b : ℕ) → b < 2 ^ k → bit_or (a * 2 ^ k) b ≡ a * 2 ^ k + b
-joined_below a k b small = same_from_bits (bit_or (a * 2 ^ k) b) (a * 2 ^ k + b) (λ i. bit_at_or (a * 2 ^ k) b i ∙ at i)
-  where
-    larger : (x y z m : ℕ) → x ≡ 0 → z ≡ y → m ≡ z → max x y ≡ m
-    larger x y z m none same is = grind arith
-
-    other_larger : (x y z m : ℕ) → y ≡ 0 → x ≡ z → m ≡ z → max x y ≡ m
-    other_larger x y z m none same is = grind arith
-
-    at : (i : ℕ) → max (bit_at (a * 2 ^ k) i) (bit_at b i) ≡ bit_at (a * 2 ^ k + b) i
-    at i = elim (cases_lt i k) [
-      | inl low ↦ larger _ _ _ _ (moved_low a k i low) refl (bit_at_cat_low a k b i low)
-      | inr high ↦ other_larger _ _ _ _ (bit_at_above b k i small high) (moved_high a k i high) (bit_at_cat_high a k b i small high)
-    ]
-
 pub shifted_in : (a k b p : ℕ) → a * 2 ^ k + 2 ^ k ≤ 2 ^ 128 → b < 2 ^ k → b ≡ p
     → bit_or (a * 2 ^ k % 340282366920938463463374607431768211456) b ≡ a * 2 ^ k + p
 shifted_in a k b p fits small is =
-    ap (λ n. bit_or n b) (mod-eq_of_lt (omega (arith, fits, pow_pos k))) ∙ joined_below a k b small ∙ ap (λ n. a * 2 ^ k + n) is
+    ap (λ n. bit_or n b) (mod-eq_of_lt (omega (arith, fits, pow_pos k))) ∙ or_shifted a k b small ∙ ap (λ n. a * 2 ^ k + n) is
 
 -- a group of bits has no more than its parts
 parts_of-below : (parts : ℕ) (test : Bool) → parts_of parts test < 2 ^ parts

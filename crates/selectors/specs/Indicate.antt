@@ -29,18 +29,10 @@ is_latch_set latches level =
     else if level == 3 then latches.major
     else false
 
--- Group indication emits nothing.
-abbrev pub indicate_emits : Latches → Cycle → Point → Hub → Bool
-indicate_emits latches cycle point hub = false
-
 -- The contacts of a level's positions, at all points of card cycles.
 abbrev pub indicate_closes : Latches → Cycle → Point → Hub → Bool
 indicate_closes latches Card point (IX level position) = is_latch_set latches level && is_within position 30
 indicate_closes latches cycle point hub = false
-
--- It senses nothing.
-abbrev pub indicate_sensed : Latches → Cycle → Point → (Hub → Bool) → Latches
-indicate_sensed latches cycle point picture = latches
 
 -- What the end of a cycle makes of the latches.
 abbrev pub indicate_ended : Latches → Cycle → Latches

@@ -34,10 +34,6 @@ is_transferred pilots pilot = is_within pilot 16 && slice_index_or pilots.transf
 abbrev pub is_normal : PilotStates → ℕ → Bool
 is_normal pilots pilot = is_within pilot 16 && not (slice_index_or pilots.transferred (pilot - 1) false)
 
--- Pilots emit nothing.
-abbrev pub pilots_emits : PilotStates → Cycle → Point → Hub → Bool
-pilots_emits pilots cycle point hub = false
-
 -- The contacts of a pilot's three positions, at all points of all cycles.
 abbrev pub pilots_closes : PilotStates → Cycle → Point → Hub → Bool
 pilots_closes pilots cycle point (PIN pilot position) = is_normal pilots pilot && is_within position 3

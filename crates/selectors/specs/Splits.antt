@@ -21,21 +21,9 @@ split_closes (Row row) (CSD split) = is_digit_row row && is_within split 16
 split_closes (Row row) (CSZ split) = not (is_digit_row row) && is_within split 16
 split_closes point hub = false
 
--- Splits emit nothing.
-abbrev pub splits_emits : Splits → Cycle → Point → Hub → Bool
-splits_emits splits cycle point hub = false
-
 -- Their contacts, in all cycles alike.
 abbrev pub splits_closes : Splits → Cycle → Point → Hub → Bool
 splits_closes splits cycle point hub = split_closes point hub
-
--- They sense nothing.
-abbrev pub splits_sensed : Splits → Cycle → Point → (Hub → Bool) → Splits
-splits_sensed splits cycle point picture = splits
-
--- They have no state.
-abbrev pub splits_ended : Splits → Cycle → Splits
-splits_ended splits cycle = splits
 
 -- their number among the units
 abbrev pub splits_number : Splits → ℕ

@@ -71,13 +71,14 @@ impl Indicate {
 
 impl Unit for Indicate {
     ghost use Rattle.std.specs.Prelude.{refl};
-    ghost use Rattle.selectors.specs.Indicate.{indicate_emits, indicate_closes, indicate_sensed, indicate_ended, indicate_number};
+    ghost use Rattle.net.specs.Nothing.{emits_nothing, senses_nothing};
+    ghost use Rattle.selectors.specs.Indicate.{indicate_closes, indicate_ended, indicate_number};
 
-    ghost emits = { indicate_emits };
+    ghost emits = { emits_nothing };
 
     ghost closes = { indicate_closes };
 
-    ghost sensed = { indicate_sensed };
+    ghost sensed = { senses_nothing };
 
     ghost ended = { indicate_ended };
 

@@ -76,10 +76,11 @@ impl Pilots {
 
 impl Unit for Pilots {
     ghost use Rattle.std.specs.Prelude.{refl};
-    ghost use Rattle.selectors.specs.Pilots.{pilots_emits, pilots_closes, pilots_sensed, pilots_ended, pilots_number};
+    ghost use Rattle.net.specs.Nothing.{emits_nothing};
+    ghost use Rattle.selectors.specs.Pilots.{pilots_closes, pilots_sensed, pilots_ended, pilots_number};
     ghost use Rattle.selectors.specs.Steady.{pilots_close_steadily};
 
-    ghost emits = { pilots_emits };
+    ghost emits = { emits_nothing };
 
     ghost closes = { pilots_closes };
 

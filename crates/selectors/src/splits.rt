@@ -35,15 +35,16 @@ impl Splits {
 
 impl Unit for Splits {
     ghost use Rattle.std.specs.Prelude.{refl};
-    ghost use Rattle.selectors.specs.Splits.{splits_emits, splits_closes, splits_sensed, splits_ended, splits_number};
+    ghost use Rattle.net.specs.Nothing.{emits_nothing, senses_nothing, ends_unchanged};
+    ghost use Rattle.selectors.specs.Splits.{splits_closes, splits_number};
 
-    ghost emits = { splits_emits };
+    ghost emits = { emits_nothing };
 
     ghost closes = { splits_closes };
 
-    ghost sensed = { splits_sensed };
+    ghost sensed = { senses_nothing };
 
-    ghost ended = { splits_ended };
+    ghost ended = { ends_unchanged };
 
     ghost number = { splits_number };
 

@@ -5,6 +5,7 @@ use Rattle.std.proofs.lemmas.Nat.Bits.{bit_at-lt, bit_at_or, bit_at_and, bit_at_
 use Rattle.std.proofs.Math.Nat.{div-div-eq-div-mul}
 use Rattle.std.proofs.lemmas.Nat.{one_shl, pow-add}
 use Rattle.std.specs.Int.{bit_at}
+use Rattle.std.proofs.lemmas.Bool.{and_left}
 use Rattle.net.specs.HubSets.{is_bit}
 use Rattle.stations.specs.Comparing.{positions, are_unlike}
 use Rattle.stations.proofs.RowWords.{no_bit}
@@ -70,10 +71,7 @@ is_bit-one true last k = is_bit-power last k
 -- the bits of a word of positions
 pub is_bit-positions : (last : ℕ) (test : ℕ → Bool) (k : ℕ) → is_bit (positions last test) k ≡ (nat_lt k last && test (suc k))
 unfolding positions
-is_bit-positions zero test k = no_bit k ∙ sym (nothing (nat_lt k 0) (test (suc k)) (grind (arith, nat_tests)))
-  where
-    nothing : (below there : Bool) → below ≡ false → (below && there) ≡ false
-    nothing below there off = grind (arith, off)
+is_bit-positions zero test k = no_bit k ∙ sym (and_left (nat_lt k 0) (test (suc k)) (grind (arith, nat_tests)))
 is_bit-positions (suc last) test k =
     is_bit-or (positions last test) (if test (suc last) then 2 ^ last else 0) k
     ∙ (rw (is_bit-positions last test k, is_bit-one (test (suc last)) last k) (elim (eqb_tells k last) [

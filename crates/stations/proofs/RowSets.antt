@@ -8,7 +8,7 @@ use Rattle.std.specs.Int.{bit_at, trailing_zeros}
 use Rattle.card_code.specs.CardCode.{has_row}
 use Rattle.card_code.specs.Rows.{row_number, row_place, is_row_set}
 use Rattle.card_code.specs.declared.row.Row.{Row}
-use Rattle.card_code.specs.declared.row.Row.TheVariants.{Zero, One, Two, Three, Four, Five, Six, Seven, Eight, Nine, Eleven, Twelve}
+use Rattle.card_code.specs.declared.row.Row.TheVariants.{Zero}
 use Rattle.net.specs.HubSets.{is_bit}
 use Rattle.stations.specs.Words.{is_row_bit, place_of, GainsBit, GainsColumnBut, LosesBit}
 use Rattle.stations.proofs.RowWords.{place_below}
@@ -105,17 +105,7 @@ place_tells :
     (row : Row) (n : ℕ) → n < 13 → n ≢ 10
     → ((row_number row ≡ n) × (row_place row ≡ place_of n)) ⊎ ((row_number row ≢ n) × (row_place row ≢ place_of n))
 place_tells Zero n low other = grind (arith, nat_tests)
-place_tells One n low other = grind (arith, nat_tests)
-place_tells Two n low other = grind (arith, nat_tests)
-place_tells Three n low other = grind (arith, nat_tests)
-place_tells Four n low other = grind (arith, nat_tests)
-place_tells Five n low other = grind (arith, nat_tests)
-place_tells Six n low other = grind (arith, nat_tests)
-place_tells Seven n low other = grind (arith, nat_tests)
-place_tells Eight n low other = grind (arith, nat_tests)
-place_tells Nine n low other = grind (arith, nat_tests)
-place_tells Eleven n low other = grind (arith, nat_tests)
-place_tells Twelve n low other = grind (arith, nat_tests)
+place_tells row n low other = grind (arith, nat_tests)
 
 -- the punch that is done now
 done_here :

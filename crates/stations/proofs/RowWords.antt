@@ -4,9 +4,10 @@ use Rattle.std.proofs.Common.{◌⊎◌, length, replicate, get_or, slice_index,
 use Rattle.std.proofs.lemmas.Bool.Decides.{eqb_tells, nat_tests}
 use Rattle.std.proofs.lemmas.List.{get_or-replicate}
 use Rattle.std.proofs.lemmas.Nat.Bits.{bit_at-zero}
+use Rattle.std.proofs.lemmas.Bool.{and_left}
 use Rattle.card_code.specs.Rows.{row_place, rows}
 use Rattle.card_code.specs.declared.row.Row.{Row}
-use Rattle.card_code.specs.declared.row.Row.TheVariants.{Zero, One, Two, Three, Four, Five, Six, Seven, Eight, Nine, Eleven, Twelve}
+use Rattle.card_code.specs.declared.row.Row.TheVariants.{Zero}
 use Rattle.hub_table.specs.Ranges.{is_within}
 use Rattle.net.specs.HubSets.{is_bit}
 use Rattle.stations.specs.Punches.{is_punched_at, AreRowsAt}
@@ -20,32 +21,12 @@ no_bit k = rw (bit_at-zero k) refl
 -- at its place among the rows stands the row, whatever stands for none
 pub row_at_place : (row other : Row) → get_or rows (row_place row) other ≡ row
 row_at_place Zero other = refl
-row_at_place One other = refl
-row_at_place Two other = refl
-row_at_place Three other = refl
-row_at_place Four other = refl
-row_at_place Five other = refl
-row_at_place Six other = refl
-row_at_place Seven other = refl
-row_at_place Eight other = refl
-row_at_place Nine other = refl
-row_at_place Eleven other = refl
-row_at_place Twelve other = refl
+row_at_place row other = refl
 
 -- a row's place is one of twelve
 pub place_below : (row : Row) → row_place row < 12
 place_below Zero = omega arith
-place_below One = omega arith
-place_below Two = omega arith
-place_below Three = omega arith
-place_below Four = omega arith
-place_below Five = omega arith
-place_below Six = omega arith
-place_below Seven = omega arith
-place_below Eight = omega arith
-place_below Nine = omega arith
-place_below Eleven = omega arith
-place_below Twelve = omega arith
+place_below other = omega arith
 
 -- twelve words without a bit
 pub no_row_bit : (row : Row) (k : ℕ) → is_row_bit (replicate 12 0) row k ≡ false
@@ -57,10 +38,7 @@ no_card = record { twelve = refl; punched = λ row bit. no_row_bit row bit }
 
 -- no column of a card is done
 pub columns-none : (card : List ℕ) → HasColumnsBefore 0 card (replicate 12 0)
-columns-none card row k = rw (no_row_bit row k) (sym (nothing (nat_lt k 0) _ (grind (arith, nat_tests))))
-  where
-    nothing : (test other : Bool) → test ≡ false → (test && other) ≡ false
-    nothing test other off = grind (arith, off)
+columns-none card row k = rw (no_row_bit row k) (sym (and_left (nat_lt k 0) _ (grind (arith, nat_tests))))
 
 -- the column that is done now
 column_here :

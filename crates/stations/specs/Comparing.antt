@@ -58,10 +58,6 @@ abbrev pub comparing_emits : Compared → Cycle → Point → Hub → Bool
 comparing_emits compared Card K hub = differences_emit compared.sets hub
 comparing_emits compared cycle point hub = false
 
--- comparing has no contacts
-abbrev pub comparing_closes : Compared → Cycle → Point → Hub → Bool
-comparing_closes compared cycle point hub = false
-
 -- what comparing has collected behind a point
 abbrev pub comparing_sensed : Compared → Cycle → Point → (Hub → Bool) → Compared
 comparing_sensed compared Card (Row row) picture = record {

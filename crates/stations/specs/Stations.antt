@@ -40,14 +40,6 @@ stations_emits cards RunIn (Row row) hub = first_emits cards.first row hub
 stations_emits cards Card (Row row) hub = first_emits cards.first row hub || second_emits cards.second row hub
 stations_emits cards cycle point hub = false
 
--- the stations have no contacts
-abbrev pub stations_closes : StationCards → Cycle → Point → Hub → Bool
-stations_closes cards cycle point hub = false
-
--- the stations sense nothing
-abbrev pub stations_sensed : StationCards → Cycle → Point → (Hub → Bool) → StationCards
-stations_sensed cards cycle point picture = cards
-
 -- the end of a cycle leaves the cards where they are
 abbrev pub stations_ended : StationCards → Cycle → StationCards
 stations_ended cards cycle = cards

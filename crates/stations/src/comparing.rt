@@ -53,11 +53,12 @@ impl Comparing {
 impl Unit for Comparing {
     ghost use Rattle.std.specs.Prelude.{refl};
     ghost use Rattle.std.proofs.Common.{rules};
-    ghost use Rattle.stations.specs.Comparing.{comparing_emits, comparing_closes, comparing_sensed, comparing_ended, comparing_number};
+    ghost use Rattle.net.specs.Nothing.{closes_nothing};
+    ghost use Rattle.stations.specs.Comparing.{comparing_emits, comparing_sensed, comparing_ended, comparing_number};
 
     ghost emits = { comparing_emits };
 
-    ghost closes = { comparing_closes };
+    ghost closes = { closes_nothing };
 
     ghost sensed = { comparing_sensed };
 

@@ -73,13 +73,14 @@ impl Stations {
 
 impl Unit for Stations {
     ghost use Rattle.std.specs.Prelude.{refl};
-    ghost use Rattle.stations.specs.Stations.{stations_emits, stations_closes, stations_sensed, stations_ended, stations_number};
+    ghost use Rattle.net.specs.Nothing.{closes_nothing, senses_nothing};
+    ghost use Rattle.stations.specs.Stations.{stations_emits, stations_ended, stations_number};
 
     ghost emits = { stations_emits };
 
-    ghost closes = { stations_closes };
+    ghost closes = { closes_nothing };
 
-    ghost sensed = { stations_sensed };
+    ghost sensed = { senses_nothing };
 
     ghost ended = { stations_ended };
 

@@ -40,10 +40,6 @@ storage_emits storage cycle (Row row) (SX unit column) =
     (storage.reads_out && (unit == storage.place)) && holds storage row column
 storage_emits storage cycle point hub = false
 
--- It has no contacts.
-abbrev pub storage_closes : StorageState → Cycle → Point → Hub → Bool
-storage_closes storage cycle point hub = false
-
 -- the columns whose entries are impulsed
 abbrev pub columns_in : (Hub → Bool) → ℕ → ℕ
 columns_in picture unit = word_of (λ column. picture (SE unit column)) 16

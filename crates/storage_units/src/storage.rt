@@ -84,11 +84,12 @@ impl Storage {
 
 impl Unit for Storage {
     ghost use Rattle.std.specs.Prelude.{refl};
-    ghost use Rattle.storage_units.specs.Storage.{storage_emits, storage_closes, storage_sensed, storage_ended, storage_number};
+    ghost use Rattle.net.specs.Nothing.{closes_nothing};
+    ghost use Rattle.storage_units.specs.Storage.{storage_emits, storage_sensed, storage_ended, storage_number};
 
     ghost emits = { storage_emits };
 
-    ghost closes = { storage_closes };
+    ghost closes = { closes_nothing };
 
     ghost sensed = { storage_sensed };
 

@@ -1,5 +1,5 @@
 -- The tests of a text's frame tell exactly what the frame says.
-use Rattle.std.proofs.Common.{◌≡◌, ◌↔◌, ℕ, ◌<◌, Bool, true, false, List, [], ◌∷◌, length, Option, Some, None, refl, ap, sym, ◌∙◌}
+use Rattle.std.proofs.Common.{◌≡◌, ◌↔◌, ℕ, ◌<◌, Bool, true, false, List, [], ◌∷◌, length, Option, Some, refl, ap, sym, ◌∙◌}
 use Rattle.std.proofs.lemmas.Bool.{lt-ltb, ltb-true, and_parts, and_from, both_ways}
 use Rattle.std.proofs.lemmas.Bool.Decides.{Decides-ltb, Decides-or}
 use Rattle.std.proofs.lemmas.List.Folds.{Any-from_list_any, list_any-from_Any}
@@ -49,13 +49,10 @@ same_test false other tells also same = sym (told_false other also (λ is. both_
 -- the first line
 title_is : (name version : List ℕ) (tokens : Option (List (List ℕ))) → are_title name version tokens ≡ true
     → tokens ≡ Some (name ∷ version ∷ [])
-title_is name version None test = cc
-title_is name version (Some []) test = cc
-title_is name version (Some (a ∷ [])) test = cc
 title_is name version (Some (a ∷ b ∷ [])) test =
     let p = and_parts (bytes_eq a name) (bytes_eq b version) test in
     ap (λ w. Some (w ∷ b ∷ [])) (is_word a name p.0) ∙ ap (λ w. Some (name ∷ w ∷ [])) (is_word b version p.1)
-title_is name version (Some (a ∷ b ∷ c ∷ ds)) test = cc
+title_is name version other test = cc
 
 pub title_by : (name version line : List ℕ) → Decides (is_title_line name version line) (IsTitleLine name version line)
 title_by name version line = (come, gone)

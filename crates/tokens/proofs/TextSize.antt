@@ -2,16 +2,13 @@
 use Rattle.std.proofs.Common.{◌≡◌, ◌⊎◌, inl, inr, sym, ap, ◌∙◌, ℕ, ◌+◌, ◌<◌, ◌≤◌, ◌||◌, Bool, true, false, ltb, nat_lt, List, [], ◌∷◌, length, refl, arith, suc}
 use Rattle.std.proofs.lemmas.Bool.{lt-ltb, le-ltb}
 use Rattle.std.specs.List.{list_any}
+use Rattle.std.proofs.Math.Bool.{or-true}
 use Rattle.tokens.specs.FrameReading.{is_longer, is_larger}
 
 -- whether a text is too large, where a number of lines stand before these
 abbrev pub larger_behind : ℕ → ℕ → ℕ → List (List ℕ) → Bool
 larger_behind most_lines most_bytes count lines =
     nat_lt most_lines (count + length lines) || list_any (is_longer most_bytes) lines
-
-or_true : (b : Bool) → (b || true) ≡ true
-or_true true = refl
-or_true false = refl
 
 -- a line that is short enough
 pub larger_behind-short : (most_lines most_bytes count : ℕ) (line : List ℕ) (lines : List (List ℕ)) → length line ≤ most_bytes
@@ -30,7 +27,7 @@ larger_behind-many most_lines most_bytes count line lines many =
 pub larger_behind-long : (most_lines most_bytes count : ℕ) (line : List ℕ) (lines : List (List ℕ)) → most_bytes < length line
     → larger_behind most_lines most_bytes count (line ∷ lines) ≡ true
 larger_behind-long most_lines most_bytes count line lines long = rw (lt-ltb most_bytes (length line) long)
-    (or_true (ltb most_lines (count + suc (length lines))))
+    (or-true (ltb most_lines (count + suc (length lines))))
 
 -- no line left
 pub larger_behind-none : (most_lines most_bytes count : ℕ) → count ≤ most_lines

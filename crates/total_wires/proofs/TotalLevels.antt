@@ -1,6 +1,6 @@
 -- The totals of an amount by their levels.
 use Rattle.std.proofs.Common.{◌≡◌, ℕ, ◌+◌, ◌<◌, ◌≤◌, ◌⊎◌, inl, inr, Bool, true, false, ◌&&◌, ◌==◌, List, Option, Some, None, option_map, is_some, find, refl, sym, ap, ◌∙◌, subst, arith}
-use Rattle.std.proofs.lemmas.Bool.{cases_lt}
+use Rattle.std.proofs.lemmas.Bool.{cases_lt, and_parts}
 use Rattle.std.proofs.lemmas.Bool.Decides.{nat_tests}
 use Rattle.std.specs.List.{Contains}
 use Rattle.charts.specs.Levels.{level_number}
@@ -18,10 +18,6 @@ use Rattle.line_wires.specs.HelperAdds.{Adds}
 use Rattle.total_wires.specs.HelperLevels.{OfNext, next, is_total_of, total_at}
 use Rattle.wiring_table.specs.Parts.{HasTotal, IsLowest, IsNextHigher}
 
-both : (a b : Bool) → (a && b) ≡ true → (a ≡ true) × (b ≡ true)
-both true b is = (refl, is)
-both false b is = cc
-
 -- a line that passes the test is such a total
 pub total-passes : (lines : List Line) (name : List ℕ) (level : ℕ) (line : Line) → Contains lines line
     → is_total_of name level line.statement ≡ true → HasTotal lines name level line.number
@@ -30,7 +26,7 @@ total-passes lines name level line listed passes = by line.statement refl passes
     by : (statement : Statement) → line.statement ≡ statement → is_total_of name level statement ≡ true
         → HasTotal lines name level line.number
     by (says.TotalAmount its_level wheel its_name digits mark) is test =
-        let parts = both (level_number its_level == level) (is_same_name its_name name) test in
+        let parts = and_parts (level_number its_level == level) (is_same_name its_name name) test in
         record {
           line = line;
           listed = listed;
@@ -90,9 +86,7 @@ total-missing lines name level number is total = by (find (λ line. is_total_of 
 -- no level is above 4
 pub level-small : (its_level : Level) → level_number its_level < 5
 level-small level.Minor = omega arith
-level-small level.Intermediate = omega arith
-level-small level.Major = omega arith
-level-small level.Final = omega arith
+level-small other = omega arith
 
 -- a total found below a level shows that the level isn't the lowest
 pub no_total_found : (lines : List Line) (name : List ℕ) (level bound lower : ℕ) (result : Option ℕ) → IsLowest lines name level

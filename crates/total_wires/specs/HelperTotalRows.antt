@@ -9,7 +9,7 @@ use Rattle.charts.specs.declared.statement.Mark.{Mark}
 use Rattle.charts.specs.declared.statement.SignRule.{SignRule}
 use Rattle.hubs.specs.declared.hub.Group.{Group}
 use Rattle.hubs.specs.declared.hub.Hub.TheVariants.{SR, GX, CO, BAN, BAT, SX, CC, PX, GE, PL, MI, RO, BT, CI, BAC, PIC, SE, SI, SO, W}
-use Rattle.wiring_table.specs.Figures.{rule_of, digit_wheel, mark_characters, total_emitter}
+use Rattle.wiring_table.specs.Figures.{rule_of, digit_wheel, mark_text, total_emitter}
 use Rattle.line_wires.specs.HelperAdds.{One, Both, Upto, OfSome}
 use Rattle.wiring_table.specs.Parts.{pilot_for, negative_side, positive_side}
 use Rattle.line_wires.specs.HelperRows.{MarkWires, Wires}
@@ -68,7 +68,7 @@ ConversionWires level group = Both (BalanceWires level group) (FeedbackWires gro
 -- the mark of a signed total, through the balance positions 3 and 4
 abbrev pub TotalMark : Level → (wheel : ℕ) → Mark → Group → Wires
 TotalMark level wheel mark group =
-    MarkWires (total_emitter (level_number level)) wheel (mark_characters mark) (λ k. BAC group (3 + k)) (λ k. BAT group (3 + k))
+    MarkWires (total_emitter (level_number level)) wheel (mark_text mark) (λ k. BAC group (3 + k)) (λ k. BAT group (3 + k))
 
 -- what only a signed total has
 abbrev pub SignedTotal : Level → (wheel : ℕ) → Option Mark → Group → Wires

@@ -1,7 +1,7 @@
 //! Totals: their read-out and the sign conversion.
 
 ghost use Rattle.std.specs.Prelude.{◌≡◌, ◌+◌, ◌≤◌, OnOk, length};
-ghost use Rattle.wiring_table.specs.Figures.{mark_characters, mark_wheel};
+ghost use Rattle.wiring_table.specs.Figures.{mark_text, mark_wheel};
 ghost use Rattle.line_wires.specs.HelperAdds.{Adds};
 ghost use Rattle.line_wires.specs.HelperRanges.{HasWheelsForMark};
 ghost use Rattle.total_wires.specs.HelperLevels.{IsOnPanel};
@@ -90,7 +90,7 @@ fn wire_total_mark(
     group: Group,
 ) -> Result<(), AllocError>
     requires group { IsOnPanel group }
-    requires wheels { (1 ≤ wheel) × (wheel + length (mark_characters mark) ≤ 121) }
+    requires wheels { (1 ≤ wheel) × (wheel + length (mark_text mark) ≤ 121) }
     ensures { OnOk result (Adds (TotalMark level wheel mark group) setup.old setup.new) }
 {
     let emitter = 4 + level.number();

@@ -4,6 +4,7 @@ use Rattle.std.proofs.lemmas.Bool.Decides.{nat_tests}
 use Rattle.std.proofs.lemmas.Int.{ints}
 use Rattle.counter_cycles.specs.Acts.{Held, number_after}
 use Rattle.counter_cycles.specs.Acts.Act.{Still}
+use Rattle.counter_cycles.proofs.DigitLemmas.{power-some}
 use Rattle.totals.specs.Amounts.{Amount, lower, posted, total_act}
 use Rattle.totals.specs.Amounts.Kind.{Entry}
 use Rattle.totals.specs.Laws.{CardGoesIn, ZerosStand}
@@ -11,7 +12,7 @@ use Rattle.totals.specs.Standing.{Stands, StandsAll}
 use Rattle.totals.specs.Sums.{signed, sum_at, with_card}
 use Rattle.totals.proofs.Counting.{along, zero_stands}
 use Rattle.totals.proofs.Figures.{signed_ring, stands_posted}
-use Rattle.totals.proofs.Rooms.{digits_room, some_room}
+use Rattle.totals.proofs.Rooms.{digits_room}
 
 -- only an amount with a sign is negated
 negated_sign : (is_signed is_negated : Bool) → (is_negated ≡ true → is_signed ≡ true) → (is_signed && is_negated) ≡ is_negated
@@ -57,7 +58,7 @@ card_goes amount is_negated size sum state lawful on_card stands level some here
 pub zeros : ZerosStand
 zeros amount state none level some here =
     along amount.is_signed (10 ^ amount.width level) (nothing (lower amount.has level)) (sym (none level))
-    (zero_stands amount.is_signed (10 ^ amount.width level) (some_room (amount.width level)))
+    (zero_stands amount.is_signed (10 ^ amount.width level) (power-some (amount.width level)))
   where
     nothing : (low : ℕ) → pos 0 ≡ pos 0 -ℤ sum_at (λ level. pos 0) low
     nothing zero = refl

@@ -4,6 +4,7 @@ use Rattle.std.proofs.lemmas.Bool.Decides.{nat_tests}
 use Rattle.std.proofs.lemmas.Int.{ints}
 use Rattle.counter_cycles.specs.Acts.{Held, number_after}
 use Rattle.counter_cycles.specs.Acts.Act.{Still, Show}
+use Rattle.counter_cycles.proofs.DigitLemmas.{power-some}
 use Rattle.net.specs.declared.cycle.Ordinal.TheVariants.{Third}
 use Rattle.totals.specs.Amounts.{Amount, IsLawful, lower, posted, act_of, total_act, state_after}
 use Rattle.totals.specs.Amounts.Kind.{Prog}
@@ -14,7 +15,7 @@ use Rattle.totals.proofs.Counting.{along, zero_stands}
 use Rattle.totals.proofs.Figures.{signed_ring, stands_posted, signed-size}
 use Rattle.totals.proofs.Levels.{lower_le, lower_less, lower_has, cleared_low, sum_at-cleared, cleared_other, sum_at-other}
 use Rattle.totals.proofs.Ready.{IsReady, is_ready, ready_other}
-use Rattle.totals.proofs.Rooms.{higher_room, some_room}
+use Rattle.totals.proofs.Rooms.{higher_room}
 
 -- what the end of a group is told by
 record Ending (amount : Amount) (ended : ℕ) (sum : ℕ → ℤ) (state : ℕ → Held) : Type 0 where
@@ -116,7 +117,7 @@ clears amount ended sum level same =
     (no_difference (cleared ended sum level) (sum_at (cleared ended sum) (lower amount.has level))
     (cleared_low ended sum level (omega (arith, same)))
     (sum_at-cleared ended sum (lower amount.has level) (omega (arith, same, lower_le amount.has level))))
-    refl (zero_stands amount.is_signed (10 ^ amount.width level) (some_room (amount.width level)))
+    refl (zero_stands amount.is_signed (10 ^ amount.width level) (power-some (amount.width level)))
 
 -- a total behind the third cycle, by whether its level is the ended one or the next higher
 third_at : (amount : Amount) (ended : ℕ) (sum : ℕ → ℤ) (state : ℕ → Held) → Ending amount ended sum state → (level : ℕ) → 1 ≤ level

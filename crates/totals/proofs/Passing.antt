@@ -1,6 +1,6 @@
 -- Cycles that ask nothing, and the room for what the others ask.
 use Rattle.std.proofs.Common.{◌≡◌, ◌∙◌, refl, sym, ap, ℕ, ◌^◌, ◌≤◌, ◌<◌, ◌==◌, Bool, true, false, ◌&&◌, if◌then◌else◌, arith}
-use Rattle.std.proofs.lemmas.Bool.{false≢true}
+use Rattle.std.proofs.lemmas.Bool.{false≢true, and_parts}
 use Rattle.std.proofs.lemmas.Bool.Decides.{nat_tests}
 use Rattle.counter_cycles.specs.Acts.{Act, Held, held_after, IsWithinGroup}
 use Rattle.counter_cycles.specs.Acts.Act.{Still, Test, Turn, Show}
@@ -74,11 +74,6 @@ within_if : (width : ℕ) (act : Act) (b : Bool) → (b ≡ true → IsWithinGro
 within_if width act true within = within refl
 within_if width act false within = tt
 
--- the parts of a test
-both_are : (a b : Bool) → (a && b) ≡ true → (a ≡ true) × (b ≡ true)
-both_are true b is = (refl, is)
-both_are false b is = absurd (false≢true is)
-
 -- what a total is asked in the third cycle of a level
 within_third : (amount : Amount) (ended : ℕ) (state : ℕ → Held) → IsLawful amount → IsSmall amount (Prog ended Third) state
     → (level : ℕ) → amount.has level ≡ true → (same : Bool) → (ended == level) ≡ same
@@ -88,7 +83,7 @@ within_third : (amount : Amount) (ended : ℕ) (state : ℕ → Held) → IsLawf
 within_third amount ended state lawful small level here true same next e = tt
 within_third amount ended state lawful small level here false same false e = tt
 within_third amount ended state lawful small level here false same true e =
-    let parts = both_are (amount.has ended) (lower amount.has level == ended) e in
+    let parts = and_parts (amount.has ended) (lower amount.has level == ended) e in
     let lowest = parts.1 in
     let equal : lower amount.has level ≡ ended = grind (arith, nat_tests, lowest) in
     let most = lower_le amount.has level in

@@ -1,15 +1,11 @@
 -- Room: what has few digits is below the power of a group that has more positions.
 use Rattle.std.proofs.Common.{◌≡◌, ◌∙◌, ℕ, zero, suc, ◌+◌, ◌*◌, ◌^◌, ◌≤◌, ◌<◌, true, arith}
-use Rattle.std.proofs.Math.Nat.{pow-succ', pow-le-pow_right, one-le-pow}
+use Rattle.std.proofs.Math.Nat.{pow-succ', pow-le-pow_right}
 use Rattle.totals.specs.Amounts.{Amount, IsLawful}
 
 -- more positions hold what fewer hold
 pub more_room : (digits width number : ℕ) → digits ≤ width → number < 10 ^ digits → number < 10 ^ width
 more_room digits width number more few = omega (arith, few, pow-le-pow_right {n = 10} (omega arith) more)
-
--- a group isn't empty of numbers
-pub some_room : (width : ℕ) → 0 < 10 ^ width
-some_room width = omega (arith, one-le-pow width 10 (omega arith))
 
 -- with a position more than its digits a number is below a tenth of the power
 pub tenth_room : (digits width number : ℕ) → digits + 1 ≤ width → number < 10 ^ digits

@@ -1,6 +1,7 @@
 -- Which unit alone emits at an exit at a row, and which alone closes a contact.
 use Rattle.std.proofs.Common.{◌≡◌, ◌∙◌, refl, ℕ, Bool, true, false, ◌||◌, ◌==◌, ◌+◌, List, [], ◌∷◌, length, Option, Some, None}
 use Rattle.std.specs.List.{list_any}
+use Rattle.std.proofs.lemmas.Bool.{and_right}
 use Rattle.card_code.specs.Rows.{row_number}
 use Rattle.card_code.specs.declared.row.Row.{Row as CardRow}
 use Rattle.counters.specs.Counters.{Counter, counter_closes, shows}
@@ -20,10 +21,10 @@ use Rattle.selectors.specs.Splits.{split_closes}
 use Rattle.stations.specs.Stations.{StationCards, stations_emits, first_emits, second_emits}
 use Rattle.storage_units.specs.Storage.{StorageState}
 use Rattle.machine.specs.Machine.{MachineState, closes}
+use Rattle.machine.proofs.ClosedContacts.{none-of}
 use Rattle.whole_cycles.specs.Units.{AreAlone}
 use Rattle.whole_cycles.specs.WholeCycles.{group_reads_out, storage_reads_out, row_emits}
-use Rattle.whole_cycles.proofs.Emitted.{none-of}
-use Rattle.whole_cycles.proofs.Sources.{and-none, none-any}
+use Rattle.whole_cycles.proofs.Sources.{none-any}
 
 -- hubs that differ are not the same hub of the panel
 pub differing : (one other : Hub) → (one ≡ other → ⊥) → is_hub one other ≡ false
@@ -59,7 +60,7 @@ shows-none : (name : Group) (given : ℕ) (digits : List ℕ) (hub : Hub) → ((
 shows-none name given [] hub differ = refl
 shows-none name given (digit ∷ below) hub differ =
     let here =
-    and-none (digit == given) (is_hub (GX name (length below + 1)) hub)
+    and_right (digit == given) (is_hub (GX name (length below + 1)) hub)
     (differing (GX name (length below + 1)) hub (differ (length below + 1))) in
     let others = shows-none name given below hub differ in
     λ i. here i || others i
@@ -67,7 +68,7 @@ shows-none name given (digit ∷ below) hub differ =
 pub group-silent : (pictures : Point → Hub → Bool) (row : CardRow) (hub : Hub) (group : Counter)
     → ((position : ℕ) → GX group.name position ≡ hub → ⊥) → group_reads_out pictures row group hub ≡ false
 group-silent pictures row hub group differ =
-    and-none (pictures C (RO group.name)) (shows group.name (row_number row) group.digits hub)
+    and_right (pictures C (RO group.name)) (shows group.name (row_number row) group.digits hub)
     (shows-none group.name (row_number row) group.digits hub differ)
 
 groups-none : (pictures : Point → Hub → Bool) (row : CardRow) (hub : Hub) (groups : List Counter)
@@ -152,11 +153,8 @@ no_balance machine cycle point hub no_group =
 -- group indication has the contacts of its own positions alone
 indicate-none : (latches : Latches) (cycle : Cycle) (point : Point) (hub : Hub) → ((level position : ℕ) → IX level position ≡ hub → ⊥)
     → indicate_closes latches cycle point hub ≡ false
-indicate-none latches RunIn point hub differ = refl
 indicate-none latches Card point (IX level position) differ = absurd (differ level position refl)
-indicate-none latches Card point other differ = refl
-indicate-none latches (Prog level ordinal) point hub differ = refl
-indicate-none latches (Head heading) point hub differ = refl
+indicate-none latches other point hub differ = refl
 
 -- the splits have the contacts of their own exits alone
 splits-none : (point : Point) (hub : Hub) → ((split : ℕ) → CSD split ≡ hub → ⊥) → ((split : ℕ) → CSZ split ≡ hub → ⊥)

@@ -1,14 +1,14 @@
 -- The ways of an impulse where no wire leads from one contact to the next.
-use Rattle.std.proofs.Common.{◌≡◌, ◌∙◌, sym, ap, refl, inl, inr, Bool, true, false, not, ◌&&◌, Some, is_some}
+use Rattle.std.proofs.Common.{◌≡◌, ◌∙◌, sym, ap, refl, inl, inr, Bool, true, false, Some, is_some}
 use Rattle.std.proofs.lemmas.Bool.{false≢true}
-use Rattle.hub_table.specs.HubTable.{row_of}
-use Rattle.hubs.specs.Hubs.{is_entry_hub, is_exit_hub, is_hub_in_range, letters_of}
+use Rattle.hubs.specs.Hubs.{is_hub_in_range}
 use Rattle.setups.specs.Wiring.{HasWire, Wiring}
 use Rattle.hubs.specs.declared.hub.Hub.{Hub}
-use Rattle.hubs.specs.declared.hub.Hub.TheVariants.{BAN, BAT, PIN, PIT, IX, CSD, CSZ, BAC, PIC, IE, CSE}
+use Rattle.hubs.specs.declared.hub.Hub.TheVariants.{BAN, BAC, PIC, IE, CSE}
 use Rattle.net.specs.Impulsed.{IsImpulsed}
 use Rattle.net.specs.Impulsed.IsImpulsed.{emitting, led_on}
 use Rattle.net.specs.Panel.{contact_of}
+use Rattle.net.proofs.ImpulsedLaws.{no_exit_is_entry}
 use Rattle.whole_cycles.specs.Laws.{ContactsAreOneDeep}
 use Rattle.whole_cycles.specs.OneContactDeep.{is_common, IsOneContactDeep, IsWithinOneContact, NoCommonEmits}
 use Rattle.whole_cycles.specs.OneContactDeep.IsWithinOneContact.{emits, wired, through, behind}
@@ -16,12 +16,6 @@ use Rattle.whole_cycles.specs.OneContactDeep.IsWithinOneContact.{emits, wired, t
 -- a contact leads from a common hub
 common_of : (hub common : Hub) → contact_of hub ≡ Some common → is_common common ≡ true
 common_of (BAN group position) common is = cc
-common_of (BAT group position) common is = cc
-common_of (PIN pilot position) common is = cc
-common_of (PIT pilot position) common is = cc
-common_of (IX level position) common is = cc
-common_of (CSD split) common is = cc
-common_of (CSZ split) common is = cc
 common_of other common is = cc
 
 -- a contact's exit is no common hub
@@ -32,16 +26,9 @@ not_common (IE level position) common is = cc
 not_common (CSE split) common is = cc
 not_common other common is = refl
 
--- no hub is an exit and an entry
-not_both : (hub : Hub) → is_exit_hub hub ≡ true → is_entry_hub hub ≡ true → ⊥
-not_both hub exit entry = by (row_of (letters_of hub)).is_exit (is_hub_in_range hub) exit entry where
-  by : (a b : Bool) → (a && b) ≡ true → (not a && b) ≡ true → ⊥
-  by true b e f = cc
-  by false b e f = cc
-
 -- where a wire leads to, no wire leads on
 ends : (wiring : Wiring) (x y z : Hub) → IsOneContactDeep wiring → HasWire wiring x y → HasWire wiring y z → ⊥
-ends wiring x y z deep to on = not_both y (deep.leads y z on).0 (deep.leads x y to).1
+ends wiring x y z deep to on = no_exit_is_entry y (deep.leads y z on).0 (deep.leads x y to).1
 
 -- a hub with a number is in range
 in_range : (wiring : Wiring) (exit entry : Hub) → HasWire wiring exit entry → is_hub_in_range exit ≡ true

@@ -1,57 +1,43 @@
 -- What is emitted, and which contacts are closed, at each point of a cycle, by the state before the cycle.
-use Rattle.std.proofs.Common.{◌≡◌, ◌∙◌, sym, ap, refl, Bool, true, false, ◌||◌, List, [], ◌∷◌, map}
+use Rattle.std.proofs.Common.{◌≡◌, ◌∙◌, ap, refl, Bool, true, false, ◌||◌, List, [], ◌∷◌, map}
 use Rattle.std.specs.List.{list_any}
 use Rattle.card_code.specs.Rows.{rows}
 use Rattle.card_code.specs.declared.row.Row.{Row as CardRow}
-use Rattle.counters.specs.Counters.{Counter, counter_emits, counter_closes, counter_sensed}
+use Rattle.counters.specs.Counters.{Counter, counter_emits, counter_sensed}
 use Rattle.hubs.specs.declared.hub.Hub.{Hub}
-use Rattle.hubs.specs.declared.hub.Hub.TheVariants.{CX, SX, BAN, BAT, PIN, PIT}
+use Rattle.hubs.specs.declared.hub.Hub.TheVariants.{CX, SX}
 use Rattle.net.specs.declared.cycle.Cycle.{Cycle}
-use Rattle.net.specs.declared.cycle.Cycle.TheVariants.{RunIn, Card, Prog, Head}
+use Rattle.net.specs.declared.cycle.Cycle.TheVariants.{RunIn, Card}
 use Rattle.net.specs.declared.cycle.Point.{Point}
 use Rattle.net.specs.declared.cycle.Point.TheVariants.{C, Row, K}
 use Rattle.print_unit.specs.Emitters.{emitters_emit}
 use Rattle.program_unit.specs.Program.{tells}
-use Rattle.selectors.specs.Indicate.{indicate_closes}
-use Rattle.selectors.specs.Pilots.{PilotStates, pilots_closes, pilots_sensed}
-use Rattle.selectors.specs.Splits.{split_closes}
 use Rattle.stations.proofs.Own.{tells_differences}
 use Rattle.stations.specs.Comparing.{Compared, comparing_at_start, comparing_emits}
 use Rattle.stations.specs.Stations.{StationCards, stations_emits}
 use Rattle.storage_units.specs.Storage.{StorageState, storage_emits, storage_sensed}
 use Rattle.machine.specs.Machine.{MachineState, emits, closes, sensed}
+use Rattle.machine.proofs.ClosedContacts.{closes-steady, none-of}
 use Rattle.whole_cycles.specs.WholeCycles.{control_emits, row_emits, closing_emits, group_reads_out, storage_reads_out}
 use Rattle.whole_cycles.proofs.Parts.{parts, after-kept, machine_after, group_after, unit_after, compared_after}
 
 -- comparing emits at no row and not at the control point
 comparing-control : (compared : Compared) (cycle : Cycle) (hub : Hub) → comparing_emits compared cycle C hub ≡ false
 comparing-control compared RunIn hub = refl
-comparing-control compared Card hub = refl
-comparing-control compared (Prog level ordinal) hub = refl
-comparing-control compared (Head heading) hub = refl
+comparing-control compared other hub = refl
 
 comparing-row : (compared : Compared) (cycle : Cycle) (row : CardRow) (hub : Hub) → comparing_emits compared cycle (Row row) hub ≡ false
 comparing-row compared RunIn row hub = refl
-comparing-row compared Card row hub = refl
-comparing-row compared (Prog level ordinal) row hub = refl
-comparing-row compared (Head heading) row hub = refl
+comparing-row compared other row hub = refl
 
 -- the stations emit at the rows alone
 stations-control : (cards : StationCards) (cycle : Cycle) (hub : Hub) → stations_emits cards cycle C hub ≡ false
 stations-control cards RunIn hub = refl
-stations-control cards Card hub = refl
-stations-control cards (Prog level ordinal) hub = refl
-stations-control cards (Head heading) hub = refl
+stations-control cards other hub = refl
 
 stations-closing : (cards : StationCards) (cycle : Cycle) (hub : Hub) → stations_emits cards cycle K hub ≡ false
 stations-closing cards RunIn hub = refl
-stations-closing cards Card hub = refl
-stations-closing cards (Prog level ordinal) hub = refl
-stations-closing cards (Head heading) hub = refl
-
-pub none-of : {X : Type 0} (xs : List X) → list_any (λ x. false) xs ≡ false
-none-of [] = refl
-none-of (x ∷ xs) = none-of xs
+stations-closing cards other hub = refl
 
 -- tests that tell of changed things what others tell of the things
 any-changed : {X Y : Type 0} (test : Y → Bool) (other : X → Bool) (change : X → Y) → ((x : X) → test (change x) ≡ other x)
@@ -145,10 +131,7 @@ comparing-closing : (cycle : Cycle) (pictures : Point → Hub → Bool) (hub : H
     → comparing_emits (compared_after cycle pictures (C ∷ map Row rows) comparing_at_start) cycle K hub
     ≡ closing_emits pictures cycle hub
 comparing-closing Card pictures (CX p) = tells_differences (λ row. pictures (Row row)) p
-comparing-closing Card pictures other = refl
-comparing-closing RunIn pictures hub = refl
-comparing-closing (Prog level ordinal) pictures hub = refl
-comparing-closing (Head heading) pictures hub = refl
+comparing-closing other pictures hub = refl
 
 one : (comparing : Bool)
     → (false || comparing || false || false || false || false || false || false || false || false || false) ≡ comparing
@@ -171,35 +154,6 @@ emits-closing old cycle pictures hub start =
     let storage = none-of now.storage in
     (λ i. stations i || comparing i || groups i || storage i || false || false || false || false || false || false || false)
     ∙ one (closing_emits pictures cycle hub)
-
--- What a unit senses in a cycle changes none of its contacts in it.
-group-steady : (cycle : Cycle) (at point : Point) (picture : Hub → Bool) (hub : Hub) (group : Counter)
-    → counter_closes (counter_sensed group cycle at picture) cycle point hub ≡ counter_closes group cycle point hub
-group-steady cycle C point picture (BAN name position) group = refl
-group-steady cycle C point picture (BAT name position) group = refl
-group-steady cycle C point picture other group = refl
-group-steady cycle (Row row) point picture (BAN name position) group = refl
-group-steady cycle (Row row) point picture (BAT name position) group = refl
-group-steady cycle (Row row) point picture other group = refl
-group-steady cycle K point picture hub group = refl
-
-pilots-steady : (pilots : PilotStates) (cycle : Cycle) (at point : Point) (picture : Hub → Bool) (hub : Hub)
-    → pilots_closes (pilots_sensed pilots cycle at picture) cycle point hub ≡ pilots_closes pilots cycle point hub
-pilots-steady pilots cycle at point picture (PIN pilot position) = refl
-pilots-steady pilots cycle at point picture (PIT pilot position) = refl
-pilots-steady pilots cycle at point picture other = refl
-
-closes-steady : (machine : MachineState) (cycle : Cycle) (at point : Point) (picture : Hub → Bool) (hub : Hub)
-    → closes (sensed machine cycle at picture) cycle point hub ≡ closes machine cycle point hub
-closes-steady machine cycle at point picture hub =
-    let groups =
-    any-changed (λ (group : Counter). counter_closes group cycle point hub) (λ (group : Counter). counter_closes group cycle point hub)
-    (λ group. counter_sensed group cycle at picture) (group-steady cycle at point picture hub) machine.groups in
-    let storage =
-    none-of (map (λ storage. storage_sensed storage cycle at picture) machine.storage) ∙ sym (none-of machine.storage) in
-    let pilots = pilots-steady machine.pilots cycle at point picture hub in
-    λ i. groups i || storage i || pilots i || indicate_closes machine.indicate cycle point hub || split_closes point hub || false || false
-    || false || false
 
 -- the contacts that are closed at a point are those of the state before the cycle
 pub closes-before : (old : MachineState) (cycle : Cycle) (pictures : Point → Hub → Bool) (before : List Point) (point : Point) (hub : Hub)

@@ -3,6 +3,7 @@ use Rattle.std.proofs.Common.{◌≡◌, ◌≢◌, ◌∙◌, sym, ap, refl, �
 use Rattle.std.specs.List.{list_any}
 use Rattle.std.proofs.lemmas.Bool.Decides.{nat_tests}
 use Rattle.std.proofs.lemmas.List.{get_or-map, length-map}
+use Rattle.std.proofs.Math.Bool.{or-false}
 use Rattle.hubs.proofs.HubLemmas.{number_of-injective}
 use Rattle.hub_table.specs.Places.{group_place, is_width}
 use Rattle.hub_table.specs.Ranges.{is_within}
@@ -17,12 +18,8 @@ pub any-one : {X : Type 0} (test : X → Bool) (xs : List X) (k : ℕ) (d : X) �
 any-one test [] k d less none = absurd (omega (arith, less))
 any-one test (x ∷ xs) zero d less none =
     let others = any-none test xs d (λ j inside. none (suc j) (omega (arith, inside)) (λ e. absurd (omega (arith, e)))) in
-    (λ i. test x || others i) ∙ or-none (test x)
+    (λ i. test x || others i) ∙ or-false (test x)
   where
-    or-none : (b : Bool) → (b || false) ≡ b
-    or-none true = refl
-    or-none false = refl
-
     any-none : {X : Type 0} (test : X → Bool) (xs : List X) (d : X) → ((j : ℕ) → j < length xs → test (get_or xs j d) ≡ false)
         → list_any test xs ≡ false
     any-none test [] d none = refl

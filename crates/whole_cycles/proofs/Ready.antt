@@ -37,12 +37,10 @@ ready-start wiring = record {
 }
 
 -- the program unit keeps which cycles print
-program-prints : (program : ProgramState) (cycle : Cycle) (picture : Hub → Bool)
+pub program-prints : (program : ProgramState) (cycle : Cycle) (picture : Hub → Bool)
     → (program_ended (program_sensed program cycle K picture) cycle).printing ≡ program.printing
 program-prints program RunIn picture = refl
-program-prints program Card picture = refl
-program-prints program (Prog level ordinal) picture = refl
-program-prints program (Head heading) picture = refl
+program-prints program other picture = refl
 
 -- a whole cycle leaves what the setup fixes
 set_up-kept : (wiring : Wiring) (cycle : Cycle) (old new : MachineState)

@@ -1,6 +1,6 @@
 -- Where units emit in a cycle.
-use Rattle.std.proofs.Common.{◌≡◌, ◌∙◌, sym, ap, refl, ℕ, ◌+◌, Bool, true, false, ◌||◌, ◌&&◌, ◌==◌, List, [], ◌∷◌, length, Option, Some, None}
-use Rattle.std.proofs.lemmas.Bool.{false≢true}
+use Rattle.std.proofs.Common.{◌≡◌, ◌∙◌, sym, ap, refl, ℕ, ◌+◌, Bool, true, false, ◌||◌, ◌==◌, List, [], ◌∷◌, length, Option, Some, None}
+use Rattle.std.proofs.lemmas.Bool.{false≢true, and_right}
 use Rattle.std.specs.List.{list_any}
 use Rattle.card_code.specs.Rows.{row_number}
 use Rattle.card_code.specs.declared.row.Row.{Row as CardRow}
@@ -30,10 +30,6 @@ apart source hub at none = by (is_hub source hub) refl
     by : (same : Bool) → is_hub source hub ≡ same → same ≡ false
     by true e = absurd (false≢true (sym none ∙ ap is_source (sym (is_hub-same source hub e)) ∙ at))
     by false e = refl
-
-pub and-none : (a b : Bool) → b ≡ false → (a && b) ≡ false
-and-none true b is = is
-and-none false b is = refl
 
 -- where nothing passes a test, nothing of a list does
 pub none-any : {X : Type 0} (test : X → Bool) (xs : List X) → ((x : X) → test x ≡ false) → list_any test xs ≡ false
@@ -67,7 +63,7 @@ shows-silent : (name : Group) (given : ℕ) (digits : List ℕ) → SourcesAlone
 shows-silent name given [] hub none = refl
 shows-silent name given (digit ∷ below) hub none =
     let here =
-    and-none (digit == given) (is_hub (GX name (length below + 1)) hub) (apart (GX name (length below + 1)) hub refl none) in
+    and_right (digit == given) (is_hub (GX name (length below + 1)) hub) (apart (GX name (length below + 1)) hub refl none) in
     let others = shows-silent name given below hub none in
     λ i. here i || others i
 
@@ -85,7 +81,7 @@ at_rows old pictures cycle row hub none =
     let stations = stations-silent old.stations cycle row hub none in
     let groups : list_any (λ group. group_reads_out pictures row group hub) old.groups ≡ false =
     none-any (λ (group : Counter). group_reads_out pictures row group hub) old.groups
-    (λ group. and-none (pictures C (RO group.name)) (shows group.name (row_number row) group.digits hub)
+    (λ group. and_right (pictures C (RO group.name)) (shows group.name (row_number row) group.digits hub)
     (shows-silent group.name (row_number row) group.digits hub none)) in
     let storage : list_any (λ storage. storage_reads_out pictures row storage hub) old.storage ≡ false =
     none-any (λ (storage : StorageState). storage_reads_out pictures row storage hub) old.storage
@@ -95,10 +91,7 @@ at_rows old pictures cycle row hub none =
 
 closing-silent : (pictures : Point → Hub → Bool) (cycle : Cycle) → SourcesAloneEmit (closing_emits pictures cycle)
 closing-silent pictures Card (CX position) none = cc
-closing-silent pictures Card other none = refl
-closing-silent pictures RunIn hub none = refl
-closing-silent pictures (Prog level ordinal) hub none = refl
-closing-silent pictures (Head heading) hub none = refl
+closing-silent pictures other hub none = refl
 
 commons : (exits : Hub → Bool) → SourcesAloneEmit exits → NoCommonEmits exits
 commons exits alone (BAC group position) is = alone (BAC group position) refl

@@ -13,6 +13,7 @@ use Rattle.setups.specs.Wiring.{Wiring}
 use Rattle.hubs.specs.declared.hub.Hub.{Hub}
 use Rattle.hubs.specs.declared.hub.Hub.TheVariants.{PIX}
 use Rattle.net.specs.Cycles.{points}
+use Rattle.net.specs.WholeCycles.{after_points}
 use Rattle.net.specs.declared.cycle.Cycle.{Cycle}
 use Rattle.net.specs.declared.cycle.Cycle.TheVariants.{RunIn, Card, Prog, Head}
 use Rattle.net.specs.declared.cycle.Point.{Point}
@@ -27,7 +28,7 @@ use Rattle.storage_units.specs.WholeCycles as columns
 use Rattle.machine.specs.Machine.{MachineState, machine_at_start, group_units, storage_units}
 use Rattle.whole_cycles.specs.Between.{HasAllRows, IsBetween, IsEmpty, IsIdle}
 use Rattle.whole_cycles.specs.Laws.{MachinesStayBetween}
-use Rattle.whole_cycles.specs.WholeCycles.{WholeCycle, counter_after, counter_behind}
+use Rattle.whole_cycles.specs.WholeCycles.{WholeCycle, counter_behind}
 use Rattle.whole_cycles.proofs.Parts.{map-both}
 use Rattle.whole_cycles.proofs.Wholes.{cycles-whole}
 
@@ -74,7 +75,7 @@ starts wiring = record {
 
 -- a group stays one through the points of a cycle
 group-points : (cycle : Cycle) (pictures : Point → Hub → Bool) (list : List Point) (group : Counter) → IsCounter group
-    → IsCounter (counter_after cycle pictures list group)
+    → IsCounter (after_points counter_sensed cycle pictures list group)
 group-points cycle pictures [] group is = is
 group-points cycle pictures (point ∷ others) group is =
     group-points cycle pictures others (counter_sensed group cycle point (pictures point))
@@ -84,7 +85,7 @@ group-kept : (cycle : Cycle) (pictures : Point → Hub → Bool) (group : Counte
     → IsIdle (counter_behind cycle pictures group)
 group-kept cycle pictures group is = record {
   lawful =
-      counters-stay.ended (counter_after cycle pictures points group) cycle (group-points cycle pictures points group is.lawful);
+      counters-stay.ended (after_points counter_sensed cycle pictures points group) cycle (group-points cycle pictures points group is.lawful);
   entered = refl;
   controls = refl;
 }

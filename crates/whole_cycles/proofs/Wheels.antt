@@ -1,5 +1,5 @@
 -- The print wheels through a cycle.
-use Rattle.std.proofs.Common.{◌≡◌, ◌∙◌, ap, refl, ℕ, zero, suc, ◌+◌, ◌-◌, ◌≤◌, ◌<◌, Bool, List, [], ◌∷◌, length, map, slice_index_or, arith}
+use Rattle.std.proofs.Common.{◌≡◌, ◌∙◌, ap, refl, ℕ, suc, ◌+◌, ◌-◌, ◌≤◌, Bool, List, [], ◌∷◌, length, map, slice_index_or, arith}
 use Rattle.std.specs.List.{All, range_with_len}
 use Rattle.std.proofs.lemmas.List.Elements.{All-head, All-tail}
 use Rattle.std.proofs.lemmas.List.FromFn.{get_or-map-range_with_len}
@@ -14,6 +14,7 @@ use Rattle.net.specs.declared.cycle.Point.TheVariants.{C, Row, K}
 use Rattle.print_unit.specs.Laws.{no_wheel}
 use Rattle.print_unit.specs.Wheels.{WheelsState, wheel_at_start, collected, emptied, wheels_sensed, wheel_sensed}
 use Rattle.print_unit.specs.ZeroControl.{Wheel}
+use Rattle.print_unit.proofs.Ranges.{map-same}
 use Rattle.whole_cycles.specs.Between.{IsEmpty}
 use Rattle.whole_cycles.specs.Laws.{WheelsHaveTheirJacks}
 use Rattle.whole_cycles.specs.WholeCycles.{wheel_received, rows_received, wheel_behind, wheels_behind}
@@ -59,15 +60,6 @@ wheel-filled pictures v wheel empty =
 abbrev wheel_from : (Point → Hub → Bool) → ℕ → List Wheel → ℕ → Wheel
 wheel_from pictures first wheels v = filled pictures v (slice_index_or wheels (v - first) no_wheel)
 
--- what holds of each of so many numbers
-same_map : {X : Type 0} (f g : ℕ → X) (from count : ℕ) → ((v : ℕ) → from ≤ v → v < from + count → f v ≡ g v)
-    → map f (range_with_len from count) ≡ map g (range_with_len from count)
-same_map f g from zero same = refl
-same_map f g from (suc count) same =
-    let here = same from (omega arith) (omega arith) in
-    let others = same_map f g (from + 1) count (λ v low high. same v (omega (arith, low)) (omega (arith, high))) in
-    λ i. here i ∷ others i
-
 collected-all : (pictures : Point → Hub → Bool) (v : ℕ) (wheels : List Wheel) → All IsEmpty wheels
     → collected_rows pictures v rows wheels ≡ map (wheel_from pictures v wheels) (range_with_len v (length wheels))
 collected-all pictures v [] empty = collected-none pictures v rows
@@ -77,7 +69,7 @@ collected-all pictures v (wheel ∷ wheels) empty =
     ∙ ap (λ (n : ℕ). filled pictures v (slice_index_or (wheel ∷ wheels) n no_wheel)) none in
     let others =
     collected-all pictures (v + 1) wheels (All-tail IsEmpty wheel wheels empty)
-    ∙ same_map (wheel_from pictures (v + 1) wheels) (wheel_from pictures v (wheel ∷ wheels)) (v + 1) (length wheels)
+    ∙ map-same (wheel_from pictures (v + 1) wheels) (wheel_from pictures v (wheel ∷ wheels)) (v + 1) (length wheels)
     (λ u low high. ap (λ (n : ℕ). filled pictures u (slice_index_or (wheel ∷ wheels) n no_wheel)) (next u low)) in
     collected-cons pictures v rows wheel wheels ∙ (λ i. here i ∷ others i)
   where
@@ -119,6 +111,6 @@ wheels-emptied cycle pictures list wheels =
 pub wheels-jacks : WheelsHaveTheirJacks
 wheels-jacks wiring machine pictures set_up =
     ap (λ (ws : List Wheel). wheels_behind pictures ws) set_up.wheels
-    ∙ same_map (wheel_behind pictures (map (wheel_at_start wiring) (range_with_len 1 120))) (wheel_received wiring pictures) 1 120
+    ∙ map-same (wheel_behind pictures (map (wheel_at_start wiring) (range_with_len 1 120))) (wheel_received wiring pictures) 1 120
     (λ v low high. ap (filled pictures v)
     (get_or-map-range_with_len (wheel_at_start wiring) 1 120 (v - 1) v no_wheel (omega (arith, low, high)) (omega (arith, low))))

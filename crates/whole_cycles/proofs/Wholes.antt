@@ -1,5 +1,5 @@
 -- A cycle, point by point, is a whole cycle.
-use Rattle.std.proofs.Common.{◌≡◌, ◌∙◌, ap, refl, ℕ, zero, suc, Bool, ◌∷◌, map, subst}
+use Rattle.std.proofs.Common.{◌≡◌, ◌∙◌, ap, refl, ℕ, zero, suc, Bool, ◌∷◌, map}
 use Rattle.card_code.specs.Rows.{rows}
 use Rattle.carriage.specs.Carriage.{CarriageState, carriage_ended}
 use Rattle.counters.specs.Counters.{counter_ended}
@@ -8,7 +8,7 @@ use Rattle.hubs.specs.declared.hub.Hub.{Hub}
 use Rattle.net.specs.Cycles.{points}
 use Rattle.net.specs.Impulsed.{IsPicture}
 use Rattle.net.specs.declared.cycle.Cycle.{Cycle}
-use Rattle.net.specs.declared.cycle.Cycle.TheVariants.{RunIn, Card, Prog, Head}
+use Rattle.net.specs.declared.cycle.Cycle.TheVariants.{RunIn}
 use Rattle.net.specs.declared.cycle.Point.{Point}
 use Rattle.net.specs.declared.cycle.Point.TheVariants.{C, Row, K}
 use Rattle.print_unit.specs.Wheels.{WheelsState, emptied}
@@ -19,6 +19,7 @@ use Rattle.selectors.specs.Pilots.{PilotStates, pilots_ended}
 use Rattle.storage_units.specs.Storage.{storage_ended}
 use Rattle.machine.specs.Cycles.{Reached}
 use Rattle.machine.specs.Machine.{MachineState, emits, closes, sensed, ended}
+use Rattle.machine.proofs.Pictures.{IsPicture-same}
 use Rattle.whole_cycles.specs.Laws.{CyclesAreWhole}
 use Rattle.whole_cycles.specs.WholeCycles.{control_emits, row_emits, closing_emits}
 use Rattle.whole_cycles.proofs.Emitted.{emits-control, emits-row, emits-closing, closes-before}
@@ -45,21 +46,11 @@ walk_of wiring cycle (suc place) old now (mid, reached, step) = (
   record { picture = step.picture; has = step.is_picture; is_new = step.is_new },
 )
 
--- the picture is the same for exits and contacts that are the same
-same_picture : (wiring : Wiring) (exits others closed shut picture : Hub → Bool)
-    → ((hub : Hub) → exits hub ≡ others hub) → ((hub : Hub) → closed hub ≡ shut hub)
-    → IsPicture wiring exits closed picture → IsPicture wiring others shut picture
-same_picture wiring exits others closed shut picture same alike is =
-    subst (λ (e : Hub → Bool). IsPicture wiring e shut picture) (λ i hub. same hub i)
-    (subst (λ (c : Hub → Bool). IsPicture wiring exits c picture) (λ i hub. alike hub i) is)
-
 -- the program unit senses at the closing point alone
 program-closing : (cycle : Cycle) (pictures : Point → Hub → Bool) (program : ProgramState)
     → program_after cycle pictures points program ≡ program_sensed program cycle K (pictures K)
 program-closing RunIn pictures program = refl
-program-closing Card pictures program = refl
-program-closing (Prog level ordinal) pictures program = refl
-program-closing (Head heading) pictures program = refl
+program-closing other pictures program = refl
 
 pub cycles-whole : CyclesAreWhole
 cycles-whole wiring cycle old new between run =
@@ -72,16 +63,16 @@ cycles-whole wiring cycle old new between run =
     record {
       pictures = pictures;
       control =
-          same_picture wiring (emits old cycle C) (control_emits cycle) (closes old cycle C) (closes old cycle C) (pictures C)
+          IsPicture-same wiring (emits old cycle C) (control_emits cycle) (closes old cycle C) (closes old cycle C) (pictures C)
           (emits-control old cycle) (λ hub. refl) is.control;
       rows = λ row.
           let before = machine_after cycle pictures (C ∷ map Row (rows_before row)) old in
-          same_picture wiring (emits before cycle (Row row)) (row_emits old pictures cycle row) (closes before cycle (Row row))
+          IsPicture-same wiring (emits before cycle (Row row)) (row_emits old pictures cycle row) (closes before cycle (Row row))
           (closes old cycle (Row row)) (pictures (Row row)) (emits-row old cycle pictures (rows_before row) row)
           (closes-before old cycle pictures (C ∷ map Row (rows_before row)) (Row row)) (is.at_rows row);
       closing =
           let before = machine_after cycle pictures (C ∷ map Row rows) old in
-          same_picture wiring (emits before cycle K) (closing_emits pictures cycle) (closes before cycle K) (closes old cycle K)
+          IsPicture-same wiring (emits before cycle K) (closing_emits pictures cycle) (closes before cycle K) (closes old cycle K)
           (pictures K) (λ hub. emits-closing old cycle pictures hub between.comparing)
           (closes-before old cycle pictures (C ∷ map Row rows) K) is.closing;
       stations = ap (λ (m : MachineState). m.stations) end ∙ part.stations;

@@ -2,7 +2,7 @@
 -- What the exits emit at the rows hangs on the state before the cycle and on the picture of the control point alone, and
 -- no contact moves before the end but those of the splits. So a cycle is its control point, its twelve rows side by side,
 -- and its closing point.
-use Rattle.std.specs.Prelude.{◌≡◌, ℕ, ◌-◌, ◌==◌, ◌&&◌, ◌||◌, Bool, false, List, [], ◌∷◌, map}
+use Rattle.std.specs.Prelude.{◌≡◌, ℕ, ◌-◌, ◌==◌, ◌&&◌, ◌||◌, Bool, false, List, map}
 use Rattle.std.specs.List.{list_any, range_with_len}
 use Rattle.card_code.specs.Rows.{rows, row_number}
 use Rattle.card_code.specs.declared.row.Row.{Row as CardRow}
@@ -12,8 +12,8 @@ use Rattle.hub_table.specs.Ranges.{is_within}
 use Rattle.setups.specs.Wiring.{Wiring}
 use Rattle.hubs.specs.declared.hub.Hub.{Hub}
 use Rattle.hubs.specs.declared.hub.Hub.TheVariants.{CX, SX, CA, CB, RO, SO, W}
-use Rattle.net.specs.Cycles.{points}
 use Rattle.net.specs.Impulsed.{IsPicture}
+use Rattle.net.specs.WholeCycles.{after_cycle}
 use Rattle.net.specs.declared.cycle.Cycle.{Cycle}
 use Rattle.net.specs.declared.cycle.Cycle.TheVariants.{Card}
 use Rattle.net.specs.declared.cycle.Point.{Point}
@@ -63,15 +63,9 @@ abbrev pub closing_emits : (Point → Hub → Bool) → Cycle → Hub → Bool
 closing_emits pictures Card (CX p) = is_within p 30 && compares_unlike pictures p
 closing_emits pictures cycle hub = false
 
--- what a counter group becomes by the pictures of some points, one after another
-abbrev pub counter_after : Cycle → (Point → Hub → Bool) → List Point → Counter → Counter
-counter_after cycle pictures [] counter = counter
-counter_after cycle pictures (point ∷ others) counter =
-    counter_after cycle pictures others (counter_sensed counter cycle point (pictures point))
-
 -- what a counter group becomes by a whole cycle
 abbrev pub counter_behind : Cycle → (Point → Hub → Bool) → Counter → Counter
-counter_behind cycle pictures counter = counter_ended (counter_after cycle pictures points counter) cycle
+counter_behind = after_cycle counter_sensed counter_ended
 
 -- the rows at whose points a wheel's hub is impulsed, in the order of the points
 abbrev pub rows_received : (Point → Hub → Bool) → ℕ → List Bool

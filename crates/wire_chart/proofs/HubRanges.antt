@@ -4,10 +4,6 @@ use Rattle.hubs.specs.Hubs.{number_of, is_exit_hub, is_entry_hub}
 use Rattle.hubs.specs.declared.hub.Hub.{Hub}
 use Rattle.hubs.proofs.HubLemmas.{number_of-range, is_exit-number, is_entry-number}
 
--- the number of a hub
-pub hub_number : (hub : Hub) (n : ℕ) → number_of hub ≡ Some n → (1 ≤ n) × (n ≤ 1936)
-hub_number hub n e = number_of-range hub n e
-
 -- the number of an exit
 pub exit_number : (hub : Hub) (n : ℕ) → number_of hub ≡ Some n → is_exit_hub hub ≡ true → (1 ≤ n) × (n ≤ 1040)
 exit_number hub n e h = ((number_of-range hub n e).0, (is_exit-number hub n e).0 h)

@@ -2,8 +2,9 @@
 use Rattle.std.proofs.Common.{◌≡◌, ◌⊎◌, inl, inr, ℕ, ◌+◌, ◌<◌, ◌≤◌, List, [], ◌∷◌, ◌++◌, length, refl, sym, ap, ◌∙◌, subst, arith, suc}
 use Rattle.std.specs.Prelude.{map}
 use Rattle.std.specs.List.{All, AllPairs, Contains}
-use Rattle.std.proofs.lemmas.List.Elements.{All-append, All-contains, Contains-append_right, Contains-append_cases, Contains-push_cases, All-nil, All-cons}
+use Rattle.std.proofs.lemmas.List.Elements.{All-append, All-contains, Contains-append_right, Contains-push_cases, All-nil, All-cons}
 use Rattle.std.proofs.lemmas.List.Kept.{AllPairs-cons}
+use Rattle.hub_table.proofs.KindLemmas.{first_or_other}
 
 -- what the first of a list in order stands before
 pub pairs_head : {X : Type 0} (R : X → X → Type 0) (x : X) (xs : List X) → AllPairs R (x ∷ xs) → All (R x) xs
@@ -29,10 +30,6 @@ contains_first x xs = (0, omega arith, refl)
 pub contains_one : {X : Type 0} (x y : X) → Contains (x ∷ []) y → y ≡ x
 contains_one x y has =
     elim (Contains-push_cases [] x y has) [ inl h ↦ absurd (contains_none y h) | inr e ↦ sym e ]
-
-pub contains_cases : {X : Type 0} (x : X) (xs : List X) (y : X) → Contains (x ∷ xs) y → (y ≡ x) ⊎ Contains xs y
-contains_cases x xs y has =
-    elim (Contains-append_cases (x ∷ []) xs y has) [ inl h ↦ inl (contains_one x y h) | inr h ↦ inr h ]
 
 pub contains_more : {X : Type 0} (x : X) (xs : List X) (y : X) → Contains xs y → Contains (x ∷ xs) y
 contains_more x xs y has = Contains-append_right (x ∷ []) xs y has
@@ -62,9 +59,9 @@ same_first : {X : Type 0} (R : X → X → Type 0) (x y : X) (xs ys : List X) �
     → AllPairs R (x ∷ xs) → AllPairs R (y ∷ ys)
     → Contains (y ∷ ys) x → Contains (x ∷ xs) y → x ≡ y
 same_first R x y xs ys one_way ordered also x_there y_there =
-    elim (contains_cases y ys x x_there) [
+    elim (first_or_other y ys x x_there) [
       | inl e ↦ e
-      | inr later ↦ elim (contains_cases x xs y y_there) [
+      | inr later ↦ elim (first_or_other x xs y y_there) [
         | inl e ↦ sym e
         | inr behind ↦ absurd (one_way x y (All-contains (R x) xs y (pairs_head R x xs ordered) behind)
             (All-contains (R y) ys x (pairs_head R y ys also) later))
@@ -75,7 +72,7 @@ same_first R x y xs ys one_way ordered also x_there y_there =
 same_rest : {X : Type 0} (R : X → X → Type 0) (x y a : X) (xs ys : List X) → IsOneWay R → AllPairs R (x ∷ xs)
     → x ≡ y → Contains xs a → Contains (y ∷ ys) a → Contains ys a
 same_rest R x y a xs ys one_way ordered e behind there =
-    elim (contains_cases y ys a there) [
+    elim (first_or_other y ys a there) [
       | inl first ↦
           let before : R x a = All-contains (R x) xs a (pairs_head R x xs ordered) behind in
           let is_x : a ≡ x = first ∙ sym e in
@@ -101,7 +98,7 @@ same_list R (x ∷ xs) (y ∷ ys) one_way one other there back =
 pub contains_mapped : {A B : Type 0} (f : A → B) (xs : List A) (x : A) → Contains xs x → Contains (map f xs) (f x)
 contains_mapped f [] x has = absurd (contains_none x has)
 contains_mapped {A} {B} f (y ∷ xs) x has =
-    elim (contains_cases y xs x has) [
+    elim (first_or_other y xs x has) [
       | inl e ↦ subst (λ (z : A). Contains (f y ∷ map f xs) (f z)) (sym e) (contains_first (f y) (map f xs))
       | inr h ↦ contains_more (f y) (map f xs) (f x) (contains_mapped f xs x h)
     ]
@@ -110,7 +107,7 @@ pub contains_unmapped : {A B : Type 0} (f : A → B) (xs : List A) (y : B) → C
     → (x : A) × Contains xs x × (y ≡ f x)
 contains_unmapped f [] y has = absurd (contains_none y has)
 contains_unmapped f (x ∷ xs) y has =
-    elim (contains_cases (f x) (map f xs) y has) [
+    elim (first_or_other (f x) (map f xs) y has) [
       | inl e ↦ (x, contains_first x xs, e)
       | inr h ↦
           let found = contains_unmapped f xs y h in

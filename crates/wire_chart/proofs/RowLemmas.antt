@@ -10,7 +10,7 @@ use Rattle.hubs.specs.Hubs.{letters_of, numbers_of, number_of}
 use Rattle.hub_table.specs.Places.{up_to, two_or_three, row_place, width_place, part_place, group_place, is_width, positions_before, position_place, place_of, has_as_many}
 use Rattle.hubs.specs.declared.hub.Hub.{Hub}
 use Rattle.hub_table.specs.declared.letters.Letters.{Letters}
-use Rattle.hub_table.specs.declared.letters.Letters.TheVariants.{FR, SR, CX, GX, CO, BAN, BAT, PIN, PIT, SX, IX, CSD, CSZ, EM, CC, PX, HX, CA, CB, GE, PL, MI, RO, BT, CI, BAC, PIC, PIX, SE, SI, SO, IE, CSE, W, ST, SP, SK, RS}
+use Rattle.hub_table.specs.declared.letters.Letters.TheVariants.{FR}
 use Rattle.hub_table.specs.declared.shape.Numbers.{Numbers}
 use Rattle.hub_table.specs.declared.shape.Numbers.TheVariants.{Bare, One, Two, Three}
 use Rattle.hub_table.specs.declared.shape.Shape.{Shape}
@@ -32,83 +32,11 @@ are_good_letters spelled = list_all is_high spelled && (nat_le 1 (length spelled
 
 pub good_letters : (letters : Letters) → are_good_letters (row_of letters).spelled ≡ true
 good_letters FR = refl
-good_letters SR = refl
-good_letters CX = refl
-good_letters GX = refl
-good_letters CO = refl
-good_letters BAN = refl
-good_letters BAT = refl
-good_letters PIN = refl
-good_letters PIT = refl
-good_letters SX = refl
-good_letters IX = refl
-good_letters CSD = refl
-good_letters CSZ = refl
-good_letters EM = refl
-good_letters CC = refl
-good_letters PX = refl
-good_letters HX = refl
-good_letters CA = refl
-good_letters CB = refl
-good_letters GE = refl
-good_letters PL = refl
-good_letters MI = refl
-good_letters RO = refl
-good_letters BT = refl
-good_letters CI = refl
-good_letters BAC = refl
-good_letters PIC = refl
-good_letters PIX = refl
-good_letters SE = refl
-good_letters SI = refl
-good_letters SO = refl
-good_letters IE = refl
-good_letters CSE = refl
-good_letters W = refl
-good_letters ST = refl
-good_letters SP = refl
-good_letters SK = refl
-good_letters RS = refl
+good_letters other = refl
 
 small_shape : (letters : Letters) → is_small_shape (row_of letters).shape ≡ true
 small_shape FR = refl
-small_shape SR = refl
-small_shape CX = refl
-small_shape GX = refl
-small_shape CO = refl
-small_shape BAN = refl
-small_shape BAT = refl
-small_shape PIN = refl
-small_shape PIT = refl
-small_shape SX = refl
-small_shape IX = refl
-small_shape CSD = refl
-small_shape CSZ = refl
-small_shape EM = refl
-small_shape CC = refl
-small_shape PX = refl
-small_shape HX = refl
-small_shape CA = refl
-small_shape CB = refl
-small_shape GE = refl
-small_shape PL = refl
-small_shape MI = refl
-small_shape RO = refl
-small_shape BT = refl
-small_shape CI = refl
-small_shape BAC = refl
-small_shape PIC = refl
-small_shape PIX = refl
-small_shape SE = refl
-small_shape SI = refl
-small_shape SO = refl
-small_shape IE = refl
-small_shape CSE = refl
-small_shape W = refl
-small_shape ST = refl
-small_shape SP = refl
-small_shape SK = refl
-small_shape RS = refl
+small_shape other = refl
 
 -- what a number is where it has a place
 within_last : (n last : ℕ) → is_within n last ≡ true → n ≤ last

@@ -1,20 +1,15 @@
 -- The wires of a setup, exit by exit and entry by entry.
-use Rattle.std.proofs.Common.{◌≡◌, ◌↔◌, inl, inr, ℕ, ◌+◌, ◌<◌, ◌≤◌, List, ◌++◌, true, Option, Some, None, refl, sym, ap, ◌∙◌, subst, arith}
+use Rattle.std.proofs.Common.{◌≡◌, ◌↔◌, inl, inr, ℕ, ◌+◌, ◌<◌, ◌≤◌, List, ◌++◌, Some, None, refl, sym, ap, ◌∙◌, subst, arith}
 use Rattle.std.specs.List.{All, Contains}
-use Rattle.std.specs.Option.{is_some}
 use Rattle.std.proofs.lemmas.Option.{same_Some}
 use Rattle.std.proofs.lemmas.List.Elements.{All-contains}
-use Rattle.hubs.specs.Hubs.{number_of, is_hub_in_range}
+use Rattle.hubs.specs.Hubs.{number_of}
 use Rattle.setups.specs.Wiring.{Wiring, HasWire}
 use Rattle.hubs.specs.declared.hub.Hub.{Hub}
+use Rattle.hubs.proofs.HubLemmas.{number_of-range}
 use Rattle.wire_chart.specs.WrittenText.{ended, wire_line, IsHubBefore, IsWireBefore}
 use Rattle.wire_chart.specs.Writing.{GainsWires, IsListedAt, IsWireTo, IsWireToBelow, IsWireToAny, IsWireOf, IsWireFrom, IsWireFromBelow}
 use Rattle.wire_chart.proofs.Gains.{gains_none, gains_one, gains_more, gains_same, below_or_at}
-use Rattle.wire_chart.proofs.HubRanges.{hub_number}
-
--- a hub with a number is one of the panel
-pub numbered_in_range : (hub : Hub) (number : ℕ) → number_of hub ≡ Some number → is_hub_in_range hub ≡ true
-numbered_in_range hub number e = ap (λ (o : Option ℕ). is_some o) e
 
 -- the numbers of one hub are the same
 same_number : (hub : Hub) (one other : ℕ) → number_of hub ≡ Some one → number_of hub ≡ Some other → one ≡ other
@@ -140,7 +135,7 @@ none_listed exit entries text none =
 pub no_exits : (wiring : Wiring) (text : List ℕ) → GainsWires (IsWireFromBelow wiring 1) text text
 no_exits wiring text =
     gains_none (IsWireFromBelow wiring 1) IsWireBefore wire_line text text refl
-    (λ wire is. let range = hub_number wire.0 is.there.number is.there.numbered in omega (arith, is.below, range.0))
+    (λ wire is. let range = number_of-range wire.0 is.there.number is.there.numbered in omega (arith, is.below, range.0))
 
 -- one exit more
 pub exit_more : (wiring : Wiring) (number : ℕ) (old mid new : List ℕ)
@@ -165,6 +160,6 @@ pub all_exits : (wiring : Wiring) (number : ℕ) (old new : List ℕ) → 1937 �
 all_exits wiring number old new last gains =
     gains_same (IsWireFromBelow wiring number) (IsWireOf wiring) IsWireBefore wire_line old new gains
     (λ wire is.
-    let range = hub_number wire.0 is.number is.numbered in
+    let range = number_of-range wire.0 is.number is.numbered in
     record { there = is; below = omega (arith, range.1, last) })
     (λ wire is. is.there)

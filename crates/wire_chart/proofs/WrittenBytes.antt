@@ -2,7 +2,7 @@
 use Rattle.std.proofs.Common.{◌≡◌, inl, ℕ, ◌*◌, ◌<◌, ◌≤◌, List, [], ◌∷◌, ◌++◌, length, Bool, true, false, ◌&&◌, ◌==◌, cond, refl, sym, ap, ◌∙◌, arith, append_assoc, length-append}
 use Rattle.std.specs.List.{list_all, AllByRecursion, flat_map}
 use Rattle.std.specs.Prelude.{nat_lt, map}
-use Rattle.std.proofs.lemmas.Bool.{and_parts, ltb-true, lt-ltb}
+use Rattle.std.proofs.lemmas.Bool.{and_parts, ltb-true, lt-ltb, and_from}
 use Rattle.std.proofs.lemmas.Bool.Decides.{nat_tests}
 use Rattle.std.proofs.lemmas.List.Folds.{list_all-append}
 use Rattle.card_code.specs.Lines.{onto, pieces, without_cr, lines_of_pieces, lines_of}
@@ -23,11 +23,6 @@ pub record IsWord (word : List ℕ) : Type 0 where
   pub few : length word ≤ 15
   pub high : list_all is_high word ≡ true
 
-pub both : (a b : Bool) → a ≡ true → b ≡ true → (a && b) ≡ true
-both true true e f = refl
-both true false e f = f
-both false b e f = e
-
 high_plain : (b : ℕ) → is_high b ≡ true → is_plain b ≡ true
 high_plain b h =
     let above : 39 < b = ltb-true 39 b h in
@@ -44,7 +39,7 @@ pub all_weaker : (p q : ℕ → Bool) → ((b : ℕ) → p b ≡ true → q b �
 all_weaker p q weaker [] h = refl
 all_weaker p q weaker (b ∷ bs) h =
     let parts = and_parts (p b) (list_all p bs) h in
-    both (q b) (list_all q bs) (weaker b parts.0) (all_weaker p q weaker bs parts.1)
+    and_from (q b) (list_all q bs) (weaker b parts.0) (all_weaker p q weaker bs parts.1)
 
 pub word_token : (word : List ℕ) → IsWord word → IsToken word
 word_token word is =
@@ -66,7 +61,7 @@ words_tokens (word ∷ words) are =
     (led word (words_line words) words (word_token word are.0) (words_apart words) (words_tokens words are.1))
 
 pub append_true : (p : ℕ → Bool) (xs ys : List ℕ) → list_all p xs ≡ true → list_all p ys ≡ true → list_all p (xs ++ ys) ≡ true
-append_true p xs ys one other = list_all-append p xs ys ∙ both (list_all p xs) (list_all p ys) one other
+append_true p xs ys one other = list_all-append p xs ys ∙ and_from (list_all p xs) (list_all p ys) one other
 
 words_inner : (words : List (List ℕ)) → AllByRecursion IsWord words → list_all is_inner (words_line words) ≡ true
 words_inner [] are = refl

@@ -1,7 +1,7 @@
 -- What written lines say.
 use Rattle.std.proofs.Common.{◌≡◌, ℕ, ◌<◌, ◌≤◌, List, [], ◌∷◌, ◌++◌, length, true, Option, Some, None, refl, sym, ap, ◌∙◌, subst, arith, leb, append-nil, append_assoc, codes}
 use Rattle.std.specs.List.{list_all, AllByRecursion}
-use Rattle.std.proofs.lemmas.Bool.{and_parts, leb-true, le-leb}
+use Rattle.std.proofs.lemmas.Bool.{and_parts, leb-true, le-leb, and_from}
 use Rattle.hubs.specs.Hubs.{number_of, is_exit_hub, is_entry_hub, keeps_ring}
 use Rattle.hubs.specs.Jacks.{is_jack_in_range}
 use Rattle.hub_table.specs.Ranges.{is_within}
@@ -11,13 +11,14 @@ use Rattle.hubs.specs.declared.jack.Jack.TheVariants as jacks
 use Rattle.hubs.proofs.HubLemmas.{hub_named-own}
 use Rattle.tokens.specs.Number.{IsNumberTo}
 use Rattle.wiring_text.specs.HubNames.{name_of, hub_of}
-use Rattle.wiring_text.specs.Statements.{SaysJack, list, total, head, link, suppress, symbol, Says, stop, plug, wire, fault_between, wire_fault, statement_fault}
+use Rattle.wiring_text.specs.Statements.{SaysJack, list, total, head, link, suppress, symbol, Says, stop, plug, wire, wire_fault, statement_fault}
 use Rattle.wiring_text.specs.WiringText.{SaysLine}
 use Rattle.wire_chart.specs.WrittenText.{number_text, spaced, hub_text, stop_line, jack_line, wire_line}
 use Rattle.wiring_text.specs.declared.statement.Statement.{Statement}
 use Rattle.wiring_text.specs.declared.statement.Statement.TheVariants.{Stop, Plug, Wire}
-use Rattle.wire_chart.proofs.WrittenBytes.{IsWord, IsWrittenLine, words_line, line_of_words, is_inner, both}
+use Rattle.wire_chart.proofs.WrittenBytes.{IsWord, IsWrittenLine, words_line, line_of_words, is_inner}
 use Rattle.wire_chart.proofs.WrittenWords.{number_written, number_word, hub_written, hub_word}
+use Rattle.wiring_reader.proofs.SetupSteps.{lawful_fits}
 
 -- a line that says something, with good bytes and of good length
 pub record IsSaidLine (line : List ℕ) (statement : Statement) : Type 0 where
@@ -114,16 +115,12 @@ wire_said exit entry from to e f =
 -- nothing is wrong with a stop of the form, a jack, or a lawful wire
 pub stop_fits : (lines channel line : ℕ) → 1 ≤ line → line ≤ lines → statement_fault lines (Stop channel line) ≡ None
 stop_fits lines channel line from to =
-    let there : is_within line lines ≡ true = both (leb 1 line) (leb line lines) (le-leb 1 line from) (le-leb line lines to) in
+    let there : is_within line lines ≡ true = and_from (leb 1 line) (leb line lines) (le-leb 1 line from) (le-leb line lines to) in
     rw there refl
-
-no_fault_between : (exit entry : Hub) → is_exit_hub exit ≡ true → is_entry_hub entry ≡ true → keeps_ring exit entry ≡ true
-    → fault_between exit entry ≡ None
-no_fault_between exit entry h k l = rw (h, k, l) refl
 
 pub wire_fits : (lines : ℕ) (exit entry : Hub) → is_exit_hub exit ≡ true → is_entry_hub entry ≡ true
     → keeps_ring exit entry ≡ true → statement_fault lines (Wire (name_of exit) (name_of entry)) ≡ None
 wire_fits lines exit entry h k l =
     ap (λ (o : Option Hub). wire_fault o (hub_of (name_of entry))) (hub_named-own exit)
     ∙ ap (λ (o : Option Hub). wire_fault (Some exit) o) (hub_named-own entry)
-    ∙ no_fault_between exit entry h k l
+    ∙ lawful_fits exit entry h k l

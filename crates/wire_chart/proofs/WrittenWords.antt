@@ -2,7 +2,7 @@
 use Rattle.std.proofs.Common.{◌≡◌, ℕ, ◌+◌, ◌*◌, ◌/◌, ◌%◌, ◌<◌, ◌≤◌, List, ◌++◌, length, Bool, true, false, ◌&&◌, cond, Some, refl, arith, leb, length-append}
 use Rattle.std.specs.List.{list_all}
 use Rattle.std.specs.Prelude.{nat_lt, nat_le}
-use Rattle.std.proofs.lemmas.Bool.{and_parts, ltb-true, lt-ltb, leb-true}
+use Rattle.std.proofs.lemmas.Bool.{and_parts, ltb-true, lt-ltb, leb-true, and_from, ltb-false}
 use Rattle.std.proofs.lemmas.Bool.Decides.{nat_tests}
 use Rattle.hub_table.specs.HubTable.{row_of}
 use Rattle.hubs.specs.Hubs.{letters_of, numbers_of, number_of}
@@ -14,7 +14,7 @@ use Rattle.wiring_text.specs.HubNames.{IsPointed, IsDotted, bare, one, two, thre
 use Rattle.wire_chart.specs.Writing.{AreSmall}
 use Rattle.wire_chart.specs.WrittenText.{digit_text, number_text, pointed, numbers_text, hub_text}
 use Rattle.wire_chart.proofs.RowLemmas.{good_letters, numbered_small}
-use Rattle.wire_chart.proofs.WrittenBytes.{is_high, IsWord, both, all_weaker, append_true}
+use Rattle.wire_chart.proofs.WrittenBytes.{is_high, IsWord, all_weaker, append_true}
 
 digit_is : (d : ℕ) → d < 10 → is_digit (48 + d) ≡ true
 digit_is d h = grind (arith, nat_tests)
@@ -23,7 +23,7 @@ number_one : (n : ℕ) → n < 10 → IsNumber (digit_text n) n
 number_one n h = record {
   some = omega arith;
   few = omega arith;
-  digits = both (is_digit (48 + n)) true (digit_is n h) refl;
+  digits = and_from (is_digit (48 + n)) true (digit_is n h) refl;
   leading = tt;
   value = omega arith;
 }
@@ -32,8 +32,8 @@ number_two : (a b n : ℕ) → 1 ≤ a → a < 10 → b < 10 → n ≡ 10 * a + 
 number_two a b n some h k e = record {
   some = omega arith;
   few = omega arith;
-  digits = both (is_digit (48 + a)) (is_digit (48 + b) && true) (digit_is a h)
-      (both (is_digit (48 + b)) true (digit_is b k) refl);
+  digits = and_from (is_digit (48 + a)) (is_digit (48 + b) && true) (digit_is a h)
+      (and_from (is_digit (48 + b)) true (digit_is b k) refl);
   leading = omega arith;
   value = omega arith;
 }
@@ -43,15 +43,12 @@ number_three : (a b c n : ℕ) → 1 ≤ a → a < 10 → b < 10 → c < 10 → 
 number_three a b c n some h k l e = record {
   some = omega arith;
   few = omega arith;
-  digits = both (is_digit (48 + a)) (is_digit (48 + b) && (is_digit (48 + c) && true)) (digit_is a h)
-      (both (is_digit (48 + b)) (is_digit (48 + c) && true) (digit_is b k)
-      (both (is_digit (48 + c)) true (digit_is c l) refl));
+  digits = and_from (is_digit (48 + a)) (is_digit (48 + b) && (is_digit (48 + c) && true)) (digit_is a h)
+      (and_from (is_digit (48 + b)) (is_digit (48 + c) && true) (digit_is b k)
+      (and_from (is_digit (48 + c)) true (digit_is c l) refl));
   leading = omega arith;
   value = omega arith;
 }
-
-not_below : (n m : ℕ) → nat_lt n m ≡ false → m ≤ n
-not_below n m h = grind (arith, nat_tests)
 
 -- a number as it is written is that number
 pub number_written : (n : ℕ) → n < 1000 → IsNumber (number_text n) n
@@ -63,10 +60,10 @@ number_written n small = at (nat_lt n 10) (nat_lt n 100) refl refl
     at true c e f = number_one n (ltb-true n 10 e)
     at false true e f =
         let below : n < 100 = ltb-true n 100 f in
-        let from : 10 ≤ n = not_below n 10 e in
+        let from : 10 ≤ n = ltb-false n 10 e in
         number_two (n / 10) (n % 10) n (omega arith) (omega arith) (omega arith) (omega arith)
     at false false e f =
-        let from : 100 ≤ n = not_below n 100 f in
+        let from : 100 ≤ n = ltb-false n 100 f in
         number_three (n / 100) (n / 10 % 10) (n % 10) n (omega arith) (omega arith) (omega arith) (omega arith) (omega arith)
 
 digit_high : (b : ℕ) → is_digit b ≡ true → is_high b ≡ true
@@ -87,7 +84,7 @@ pointed_written : (n : ℕ) → n < 1000 → IsPointed (pointed n) n
 pointed_written n small = record { digits = number_text n; spelled = refl; value = number_written n small }
 
 pointed_high : (n : ℕ) → n < 1000 → list_all is_high (pointed n) ≡ true
-pointed_high n small = both true (list_all is_high (number_text n)) refl (number_high n small)
+pointed_high n small = and_from true (list_all is_high (number_text n)) refl (number_high n small)
 
 pointed_length : (n : ℕ) → n < 1000 → length (pointed n) ≤ 4
 pointed_length n small = let is : IsNumber (number_text n) n = number_written n small in omega (arith, is.few)

@@ -1,17 +1,16 @@
 -- The wires of the table for a total of an amount are among those that the code adds.
-use Rattle.std.proofs.Common.{◌≡◌, ℕ, ◌+◌, ◌-◌, List, Option, Some, None, refl, sym, ap, ◌∙◌}
-use Rattle.std.proofs.lemmas.Option.{slice_get_within}
+use Rattle.std.proofs.Common.{ℕ, ◌+◌, ◌-◌, List, Option, Some, None, refl, sym, ap, ◌∙◌}
+use Rattle.std.proofs.lemmas.Option.{slice_get_within, same_Some}
 use Rattle.plans.specs.Plans.{Lists}
 use Rattle.field_rules.specs.Fields.{field_named}
 use Rattle.charts.specs.Field.{columns_of, decimals_of}
 use Rattle.charts.specs.declared.chart.Line.{Line}
 use Rattle.charts.specs.declared.level.Level.{Level}
-use Rattle.charts.specs.declared.statement.Field.{Field}
 use Rattle.charts.specs.declared.statement.Mark.{Mark}
 use Rattle.charts.specs.declared.statement.Statement.TheVariants as says
 use Rattle.hubs.specs.declared.hub.Hub.{Hub}
 use Rattle.hubs.specs.declared.hub.Hub.TheVariants.{SR, GX, GE, W}
-use Rattle.wiring_table.specs.Figures.{IsText, IsAmount, IsSigned, IsUnsigned, IsLiteral, on_heading, on_detail, on_total, IsFigure, HasPunch, HasPunchAt, rule_of, digit_wheel, point_wheel, mark_wheel, mark_characters, detail_emitter, heading_emitter, total_emitter}
+use Rattle.wiring_table.specs.Figures.{IsText, IsAmount, IsSigned, IsUnsigned, IsLiteral, on_heading, on_detail, on_total, IsFigure, HasPunch, HasPunchAt, rule_of, digit_wheel, point_wheel, mark_wheel, mark_text, detail_emitter, heading_emitter, total_emitter}
 use Rattle.wiring_table.specs.Figures as figures
 use Rattle.line_wires.specs.HelperAdds.{One, one, first, second, below, some, given, punched}
 use Rattle.total_wires.specs.HelperTotals.{IsGoodTotal}
@@ -22,9 +21,6 @@ use Rattle.wiring_table.specs.Wires.{LineWire}
 use Rattle.wiring_table.specs.Wires as table
 use Rattle.wire_gen.proofs.JoinAmount.{known-total, known-wires, sense-wires, transfer-wires}
 use Rattle.wire_gen.proofs.JoinLines.{at-position}
-
-named-same : (a b : Field) → Some a ≡ Some b → a ≡ b
-named-same a b e = cc
 
 pub total-back : (lines : List Line) (plan : Lists) (number : ℕ) (level : Level) (wheel : ℕ) (name : List ℕ) (digits : ℕ)
     (mark : Option Mark) → IsNamed (field_named lines name) (IsGoodTotal lines plan number level wheel name digits mark)
@@ -75,12 +71,12 @@ total-back lines plan number level wheel name digits mark good _ _ (table.feedba
 total-back lines plan number level wheel name digits _ good _ _ (table.total_mark_in _ _ _ _ its_mark rule group k row at signed punch) =
     known-wires lines plan number level wheel name digits (Some its_mark) signed.field group _ _ signed.named at
     (second (second (second (first (some rule signed.ruled (second (some its_mark refl
-    (below k (slice_get_within (mark_characters its_mark) k punch.character punch.there)
+    (below k (slice_get_within (mark_text its_mark) k punch.character punch.there)
     (some punch.character punch.there (first (punched row punch.punch one)))))))))))
 total-back lines plan number level wheel name digits _ good _ _ (table.total_mark_out _ _ _ _ its_mark rule field group k row at signed named punch) =
     known-wires lines plan number level wheel name digits (Some its_mark) field group _ _ named at
-    (second (second (second (first (some rule (ap (λ f. rule_of f.kind) (sym (named-same signed.field field (sym signed.named ∙ named))) ∙ signed.ruled)
-    (second (some its_mark refl (below k (slice_get_within (mark_characters its_mark) k punch.character punch.there)
+    (second (second (second (first (some rule (ap (λ f. rule_of f.kind) (sym (same_Some signed.field field (sym signed.named ∙ named))) ∙ signed.ruled)
+    (second (some its_mark refl (below k (slice_get_within (mark_text its_mark) k punch.character punch.there)
     (some punch.character punch.there (second one))))))))))
 total-back lines plan number level wheel name digits mark good _ _ (table.transfer _ _ _ _ _ group upper other position at is_next at_upper from within) =
     let known = known-total lines plan number level wheel name digits mark good in

@@ -7,7 +7,7 @@ use Rattle.charts.specs.declared.statement.FieldKind.TheVariants as holds
 use Rattle.charts.specs.declared.statement.Mark.{Mark}
 use Rattle.charts.specs.declared.statement.Mark.TheVariants as marks
 use Rattle.charts.specs.declared.statement.SignRule.{SignRule}
-use Rattle.wiring_table.specs.Figures.{HasPunchAt, rule_of, mark_characters}
+use Rattle.wiring_table.specs.Figures.{HasPunchAt, rule_of, mark_text}
 use Rattle.wire_gen.specs.HelperKnown.{IsNamed}
 use Rattle.card_code.specs.CardCode.{code, rows_of, set_of}
 
@@ -31,8 +31,8 @@ named-has (Some other) holds is field same =
     subst holds e is
 
 -- each character of a mark has a punch
-pub mark-punch : (mark : Mark) (k character : ℕ) → slice_get (mark_characters mark) k ≡ Some character
-    → (row : ℕ) × HasPunchAt (mark_characters mark) k row
+pub mark-punch : (mark : Mark) (k character : ℕ) → slice_get (mark_text mark) k ≡ Some character
+    → (row : ℕ) × HasPunchAt (mark_text mark) k row
 unfolding code rows_of
 mark-punch marks.Credit zero character is =
     (12, record { character = 67; there = refl; punch = record { set = set_of (12 ∷ 3 ∷ []); coded = refl; punched = refl } })

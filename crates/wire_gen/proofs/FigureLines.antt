@@ -14,7 +14,7 @@ use Rattle.charts.specs.declared.statement.FieldKind.TheVariants as holds
 use Rattle.charts.specs.declared.statement.Mark.{Mark}
 use Rattle.charts.specs.declared.statement.Statement.{Statement}
 use Rattle.charts.specs.declared.statement.Statement.TheVariants as says
-use Rattle.wiring_table.specs.Figures.{IsText, IsAmount, IsSigned, IsUnsigned, IsLiteral, on_heading, on_detail, on_total, IsFigure, HasPunch, HasPunchAt, rule_of, digit_wheel, point_wheel, mark_wheel, mark_characters, detail_emitter, heading_emitter, total_emitter}
+use Rattle.wiring_table.specs.Figures.{IsText, IsAmount, IsSigned, IsUnsigned, IsLiteral, on_heading, on_detail, on_total, IsFigure, HasPunch, HasPunchAt, rule_of, digit_wheel, point_wheel, mark_wheel, mark_text, detail_emitter, heading_emitter, total_emitter}
 use Rattle.wiring_table.specs.Figures as figures
 use Rattle.line_wires.specs.HelperItems.{HasFigureWheels, DetailRanges, IsGoodDetail}
 use Rattle.total_wires.specs.HelperTotals.{IsGoodTotal}
@@ -22,14 +22,8 @@ use Rattle.wire_gen.specs.HelperKnown.{IsGood, IsNamed}
 use Rattle.field_rules.specs.Fields.{fields_of}
 use Rattle.print_rules.specs.declared.items.Figure.{Figure}
 use Rattle.print_rules.specs.declared.items.Item.{Item}
-use Rattle.hubs.specs.declared.jack.Jack.{Jack}
-use Rattle.setups.specs.Wiring.{Wiring}
-use Rattle.jacks_and_tape.specs.HelperJacks.{FiguresAre, FigureJacks, IsGoodFigure, ItemWith, LineJacks, Plugs}
+use Rattle.jacks_and_tape.specs.HelperJacks.{FiguresAre, IsGoodFigure, ItemWith}
 use Rattle.wire_gen.proofs.Fields.{named-field, named-has}
-use Rattle.jacks_and_tape.proofs.Plugging.{plugs-as, plugs-none}
-
-named-same : (a b : Field) → Some a ≡ Some b → a ≡ b
-named-same a b e = cc
 
 module _ (lines : List Line) where
   -- a line that puts no amount anywhere

@@ -12,7 +12,7 @@ use Rattle.charts.specs.declared.statement.SignRule.{SignRule}
 use Rattle.charts.specs.declared.statement.Statement.TheVariants as says
 use Rattle.hubs.specs.declared.hub.Group.{Group}
 use Rattle.hubs.specs.declared.hub.Hub.{Hub}
-use Rattle.wiring_table.specs.Figures.{IsText, IsAmount, IsSigned, IsUnsigned, IsLiteral, on_heading, on_detail, on_total, IsFigure, HasPunch, HasPunchAt, rule_of, digit_wheel, point_wheel, mark_wheel, mark_characters, detail_emitter, heading_emitter, total_emitter}
+use Rattle.wiring_table.specs.Figures.{IsText, IsAmount, IsSigned, IsUnsigned, IsLiteral, on_heading, on_detail, on_total, IsFigure, HasPunch, HasPunchAt, rule_of, digit_wheel, point_wheel, mark_wheel, mark_text, detail_emitter, heading_emitter, total_emitter}
 use Rattle.wiring_table.specs.Figures as figures
 use Rattle.line_wires.specs.HelperAdds.{first, second, below, some, given, punched}
 use Rattle.total_wires.specs.HelperTotals.{IsGoodTotal, TotalWires}

@@ -1,6 +1,6 @@
 -- The wires that the code adds for a field on the line of a card are those of the table.
 use Rattle.std.proofs.Common.{◌≡◌, ℕ, ◌+◌, ◌-◌, ◌≤◌, true, false, List, Some, refl, sym, ap, ◌∙◌, subst, arith}
-use Rattle.std.proofs.lemmas.Option.{slice_get_within}
+use Rattle.std.proofs.lemmas.Option.{slice_get_within, same_Some}
 use Rattle.plans.specs.Plans.{Lists}
 use Rattle.field_rules.specs.Fields.{field_named}
 use Rattle.print_rules.specs.Items.{mark_shown}
@@ -15,7 +15,7 @@ use Rattle.charts.specs.declared.statement.Mark.{Mark}
 use Rattle.charts.specs.declared.statement.SignRule.{SignRule}
 use Rattle.charts.specs.declared.statement.Statement.TheVariants as says
 use Rattle.hubs.specs.declared.hub.Hub.{Hub}
-use Rattle.wiring_table.specs.Figures.{IsText, IsAmount, IsSigned, IsUnsigned, IsLiteral, on_heading, on_detail, on_total, IsFigure, HasPunch, HasPunchAt, rule_of, digit_wheel, point_wheel, mark_wheel, mark_characters, detail_emitter, heading_emitter, total_emitter}
+use Rattle.wiring_table.specs.Figures.{IsText, IsAmount, IsSigned, IsUnsigned, IsLiteral, on_heading, on_detail, on_total, IsFigure, HasPunch, HasPunchAt, rule_of, digit_wheel, point_wheel, mark_wheel, mark_text, detail_emitter, heading_emitter, total_emitter}
 use Rattle.wiring_table.specs.Figures as figures
 use Rattle.line_wires.specs.HelperAdds.{one, first, second, below, OfSome, some, given, punched}
 use Rattle.line_wires.specs.HelperItems.{DetailAmount, DetailMarks, DetailText, DetailWires}
@@ -158,13 +158,10 @@ module _ (lines : List Line) (plan : Lists) (number wheel : ℕ) (name : List �
       digit-back shown field position _ _ is from within (second (given same (some split at (second one))))
   detail-back _ exit to (table.detail_mark_in _ _ mark rule pilot k row signed is_pilot punch) =
       of-signed mark signed.field rule pilot _ _ signed.named signed.ruled is_pilot
-      (below k (slice_get_within (mark_characters mark) k punch.character punch.there)
+      (below k (slice_get_within (mark_text mark) k punch.character punch.there)
       (some punch.character punch.there (first (punched row punch.punch one))))
   detail-back _ exit to (table.detail_mark_out _ _ mark rule field pilot k row signed named is_pilot punch) =
-      let same : signed.field ≡ field = named-same signed.field field (sym signed.named ∙ named) in
+      let same : signed.field ≡ field = same_Some signed.field field (sym signed.named ∙ named) in
       of-signed mark field rule pilot _ _ named (ap (λ f. rule_of f.kind) (sym same) ∙ signed.ruled) is_pilot
-      (below k (slice_get_within (mark_characters mark) k punch.character punch.there)
+      (below k (slice_get_within (mark_text mark) k punch.character punch.there)
       (some punch.character punch.there (second one)))
-    where
-      named-same : (a b : Field) → Some a ≡ Some b → a ≡ b
-      named-same a b e = cc

@@ -27,7 +27,7 @@ use Rattle.total_wires.specs.HelperLevels.{HasGroupFor}
 use Rattle.wiring_table.specs.Parts.{IsNextHigher}
 use Rattle.std.specs.Prelude.{map}
 use Rattle.std.specs.List.{Contains, filter}
-use Rattle.std.proofs.lemmas.Bool.{cases_lt}
+use Rattle.std.proofs.lemmas.Bool.{cases_lt, not-false}
 use Rattle.std.proofs.lemmas.Bool.Decides.{nat_tests}
 use Rattle.wanted.specs.Units.{is_of_kind, is_wide, is_wide_text, wide_texts_of}
 use Rattle.field_rules.proofs.Places.{is_same_name-equal}
@@ -280,10 +280,6 @@ module _ (chart : Chart) (plan : Lists) (lawful : IsLawful chart) (rise : Number
         alone = next-alone level name;
       })
     where
-      not-false : (b : Bool) → not b ≡ false → b ≡ true
-      not-false true e = refl
-      not-false false e = cc
-
       whole-of : (field : Field) → is_amount field.kind ≡ true → columns_of field ≤ digits
           → (decimals_of field.kind ≤ columns_of field) ⊎ (is_amount field.kind ≡ false) → decimals_of field.kind ≤ digits
       whole-of field amount_is enough_is (inl less) = omega (arith, less, enough_is)
@@ -298,10 +294,6 @@ module _ (chart : Chart) (plan : Lists) (lawful : IsLawful chart) (rise : Number
       let tape = kept-line chart lawful found.element found.listed rule.Tape in
       of-tape tape.0 found.element.statement found.passes tape.1
     where
-      not-false : (b : Bool) → not b ≡ false → b ≡ true
-      not-false true e = refl
-      not-false false e = cc
-
       good-channel : (its_channel : ℕ) (a b : Bool) → (its_channel == channel) ≡ true
           → not (nat_le 2 its_channel && nat_le its_channel 11 && a && b) ≡ false → (1 ≤ channel) × (channel ≤ 12)
       good-channel its_channel a b same good = (grind (arith, nat_tests, same, good), grind (arith, nat_tests, same, good))
@@ -324,11 +316,8 @@ module _ (chart : Chart) (plan : Lists) (lawful : IsLawful chart) (rise : Number
       literal-wheels (says.TotalLiteral level wheel text) wheel text (text_item (Body (body.Total level)) wheel (length text)) is refl refl refl
   good (says.TotalText level wheel name) is = total_text-good level wheel name is
   good (says.TotalAmount level wheel name digits mark) is = amount-good level wheel name digits mark is
-  good (says.Space its_line spacing) is = tt
   good (says.After its_line follows) is = channel-good its_line follows is
-  good (says.Print printing) is = tt
-  good (says.Form long top full) is = tt
-  good (says.Tape channel stops) is = tt
+  good other is = tt
 
 -- what is known of each line of a lawful chart, with a plan for it
 pub good-lines : (chart : Chart) (plan : Lists) → IsLawful chart → NumbersRise chart.lines chart.end → IsFor chart.lines plan

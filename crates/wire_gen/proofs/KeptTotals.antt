@@ -1,5 +1,5 @@
 -- The counter groups of the totals of a lawful chart, and its next higher totals.
-use Rattle.std.proofs.Common.{append_assoc, get_or, ◌≡◌, ℕ, ◌<◌, ◌≤◌, ◌⊎◌, inl, inr, Bool, true, false, ◌&&◌, ◌||◌, ◌==◌, find, option_map, option_and_then, position, List, [], ◌∷◌, ◌++◌, Option, Some, None, slice_get, refl, sym, ap, ◌∙◌, arith}
+use Rattle.std.proofs.Common.{append_assoc, get_or, ◌≡◌, ℕ, ◌<◌, ◌≤◌, ◌⊎◌, inl, inr, Bool, true, false, ◌&&◌, ◌==◌, find, option_map, option_and_then, position, List, [], ◌∷◌, ◌++◌, Option, Some, None, slice_get, refl, sym, ap, ◌∙◌, arith}
 use Rattle.std.proofs.lemmas.Option.{slice_get_within, slice_get-get_or}
 use Rattle.plans.specs.Plans.{Lists, IsFor, group_on}
 use Rattle.field_rules.specs.Fields.{field_named}
@@ -28,6 +28,7 @@ use Rattle.wiring_table.proofs.Listed.{listed-cases, listed-none, listed-place, 
 use Rattle.total_wires.specs.HelperLevels.{IsOnPanel}
 use Rattle.wiring_table.specs.Parts.{HasTotal, panel_group}
 use Rattle.std.proofs.lemmas.List.Folds.{list_any-append}
+use Rattle.std.proofs.lemmas.Bool.{or_parts, eq-eqb}
 use Rattle.plans.specs.Assignments.{IsAssignment}
 
 above-head : (line : Line) (lines : List Line) (end : ℕ) (other : Line) → NumbersRise (line ∷ lines) end → Contains lines other
@@ -174,7 +175,7 @@ group-there lines end plan rise is_for line listed level wheel name digits mark 
     let gives : total_of lines line.number line.statement ≡ Some mine = ap (total_of lines line.number) says_it in
     let among : Contains (totals_of lines) mine =
     listed-given (λ each. total_of lines each.number each.statement) lines line mine listed gives in
-    let spot = first-place (λ total. total.line == line.number) (totals_of lines) mine among (self line.number) in
+    let spot = first-place (λ total. total.line == line.number) (totals_of lines) mine among ((eq-eqb line.number line.number refl)) in
     let at = group-at (totals_of lines) plan.groups line.number is_for.groups spot in
     let needs = line-of-total lines end rise line listed level wheel name digits mark says_it at.total at.listed at.same in
     let enough = at.enough in
@@ -184,9 +185,6 @@ group-there lines end plan rise is_for line listed level wheel name digits mark 
       on_panel = on-panel at.group at.there;
       wide = omega (arith, enough, needs);
     }
-  where
-    self : (n : ℕ) → (n == n) ≡ true
-    self n = grind (arith, nat_tests)
 
 -- two totals of one amount at one level stand on one line
 pub total-alone : (chart : Chart) → IsLawful chart → (name : List ℕ) (level one_number other_number : ℕ)
@@ -214,11 +212,6 @@ total-alone chart lawful name level one_number other_number one_total other_tota
         ∙ ap (repeats (says.TotalAmount former.its_level former.wheel former.its_name former.digits former.mark)) latter.says_total
         ∙ ap (λ t. t && is_same_name former.its_name latter.its_name) l ∙ n
 
-    either_false : (a b : Bool) → (a || b) ≡ false → (a ≡ false) × (b ≡ false)
-    either_false false false is = (refl, refl)
-    either_false true b is = cc
-    either_false false true is = cc
-
     never : (earlier : List Line) (line : Line) (rest : List Line) → chart.lines ≡ earlier ++ line ∷ rest → (later : Line)
         → Contains rest later → repeats line.statement later.statement ≡ true → ⊥
     never earlier line rest parts later there is =
@@ -228,8 +221,8 @@ total-alone chart lawful name level one_number other_number one_total other_tota
         let kept : list_any (λ l. repeats l.statement later.statement) (earlier ++ line ∷ place.earlier) ≡ false =
         breaks-lawful rule.LineTwice chart (earlier ++ line ∷ place.earlier) later place.later lawful whole in
         let behind = sym (list_any-append (λ l. repeats l.statement later.statement) earlier (line ∷ place.earlier)) ∙ kept in
-        let here = (either_false (list_any (λ l. repeats l.statement later.statement) earlier) _ behind).1 in
-        let not_here = (either_false (repeats line.statement later.statement) _ here).0 in
+        let here = (or_parts (list_any (λ l. repeats l.statement later.statement) earlier) _ behind).1 in
+        let not_here = (or_parts (repeats line.statement later.statement) _ here).0 in
         cc
 
     alone : (earlier rest : List Line) → chart.lines ≡ earlier ++ rest → (one other : Line) → Contains rest one

@@ -4,6 +4,7 @@ use Rattle.std.proofs.lemmas.Bool.Decides.{nat_tests}
 use Rattle.std.proofs.lemmas.List.Folds.{list_all_at}
 use Rattle.std.proofs.lemmas.List.FromFn.{length-range_with_len, get_or-range_with_len}
 use Rattle.std.specs.List.{cons_option, filter_map, list_all, range_with_len}
+use Rattle.std.proofs.lemmas.Bool.{and_right}
 use Rattle.field_rules.specs.Fields.{field_named}
 use Rattle.chart_rules.specs.ValidCard.{column_of}
 use Rattle.charts.specs.Field.{columns_of}
@@ -123,11 +124,6 @@ fields-fail whole (line ∷ lines) level card next is =
     by (says.Control its name) says_it left below = of_level its name says_it (control_number its == level) refl left below
     by other says_it left below = below left
 
--- both fail where one does
-and-false : (a b : Bool) → b ≡ false → (a && b) ≡ false
-and-false true b is = is
-and-false false b is = refl
-
 -- a control field of a level on which they are not the same makes them differ at the level
 fails-fields : (whole lines : List Line) (level : ℕ) (card next : List ℕ) (line : Line) (its : ControlLevel) (name : List ℕ) (field : Field)
     → Contains lines line → line.statement ≡ says.Control its name → control_number its ≡ level → field_named whole name ≡ Some field
@@ -147,7 +143,7 @@ fails-fields whole (first ∷ lines) level card next line its name field (suc k,
         → list_all (λ f. is_same_on f card next)
         (cons_option found (filter_map (λ l. control_field whole level l.statement) lines)) ≡ false
     by None below = below
-    by (Some its_field) below = and-false (is_same_on its_field card next) (are_same whole lines level card next) below
+    by (Some its_field) below = and_right (is_same_on its_field card next) (are_same whole lines level card next) below
 
 -- where two cards are not the same at a level
 pub differs-where : (lines : List Line) (level : ℕ) (card next : List ℕ) → is_same_at lines level card next ≡ false

@@ -1,18 +1,16 @@
 -- What a plan for a chart gives: a comparing position for each column of a control field, an indicate position for each column of an
 -- indicated text, a storage unit for each text on a total line, and pilots and splits for the amounts that want them.
-use Rattle.std.proofs.Common.{◌≡◌, ◌∙◌, refl, sym, ap, subst, ℕ, zero, suc, ◌+◌, ◌<◌, ◌==◌, ◌&&◌, Bool, true, false, List, [], ◌∷◌, Contains, Option, Some, None, option_map, is_some, slice_get, find, position, map, filter, arith, if◌then◌else◌}
+use Rattle.std.proofs.Common.{◌≡◌, ◌∙◌, refl, sym, ap, subst, ℕ, zero, suc, ◌+◌, ◌<◌, ◌==◌, ◌&&◌, Bool, true, List, [], ◌∷◌, Contains, Option, Some, None, option_map, is_some, map, filter, arith, if◌then◌else◌}
 use Rattle.std.proofs.lemmas.Bool.Decides.{nat_tests}
 use Rattle.std.proofs.lemmas.List.Elements.{Contains-append_left, Contains-append_right}
 use Rattle.std.proofs.lemmas.List.FromFn.{length-range_with_len, get_or-range_with_len}
-use Rattle.std.specs.List.{flat_map, filter_map, cons_option, range_with_len}
-use Rattle.std.specs.Option.{option_and_then}
+use Rattle.std.specs.List.{flat_map, range_with_len}
 use Rattle.wanted.specs.Pilots.{is_shown, wants_pilot, pilots_of}
 use Rattle.plans.specs.Plans.{Lists, IsFor, number_where}
 use Rattle.wanted.specs.Positions.{is_same_position, positions_for, field_used, compared_field, indicated_field, comparing_of, indicate_of}
 use Rattle.wanted.specs.Units.{is_total_text, is_split_amount, is_of_kind, storage_of, splits_of}
 use Rattle.wanted.specs.Wanted.{Parts, indicate_at}
 use Rattle.wanted.specs.declared.position.Position.{Position}
-use Rattle.field_rules.proofs.Places.{find_at_position}
 use Rattle.field_rules.specs.Fields.{field_of, fields_of, field_named}
 use Rattle.charts.specs.Field.{columns_of, sign_column}
 use Rattle.charts.specs.Levels.{control_number}
@@ -28,33 +26,21 @@ use Rattle.charts.specs.declared.statement.SignRule.{SignRule}
 use Rattle.charts.specs.declared.statement.Statement.TheVariants as says
 use Rattle.wiring_table.specs.Figures.{rule_of}
 use Rattle.wiring_table.specs.Parts.{pilot_for, comparing_for, indicate_for, split_for, unit_for, column_on}
+use Rattle.wiring_table.proofs.Listed.{listed-given}
 use Rattle.wired_panels.proofs.ChartLines.{field-line, same-self}
-use Rattle.wired_panels.proofs.SaidOnce.{further}
+use Rattle.wired_panels.proofs.PlanLists.{filter-contains, map-contains, position_some}
 
 -- A number that a list gives by a test.
 pub record IsGiven (number : Option ℕ) : Type 0 where
   pub its : ℕ
   pub is : number ≡ Some its
 
--- one of a list that passes a test is found
-finds : {X : Type 0} (test : X → Bool) (list : List X) (x : X) → Contains list x → test x ≡ true → is_some (find test list) ≡ true
-finds test [] x (k, within, is) on = absurd (omega (arith, within))
-finds test (y ∷ list) x (zero, within, is) on = rw (ap test is ∙ on) refl
-finds test (y ∷ list) x (suc k, within, is) on = by (test y) (finds test list x (k, omega (arith, within), is) on)
-  where
-    by : (b : Bool) → is_some (find test list) ≡ true → is_some (if b then Some y else find test list) ≡ true
-    by true below = refl
-    by false below = below
-
 -- one of a list that passes a test has a number
 pub given-number : {X : Type 0} (test : X → Bool) (list : List X) (x : X) → Contains list x → test x ≡ true
     → IsGiven (number_where test list)
 given-number test list x listed on =
-    by (position test list) (ap is_some (sym (find_at_position test list)) ∙ finds test list x listed on)
-  where
-    by : (found : Option ℕ) → is_some (option_and_then (slice_get list) found) ≡ true → IsGiven (option_map (λ place. place + 1) found)
-    by None there = cc
-    by (Some place) there = record { its = place + 1; is = refl }
+    let (place, at) = position_some test list x listed on in
+    record { its = place + 1; is = ap (option_map (λ k. k + 1)) at }
 
 -- an element of a part is one of the whole
 pub within-parts : {X : Type 0} {Y : Type 0} (parts : X → List Y) (list : List X) (x : X) (y : Y) → Contains list x → Contains (parts x) y
@@ -64,13 +50,6 @@ within-parts parts (first ∷ list) x y (zero, within, is) there =
     Contains-append_left (parts first) (flat_map parts list) y (subst (λ each. Contains (parts each) y) (sym is) there)
 within-parts parts (first ∷ list) x y (suc k, within, is) there =
     Contains-append_right (parts first) (flat_map parts list) y (within-parts parts list x y (k, omega (arith, within), is) there)
-
--- a mapped element is one of the mapped list
-pub within-map : {X : Type 0} {Y : Type 0} (f : X → Y) (list : List X) (x : X) → Contains list x → Contains (map f list) (f x)
-within-map f [] x (k, within, is) = absurd (omega (arith, within))
-within-map f (y ∷ list) x (zero, within, is) = (0, omega arith, ap f is)
-within-map f (y ∷ list) x (suc k, within, is) =
-    let (n, below, at) = within-map f list x (k, omega (arith, within), is) in (suc n, omega (arith, below), at)
 
 -- a number of a range
 pub within-range : (first many place : ℕ) → place < many → Contains (range_with_len first many) (first + place)
@@ -82,7 +61,7 @@ column-position : (number : ℕ) (field : Field) (place : ℕ) → place < colum
     → Contains (positions_for number (Some field)) (column_on number (field.first + place))
 unfolding positions_for
 column-position number field place within =
-    within-map (column_on number) (range_with_len field.first (columns_of field)) (field.first + place)
+    map-contains (column_on number) (range_with_len field.first (columns_of field)) (field.first + place)
     (within-range field.first (columns_of field) place within)
 
 same-column : (number column : ℕ) → is_same_position (column_on number column) (column_on number column) ≡ true
@@ -113,37 +92,12 @@ comparing-given lines plan line level name field place served listed says_it nam
     (subst (λ list. Contains list (column_on line.number (field.first + place))) (sym parts) there)
     (same-column line.number (field.first + place))
 
--- one of a list that passes a test stays
-within-filter : {X : Type 0} (test : X → Bool) (list : List X) (x : X) → Contains list x → test x ≡ true → Contains (filter test list) x
-within-filter test [] x (k, within, is) on = absurd (omega (arith, within))
-within-filter test (y ∷ list) x (zero, within, is) on =
-    subst (λ b. Contains (if b then y ∷ filter test list else filter test list) x) (sym (ap test is ∙ on)) (0, omega arith, is)
-within-filter test (y ∷ list) x (suc k, within, is) on =
-    by (test y) (within-filter test list x (k, omega (arith, within), is) on)
-  where
-    by : (b : Bool) → Contains (filter test list) x → Contains (if b then y ∷ filter test list else filter test list) x
-    by true below = further (filter test list) x y below
-    by false below = below
-
--- one of a list that gives something
-within-filter_map : {X : Type 0} {Y : Type 0} (gives : X → Option Y) (list : List X) (x : X) (y : Y) → Contains list x → gives x ≡ Some y
-    → Contains (filter_map gives list) y
-within-filter_map gives [] x y (k, within, is) on = absurd (omega (arith, within))
-within-filter_map gives (first ∷ list) x y (zero, within, is) on =
-    subst (λ found. Contains (cons_option found (filter_map gives list)) y) (sym (ap gives is ∙ on)) (0, omega arith, refl)
-within-filter_map {Y = Y} gives (first ∷ list) x y (suc k, within, is) on =
-    by (gives first) (within-filter_map gives list x y (k, omega (arith, within), is) on)
-  where
-    by : (found : Option Y) → Contains (filter_map gives list) y → Contains (cons_option found (filter_map gives list)) y
-    by None below = below
-    by (Some z) below = further (filter_map gives list) y z below
-
 -- a line that a list of lines by their numbers has
 line-given : (lines : List Line) (test : Line → Bool) (served : List ℕ) (line : Line)
     → served ≡ map (λ (each : Line). each.number) (filter test lines) → Contains lines line → test line ≡ true
     → IsGiven (number_where (λ each. each == line.number) served)
 line-given lines test served line are listed on =
-    let there = within-map (λ (each : Line). each.number) (filter test lines) line (within-filter test lines line listed on) in
+    let there = map-contains (λ (each : Line). each.number) (filter test lines) line (filter-contains test lines line listed on) in
     given-number (λ each. each == line.number) served line.number (subst (λ list. Contains list line.number) (sym are) there)
     (grind (arith, nat_tests))
 
@@ -223,10 +177,10 @@ pilot-given lines plan name field rule served named ruled on =
     let f = field-line lines name field named in
     let wanted = pilot-wanted lines field rule ruled (ap (is_shown lines) f.own_name ∙ on) in
     let listed : Contains (fields_of lines) field =
-    within-filter_map (λ line. field_of line.statement) lines f.line field f.listed (ap field_of f.is_field) in
+    listed-given (λ line. field_of line.statement) lines f.line field f.listed (ap field_of f.is_field) in
     let there : Contains (pilots_of lines) field.name =
-    within-map (λ (each : Field). each.name) (filter (wants_pilot lines) (fields_of lines)) field
-    (within-filter (wants_pilot lines) (fields_of lines) field listed wanted) in
+    map-contains (λ (each : Field). each.name) (filter (wants_pilot lines) (fields_of lines)) field
+    (filter-contains (wants_pilot lines) (fields_of lines) field listed wanted) in
     let parts : plan.parts.pilots ≡ pilots_of lines = ap (λ (p : Parts). p.pilots) served.parts in
     given-number (λ each. is_same_name each name) plan.parts.pilots field.name
     (subst (λ list. Contains list field.name) (sym parts) there) (ap (λ n. is_same_name n name) f.own_name ∙ same-self name)

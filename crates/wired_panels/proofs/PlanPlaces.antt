@@ -1,8 +1,9 @@
 -- What the parts of a plan serve: a number of a pilot, a comparing position, an indicate position, a split or a storage unit stands for one
 -- thing of the chart.
-use Rattle.std.proofs.Common.{◌≡◌, ◌∙◌, refl, sym, ap, ℕ, ◌+◌, ◌==◌, ◌&&◌, Bool, true, false, List, [], Option, Some, None, option_map, slice_index_or, position, arith}
+use Rattle.std.proofs.Common.{◌≡◌, ◌∙◌, refl, sym, ap, ℕ, ◌+◌, ◌==◌, ◌&&◌, Bool, true, List, [], Option, Some, None, option_map, slice_index_or, position, arith}
 use Rattle.std.proofs.lemmas.Bool.Decides.{nat_tests}
 use Rattle.std.proofs.lemmas.List.Quantifiers.{position-Some}
+use Rattle.std.proofs.lemmas.Bool.{and_parts}
 use Rattle.plans.specs.Plans.{Lists, number_where}
 use Rattle.wanted.specs.Positions.{is_same_position}
 use Rattle.wanted.specs.Wanted.{indicate_at}
@@ -57,17 +58,11 @@ pilot-own plan one other pilot is is' =
     let (x, a, b) = both-pass (λ served. is_same_name served one) (λ served. is_same_name served other) plan.parts.pilots [] pilot is is' in
     sym (is_same_name-equal x one a) ∙ is_same_name-equal x other b
 
--- positions that serve the same column of the same line
-both-true : (a b : Bool) → (a && b) ≡ true → (a ≡ true) × (b ≡ true)
-both-true true true is = (refl, refl)
-both-true true false is = cc
-both-true false b is = cc
-
 same-position : (x : Position) (number column number' column' : ℕ) → is_same_position x (column_on number column) ≡ true
     → is_same_position x (column_on number' column') ≡ true → (number ≡ number') × (column ≡ column')
 same-position x number column number' column' a b =
-    let (line, its) = both-true (x.line == number) (x.column == column) a in
-    let (line', its') = both-true (x.line == number') (x.column == column') b in
+    let (line, its) = and_parts (x.line == number) (x.column == column) a in
+    let (line', its') = and_parts (x.line == number') (x.column == column') b in
     (grind (arith, nat_tests, line, line'), grind (arith, nat_tests, its, its'))
 
 no_position : Position

@@ -19,27 +19,13 @@ use Rattle.charts.specs.declared.statement.BodyLine.TheVariants as body
 use Rattle.charts.specs.declared.statement.Statement.{Statement}
 use Rattle.charts.specs.declared.statement.Statement.TheVariants as says
 use Rattle.report.specs.ChartForm.{kind_number, spacing_of, spacing_from, after_of, after_from}
+use Rattle.printed_lines.proofs.Meeting.{not_there}
+use Rattle.wiring_table.proofs.Listed.{none-any}
 
 -- no line of a list says again what another before it says
 abbrev pub IsSaidOnce : List Line → Type 0
 IsSaidOnce [] = Unit {0}
 IsSaidOnce (line ∷ lines) = (list_any (λ other. repeats line.statement other.statement) lines ≡ false) × IsSaidOnce lines
-
--- a test that none of a list passes, one in its middle doesn't pass
-any-middle : (test : Line → Bool) (before : List Line) (line : Line) (behind : List Line)
-    → list_any test (before ++ line ∷ behind) ≡ false → test line ≡ false
-any-middle test [] line behind none = by (test line) refl none
-  where
-    by : (b : Bool) → test line ≡ b → (b || list_any test behind) ≡ false → test line ≡ false
-    by true is left = cc
-    by false is left = is
-any-middle test (first ∷ before) line behind none =
-    by (test first) none (any-middle test before line behind)
-  where
-    by : (b : Bool) → (b || list_any test (before ++ line ∷ behind)) ≡ false
-        → (list_any test (before ++ line ∷ behind) ≡ false → test line ≡ false) → test line ≡ false
-    by true left below = cc
-    by false left below = below left
 
 -- what a line of a lawful chart says, none of those behind it says again
 behind-once : (chart : Chart) → IsLawful chart → (before : List Line) (line : Line) (middle rest : List Line)
@@ -49,7 +35,7 @@ behind-once chart lawful before line middle (other ∷ rest) split =
     let kept : list_any (λ each. repeats each.statement other.statement) (before ++ line ∷ middle) ≡ false =
     breaks-lawful rule.LineTwice chart (before ++ line ∷ middle) other rest lawful split in
     let here : repeats line.statement other.statement ≡ false =
-    any-middle (λ each. repeats each.statement other.statement) before line middle kept in
+    not_there (λ each. repeats each.statement other.statement) before line middle kept in
     rw here (behind-once chart lawful before line (middle ++ other ∷ []) rest
     (split ∙ append_assoc before (line ∷ middle) (other ∷ rest)
     ∙ ap (λ l. before ++ line ∷ l) (sym (append_assoc middle (other ∷ []) rest))
@@ -64,21 +50,6 @@ rest-once chart lawful before (line ∷ rest) split =
 -- a lawful chart says things once
 pub said-once : (chart : Chart) → IsLawful chart → IsSaidOnce chart.lines
 said-once chart lawful = rest-once chart lawful [] chart.lines refl
-
--- a test that none of a list passes, each of its lines doesn't pass
-pub any-none : {X : Type 0} (test : X → Bool) (list : List X) (x : X) → list_any test list ≡ false → Contains list x → test x ≡ false
-any-none test [] x none (k, within, is) = absurd (omega (arith, within))
-any-none test (y ∷ ys) x none (zero, within, is) = by (test y) refl none
-  where
-    by : (b : Bool) → test y ≡ b → (b || list_any test ys) ≡ false → test x ≡ false
-    by true there left = cc
-    by false there left = ap test (sym is) ∙ there
-any-none test (y ∷ ys) x none (suc k, within, is) =
-    by (test y) none (λ no. any-none test ys x no (k, omega (arith, within), is))
-  where
-    by : (b : Bool) → (b || list_any test ys) ≡ false → (list_any test ys ≡ false → test x ≡ false) → test x ≡ false
-    by true left below = cc
-    by false left below = below left
 
 -- kinds of body lines with one number are the same
 pub same-body : (one other : BodyLine) → kind_number one ≡ kind_number other → is_same_body one other ≡ true
@@ -220,7 +191,7 @@ space-at (first ∷ rest) line kind its spacing once (suc k, within, is) says_it
     let listed : Contains rest line = (k, omega (arith, within), is) in
     let apart : repeats first.statement (says.Space its spacing) ≡ false =
     ap (λ statement. repeats first.statement statement) (sym says_it)
-    ∙ any-none (λ other. repeats first.statement other.statement) rest line (once.0) listed in
+    ∙ none-any (λ other. repeats first.statement other.statement) rest line (once.0) listed in
     space-other kind rest its same spacing first.statement apart ∙ space-at rest line kind its spacing (once.1) listed says_it same
 
 pub space-is : (lines : List Line) (kind many : ℕ) → IsSaidOnce lines → SaysSpace lines kind many → spacing_of lines kind ≡ many
@@ -239,7 +210,7 @@ after-at (first ∷ rest) line kind its follows once (suc k, within, is) says_it
     let listed : Contains rest line = (k, omega (arith, within), is) in
     let apart : repeats first.statement (says.After its follows) ≡ false =
     ap (λ statement. repeats first.statement statement) (sym says_it)
-    ∙ any-none (λ other. repeats first.statement other.statement) rest line (once.0) listed in
+    ∙ none-any (λ other. repeats first.statement other.statement) rest line (once.0) listed in
     after-other kind rest its same follows first.statement apart ∙ after-at rest line kind its follows (once.1) listed says_it same
 
 pub after-is : (lines : List Line) (kind : ℕ) (follows : After) → IsSaidOnce lines → SaysAfter lines kind follows

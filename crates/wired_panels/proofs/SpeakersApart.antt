@@ -1,5 +1,5 @@
 -- A part of the machine serves one line of a chart: what the plan gives to two lines alike makes them one.
-use Rattle.std.proofs.Common.{◌≡◌, ◌∙◌, refl, sym, ap, subst, ℕ, zero, suc, ◌+◌, ◌-◌, ◌<◌, ◌≤◌, ◌==◌, ◌&&◌, Bool, true, false, List, [], ◌∷◌, Contains, Option, Some, None, length, slice_get, get_or, position, option_map, inl, inr, ◌⊎◌, arith}
+use Rattle.std.proofs.Common.{◌≡◌, ◌∙◌, refl, sym, ap, subst, ℕ, zero, suc, ◌+◌, ◌-◌, ◌<◌, ◌≤◌, ◌==◌, ◌&&◌, Bool, true, List, [], ◌∷◌, Contains, Option, Some, None, length, slice_get, get_or, position, option_map, inl, inr, ◌⊎◌, arith}
 use Rattle.std.specs.Option.{option_and_then}
 use Rattle.std.proofs.lemmas.Bool.{cases_lt}
 use Rattle.std.proofs.lemmas.Bool.Decides.{nat_tests}
@@ -109,10 +109,7 @@ column-same x number other column its is are =
     by : (a b c d : Bool) → (x.line == number) ≡ a → (x.column == column) ≡ b → (x.line == other) ≡ c → (x.column == its) ≡ d
         → (a && b) ≡ true → (c && d) ≡ true → (number ≡ other) × (column ≡ its)
     by true true true true a b c d p q = (grind (arith, nat_tests, a, c), grind (arith, nat_tests, b, d))
-    by true true true false a b c d p q = cc
-    by true true false k a b c d p q = cc
-    by true false l k a b c d p q = cc
-    by false m l k a b c d p q = cc
+    by other another third fourth a b c d p q = cc
 
 pub indicate-same : (plan : Lists) (level : ControlLevel) (number other column its x : ℕ) → indicate_for plan level number column ≡ Some x
     → indicate_for plan level other its ≡ Some x → (number ≡ other) × (column ≡ its)

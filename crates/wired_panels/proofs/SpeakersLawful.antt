@@ -2,7 +2,7 @@
 use Rattle.std.proofs.Common.{◌≡◌, ◌∙◌, refl, sym, ap, ℕ, zero, suc, ◌<◌, ◌≤◌, ◌==◌, ◌&&◌, ◌||◌, not, nat_le, nat_lt, Bool, true, false, List, [], ◌∷◌, ◌++◌, Contains, Option, Some, None, slice_get, position, take, drop, inl, inr, ◌⊎◌, arith}
 use Rattle.std.specs.Option.{option_and_then}
 use Rattle.std.specs.List.{list_any}
-use Rattle.std.proofs.lemmas.Bool.{cases_lt}
+use Rattle.std.proofs.lemmas.Bool.{cases_lt, not-false, or_parts}
 use Rattle.std.proofs.lemmas.Bool.Decides.{nat_tests}
 use Rattle.chart_rules.proofs.Laws.{LineOf, LineOf-field, statement-field, breaks-lawful}
 use Rattle.field_rules.proofs.Places.{find_at_position, is_same_name-equal}
@@ -44,17 +44,9 @@ earlier-false : {X : Type 0} (test : X → Bool) (list : List X) (i j : ℕ) (x 
     → slice_get list i ≡ Some x → test x ≡ false
 earlier-false test [] i j x none less at = cc
 earlier-false test (y ∷ list) i zero x none less at = absurd (omega (arith, less))
-earlier-false test (y ∷ list) zero (suc j) x none less at = let e : y ≡ x = cc in ap test (sym e) ∙ first (test y) _ none
-  where
-    first : (a b : Bool) → (a || b) ≡ false → a ≡ false
-    first true b h = cc
-    first false b h = refl
+earlier-false test (y ∷ list) zero (suc j) x none less at = let e : y ≡ x = cc in ap test (sym e) ∙ (or_parts (test y) _ none).0
 earlier-false test (y ∷ list) (suc i) (suc j) x none less at =
-    earlier-false test list i j x (second (test y) _ none) (omega (arith, less)) at
-  where
-    second : (a b : Bool) → (a || b) ≡ false → b ≡ false
-    second true b h = cc
-    second false b h = h
+    earlier-false test list i j x (or_parts (test y) _ none).1 (omega (arith, less)) at
 
 -- Of two lines of a lawful chart the later doesn't say the earlier again, and they share no wheel of one printed line.
 pub repeats-not : (chart : Chart) (i j : ℕ) (one other : Line) → IsLawful chart → i < j → slice_get chart.lines i ≡ Some one
@@ -144,11 +136,7 @@ good-kind field columns size = record {
 }
   where
     last : (a b c d : Bool) → not (a && b && c && d) ≡ false → d ≡ true
-    last true true true d h = by_not d h
-      where
-        by_not : (d : Bool) → not d ≡ false → d ≡ true
-        by_not true h = refl
-        by_not false h = cc
+    last true true true d h = not-false d h
     last true true false d h = cc
     last true false c d h = cc
     last false b c d h = cc

@@ -5,6 +5,7 @@ use Rattle.std.specs.List.{list_any, filter_map, cons_option}
 use Rattle.std.proofs.lemmas.Bool.Decides.{nat_tests}
 use Rattle.std.proofs.lemmas.List.FromFn.{get_or-map-range_with_len, length-map-range_with_len}
 use Rattle.std.proofs.lemmas.Option.{slice_get_cases}
+use Rattle.std.proofs.lemmas.Bool.{and_from, or_right, or_left}
 use Rattle.wanted.specs.ChartTotals.{total_of, totals_of, need_of}
 use Rattle.wanted.specs.Pilots.{wants_pilot, is_shown, shows}
 use Rattle.plans.specs.Plans.{Lists, IsFor, number_where}
@@ -29,16 +30,8 @@ use Rattle.charts.specs.declared.statement.Mark.{Mark}
 use Rattle.charts.specs.declared.statement.Statement.TheVariants as says
 use Rattle.hub_table.specs.Ranges.{is_within}
 use Rattle.wiring_table.specs.Parts.{group_for, pilot_for, indicate_for, split_for, unit_for, panel_group, column_on}
-use Rattle.wired_panels.proofs.Sending.{any_from}
+use Rattle.wiring_table.proofs.Listed.{any-listed}
 use Rattle.wired_panels.proofs.SpeakersLawful.{named-line, same_name-own}
-
-or-left : (a b : Bool) → a ≡ true → (a || b) ≡ true
-or-left true b on = refl
-or-left false b on = cc
-
-or-right : (a b : Bool) → b ≡ true → (a || b) ≡ true
-or-right true b on = refl
-or-right false b on = on
 
 -- where one passes, the first that does has a place
 any-find : {X : Type 0} (test : X → Bool) (list : List X) → list_any test list ≡ true → find test list ≡ None → ⊥
@@ -92,11 +85,11 @@ any-map-filter p f test [] k x at on passes = cc
 any-map-filter p f test (y ∷ list) zero x at on passes =
     let e : y ≡ x = cc in
     ap (λ b. list_any test (map f (cond b (y ∷ filter p list) (filter p list)))) (ap p e ∙ on)
-    ∙ or-left (test (f y)) (list_any test (map f (filter p list))) (ap (λ z. test (f z)) e ∙ passes)
+    ∙ or_left (test (f y)) (list_any test (map f (filter p list))) (ap (λ z. test (f z)) e ∙ passes)
 any-map-filter p f test (y ∷ list) (suc k) x at on passes = by (p y) (any-map-filter p f test list k x at on passes)
   where
     by : (b : Bool) → list_any test (map f (filter p list)) ≡ true → list_any test (map f (cond b (y ∷ filter p list) (filter p list))) ≡ true
-    by true rest = or-right (test (f y)) _ rest
+    by true rest = or_right (test (f y)) _ rest
     by false rest = rest
 
 any-filter_map : {X Y : Type 0} (h : X → Option Y) (test : Y → Bool) (list : List X) (k : ℕ) (x : X) (y : Y) → slice_get list k ≡ Some x
@@ -104,12 +97,12 @@ any-filter_map : {X Y : Type 0} (h : X → Option Y) (test : Y → Bool) (list :
 any-filter_map h test [] k x y at is passes = cc
 any-filter_map h test (z ∷ list) zero x y at is passes =
     let e : z ≡ x = cc in
-    ap (λ o. list_any test (cons_option o (filter_map h list))) (ap h e ∙ is) ∙ or-left (test y) _ passes
+    ap (λ o. list_any test (cons_option o (filter_map h list))) (ap h e ∙ is) ∙ or_left (test y) _ passes
 any-filter_map h test (z ∷ list) (suc k) x y at is passes = by (h z) (any-filter_map h test list k x y at is passes)
   where
     by : (o : Option _) → list_any test (filter_map h list) ≡ true → list_any test (cons_option o (filter_map h list)) ≡ true
     by None rest = rest
-    by (Some w) rest = or-right (test w) _ rest
+    by (Some w) rest = or_right (test w) _ rest
 
 any-append-left : {X : Type 0} (test : X → Bool) (xs ys : List X) → list_any test xs ≡ true → list_any test (xs ++ ys) ≡ true
 any-append-left test [] ys any = cc
@@ -121,7 +114,7 @@ any-append-left test (x ∷ xs) ys any = by (test x) any (any-append-left test x
 
 any-append-right : {X : Type 0} (test : X → Bool) (xs ys : List X) → list_any test ys ≡ true → list_any test (xs ++ ys) ≡ true
 any-append-right test [] ys any = any
-any-append-right test (x ∷ xs) ys any = or-right (test x) _ (any-append-right test xs ys any)
+any-append-right test (x ∷ xs) ys any = or_right (test x) _ (any-append-right test xs ys any)
 
 any-flat_map : {X Y : Type 0} (h : X → List Y) (test : Y → Bool) (list : List X) (k : ℕ) (x : X) → slice_get list k ≡ Some x
     → list_any test (h x) ≡ true → list_any test (flat_map h list) ≡ true
@@ -164,7 +157,7 @@ pilot-there lines plan line wheel name how field planned listed says_it named si
     let same : is_same_name name field.name ≡ true = ap (is_same_name name) found.named ∙ same_name-own name in
     let served : is_same_name field.name name ≡ true = ap (λ n. is_same_name n name) found.named ∙ same_name-own name in
     let on_line : is_shown lines field.name ≡ true
-    = any_from (λ each. shows field.name each.statement) lines line listed (ap (shows field.name) says_it ∙ same) in
+    = any-listed (λ each. shows field.name each.statement) lines line listed (ap (shows field.name) says_it ∙ same) in
     any-number (λ served. is_same_name served name) plan.parts.pilots
     (ap (λ parts. list_any (λ served. is_same_name served name) parts.pilots) planned.parts
     ∙ any-map-filter (wants_pilot lines) (λ each. each.name) (λ served. is_same_name served name) (fields_of lines) found.place field found.at
@@ -181,7 +174,7 @@ unfolding field_used positions_for
 indicated lines line place wheel name level field j at says_it named within =
     any-flat_map _ (serves line (field.first + j)) lines place line at
     (ap (λ f. list_any (serves line (field.first + j)) (positions_for line.number f)) is_field
-    ∙ any_from (serves line (field.first + j)) (positions_for line.number (Some field)) (column_on line.number (field.first + j))
+    ∙ any-listed (serves line (field.first + j)) (positions_for line.number (Some field)) (column_on line.number (field.first + j))
     (j, inside, get_or-map-range_with_len (column_on line.number) field.first (columns_of field) j (field.first + j) _ within refl) same)
   where
     one : (control_number level == control_number level) ≡ true
@@ -191,11 +184,7 @@ indicated lines line place wheel name level field j at says_it named within =
     is_field = ap (indicated_field lines level) says_it ∙ ap (λ b. cond b (field_named lines name) None) one ∙ named
 
     same : serves line (field.first + j) (column_on line.number (field.first + j)) ≡ true
-    same = both (line.number == line.number) (field.first + j == field.first + j) (grind (arith, nat_tests)) (grind (arith, nat_tests))
-      where
-        both : (a b : Bool) → a ≡ true → b ≡ true → (a && b) ≡ true
-        both true b p q = q
-        both false b p q = cc
+    same = and_from (line.number == line.number) (field.first + j == field.first + j) (grind (arith, nat_tests)) (grind (arith, nat_tests))
 
     inside : j < length (positions_for line.number (Some field))
     inside = subst (λ n. j < n) (sym (length-map-range_with_len (column_on line.number) field.first (columns_of field))) within

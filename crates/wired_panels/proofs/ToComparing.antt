@@ -2,6 +2,7 @@
 -- reading and the next one, at first reading.
 use Rattle.std.proofs.Common.{◌≡◌, ◌∙◌, refl, sym, ap, subst, ℕ, ◌+◌, ◌<◌, ◌==◌, ◌&&◌, not, Bool, true, false, List, Contains, Some, None, ◌↔◌, arith, if◌then◌else◌}
 use Rattle.std.proofs.lemmas.Bool.Decides.{nat_tests}
+use Rattle.std.proofs.lemmas.Bool.{not-true, and_parts}
 use Rattle.plans.specs.Plans.{Lists}
 use Rattle.card_code.specs.CardCode.{has_row}
 use Rattle.card_code.specs.Rows.{rows, row_number}
@@ -35,12 +36,12 @@ use Rattle.whole_cycles.specs.WholeCycles.{closing_emits, compares_unlike}
 use Rattle.wiring_table.specs.Parts.{comparing_for}
 use Rattle.wiring_table.specs.Wires.{LineWire, ChartWire}
 use Rattle.wiring_table.specs.Wires.LineWire.{compared_first, compared_second, level_called}
+use Rattle.wiring_table.proofs.Listed.{none-any}
 use Rattle.wired_panels.proofs.ControlTexts.{control-set}
 use Rattle.wired_panels.proofs.Differing.{differs-where, where-differs}
 use Rattle.wired_panels.proofs.Ways.{same_tests}
 use Rattle.wired_panels.proofs.PlanGives.{comparing-given}
 use Rattle.wired_panels.proofs.PlanPlaces.{comparing-own}
-use Rattle.wired_panels.proofs.SaidOnce.{any-none}
 use Rattle.wired_panels.proofs.SameColumns.{row-listed, same-sets}
 use Rattle.wired_panels.proofs.Sources.{found}
 use Rattle.wired_panels.proofs.Straight.{at_row, at_closing}
@@ -63,10 +64,6 @@ unlike-self true true same is = let e : false ≡ true = is in cc
 unlike-self true false same is = cc
 unlike-self false true same is = cc
 unlike-self false false same is = let e : false ≡ true = is in cc
-
-both-on : (a b : Bool) → (a && b) ≡ true → b ≡ true
-both-on true b is = is
-both-on false b is = cc
 
 module _ (chart : Chart) (plan : Lists) (wiring : Wiring) (old : MachineState) (pictures : Point → Hub → Bool)
     (it : IsPanelCycle chart plan wiring old Card pictures)
@@ -193,7 +190,7 @@ module _ (chart : Chart) (plan : Lists) (wiring : Wiring) (old : MachineState) (
               → has_row (column_of card (field.first + j)) (row_number row) ≡ has_row (column_of next (field.first + j)) (row_number row) =
               λ row. sym (second-is row)
               ∙ sym (alike (pictures (Row row) (CA position)) (pictures (Row row) (CB position))
-              (any-none (λ row. are_unlike (pictures (Row row) (CA position)) (pictures (Row row) (CB position))) rows row none
+              (none-any (λ row. are_unlike (pictures (Row row) (CA position)) (pictures (Row row) (CB position))) rows row none
               (row-listed row)))
               ∙ first-is row in
               let same = same-sets (column_of card (field.first + j)) (column_of next (field.first + j))
@@ -221,7 +218,7 @@ module _ (chart : Chart) (plan : Lists) (wiring : Wiring) (old : MachineState) (
           named = named;
           within = below;
           differs = unlike-differs line listed level name field j position is named below served
-              (both-on (is_within position 30) (compares_unlike pictures position) emits);
+              (and_parts (is_within position 30) (compares_unlike pictures position) emits).1;
         }
 
     -- and the other way
@@ -242,11 +239,7 @@ module _ (chart : Chart) (plan : Lists) (wiring : Wiring) (old : MachineState) (
     level-called n valid valid' =
         same_tests (pictures K (ST n)) (not (is_same_at chart.lines n card next))
         (λ on. ap not (where-differs chart.lines n card next (called-differs n ((at_call n).0 on))))
-        (λ on. differs-called n valid valid' (differs-where chart.lines n card next (not-on (is_same_at chart.lines n card next) on)))
-      where
-        not-on : (b : Bool) → not b ≡ true → b ≡ false
-        not-on true is = cc
-        not-on false is = refl
+        (λ on. differs-called n valid valid' (differs-where chart.lines n card next (not-true (is_same_at chart.lines n card next) on)))
 
     -- The highest level called for is that of the break between the cards.
     pub highest-called : IsValidCard chart card → IsValidCard chart next → levels_to (called_for (pictures K)) ≡ highest chart.lines card next

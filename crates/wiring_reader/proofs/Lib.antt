@@ -4,7 +4,7 @@ mod NameGrammar
 mod StatementGrammar
 mod LineGrammar
 mod SameStatement
-mod SetupSteps
+pub mod SetupSteps
 mod LineSteps
 mod Takings
 mod NewSetup

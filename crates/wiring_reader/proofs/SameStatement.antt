@@ -7,88 +7,28 @@ use Rattle.std.proofs.lemmas.Map.Views.{Contains-from_any}
 use Rattle.std.proofs.lemmas.Slice.Eq.{bytes_eq-Decides}
 use Rattle.std.specs.Str.{bytes_eq}
 use Rattle.hub_table.specs.HubTable.{row_of}
-use Rattle.hubs.specs.Jacks.{is_same_jack}
-use Rattle.hubs.specs.declared.jack.Jack.{Jack}
-use Rattle.hubs.specs.declared.jack.Jack.TheVariants as jacks
+use Rattle.hubs.proofs.JackLemmas.{same_jack, own_jack}
 use Rattle.hub_table.specs.declared.shape.Numbers.{Numbers}
 use Rattle.hub_table.specs.declared.shape.Numbers.TheVariants.{Bare, One, Two, Three}
+use Rattle.hub_table.proofs.KindLemmas.{spelled-injective}
 use Rattle.wiring_reader.specs.Reading.{is_same_numbers, is_same_name, is_same_statement, is_said}
 use Rattle.wiring_text.specs.declared.statement.HubName.{HubName}
 use Rattle.wiring_text.specs.declared.statement.Statement.{Statement}
 use Rattle.wiring_text.specs.declared.statement.Statement.TheVariants.{Stop, Plug, Wire}
-use Rattle.wiring_reader.proofs.LetterReading.{same_letters}
-
--- jacks
-pub same_jack : (one other : Jack) → is_same_jack one other ≡ true → one ≡ other
-same_jack jacks.List jacks.List e = refl
-same_jack jacks.List (jacks.Total n) e = cc
-same_jack jacks.List (jacks.Head n) e = cc
-same_jack jacks.List (jacks.Link n) e = cc
-same_jack jacks.List (jacks.Suppress n) e = cc
-same_jack jacks.List (jacks.Symbol n) e = cc
-same_jack (jacks.Total m) jacks.List e = cc
-same_jack (jacks.Total m) (jacks.Total n) e = ap jacks.Total (eqb-true m n e)
-same_jack (jacks.Total m) (jacks.Head n) e = cc
-same_jack (jacks.Total m) (jacks.Link n) e = cc
-same_jack (jacks.Total m) (jacks.Suppress n) e = cc
-same_jack (jacks.Total m) (jacks.Symbol n) e = cc
-same_jack (jacks.Head m) jacks.List e = cc
-same_jack (jacks.Head m) (jacks.Total n) e = cc
-same_jack (jacks.Head m) (jacks.Head n) e = ap jacks.Head (eqb-true m n e)
-same_jack (jacks.Head m) (jacks.Link n) e = cc
-same_jack (jacks.Head m) (jacks.Suppress n) e = cc
-same_jack (jacks.Head m) (jacks.Symbol n) e = cc
-same_jack (jacks.Link m) jacks.List e = cc
-same_jack (jacks.Link m) (jacks.Total n) e = cc
-same_jack (jacks.Link m) (jacks.Head n) e = cc
-same_jack (jacks.Link m) (jacks.Link n) e = ap jacks.Link (eqb-true m n e)
-same_jack (jacks.Link m) (jacks.Suppress n) e = cc
-same_jack (jacks.Link m) (jacks.Symbol n) e = cc
-same_jack (jacks.Suppress m) jacks.List e = cc
-same_jack (jacks.Suppress m) (jacks.Total n) e = cc
-same_jack (jacks.Suppress m) (jacks.Head n) e = cc
-same_jack (jacks.Suppress m) (jacks.Link n) e = cc
-same_jack (jacks.Suppress m) (jacks.Suppress n) e = ap jacks.Suppress (eqb-true m n e)
-same_jack (jacks.Suppress m) (jacks.Symbol n) e = cc
-same_jack (jacks.Symbol m) jacks.List e = cc
-same_jack (jacks.Symbol m) (jacks.Total n) e = cc
-same_jack (jacks.Symbol m) (jacks.Head n) e = cc
-same_jack (jacks.Symbol m) (jacks.Link n) e = cc
-same_jack (jacks.Symbol m) (jacks.Suppress n) e = cc
-same_jack (jacks.Symbol m) (jacks.Symbol n) e = ap jacks.Symbol (eqb-true m n e)
-
-pub own_jack : (j : Jack) → is_same_jack j j ≡ true
-own_jack jacks.List = refl
-own_jack (jacks.Total n) = eq-eqb n n refl
-own_jack (jacks.Head n) = eq-eqb n n refl
-own_jack (jacks.Link n) = eq-eqb n n refl
-own_jack (jacks.Suppress n) = eq-eqb n n refl
-own_jack (jacks.Symbol n) = eq-eqb n n refl
 
 -- numbers
 same_numbers : (one other : Numbers) → is_same_numbers one other ≡ true → one ≡ other
 same_numbers Bare Bare e' = refl
-same_numbers Bare (One d) e' = cc
-same_numbers Bare (Two d e) e' = cc
-same_numbers Bare (Three d e f) e' = cc
-same_numbers (One a) Bare e' = cc
 same_numbers (One a) (One d) e' = ap One (eqb-true a d e')
-same_numbers (One a) (Two d e) e' = cc
-same_numbers (One a) (Three d e f) e' = cc
-same_numbers (Two a b) Bare e' = cc
-same_numbers (Two a b) (One d) e' = cc
 same_numbers (Two a b) (Two d e) e' =
     let p = and_parts (eqb a d) (eqb b e) e' in
     ap (λ n. Two n b) (eqb-true a d p.0) ∙ ap (λ n. Two d n) (eqb-true b e p.1)
-same_numbers (Two a b) (Three d e f) e' = cc
-same_numbers (Three a b c) Bare e' = cc
-same_numbers (Three a b c) (One d) e' = cc
-same_numbers (Three a b c) (Two d e) e' = cc
 same_numbers (Three a b c) (Three d e f) e' =
     let p = and_parts (eqb a d && eqb b e) (eqb c f) e' in
     let q = and_parts (eqb a d) (eqb b e) p.0 in
     ap (λ n. Three n b c) (eqb-true a d q.0) ∙ ap (λ n. Three d n c) (eqb-true b e q.1)
     ∙ ap (λ n. Three d e n) (eqb-true c f p.1)
+same_numbers one other e' = cc
 
 own_numbers : (numbers : Numbers) → is_same_numbers numbers numbers ≡ true
 own_numbers Bare = refl
@@ -101,7 +41,7 @@ same_name : (one other : HubName) → is_same_name one other ≡ true → one �
 same_name one other e =
     let p = and_parts (bytes_eq (row_of one.letters).spelled (row_of other.letters).spelled)
     (is_same_numbers one.numbers other.numbers) e in
-    let letters = same_letters one.letters other.letters
+    let letters = spelled-injective one.letters other.letters
     ((bytes_eq-Decides (row_of one.letters).spelled (row_of other.letters).spelled).0 p.0) in
     ap (λ l. let name : HubName = record { letters = l; numbers = one.numbers } in name) letters
     ∙ ap (λ n. let name : HubName = record { letters = other.letters; numbers = n } in name)
@@ -121,12 +61,7 @@ same_statement (Plug one) (Plug other) e = ap Plug (same_jack one other e)
 same_statement (Wire a b) (Wire c d) e =
     let p = and_parts (is_same_name a c) (is_same_name b d) e in
     ap (λ x. Wire x b) (same_name a c p.0) ∙ ap (λ x. Wire c x) (same_name b d p.1)
-same_statement (Stop c n) (Plug j) e = cc
-same_statement (Stop c n) (Wire a b) e = cc
-same_statement (Plug j) (Stop c n) e = cc
-same_statement (Plug j) (Wire a b) e = cc
-same_statement (Wire a b) (Stop c n) e = cc
-same_statement (Wire a b) (Plug j) e = cc
+same_statement one other e = cc
 
 own_statement : (s : Statement) → is_same_statement s s ≡ true
 own_statement (Stop c n) = and_from _ _ (eq-eqb c c refl) (eq-eqb n n refl)

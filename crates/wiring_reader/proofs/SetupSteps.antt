@@ -14,6 +14,7 @@ use Rattle.setups.specs.declared.fault.SetupFault.{SetupFault}
 use Rattle.setups.specs.declared.fault.SetupFault.TheVariants.{NotExit, NotEntry, CarryRing, TapeFault, Memory}
 use Rattle.hubs.specs.declared.hub.Hub.{Hub}
 use Rattle.hubs.specs.declared.jack.Jack.{Jack}
+use Rattle.hubs.proofs.JackLemmas.{same_jack, own_jack}
 use Rattle.wiring_text.specs.HubNames.{name_of, hub_of}
 use Rattle.wiring_reader.specs.Reading.{is_said}
 use Rattle.wiring_text.specs.Statements.{statement_fault, wire_fault, fault_between}
@@ -23,7 +24,7 @@ use Rattle.wiring_text.specs.declared.statement.FormNumbers.{FormNumbers}
 use Rattle.wiring_text.specs.declared.statement.HubName.{HubName}
 use Rattle.wiring_text.specs.declared.statement.Statement.{Statement}
 use Rattle.wiring_text.specs.declared.statement.Statement.TheVariants.{Stop, Plug, Wire}
-use Rattle.wiring_reader.proofs.SameStatement.{same_jack, own_jack, said_contained, not_said, pushed_cases, pushed_said}
+use Rattle.wiring_reader.proofs.SameStatement.{said_contained, not_said, pushed_cases, pushed_said}
 
 -- what was said of a thing, where something else is said
 kept : {P Q : Type 0} (said : List Statement) (s t : Statement) → P ↔ Contains said t → (t ≡ s → ⊥) → (P → Q) → (Q → P)
@@ -294,7 +295,7 @@ none_is_no_entry exit entry hub e is none = rw e (by_hub (hub_of entry) refl)
     by_hub (Some other) f = rw (is, out other f) refl
 
 -- a wire between two hubs
-lawful_fits : (exit entry : Hub) → is_exit_hub exit ≡ true → is_entry_hub entry ≡ true → keeps_ring exit entry ≡ true
+pub lawful_fits : (exit entry : Hub) → is_exit_hub exit ≡ true → is_entry_hub entry ≡ true → keeps_ring exit entry ≡ true
     → fault_between exit entry ≡ None
 lawful_fits exit entry is also rings = rw (is, also, rings) refl
 

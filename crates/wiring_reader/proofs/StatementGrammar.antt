@@ -12,7 +12,7 @@ use Rattle.tokens.specs.Dividing.{tokens_of}
 use Rattle.tokens.proofs.NumberGrammar.{number_is, number_read, number_to_is, number_to_read}
 use Rattle.tokens.proofs.Steps.{bound, granted}
 use Rattle.tokens.proofs.TokenWord.{is_word}
-use Rattle.tokens.proofs.TokenGrammar.{has_what_is_read, read_what_it_has}
+use Rattle.tokens.proofs.TokenGrammar.{has_what_is_read, read_what_it_has, mapped}
 use Rattle.wiring_reader.specs.Reading.{name_spelled, numbered_jack, jack_of, stop_of, wire_of, statement_of, form_of}
 use Rattle.wiring_text.specs.Statements.{SaysJack, list, total, head, link, suppress, symbol, Says, stop, plug, wire}
 use Rattle.wiring_reader.specs.TextReading.{IsSayable, divided_form}
@@ -30,12 +30,6 @@ word_then token word p q x P read first second = by_test (bytes_eq token word) r
     by_test : (b : Bool) → bytes_eq token word ≡ b → cond b p q ≡ Some x → P
     by_test true e r = first (is_word token word e) r
     by_test false e r = second r
-
--- a value that is made of what is read
-mapped : {A B : Type 0} (f : A → B) (o : Option A) (y : B) → option_map f o ≡ Some y
-    → (x : A) × (o ≡ Some x) × (f x ≡ y)
-mapped f None y e = cc
-mapped f (Some x) y e = (x, refl, same_Some (f x) y e)
 
 -- a jack with a number
 numbered : (make : ℕ → Jack) (greatest : ℕ) (word spelled token : List ℕ) (j : Jack) → word ≡ spelled
@@ -144,10 +138,6 @@ said_sayable (wire is also) = tt
 form_tokens_is : (line : List ℕ) (tokens : List (List ℕ)) (form : FormNumbers) → tokens_of line ≡ Some tokens
     → form_of tokens ≡ Some form → IsFormLine line form
 unfolding form_of
-form_tokens_is line [] form divided read = cc
-form_tokens_is line (a ∷ []) form divided read = cc
-form_tokens_is line (a ∷ b ∷ []) form divided read = cc
-form_tokens_is line (a ∷ b ∷ c ∷ []) form divided read = cc
 form_tokens_is line (word ∷ size ∷ top ∷ bottom ∷ []) form divided read =
     let test = granted (bytes_eq word (codes "FORM")) _ form read in
     let lines = bound (number_of size) _ form test.1 in
@@ -165,7 +155,7 @@ form_tokens_is line (word ∷ size ∷ top ∷ bottom ∷ []) form divided read 
       first = number_is top first.0 first.1;
       overflow = number_is bottom overflow.0 overflow.1;
     })
-form_tokens_is line (a ∷ b ∷ c ∷ d ∷ e ∷ others) form divided read = cc
+form_tokens_is line other form divided read = cc
 
 pub form_is : (line : List ℕ) (form : FormNumbers) → divided_form (tokens_of line) ≡ Some form → IsFormLine line form
 form_is line form read = by_tokens (tokens_of line) refl read

@@ -1,6 +1,6 @@
 -- Where the items of a chart stand on their wheels: the characters of a literal, and of an amount its digits, its point and its
 -- mark. Position 1 of an amount is the units; the point stands left of the decimals, and the mark behind the units.
-use Rattle.std.specs.Prelude.{◌≡◌, ℕ, ◌+◌, ◌-◌, nat_lt, true, false, List, Option, Some, None, max, codes, slice_get, if◌then◌else◌}
+use Rattle.std.specs.Prelude.{◌≡◌, ℕ, ◌+◌, ◌-◌, nat_lt, true, false, List, Option, Some, None, slice_get, if◌then◌else◌}
 use Rattle.card_code.specs.CardCode.{has_row, rows_of}
 use Rattle.field_rules.specs.Fields.{field_named}
 use Rattle.print_rules.specs.Items.{mark_shown}
@@ -13,10 +13,10 @@ use Rattle.charts.specs.declared.statement.Field.{Field}
 use Rattle.charts.specs.declared.statement.FieldKind.{FieldKind}
 use Rattle.charts.specs.declared.statement.FieldKind.TheVariants as holds
 use Rattle.charts.specs.declared.statement.Mark.{Mark}
-use Rattle.charts.specs.declared.statement.Mark.TheVariants as mark
 use Rattle.charts.specs.declared.statement.SignRule.{SignRule}
 use Rattle.charts.specs.declared.statement.Statement.{Statement}
 use Rattle.charts.specs.declared.statement.Statement.TheVariants as says
+pub use Rattle.report.specs.Edits.{free_digits, mark_text}
 
 -- The emitter of a printed line: that of its number for a heading line, 4 for the line of a card, 4 more than its level for a total
 -- line.
@@ -87,15 +87,6 @@ point_wheel wheel digits decimals = wheel + digits - decimals
 -- the wheel behind the units, where the mark begins
 abbrev pub mark_wheel : (wheel digits decimals : ℕ) → ℕ
 mark_wheel wheel digits decimals = wheel + digits + (if nat_lt 0 decimals then 1 else 0)
-
--- how many digits on the left are suppressed while they are leading zeros: those left of the point, or left of the units
-abbrev pub suppressed_digits : (digits decimals : ℕ) → ℕ
-suppressed_digits digits decimals = digits - max decimals 1
-
--- the characters of a mark
-abbrev pub mark_characters : Mark → List ℕ
-mark_characters mark.Credit = codes "CR"
-mark_characters mark.Minus = codes "-"
 
 -- a character has a row among those of its punches
 pub record HasPunch (character row : ℕ) : Type 0 where

@@ -5,8 +5,8 @@ use Rattle.print_rules.specs.declared.items.Figure.{Figure}
 use Rattle.charts.specs.declared.chart.Line.{Line}
 use Rattle.hubs.specs.declared.jack.Jack.{Jack}
 use Rattle.hubs.specs.declared.jack.Jack.TheVariants as jack
-use Rattle.report.specs.ChartForm.{headings, prints_details, prints_totals}
-use Rattle.wiring_table.specs.Figures.{IsFigure, mark_wheel, suppressed_digits}
+use Rattle.report.specs.ChartForm.{heading_count, prints_details, prints_totals}
+use Rattle.wiring_table.specs.Figures.{IsFigure, mark_wheel, free_digits}
 
 -- Some line of the chart puts an amount on a line of the report, from a wheel on.
 pub record HasFigure (lines : List Line) (wheel : ℕ) (figure : Figure) : Type 0 where
@@ -20,11 +20,11 @@ pub record HasFigure (lines : List Line) (wheel : ℕ) (figure : Figure) : Type 
 pub data ChartJack (lines : List Line) : Jack → Type 0 where
   list : prints_details lines ≡ true → ChartJack lines jack.List
   total : (level : ℕ) → prints_totals lines level ≡ true → ChartJack lines (jack.Total level)
-  head : (heading : ℕ) → 1 ≤ heading → heading ≤ headings lines → ChartJack lines (jack.Head heading)
+  head : (heading : ℕ) → 1 ≤ heading → heading ≤ heading_count lines → ChartJack lines (jack.Head heading)
   link : (wheel : ℕ) (figure : Figure) (v : ℕ)
       → HasFigure lines wheel figure → wheel < v → v < wheel + figure_width figure → ChartJack lines (jack.Link v)
   suppress : (wheel : ℕ) (figure : Figure) (v : ℕ)
-      → HasFigure lines wheel figure → wheel ≤ v → v < wheel + suppressed_digits figure.digits figure.decimals
+      → HasFigure lines wheel figure → wheel ≤ v → v < wheel + free_digits figure.digits figure.decimals
       → ChartJack lines (jack.Suppress v)
   symbol : (wheel : ℕ) (figure : Figure) (v : ℕ)
       → HasFigure lines wheel figure → mark_wheel wheel figure.digits figure.decimals ≤ v → v < wheel + figure_width figure

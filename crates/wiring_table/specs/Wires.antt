@@ -21,7 +21,7 @@ use Rattle.charts.specs.declared.statement.Statement.TheVariants as says
 use Rattle.hubs.specs.declared.hub.Group.{Group}
 use Rattle.hubs.specs.declared.hub.Hub.{Hub}
 use Rattle.hubs.specs.declared.hub.Hub.TheVariants.{FR, SR, CX, GX, CO, BAN, BAT, SX, IX, CSD, EM, CC, PX, CA, CB, GE, PL, MI, RO, BT, CI, BAC, PIC, PIX, SE, SI, SO, IE, CSE, W, ST, SP, SK, RS}
-use Rattle.wiring_table.specs.Figures.{IsText, IsAmount, IsSigned, IsUnsigned, IsLiteral, IsFigure, HasPunch, HasPunchAt, rule_of, digit_wheel, point_wheel, mark_wheel, mark_characters, detail_emitter, total_emitter}
+use Rattle.wiring_table.specs.Figures.{IsText, IsAmount, IsSigned, IsUnsigned, IsLiteral, IsFigure, HasPunch, HasPunchAt, rule_of, digit_wheel, point_wheel, mark_wheel, mark_text, detail_emitter, total_emitter}
 use Rattle.wiring_table.specs.Parts.{IsLowest, IsNextHigher, group_for, pilot_for, comparing_for, indicate_for, split_for, unit_for, negative_side, positive_side, source_of}
 
 -- The wires of a line of the chart with a number. Columns, wheels and digits are counted from 1, digits from the units; `j` and `k`
@@ -67,11 +67,11 @@ pub data LineWire (lines : List Line) (plan : Lists) (number : ℕ) : Statement 
   -- The mark of an amount on the line of a card: the rows of its characters pass through the positions 2 and 3 of the pilot, on the
   -- side that is closed while the amount is below 0.
   detail_mark_in : (wheel : ℕ) (name : List ℕ) (mark : Mark) (rule : SignRule) (pilot k row : ℕ)
-      → IsSigned lines name rule → pilot_for plan name ≡ Some pilot → HasPunchAt (mark_characters mark) k row
+      → IsSigned lines name rule → pilot_for plan name ≡ Some pilot → HasPunchAt (mark_text mark) k row
       → LineWire lines plan number (says.DetailField wheel name (shown.Marked mark)) (EM detail_emitter row) (PIC pilot (2 + k))
   detail_mark_out : (wheel : ℕ) (name : List ℕ) (mark : Mark) (rule : SignRule) (field : Field) (pilot k row : ℕ)
       → IsSigned lines name rule → field_named lines name ≡ Some field → pilot_for plan name ≡ Some pilot
-      → HasPunchAt (mark_characters mark) k row
+      → HasPunchAt (mark_text mark) k row
       → LineWire lines plan number (says.DetailField wheel name (shown.Marked mark))
       (negative_side rule pilot (2 + k)) (W (mark_wheel wheel (columns_of field) (decimals_of field.kind) + k))
   -- The pickup of the pilot of an amount: its sign column at first reading.
@@ -138,13 +138,13 @@ pub data LineWire (lines : List Line) (plan : Lists) (number : ℕ) : Statement 
   -- while the latch is set.
   total_mark_in : (level : Level) (wheel : ℕ) (name : List ℕ) (digits : ℕ) (mark : Mark) (rule : SignRule) (group : Group)
       (k row : ℕ)
-      → group_for lines plan number ≡ Some group → IsSigned lines name rule → HasPunchAt (mark_characters mark) k row
+      → group_for lines plan number ≡ Some group → IsSigned lines name rule → HasPunchAt (mark_text mark) k row
       → LineWire lines plan number (says.TotalAmount level wheel name digits (Some mark))
       (EM (total_emitter (level_number level)) row) (BAC group (3 + k))
   total_mark_out : (level : Level) (wheel : ℕ) (name : List ℕ) (digits : ℕ) (mark : Mark) (rule : SignRule) (field : Field)
       (group : Group) (k row : ℕ)
       → group_for lines plan number ≡ Some group → IsSigned lines name rule → field_named lines name ≡ Some field
-      → HasPunchAt (mark_characters mark) k row
+      → HasPunchAt (mark_text mark) k row
       → LineWire lines plan number (says.TotalAmount level wheel name digits (Some mark))
       (BAT group (3 + k)) (W (mark_wheel wheel digits (decimals_of field.kind) + k))
   -- The transfer of a total to the next higher total of its amount: its digits enter that one, which adds them, or subtracts them where

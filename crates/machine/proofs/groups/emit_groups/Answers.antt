@@ -1,10 +1,10 @@
 use Rattle.std.proofs.Common.{sym}
+use Rattle.std.proofs.Math.Bool.{or-false}
 use Rattle.net.specs.HubSets.{has_hub}
-use Rattle.machine.proofs.Exits.{or-none}
 use Rattle.machine.proofs.Rest.{rest-emits}
 use Rattle.machine.proofs.groups.emit_groups.Goals as goal
 
 pub returns-else-is_busy : goal.returns-else-is_busy
 returns-else-is_busy c exit =
     rw (rest-emits c.args.groups.now c.args.cycle c.args.point exit (c.requires c.if-is_busy.false))
-    (sym (or-none (has_hub c.args.exits.now exit)))
+    (sym (or-false (has_hub c.args.exits.now exit)))

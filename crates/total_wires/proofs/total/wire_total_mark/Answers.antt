@@ -2,7 +2,7 @@ use Rattle.hubs.specs.declared.hub.Hub.TheVariants.{BAC, BAT}
 use Rattle.std.proofs.Common.{arith, ◌+◌}
 use Rattle.std.proofs.lemmas.Option.{slice_get-get_or}
 use Rattle.line_wires.proofs.Steps.{adds-both, adds-by, adds-some, upto-all, upto-more, upto-none}
-use Rattle.wiring_table.specs.Figures.{mark_characters}
+use Rattle.wiring_table.specs.Figures.{mark_text}
 use Rattle.line_wires.specs.HelperRows.{MarkWires}
 use Rattle.total_wires.proofs.total.wire_total_mark.Goals as goal
 
@@ -17,7 +17,7 @@ loop-k-preserved c =
 
 pub returns : goal.returns
 returns c =
-    adds-by (λ n. MarkWires (4 + n) c.args.wheel (mark_characters c.args.mark) (λ k. BAC c.args.group (3 + k)) (λ k. BAT c.args.group (3 + k)))
+    adds-by (λ n. MarkWires (4 + n) c.args.wheel (mark_text c.args.mark) (λ k. BAC c.args.group (3 + k)) (λ k. BAT c.args.group (3 + k)))
     (adds-by (λ text. MarkWires (4 + c.number-emitter.result) c.args.wheel text (λ k. BAC c.args.group (3 + k)) (λ k. BAT c.args.group (3 + k)))
     (upto-all c.loop-k.invariant (omega arith))
     c.mark_characters-character-items.ensures.value) c.number-emitter.ensures
