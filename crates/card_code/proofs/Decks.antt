@@ -4,6 +4,7 @@ use Rattle.std.proofs.Math.Seq.{drop-cons}
 use Rattle.std.proofs.lemmas.List.{take_all}
 use Rattle.std.proofs.lemmas.List.Elements.{All-from_get_or, AllZip-get_or, all_zip_more}
 use Rattle.std.specs.List.{AllZip}
+use Rattle.card_code.specs.MostCards.{most_cards}
 use Rattle.card_code.specs.Deck.{Deck, IsCardOf, IsPunchable, IsReached, HasFault, HasLineFault, IsOddColumn, line_at}
 use Rattle.card_code.specs.Lines.{lines_of}
 use Rattle.card_code.specs.declared.deck.DeckFault.{DeckFault}
@@ -11,7 +12,7 @@ use Rattle.card_code.specs.declared.deck.DeckFault.TheVariants.{CardTooLong, NoS
 
 -- the cards are those of the first lines of a text, and the others are the lines of the rest
 pub record IsReadUpTo (bytes rest : List ℕ) (cards : List (List ℕ)) : Type 0 where
-  pub few : length cards ≤ 999999
+  pub few : length cards ≤ most_cards
   pub within : length cards ≤ length (lines_of bytes)
   pub left : drop (length cards) (lines_of bytes) ≡ lines_of rest
   pub each : AllZip IsCardOf (take (length cards) (lines_of bytes)) cards
@@ -48,7 +49,7 @@ at_cut xs n x rest d e =
 
 -- a line and its card more are read
 pub IsReadUpTo-push : (bytes text line rest : List ℕ) (cards : List (List ℕ)) (card : List ℕ) →
-    IsReadUpTo bytes text cards → length cards ≢ 999999 → lines_of text ≡ line ∷ lines_of rest →
+    IsReadUpTo bytes text cards → length cards ≢ most_cards → lines_of text ≡ line ∷ lines_of rest →
     IsCardOf line card → IsReadUpTo bytes rest (cards ++ card ∷ [])
 IsReadUpTo-push bytes text line rest cards card read more cut one =
     let all = lines_of bytes in
@@ -66,7 +67,7 @@ IsReadUpTo-push bytes text line rest cards card read more cut one =
 
 -- the line at which reading stops
 pub IsReached-next : (bytes text line rest : List ℕ) (cards : List (List ℕ)) → IsReadUpTo bytes text cards →
-    length cards ≢ 999999 → lines_of text ≡ line ∷ lines_of rest →
+    length cards ≢ most_cards → lines_of text ≡ line ∷ lines_of rest →
     IsReached bytes (length cards + 1) × (line_at bytes (length cards + 1) ≡ line)
 IsReached-next bytes text line rest cards read more cut =
     let all = lines_of bytes in
@@ -85,7 +86,7 @@ IsReached-next bytes text line rest cards read more cut =
 
 -- the fault of the line at which reading stops
 pub HasFault-next : (bytes text line rest : List ℕ) (cards : List (List ℕ)) → IsReadUpTo bytes text cards →
-    length cards ≢ 999999 → lines_of text ≡ line ∷ lines_of rest → (number : ℕ) → number ≡ length cards + 1 →
+    length cards ≢ most_cards → lines_of text ≡ line ∷ lines_of rest → (number : ℕ) → number ≡ length cards + 1 →
     (fault : DeckFault) → HasLineFault line number fault → HasFault bytes fault
 HasFault-next bytes text line rest cards read more cut number e (CardTooLong n) h =
     let r = IsReached-next bytes text line rest cards read more cut in
@@ -98,7 +99,7 @@ HasFault-next bytes text line rest cards read more cut number e Memory h = absur
 
 -- reading stops at line 1,000,000
 pub HasFault-many : (bytes text line rest : List ℕ) (cards : List (List ℕ)) → IsReadUpTo bytes text cards →
-    length cards ≡ 999999 → lines_of text ≡ line ∷ lines_of rest → HasFault bytes TooManyCards
+    length cards ≡ most_cards → lines_of text ≡ line ∷ lines_of rest → HasFault bytes TooManyCards
 HasFault-many bytes text line rest cards read full cut =
     let all = lines_of bytes in
     let within : length cards < length all = within_of all (length cards) line (lines_of rest) (read.left ∙ cut) in

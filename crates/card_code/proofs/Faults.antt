@@ -5,6 +5,7 @@ use Rattle.std.proofs.lemmas.Grind.{same_number_lists}
 use Rattle.std.proofs.lemmas.List.{get_or-take, length-take-le}
 use Rattle.std.proofs.lemmas.List.Elements.{All-get_or, length_all_zip}
 use Rattle.std.specs.List.{AllZip}
+use Rattle.card_code.specs.MostCards.{most_cards}
 use Rattle.card_code.proofs.Decks.{All-punchable}
 use Rattle.card_code.specs.CardCode.{rows_of}
 use Rattle.card_code.specs.Deck.{Deck, IsCardOf, IsOddColumn, IsPunchable, IsReached, HasFault, line_at}
@@ -119,7 +120,7 @@ IsStop-fault bytes TooManyCards h =
     record {
       from = omega arith;
       to = omega arith;
-      before = λ k n m. at_before (lines_of bytes) 999999 (k - 1) (omega arith) h.1 (omega arith);
+      before = λ k n m. at_before (lines_of bytes) most_cards (k - 1) (omega arith) h.1 (omega arith);
       stops = inl refl;
     }
 IsStop-fault bytes Memory h = absurd h

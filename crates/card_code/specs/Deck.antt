@@ -1,6 +1,7 @@
 -- A deck text: one card a line, each byte of the line a column punched by the card code.
 use Rattle.std.specs.Prelude.{◌≡◌, ℕ, ◌+◌, ◌-◌, ◌<◌, ◌≤◌, List, [], length, take, slice_index, slice_index_or, All, EachIndex, IsSome, Option, Some, None}
 use Rattle.std.specs.List.{AllZip}
+use Rattle.card_code.specs.MostCards.{most_cards}
 use Rattle.card_code.specs.CardCode.{rows_of}
 use Rattle.card_code.specs.Lines.{lines_of}
 use Rattle.card_code.specs.declared.deck.DeckFault.{DeckFault}
@@ -22,7 +23,7 @@ pub record IsCardOf (line card : List ℕ) : Type 0 where
 
 -- the cards of a deck text, at most 999,999: one for each line, in order
 pub record Deck (bytes : List ℕ) (cards : List (List ℕ)) : Type 0 where
-  pub few : length cards ≤ 999999
+  pub few : length cards ≤ most_cards
   pub each : AllZip IsCardOf (lines_of bytes) cards
 
 -- a line that a card can be punched from: at most 80 bytes, each a deck character
@@ -48,7 +49,7 @@ HasLineFault line number Memory = ⊥
 -- a line, from 1, of the first 999,999 that comes behind punchable lines alone
 pub record IsReached (bytes : List ℕ) (line : ℕ) : Type 0 where
   pub from : 1 ≤ line
-  pub to : line ≤ 999999
+  pub to : line ≤ most_cards
   pub within : line ≤ length (lines_of bytes)
   pub before : All IsPunchable (take (line - 1) (lines_of bytes))
 
@@ -61,5 +62,5 @@ line_at bytes line = slice_index_or (lines_of bytes) (line - 1) []
 abbrev pub HasFault : List ℕ → DeckFault → Type 0
 HasFault bytes (CardTooLong line) = IsReached bytes line × (80 < length (line_at bytes line))
 HasFault bytes (NoSuchCharacter line column) = IsReached bytes line × IsOddColumn (line_at bytes line) column
-HasFault bytes TooManyCards = (1000000 ≤ length (lines_of bytes)) × All IsPunchable (take 999999 (lines_of bytes))
+HasFault bytes TooManyCards = (most_cards < length (lines_of bytes)) × All IsPunchable (take most_cards (lines_of bytes))
 HasFault bytes Memory = ⊥

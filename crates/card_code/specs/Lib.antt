@@ -1,4 +1,5 @@
 pub mod CardCode
 pub mod Deck
 pub mod Lines
+pub mod MostCards
 pub mod Rows

@@ -2,10 +2,11 @@
 
 ghost use Rattle.std.specs.Prelude.{◌≡◌, ℕ, length, IfOk, IfSome, Some, None, map, option_map, ◌++◌};
 ghost use Rattle.std.specs.Str.{bytes_eq};
-ghost use Rattle.tokens.specs.Dividing.{texts};
 ghost use Rattle.tokens.specs.NumberReading.{numbers_of};
+ghost use Rattle.tokens.specs.Texts.{texts};
 ghost use Rattle.chart_text.specs.HelperForms.{sign_of, total_mark_of, option_of, kind_of, stops_of, field_kind_of, field_of, control_of, print_of, head_of, detail_literal_of, detail_field_of, detail_of, total_literal_of, total_field_of, total_of, spacing_of, space_of, follower_of, after_of, form_of, tape_of, said_behind, statement_of};
 
+use crate::scanner::read_number;
 use crate::words::{
     Keyword, read_control_level, read_heading_line, read_keyword, read_level, read_literal,
     read_mark, read_name, read_spacing_lines,
@@ -15,7 +16,7 @@ use charts::{
     Statement, Stops,
 };
 use std::alloc::{AllocError, Global};
-use tokens::{is, read_number};
+use tokens::is;
 
 /// What the tokens of a line say, or `None` where they are no form.
 #[tactic(auto, unfolding(crate::specs::HelperForms::statement_of))]

@@ -14,6 +14,7 @@ mod fault;
 mod forms;
 mod laws;
 mod read;
+mod scanner;
 mod words;
 
 pub use fault::TextFault;

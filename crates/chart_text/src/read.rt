@@ -2,8 +2,8 @@
 
 ghost use Rattle.std.specs.Prelude.{◌≡◌, ◌≢◌, ◌+◌, ◌<◌, ◌≤◌, ℕ, length, IfOk, IfErr, IfSome, OnOk, None, unwrap_or, ◌⊎◌};
 ghost use Rattle.card_code.specs.Lines.{lines_of};
-ghost use Rattle.tokens.specs.Dividing.{texts};
 ghost use Rattle.tokens.specs.HelperLines.{tokens_content};
+ghost use Rattle.tokens.specs.Texts.{texts};
 ghost use Rattle.chart_text.specs.HelperForms.{statement_of};
 ghost use Rattle.charts.specs.Chart.{Chart, NumbersRise};
 ghost use Rattle.chart_text.specs.ChartText.{Reads};
@@ -12,10 +12,11 @@ ghost use Rattle.chart_text.specs.HelperText.{content_of, chart_from, chart_of, 
 
 use crate::fault::TextFault;
 use crate::forms::read_statement;
+use crate::scanner::{is_larger, is_title_line, split_line};
 use card_code::next_line;
 use charts::{Line, RawChart, Statement};
 use std::alloc::{AllocError, Global};
-use tokens::{Content, is, is_larger, is_title_line, split_line};
+use tokens::{Content, is};
 
 /// How many lines a chart has at most.
 const MAX_LINES: usize = 500;

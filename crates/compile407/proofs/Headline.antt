@@ -1,6 +1,7 @@
 -- The pages that the machine prints, wired for a chart, are the chart's report of the deck.
 use Rattle.std.proofs.Common.{◌≡◌, ◌∙◌, ℕ, ◌≤◌, List, ◌∷◌, length, ap, subst, sym}
 use Rattle.std.specs.List.{All}
+use Rattle.card_code.specs.MostCards.{most_cards}
 use Rattle.plans.specs.Plans.{Lists, IsFor}
 use Rattle.placed_lines.specs.declared.placed_line.PlacedLine.{PlacedLine}
 use Rattle.chart_rules.specs.Rules.{IsLawful}
@@ -58,7 +59,7 @@ wired_setups_begin_reports chart plan wiring sound serves wired card cards later
 
 -- a deck can be run by the chart of a compilation
 pub compiled_deck : (compiled : Compilation) (chart : Chart) (cards : List (List ℕ)) → chart ≡ compiled.chart →
-    length cards ≤ 999999 → All (IsValidCard chart) cards → IsDeck compiled.chart cards
+    length cards ≤ most_cards → All (IsValidCard chart) cards → IsDeck compiled.chart cards
 compiled_deck compiled chart cards same_chart long valid =
     let V : Chart → Type 0 = λ c. All (IsValidCard c) cards in
     record { valid = subst V same_chart valid; long = long }

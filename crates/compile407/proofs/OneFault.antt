@@ -5,6 +5,7 @@ use Rattle.std.proofs.lemmas.Bool.{cases_lt}
 use Rattle.std.proofs.lemmas.List.{get_or-take, length-take-le}
 use Rattle.std.proofs.lemmas.List.Elements.{All-get_or}
 use Rattle.std.proofs.lemmas.Option.{slice_get_within, get_or_from_slice_get}
+use Rattle.card_code.specs.MostCards.{most_cards}
 use Rattle.allocate.proofs.OneFault.{charts_exceed_one_capacity}
 use Rattle.allocate.specs.Exceeded.{HasFault as Exceeds}
 use Rattle.wanted.specs.Wanted.{wanted_of}
@@ -138,8 +139,8 @@ module _ (of_cards : Chart) (cards : List (List ℕ)) where
 
   -- why a deck has a fault: it has too many cards, one that isn't valid, or a total that doesn't fit
   data DeckCause (fault : RunFault) : Type 0 where
-    by_count : 999999 < length cards → fault ≡ deck.TooManyCards → DeckCause fault
-    by_card : length cards ≤ 999999 → IsInvalidDeck of_cards cards fault → DeckCause fault
+    by_count : most_cards < length cards → fault ≡ deck.TooManyCards → DeckCause fault
+    by_card : length cards ≤ most_cards → IsInvalidDeck of_cards cards fault → DeckCause fault
     by_total : IsDeck of_cards cards → IsMisfit of_cards cards fault → DeckCause fault
 
   -- each fault of a deck has its cause

@@ -1,5 +1,6 @@
 -- The headline: the pages that the machine prints, wired for a chart, are the chart's report of the deck.
 use Rattle.std.specs.Prelude.{◌≡◌, ℕ, ◌≤◌, List, ◌∷◌, ◌++◌, length, All}
+use Rattle.card_code.specs.MostCards.{most_cards}
 use Rattle.plans.specs.Plans.{Lists, IsFor}
 use Rattle.placed_lines.specs.declared.placed_line.PlacedLine.{PlacedLine}
 use Rattle.chart_rules.specs.Rules.{IsLawful}
@@ -29,7 +30,7 @@ pub record IsSound (chart : Chart) : Type 0 where
 -- a deck that can be run: valid cards, at most 999,999 of them
 pub record IsDeck (chart : Chart) (cards : List (List ℕ)) : Type 0 where
   pub valid : All (IsValidCard chart) cards
-  pub long : length cards ≤ 999999
+  pub long : length cards ≤ most_cards
 
 -- For every such deck whose totals fit the machine has a run, and the pages of the lines that it places are the report, byte by byte.
 abbrev pub PrintsReport : Chart → Wiring → Type 0

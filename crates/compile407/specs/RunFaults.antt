@@ -1,5 +1,6 @@
 -- What a fault says of a deck of cards.
 use Rattle.std.specs.Prelude.{◌≡◌, ℕ, ◌+◌, ◌<◌, ◌≤◌, List, Some, length, take, slice_get, All}
+use Rattle.card_code.specs.MostCards.{most_cards}
 use Rattle.charts.specs.Chart.{Chart}
 use Rattle.field_rules.specs.Fields.{fields_of}
 use Rattle.chart_rules.specs.ValidCard.{IsValidCard, IsFirstInvalid}
@@ -33,11 +34,11 @@ pub record IsMisfit (chart : Chart) (cards : List (List ℕ)) (fault : RunFault)
 
 -- What a fault says of a deck; no deck makes memory run out.
 abbrev pub HasRunFault : Chart → List (List ℕ) → RunFault → Type 0
-HasRunFault chart cards deck.TooManyCards = 999999 < length cards
+HasRunFault chart cards deck.TooManyCards = most_cards < length cards
 HasRunFault chart cards (deck.NotText number column) =
-    (length cards ≤ 999999) × IsInvalidDeck chart cards (deck.NotText number column)
+    (length cards ≤ most_cards) × IsInvalidDeck chart cards (deck.NotText number column)
 HasRunFault chart cards (deck.NotAmount number column) =
-    (length cards ≤ 999999) × IsInvalidDeck chart cards (deck.NotAmount number column)
+    (length cards ≤ most_cards) × IsInvalidDeck chart cards (deck.NotAmount number column)
 HasRunFault chart cards (deck.DoesNotFit level name card) =
     IsDeck chart cards × IsMisfit chart cards (deck.DoesNotFit level name card)
 HasRunFault chart cards deck.Memory = ⊥

@@ -20,4 +20,5 @@ pub use laws::{
     decks_have_one_fault, read_setups_print_alike, runnable_decks_have_no_fault,
     wired_setups_begin_reports, wired_setups_print_reports, written_setups_print_reports,
 };
-pub use running::{MOST_CARDS, first_misfit, run};
+pub use misfits::Misfit;
+pub use running::{first_misfit, run};

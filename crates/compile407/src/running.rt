@@ -1,6 +1,7 @@
 //! Running a deck of cards, from the cards to the bytes of the pages.
 
 ghost use Rattle.std.specs.Prelude.{◌≡◌, ◌≢◌, ◌≤◌, ◌<◌, ◌+◌, length, IfOk, IfErr, OnOk, All, option_map};
+ghost use Rattle.card_code.specs.MostCards.{most_cards};
 ghost use Rattle.misfits.specs.Told.{told};
 ghost use Rattle.report.specs.Misfits.{first_of, misfits};
 ghost use Rattle.report.specs.Totals.{Fits};
@@ -13,15 +14,12 @@ ghost use Rattle.chart_rules.specs.ValidCard.{IsValidCard};
 
 use crate::compiled::Compiled;
 use crate::fault::RunFault;
-use card_code::Card;
+use card_code::{Card, MOST_CARDS};
 use chart_rules::{CardFault, Chart, valid_card};
 use machine::simulate;
 use misfits::Misfit;
 use page_text::page_bytes;
 use std::alloc::Global;
-
-/// The most cards that a deck may have.
-pub const MOST_CARDS: usize = 999_999;
 
 // What is told of an invalid card with a number.
 fn fault_of(fault: CardFault, card: u32) -> RunFault
@@ -35,7 +33,7 @@ fn fault_of(fault: CardFault, card: u32) -> RunFault
 
 // Refuses a deck with an invalid card, by the first such card.
 fn check_cards(chart: &Chart, cards: &[Card]) -> Result<(), RunFault>
-    requires { length cards.now ≤ 999999 }
+    requires { length cards.now ≤ most_cards }
     ensures valid { OnOk result (All (IsValidCard chart.now) cards.now) }
     ensures invalid { IfErr result (IsInvalidDeck chart.now cards.now) }
 {
@@ -50,7 +48,7 @@ fn check_cards(chart: &Chart, cards: &[Card]) -> Result<(), RunFault>
 /// The first total of a deck of at most 999,999 cards that has more digits than its total line has room for: by the last card of its
 /// group, then by its level, the lowest first, then by its line of the chart. None where all totals fit.
 pub fn first_misfit(compiled: &Compiled, cards: &[Card]) -> Option<Misfit>
-    requires { length cards.now ≤ 999999 }
+    requires { length cards.now ≤ most_cards }
     ensures { option_map told result ≡ first_of (misfits compiled.now.chart.lines cards.now) }
 {
     misfits::first_misfit(compiled.chart(), cards)
@@ -58,7 +56,7 @@ pub fn first_misfit(compiled: &Compiled, cards: &[Card]) -> Option<Misfit>
 
 // Refuses a deck with a total that doesn't fit, by the first such total.
 fn check_totals(compiled: &Compiled, cards: &[Card]) -> Result<(), RunFault>
-    requires { length cards.now ≤ 999999 }
+    requires { length cards.now ≤ most_cards }
     ensures fits { OnOk result (Fits compiled.now.chart.lines cards.now) }
     ensures misfit { IfErr result (IsMisfit compiled.now.chart cards.now) }
 {

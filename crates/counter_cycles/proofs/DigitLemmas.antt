@@ -8,6 +8,8 @@ use Rattle.std.proofs.Math.Nat.{add-mul-div_right, add-mul-mod_self_right, div-e
 use Rattle.counters.specs.Counters.{Counter}
 use Rattle.counters.specs.Laws.{IsCounter, IsDigit}
 use Rattle.counters.specs.Numbers.{number}
+use Rattle.counters.specs.WholeCycles.{listed}
+use Rattle.counters.proofs.ListedDigits.{length-listed, listed-same}
 use Rattle.counters.proofs.NumberLemmas.{number-lt}
 use Rattle.counter_cycles.specs.Acts.{digit_of}
 use Rattle.counter_cycles.specs.Digits.{spelt}
@@ -93,15 +95,7 @@ spelt-left n (suc count) =
 pub spelt-number : (n count : ℕ) → n < 10 ^ count → spelt (digit_of n) count ≡ n
 spelt-number n count small = spelt-left n count ∙ mod-eq_of_lt small
 
--- digits by position as a list, from the top down
-abbrev pub listed : (ℕ → ℕ) → ℕ → List ℕ
-listed digit zero = []
-listed digit (suc position) = digit (position + 1) ∷ listed digit position
-
-pub length-listed : (digit : ℕ → ℕ) (count : ℕ) → length (listed digit count) ≡ count
-length-listed digit zero = refl
-length-listed digit (suc count) = ap suc (length-listed digit count)
-
+-- digits by position spell the same as a list
 pub number-listed : (digit : ℕ → ℕ) (count : ℕ) → number (listed digit count) ≡ spelt digit count
 number-listed digit zero = refl
 number-listed digit (suc count) =
@@ -112,14 +106,6 @@ pub listed-digits : (digit : ℕ → ℕ) (count : ℕ) → ((other : ℕ) → d
 listed-digits digit zero small = All-nil IsDigit
 listed-digits digit (suc count) small =
     All-cons IsDigit (digit (count + 1)) (listed digit count) (small (count + 1)) (listed-digits digit count small)
-
--- digits that are the same at each position are one list
-pub listed-same : (one other : ℕ → ℕ) (count : ℕ) → ((position : ℕ) → 1 ≤ position → position ≤ count → one position ≡ other position)
-    → listed one count ≡ listed other count
-listed-same one other zero same = refl
-listed-same one other (suc count) same =
-    ap (λ d. d ∷ listed one count) (same (count + 1) (omega arith) (omega arith))
-    ∙ ap (λ ds. other (count + 1) ∷ ds) (listed-same one other count (λ position from to. same position from (omega (arith, to))))
 
 -- digits are the list of those of their number
 pub listed-number : (ds : List ℕ) → All IsDigit ds → ds ≡ listed (digit_of (number ds)) (length ds)

@@ -15,10 +15,11 @@ use Rattle.hubs.specs.Hubs.{number_of}
 use Rattle.counters.specs.Counters.{shows}
 use Rattle.counters.specs.Laws.{IsDigit}
 use Rattle.counters.specs.Numbers.{number}
+use Rattle.counters.specs.WholeCycles.{listed}
 use Rattle.counters.proofs.NumberLemmas.{number-lt}
 use Rattle.counter_cycles.specs.Acts.{digit_of}
 use Rattle.counter_cycles.specs.Laws.{DigitsAndNumbers, GroupsShowTheirDigits}
-use Rattle.counter_cycles.proofs.DigitLemmas.{digit_of-above, digit_of-below, digit_of-top, listed, listed-number, number-within, spelt-digit, spelt-number, spelt-small}
+use Rattle.counter_cycles.proofs.DigitLemmas.{digit_of-above, digit_of-below, digit_of-top, listed-number, number-within, spelt-digit, spelt-number, spelt-small}
 
 -- whether two exits of a group are one, by their positions
 is_hub-GX : (name : Group) (one other : ℕ) → is_width name.width ≡ true → is_within name.number 8 ≡ true

@@ -3,7 +3,8 @@
 use Rattle.std.specs.Prelude.{◌≡◌, ℕ, ◌+◌, ◌-◌, ◌*◌, ◌/◌, ◌%◌, ◌^◌, ◌≤◌, ◌<◌, ◌==◌, nat_le, Bool, true, false}
 use Rattle.card_code.specs.Rows.{row_number}
 use Rattle.card_code.specs.declared.row.Row.{Row as CardRow}
-use Rattle.counters.specs.Numbers.{left_number}
+use Rattle.counters.specs.Counters.{Counter}
+use Rattle.counters.specs.Numbers.{left_number, number}
 use Rattle.counters.specs.declared.controls.Controls.{Controls}
 use Rattle.hubs.specs.declared.hub.Group.{Group}
 use Rattle.hubs.specs.declared.hub.Hub.{Hub}
@@ -68,6 +69,10 @@ pub record Asks (act : Act) (held : ℕ) (name : Group) (pictures : Point → Hu
 pub record Held : Type 0 where
   pub number : ℕ
   pub latch : Bool
+
+-- what a group holds: the number that its digits spell, and its balance latch
+abbrev pub held_by : Counter → Held
+held_by counter = record { number = number counter.digits; latch = counter.latch }
 
 -- the number of a group behind what was asked: `power` is ten to as many as it has positions
 abbrev pub number_after : (is_ring : Bool) (power : ℕ) → Act → ℕ → ℕ

@@ -9,9 +9,9 @@ use Rattle.net.specs.declared.cycle.Point.{Point}
 use Rattle.counters.specs.Counters.{Counter, counter_at_start, no_controls, shows, top_is_nine}
 use Rattle.counters.specs.Laws.{IsCounter, IsDigit}
 use Rattle.counters.specs.Numbers.{number}
-use Rattle.counter_cycles.specs.Acts.{Act, Asks, IsWithinGroup, digit_of, held_after}
+use Rattle.counters.specs.WholeCycles.{after_cycle}
+use Rattle.counter_cycles.specs.Acts.{Act, Asks, IsWithinGroup, digit_of, held_after, held_by}
 use Rattle.counter_cycles.specs.Digits.{spelt}
-use Rattle.counter_cycles.specs.GroupCycles.{counter_behind, held_by}
 
 -- A group between two cycles is a group of the panel, with nothing entered.
 pub record IsReady (counter : Counter) : Type 0 where
@@ -32,7 +32,7 @@ GroupsDoWhatIsAsked =
     (act : Act) (counter : Counter) (cycle : Cycle) (pictures : Point → Hub → Bool)
     → IsReady counter → IsWithinGroup counter.name.width act
     → Asks act (number counter.digits) counter.name pictures
-    → HasDone act counter (counter_behind cycle pictures counter)
+    → HasDone act counter (after_cycle cycle pictures counter)
 
 -- Everything can be asked of every group: there are pictures that ask it.
 abbrev pub EverythingCanBeAsked : Type 0

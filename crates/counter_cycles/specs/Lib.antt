@@ -1,4 +1,3 @@
 pub mod Acts
 pub mod Digits
-pub mod GroupCycles
 pub mod Laws

@@ -1,12 +1,13 @@
 pub mod Carries
 pub mod ControlHubs
 pub mod Cycles
+pub mod EarliestRows
 pub mod Idle
+pub mod ListedDigits
 pub mod NumberLemmas
 pub mod Staying
 pub mod TakenRows
 pub mod OwnHubs
-pub mod Posted
 pub mod ShownRows
 pub mod Starts
 pub mod Steps

@@ -3,6 +3,6 @@ pub mod Fields
 pub mod Laws
 pub mod Numbers
 pub mod Places
-pub mod Postings
 pub mod Shown
 pub mod Wheels
+pub mod WholeCycles

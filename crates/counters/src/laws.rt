@@ -1,8 +1,8 @@
 //! Laws of counter groups. Each is a function that does nothing: its contract is the law.
 
 ghost use Rattle.counters.specs.Laws.{CountersKeepToTheirOwn, CountersStay, CyclesAreSums, TurningIsAdding};
-ghost use Rattle.counters.specs.Postings.{PostingsAreSums, SmallSumsStand};
 ghost use Rattle.counters.specs.Places.{WheelsFollowCarryRule};
+ghost use Rattle.counters.specs.WholeCycles.{EarliestRowsAreEntered};
 
 /// A wheel gets one more step exactly where, going down from the next lower one, some wheel passed from 9 to 0 and
 /// all between stand at 9. In a ring the way goes on from the units to the top, as far as the wheel itself.
@@ -33,9 +33,8 @@ pub fn groups_keep_to_their_own_hubs()
     ensures { CountersKeepToTheirOwn }
 {}
 
-/// A group whose wheels form a ring, behind many cycles of adding and subtracting, stands for the sum; a sum that is
-/// smaller than all nines stands as itself or, below 0, as what it lacks of all nines, and zero as zeros or nines.
-pub fn signed_entries_add_up()
-    ensures sums { PostingsAreSums }
-    ensures small { SmallSumsStand }
+/// Behind the points of a cycle a group has the controls of the control point and, under plus or minus, at each position the digit
+/// of the earliest of the rows 9 to 1 at which its entry was impulsed, or 0. The number of these digits is what is added.
+pub fn earliest_rows_are_entered()
+    ensures { EarliestRowsAreEntered }
 {}

@@ -12,6 +12,6 @@ mod wheel;
 pub use digits::Digits;
 pub use group::Group;
 pub use laws::{
-    carries_follow_the_rule, cycles_are_sums, groups_keep_to_their_own_hubs, groups_stay_groups,
-    signed_entries_add_up, turning_is_adding,
+    carries_follow_the_rule, cycles_are_sums, earliest_rows_are_entered,
+    groups_keep_to_their_own_hubs, groups_stay_groups, turning_is_adding,
 };

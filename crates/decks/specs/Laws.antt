@@ -1,6 +1,7 @@
 -- Laws of decks: how a report, its misfits and its places follow the cards.
 use Rattle.std.specs.Prelude.{◌≡◌, ◌↔◌, ℕ, ◌+◌, ◌*◌, ◌^◌, ◌≤◌, ◌<◌, List, ◌∷◌, ◌++◌, Some, length, All}
 use Rattle.std.specs.List.{Contains}
+use Rattle.card_code.specs.MostCards.{most_cards}
 use Rattle.placed_lines.specs.declared.placed_line.PlacedLine.{PlacedLine}
 use Rattle.charts.specs.Chart.{Chart}
 use Rattle.charts.specs.declared.chart.Line.{Line}
@@ -63,7 +64,7 @@ PagesAreFew =
 -- With at most 999,999 cards no page number reaches 2 to the 32nd.
 abbrev pub PagesHaveNumbers : Type 0
 PagesHaveNumbers =
-    (chart : Chart) (cards : List (List ℕ)) → length cards ≤ 999999
+    (chart : Chart) (cards : List (List ℕ)) → length cards ≤ most_cards
     → All (λ (line : PlacedLine). line.page < 2 ^ 32) (report_lines chart cards)
 
 -- The cards of each unfinished group are alike with the card that comes next.

@@ -1,5 +1,6 @@
 -- Laws of whole runs, for every setup of the panel and every deck.
 use Rattle.std.specs.Prelude.{◌≡◌, ℕ, ◌+◌, ◌*◌, ◌≤◌, ◌↔◌, Bool, Option, List, ◌++◌, length}
+use Rattle.card_code.specs.MostCards.{most_cards}
 use Rattle.placed_lines.specs.InOrder.{IsInOrder}
 use Rattle.placed_lines.specs.declared.placed_line.PlacedLine.{PlacedLine}
 use Rattle.hubs.specs.declared.hub.Hub.{Hub}
@@ -34,7 +35,7 @@ RunsHaveFewCycles =
 abbrev pub LinesComeInOrder : Type 0
 LinesComeInOrder =
     (wiring : Wiring) (cards : List (List ℕ)) (lines : List PlacedLine)
-    → IsForm wiring.tape → length cards ≤ 999999 → MachineLines wiring cards lines → IsInOrder wiring.tape.lines lines
+    → IsForm wiring.tape → length cards ≤ most_cards → MachineLines wiring cards lines → IsInOrder wiring.tape.lines lines
 
 -- At most one cycle follows in a feed, and it leaves one machine.
 abbrev pub OneCycleFollows : Type 0

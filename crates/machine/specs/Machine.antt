@@ -15,7 +15,7 @@ use Rattle.print_unit.specs.declared.emitters.Emitters.{Emitters}
 use Rattle.program_unit.specs.Program.{ProgramState, program_at_start, program_emits, program_sensed, program_ended}
 use Rattle.selectors.specs.Indicate.{Latches, indicate_at_start, indicate_closes, indicate_ended}
 use Rattle.selectors.specs.Pilots.{PilotStates, pilots_at_start, pilots_closes, pilots_sensed, pilots_ended}
-use Rattle.selectors.specs.Splits.{splits_closes}
+use Rattle.selectors.specs.Splits.{splits_at_start, splits_closes}
 use Rattle.selectors.specs.declared.splits.Splits.{Splits}
 use Rattle.stations.specs.Comparing.{Compared, comparing_at_start, comparing_emits, comparing_sensed, comparing_ended}
 use Rattle.stations.specs.Stations.{StationCards, stations_at_start, stations_emits, stations_ended}
@@ -54,7 +54,7 @@ machine_at_start wiring = record {
   storage = map storage_at_start storage_units;
   pilots = pilots_at_start;
   indicate = indicate_at_start;
-  splits = record {};
+  splits = splits_at_start;
   emitters = emitters_at_start;
   wheels = wheels_at_start wiring;
   carriage = carriage_at_start wiring;

@@ -1,6 +1,7 @@
 -- A machine that runs: it is fed at most 999,999 cards and then the end, and takes nothing more behind the end. Where memory
 -- was refused in a feed it is spoiled, and takes nothing from then on.
 use Rattle.std.specs.Prelude.{◌≡◌, ℕ, ◌+◌, ◌==◌, ◌&&◌, Bool, true, false, List, Option, Some, None, is_some, if◌then◌else◌}
+use Rattle.card_code.specs.MostCards.{most_cards}
 use Rattle.setups.specs.Wiring.{Wiring}
 use Rattle.net.specs.Nets.{NetRows, IsNetOf}
 use Rattle.machine.specs.Machine.{MachineState, machine_at_start}
@@ -28,7 +29,7 @@ abbrev pub refusal : Running → Option (List ℕ) → Option FeedFault
 refusal running next =
     if running.is_spoiled
     then Some Spoiled
-    else if is_some next && (running.cards == 999999)
+    else if is_some next && (running.cards == most_cards)
     then Some TooManyCards
     else if running.is_ended then Some Ended else None
 

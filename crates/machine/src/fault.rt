@@ -1,15 +1,21 @@
 //! Why a feed fails.
 
+use thiserror::Error;
+
 /// Why a feed fails.
-#[derive(Clone, Copy, Debug, PartialEq, Eq)]
+#[derive(Clone, Copy, Debug, PartialEq, Eq, Error)]
 pub enum FeedFault {
     /// Memory was refused in a feed before, and what that feed left to do is lost.
+    #[error("an earlier feed ran out of memory")]
     Spoiled,
     /// A card behind the 999,999th.
+    #[error("more than 999,999 cards")]
     TooManyCards,
     /// The end was fed before.
+    #[error("the end of the deck was fed before")]
     Ended,
     /// No memory is left for the lines.
+    #[error("out of memory")]
     Memory,
 }
 

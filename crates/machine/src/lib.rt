@@ -17,6 +17,6 @@ mod run;
 mod units;
 
 pub use fault::FeedFault;
-pub use machine::{MOST_CARDS, Machine};
+pub use machine::Machine;
 pub use placed_lines::{LINE_WHEELS, PlacedLine};
 pub use run::simulate;

@@ -2,15 +2,12 @@
 
 use crate::fault::FeedFault;
 use crate::units::Units;
-use card_code::Card;
+use card_code::{Card, MOST_CARDS};
 use net::Net;
 use placed_lines::PlacedLine;
 use setups::Setup;
 use std::alloc::{AllocError, Global};
 use std::marker::Model;
-
-/// How many cards a machine takes.
-pub const MOST_CARDS: u32 = 999_999;
 
 /// A machine with a setup of the panel. It is fed the cards of a deck one by one, and then the end.
 ///
@@ -39,8 +36,9 @@ impl Model for Machine {
     } };
 
     ghost use Rattle.std.specs.Prelude.{◌≤◌};
+    ghost use Rattle.card_code.specs.MostCards.{most_cards};
 
-    ghost invariant = { λ machine. machine.cards ≤ 999999 };
+    ghost invariant = { λ machine. machine.cards ≤ most_cards };
 }
 
 impl Machine {
@@ -103,7 +101,7 @@ impl Machine {
     {
         if self.is_spoiled {
             Some(FeedFault::Spoiled)
-        } else if next.is_some() && self.cards == MOST_CARDS {
+        } else if next.is_some() && self.cards as usize == MOST_CARDS {
             Some(FeedFault::TooManyCards)
         } else if self.is_ended {
             Some(FeedFault::Ended)

@@ -1,6 +1,7 @@
 //! A whole run of the machine.
 
 ghost use Rattle.std.specs.Prelude.{◌≤◌, IfOk, length};
+ghost use Rattle.card_code.specs.MostCards.{most_cards};
 ghost use Rattle.placed_lines.specs.InOrder.{IsInOrder};
 ghost use Rattle.machine.specs.Runs.{MachineLines};
 
@@ -16,7 +17,7 @@ use std::alloc::{AllocError, Global};
 ///
 /// Any setup will do. An empty deck prints nothing. The only error is that no memory is left.
 pub fn simulate(alloc: Global, setup: &Setup, cards: &[Card]) -> Result<Vec<PlacedLine>, AllocError>
-    requires { length cards.now ≤ 999999 }
+    requires { length cards.now ≤ most_cards }
     ensures lines { IfOk result (λ lines. MachineLines setup.now cards.now lines.items) }
     ensures in_order { IfOk result (λ lines. IsInOrder setup.now.tape.lines lines.items) }
 {

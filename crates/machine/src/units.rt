@@ -68,7 +68,7 @@ impl Units {
             ],
             pilots: Pilots::new(),
             indicate: Indicate::new(),
-            splits: Splits,
+            splits: Splits::new(),
             emitters: Emitters::new(),
             wheels: Wheels::new(setup),
             carriage: Carriage::new(setup),

@@ -1,6 +1,7 @@
 //! The first misfit of a deck.
 
 ghost use Rattle.std.specs.Prelude.{◌≡◌, ◌≤◌, ◌∷◌, [], length, option_map};
+ghost use Rattle.card_code.specs.MostCards.{most_cards};
 ghost use Rattle.chart_rules.specs.Rules.{IsLawful};
 ghost use Rattle.report.specs.Outline.{outline_of};
 ghost use Rattle.report.specs.Misfits.{first_of, misfits};
@@ -44,7 +45,7 @@ fn earlier(one: Option<Misfit>, other: Option<Misfit>) -> Option<Misfit>
 /// The first misfit of a line of the chart, if it is a total and has one.
 fn misfit_of(chart: &Chart, line: &Line, cards: &[Card]) -> Option<Misfit>
     requires total { IsGoodTotal chart.now.lines line.now.statement }
-    requires few { length cards.now ≤ 999999 }
+    requires few { length cards.now ≤ most_cards }
     ensures { option_map told result ≡ first_of (misfits_of chart.now.lines (line.now ∷ []) 0 (outline_of chart.now.lines cards.now)) }
 {
     match &line.statement {
@@ -71,7 +72,7 @@ fn misfit_of(chart: &Chart, line: &Line, cards: &[Card]) -> Option<Misfit>
 ///
 /// One pass over the deck for each total of the chart. No memory is taken.
 pub fn first_misfit(chart: &Chart, cards: &[Card]) -> Option<Misfit>
-    requires { length cards.now ≤ 999999 }
+    requires { length cards.now ≤ most_cards }
     ensures { option_map told result ≡ first_of (misfits chart.now.lines cards.now) }
 {
     let mut first = None;

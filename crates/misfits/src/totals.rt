@@ -1,6 +1,7 @@
 //! The totals of one amount at the ends of the groups of one level.
 
-ghost use Rattle.std.specs.Prelude.{◌≡◌, ◌+◌, ◌<◌, ◌≤◌, ◌^◌, ℕ, pos, length, IfSome};
+ghost use Rattle.std.specs.Prelude.{◌≡◌, ◌+◌, ◌*◌, ◌<◌, ◌≤◌, ◌^◌, ℕ, pos, length, IfSome};
+ghost use Rattle.card_code.specs.MostCards.{most_cards};
 ghost use Rattle.report.specs.Edits.{size};
 ghost use Rattle.report.specs.Misfits.{fits_in};
 ghost use Rattle.misfits.specs.HelperAmounts.{IsGoodAmount};
@@ -25,7 +26,7 @@ fn fits_in(digits: u16, total: i64) -> bool
 fn after_card(field: &Field, digits: u16, sum: i64, card: &Card, ends: bool) -> Option<i64>
     requires amount { IsGoodAmount field.now }
     requires few_digits { digits ≤ 8 }
-    requires small { IsWithin 99999900000000 sum }
+    requires small { IsWithin (most_cards * 100000000) sum }
     ensures value { result ≡ after_card field.now digits sum card.now ends }
     ensures small { IfSome result (λ next. (most : ℕ) → IsWithin most sum → IsWithin (most + 100000000) next) }
 {
@@ -49,7 +50,7 @@ pub(crate) fn first_over(
 ) -> Option<u32>
     requires amount { IsGoodAmount field.now }
     requires few_digits { digits ≤ 8 }
-    requires few_cards { length cards.now ≤ 999999 }
+    requires few_cards { length cards.now ≤ most_cards }
     ensures { result ≡ first_over chart.now.lines level field.now digits (pos 0) 0 cards.now }
 {
     let mut sum = 0;

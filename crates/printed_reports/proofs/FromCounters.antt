@@ -2,9 +2,8 @@
 use Rattle.std.proofs.Common.{◌≡◌, ◌∙◌, refl, sym, ap, subst, ℕ, ◌≤◌, Bool, true, false, List, [], Contains, Option, Some, None, is_some, option_and_then, if◌then◌else◌, arith}
 use Rattle.std.proofs.lemmas.List.Elements.{All-contains}
 use Rattle.counter_cycles.proofs.ActLemmas.{acts-done}
-use Rattle.counter_cycles.specs.Acts.{Act, Asks, Held, IsWithinGroup, held_after}
+use Rattle.counter_cycles.specs.Acts.{Act, Asks, Held, IsWithinGroup, held_after, held_by}
 use Rattle.counter_cycles.specs.Acts.Act.{Still}
-use Rattle.counter_cycles.specs.GroupCycles.{counter_behind, held_by}
 use Rattle.plans.specs.Plans.{Lists}
 use Rattle.charts.specs.Chart.{Chart, NumbersRise}
 use Rattle.charts.specs.Levels.{level_number}
@@ -14,6 +13,7 @@ use Rattle.charts.specs.declared.level.Level.TheVariants as chart_level
 use Rattle.charts.specs.declared.statement.Field.{Field}
 use Rattle.counters.specs.Counters.{Counter}
 use Rattle.counters.specs.Numbers.{number}
+use Rattle.counters.specs.WholeCycles.{after_cycle}
 use Rattle.setups.specs.Wiring.{Wiring, is_wired}
 use Rattle.hubs.specs.declared.hub.Group.{Group}
 use Rattle.hubs.specs.declared.hub.Hub.TheVariants.{CO, CI}
@@ -71,9 +71,9 @@ group_done wiring cycle old new group act signed is is_new all there ring fits a
     (subst (λ (h : Held). Asks act h.number group all.pictures) holds asks) in
     let room : IsWithinGroup counter.name.width act = subst (λ (g : Group). IsWithinGroup g.width act) (sym named) fits in
     let done = acts-done act counter cycle all.pictures (record { is_counter = idle.lawful; entered = idle.entered }) room asked in
-    let behind = counter_behind cycle all.pictures counter in
+    let behind = after_cycle cycle all.pictures counter in
     let listed_new : Contains new.groups behind
-    = subst (λ (gs : List Counter). Contains gs behind) (sym all.groups) (map-contains (counter_behind cycle all.pictures) old.groups counter listed) in
+    = subst (λ (gs : List Counter). Contains gs behind) (sym all.groups) (map-contains (after_cycle cycle all.pictures) old.groups counter listed) in
     held_there new behind group is_new.between listed_new (done.name ∙ named)
     ∙ done.held
     ∙ ap (λ (b : Bool). held_after b counter.name.width act (held_by counter))

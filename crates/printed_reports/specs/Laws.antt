@@ -1,5 +1,6 @@
 -- The law of machines that are wired for charts.
 use Rattle.std.specs.Prelude.{◌≡◌, ℕ, ◌≤◌, List, All, length}
+use Rattle.card_code.specs.MostCards.{most_cards}
 use Rattle.plans.specs.Plans.{Lists}
 use Rattle.placed_lines.specs.declared.placed_line.PlacedLine.{PlacedLine}
 use Rattle.chart_rules.specs.ValidCard.{IsValidCard}
@@ -18,5 +19,5 @@ abbrev pub MachinesPrintReports : Type 0
 MachinesPrintReports =
     (chart : Chart) (plan : Lists) (wiring : Wiring) (cards : List (List ℕ)) (lines : List PlacedLine)
     → IsPanel chart plan wiring → NumbersRise chart.lines chart.end → HaveLiteralTexts chart.lines
-    → All (IsValidCard chart) cards → length cards ≤ 999999 → Fits chart.lines cards → MachineLines wiring cards lines
+    → All (IsValidCard chart) cards → length cards ≤ most_cards → Fits chart.lines cards → MachineLines wiring cards lines
     → lines ≡ report_lines chart cards

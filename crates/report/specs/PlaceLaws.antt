@@ -1,6 +1,7 @@
 -- Laws of places: where a line stands by the line before it, and that places rise on the form.
 use Rattle.std.specs.Prelude.{◌≡◌, ℕ, ◌+◌, ◌-◌, ◌<◌, ◌≤◌, ◌==◌, true, List, [], ◌∷◌, ◌++◌, Some, None, length, map, if◌then◌else◌}
 use Rattle.std.specs.List.{list_any, range_with_len}
+use Rattle.card_code.specs.MostCards.{most_cards}
 use Rattle.placed_lines.specs.InOrder.{IsInOrder}
 use Rattle.placed_lines.specs.declared.placed_line.PlacedLine.{PlacedLine}
 use Rattle.charts.specs.Chart.{Chart}
@@ -74,5 +75,5 @@ LinesStandByTheLineBefore =
 -- In the report of a lawful chart, of at most 999,999 cards, places rise, and stand on the form.
 abbrev pub PlacesRise : Type 0
 PlacesRise =
-    (chart : Chart) (cards : List (List ℕ)) → IsLawful chart → length cards ≤ 999999
+    (chart : Chart) (cards : List (List ℕ)) → IsLawful chart → length cards ≤ most_cards
     → IsInOrder (form_of chart.lines).lines (report_lines chart cards)

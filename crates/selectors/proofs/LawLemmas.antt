@@ -9,6 +9,7 @@ use Rattle.hubs.specs.declared.hub.Group.{Group}
 use Rattle.hubs.specs.declared.hub.Hub.{Hub}
 use Rattle.hubs.specs.declared.hub.Hub.TheVariants.{BAN, BAT, PIN, PIT, PIX, IX, CSD, CSZ}
 use Rattle.net.specs.Panel.{contact_of}
+use Rattle.net.specs.WholeCycles.{after_points}
 use Rattle.net.specs.declared.cycle.Cycle.{Cycle}
 use Rattle.net.specs.declared.cycle.Cycle.TheVariants.{RunIn, Card}
 use Rattle.net.specs.declared.cycle.Point.{Point}
@@ -18,7 +19,7 @@ use Rattle.selectors.specs.Indicate.{Latches, indicate_closes}
 use Rattle.selectors.specs.Numbered.{tests_to}
 use Rattle.selectors.specs.Pilots.{PilotStates, is_transferred, moves_pilots, no_pilots, pilots_closes, pilots_sensed, pickups}
 use Rattle.selectors.specs.Splits.{split_closes, is_digit_row}
-use Rattle.selectors.specs.WholeCycles.{after_points, after_cycle}
+use Rattle.selectors.specs.WholeCycles.{after_cycle}
 
 -- the pickup of a pilot among those that are impulsed
 pickup_at : (picture : Hub → Bool) (pilot : ℕ)
@@ -50,7 +51,7 @@ pilots_left pilots Card pictures pilot moves = cc
 pilots_left pilots cycle pictures pilot moves = refl
 
 pub pilots_stand : (pilots : PilotStates) (cycle : Cycle) (pictures : Point → Hub → Bool) (before : List Point) (point : Point) (hub : Hub)
-    → pilots_closes (after_points cycle pictures before pilots) cycle point hub ≡ pilots_closes pilots cycle point hub
+    → pilots_closes (after_points pilots_sensed cycle pictures before pilots) cycle point hub ≡ pilots_closes pilots cycle point hub
 pilots_stand pilots cycle pictures [] point hub = refl
 pilots_stand pilots cycle pictures (first ∷ others) point hub =
     pilots_stand (pilots_sensed pilots cycle first (pictures first)) cycle pictures others point hub

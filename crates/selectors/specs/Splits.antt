@@ -21,6 +21,10 @@ split_closes (Row row) (CSD split) = is_digit_row row && is_within split 16
 split_closes (Row row) (CSZ split) = not (is_digit_row row) && is_within split 16
 split_closes point hub = false
 
+-- Splits have no state.
+abbrev pub splits_at_start : Splits
+splits_at_start = record {}
+
 -- Their contacts, in all cycles alike.
 abbrev pub splits_closes : Splits → Cycle → Point → Hub → Bool
 splits_closes splits cycle point hub = split_closes point hub

@@ -51,7 +51,7 @@ pub fn steady_contacts(
 pub fn with_splits(mut contacts: Contacts, point: Point) -> Contacts
     ensures { GainsHubs (split_closes point) contacts result }
 {
-    Splits.close(point, &mut contacts);
+    Splits::new().close(point, &mut contacts);
     contacts
 }
 

@@ -7,14 +7,15 @@ ghost use Rattle.hubs.specs.declared.hub.Group.{Group};
 ghost use Rattle.hubs.specs.declared.hub.Hub.{Hub};
 ghost use Rattle.hubs.specs.declared.hub.Hub.TheVariants.{BAN, BAT, PIN, PIT, PIX, CSD, CSZ};
 ghost use Rattle.net.specs.Panel.{contact_of};
+ghost use Rattle.net.specs.WholeCycles.{after_points};
 ghost use Rattle.net.specs.declared.cycle.Cycle.{Cycle};
 ghost use Rattle.net.specs.declared.cycle.Point.{Point};
 ghost use Rattle.net.specs.declared.cycle.Point.TheVariants.{C, Row, K};
 ghost use Rattle.selectors.specs.Contacts.{balance_closes, has_balance, closed_contacts};
 ghost use Rattle.selectors.specs.Indicate.{Latches};
-ghost use Rattle.selectors.specs.Pilots.{PilotStates, is_transferred, moves_pilots, no_pilots, pilots_closes};
+ghost use Rattle.selectors.specs.Pilots.{PilotStates, is_transferred, moves_pilots, no_pilots, pilots_closes, pilots_sensed};
 ghost use Rattle.selectors.specs.Splits.{split_closes};
-ghost use Rattle.selectors.specs.WholeCycles.{after_points, after_cycle};
+ghost use Rattle.selectors.specs.WholeCycles.{after_cycle};
 
 /// After the run-in or a card cycle a pilot is transferred exactly where its pickup was impulsed at row 11 of this cycle,
 /// whatever it was before, and the pickup is forgotten. After any other cycle it is as it was.
@@ -33,7 +34,7 @@ pub fn pilots_follow_their_pickups()
 /// Up to the end of a cycle no contact of a pilot moves, whichever points have passed.
 pub fn pilots_stand_through_a_cycle()
     ensures { (pilots : PilotStates) (cycle : Cycle) (pictures : Point → Hub → Bool) (before : List Point) (point : Point) (hub : Hub)
-        → pilots_closes (after_points cycle pictures before pilots) cycle point hub ≡ pilots_closes pilots cycle point hub }
+        → pilots_closes (after_points pilots_sensed cycle pictures before pilots) cycle point hub ≡ pilots_closes pilots cycle point hub }
 {}
 
 /// Of the two contacts of a balance position, and of those of a position of a pilot, exactly one is closed. Of the two

@@ -14,9 +14,17 @@ use net::{Contacts, Cycle, Picture, Point, Unit};
 pub struct Splits;
 
 impl Splits {
+    ghost use Rattle.std.specs.Prelude.{◌≡◌};
     ghost use Rattle.net.specs.HubSets.{GainsHubs};
     ghost use Rattle.net.specs.declared.cycle.Cycle.{Cycle};
-    ghost use Rattle.selectors.specs.Splits.{splits_closes};
+    ghost use Rattle.selectors.specs.Splits.{splits_at_start, splits_closes};
+
+    /// The splits of the panel.
+    pub fn new() -> Self
+        ensures { result ≡ splits_at_start }
+    {
+        Splits
+    }
 
     /// Closes the contacts to the digit exits at the rows 9 to 0 and those to the zone exits at the rows 11 and 12, in any
     /// cycle.

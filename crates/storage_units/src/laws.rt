@@ -5,12 +5,13 @@ ghost use Rattle.card_code.specs.declared.row.Row.{Row as CardRow};
 ghost use Rattle.hub_table.specs.Ranges.{is_within};
 ghost use Rattle.hubs.specs.declared.hub.Hub.{Hub};
 ghost use Rattle.hubs.specs.declared.hub.Hub.TheVariants.{SX, SE, SI, SO};
+ghost use Rattle.net.specs.WholeCycles.{after_points};
 ghost use Rattle.net.specs.declared.cycle.Cycle.{Cycle};
 ghost use Rattle.net.specs.declared.cycle.Point.{Point};
 ghost use Rattle.net.specs.declared.cycle.Point.TheVariants.{C, Row};
 ghost use Rattle.storage_units.specs.Laws.{StorageUnitsKeepToTheirOwn};
-ghost use Rattle.storage_units.specs.Storage.{StorageState, storage_emits, holds};
-ghost use Rattle.storage_units.specs.WholeCycles.{after_points, after_cycle};
+ghost use Rattle.storage_units.specs.Storage.{StorageState, storage_emits, storage_sensed, holds};
+ghost use Rattle.storage_units.specs.WholeCycles.{after_cycle};
 
 /// A unit that is told to read in holds, after the cycle, each row exactly in the columns whose entries were impulsed at
 /// the row's point, in all sixteen columns, whatever it held before.
@@ -32,7 +33,7 @@ pub fn what_is_held_is_kept()
 /// it was told to read out at the control point.
 pub fn read_out_shows_the_start()
     ensures { (storage : StorageState) (cycle : Cycle) (pictures : Point → Hub → Bool) (before : List CardRow) (row : CardRow) (column : ℕ)
-        → storage_emits (after_points cycle pictures (C ∷ map Row before) storage) cycle (Row row) (SX storage.place column)
+        → storage_emits (after_points storage_sensed cycle pictures (C ∷ map Row before) storage) cycle (Row row) (SX storage.place column)
         ≡ (pictures C (SO storage.place) && holds storage row column) }
 {}
 

@@ -6,7 +6,8 @@ use Rattle.std.proofs.Math.Numerals.{one-add}
 use Rattle.std.specs.List.{onto_first, prefix_len}
 use denote.Ref.{Bor}
 use Rattle.tokens.specs.Tokens.{is_plain, is_inside}
-use Rattle.tokens.specs.Dividing.{in_plain, in_literal, closed, before, tokens_from, tokens_of, is_space, is_apart, texts}
+use Rattle.tokens.specs.Dividing.{in_plain, in_literal, closed, before, tokens_from, tokens_of, is_space, is_apart}
+use Rattle.tokens.specs.Texts.{texts}
 
 -- spaces that a line begins with have no tokens
 by_space : (b : ℕ) (bs : List ℕ) (x : Bool) → eqb b 32 ≡ x

@@ -6,7 +6,7 @@ use Rattle.std.proofs.lemmas.List.Folds.{Any-from_list_any, list_any-from_Any}
 use Rattle.std.proofs.lemmas.Slice.Eq.{bytes_eq-Decides}
 use Rattle.std.specs.Bool.{Decides}
 use Rattle.std.specs.List.{list_any}
-use Rattle.std.specs.Prelude.{Any}
+use Rattle.std.specs.Prelude.{Any, IsTrue}
 use Rattle.std.specs.Str.{bytes_eq}
 use Rattle.tokens.specs.Dividing.{tokens_of}
 use Rattle.tokens.specs.Frame.{IsLarger, IsTitleLine}
@@ -41,10 +41,10 @@ told_false false tells refused = refl
 pub refused_by : {P : Type 0} (test : Bool) → Decides test P → test ≡ false → P → ⊥
 refused_by test tells fails is = both_ways test fails (tells.1 is)
 
--- two tests of one property are the same
-pub same_test : {P Q : Type 0} (one other : Bool) → Decides one P → Decides other Q → Q ↔ P → one ≡ other
-same_test true other tells also same = sym (also.1 (same.1 (tells.0 refl)))
-same_test false other tells also same = sym (told_false other also (λ is. both_ways false refl (tells.1 (same.0 is))))
+-- a test that tells a property is any other that tells it
+told_alike : {P : Type 0} (one other : Bool) → Decides one P → Decides other P → one ≡ other
+told_alike true other tells also = sym (also.1 (tells.0 refl))
+told_alike false other tells also = sym (told_false other also (λ is. both_ways false refl (tells.1 is)))
 
 -- the first line
 title_is : (name version : List ℕ) (tokens : Option (List (List ℕ))) → are_title name version tokens ≡ true
@@ -66,3 +66,12 @@ title_by name version line = (come, gone)
         let own_version = (bytes_eq-Decides version version).1 refl in
         ap (are_title name version) (read_what_it_has has)
         ∙ and_from (bytes_eq name name) (bytes_eq version version) own_name own_version
+
+-- The tests of a frame have one answer: what is told by the relation is what is read.
+pub larger_answered : (most_lines most_bytes : ℕ) (lines : List (List ℕ)) (answer : Bool)
+    → IsTrue answer ↔ IsLarger most_lines most_bytes lines → answer ≡ is_larger most_lines most_bytes lines
+larger_answered most_lines most_bytes lines answer tells = told_alike answer _ tells (larger_by most_lines most_bytes lines)
+
+pub title_answered : (name version line : List ℕ) (answer : Bool)
+    → IsTrue answer ↔ IsTitleLine name version line → answer ≡ is_title_line name version line
+title_answered name version line answer tells = told_alike answer _ tells (title_by name version line)

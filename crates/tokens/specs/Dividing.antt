@@ -1,12 +1,8 @@
 -- What the reader of a line answers, as a function of the line: its tokens.
 -- This is a step between the code and the grammar: split_line promises the relation of Tokens.
-use Rattle.std.specs.Prelude.{ℕ, ◌==◌, Bool, true, List, [], ◌∷◌, Option, Some, None, option_map, if◌then◌else◌, map}
+use Rattle.std.specs.Prelude.{ℕ, ◌==◌, Bool, true, List, [], ◌∷◌, Option, Some, None, option_map, if◌then◌else◌}
 use Rattle.std.specs.List.{onto_first}
 use denote.Ref.{Bor}
-
--- what lists of tokens that lie in a text say
-abbrev pub texts : List (Bor (List ℕ)) → List (List ℕ)
-texts tokens = map (λ token. token.now) tokens
 
 -- where in a line a byte stands: between tokens, in a plain token, in a literal, or behind its second apostrophe
 pub data Place : Type 0 where

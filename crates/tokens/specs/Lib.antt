@@ -5,4 +5,5 @@ pub mod HelperLines
 pub mod Number
 pub mod NumberReading
 pub mod Steps
+pub mod Texts
 pub mod Tokens

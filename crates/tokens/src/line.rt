@@ -1,9 +1,10 @@
 //! Dividing a line into its tokens.
 
-ghost use Rattle.std.specs.Prelude.{◌≡◌, ◌≢◌, ◌+◌, ◌<◌, ◌≤◌, ℕ, List, ◌==◌, not, length, slice_index, IfOk, IfSome, IfNone, option_map};
+ghost use Rattle.std.specs.Prelude.{◌≡◌, ◌≢◌, ◌+◌, ◌<◌, ◌≤◌, ℕ, List, ◌==◌, not, length, slice_index, IfOk, IfSome, IfNone};
 ghost use Rattle.std.specs.List.{prefix_len};
 ghost use Rattle.tokens.specs.Tokens.{HasTokens, is_plain, is_inside};
-ghost use Rattle.tokens.specs.Dividing.{texts, tokens_of, tokens_from, first_then, is_space, is_apart};
+ghost use Rattle.tokens.specs.Texts.{texts};
+ghost use Rattle.tokens.specs.Dividing.{tokens_of, tokens_from, first_then, is_space, is_apart};
 ghost use Rattle.tokens.specs.Dividing.{in_plain};
 
 use std::alloc::{AllocError, Global};
@@ -20,7 +21,6 @@ use std::alloc::{AllocError, Global};
 pub fn split_line<'a>(alloc: Global, line: &'a [u8]) -> Result<Option<Vec<&'a [u8]>>, AllocError>
     ensures divided { IfOk result (λ tokens. IfSome tokens (λ v. HasTokens line.now (texts v.items))) }
     ensures not_divided { IfOk result (λ tokens. IfNone tokens ((others : List (List ℕ)) → ¬ HasTokens line.now others)) }
-    ensures value { IfOk result (λ tokens. option_map (λ v. texts v.items) tokens ≡ tokens_of line.now) }
 {
     let mut tokens = Vec::new(alloc);
     let mut rest = without_spaces(line);

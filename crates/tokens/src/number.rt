@@ -21,7 +21,6 @@ fn read_digit(byte: u8) -> Option<u16>
 pub fn read_number(token: &[u8]) -> Option<u16>
     ensures number { IfSome result (λ number. IsNumber token.now number) }
     ensures no_number { IfNone result ((number : ℕ) → ¬ IsNumber token.now number) }
-    ensures value { result ≡ number_of token.now }
     ensures small { IfSome result (λ number. number < 1000) }
 {
     read_digits(token)
@@ -48,7 +47,6 @@ fn read_digits(token: &[u8]) -> Option<u16>
 pub fn read_number_to(greatest: u8, token: &[u8]) -> Option<u8>
     ensures number { IfSome result (λ number. IsNumberTo greatest token.now number) }
     ensures no_number { IfNone result ((number : ℕ) → ¬ IsNumberTo greatest token.now number) }
-    ensures value { result ≡ number_to greatest token.now }
 {
     read_digits_to(greatest, token)
 }

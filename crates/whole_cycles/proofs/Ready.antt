@@ -5,6 +5,7 @@ use Rattle.std.proofs.lemmas.List.Elements.{All-same}
 use Rattle.carriage.specs.Carriage.{CarriageState}
 use Rattle.placed_lines.specs.declared.placed_line.PlacedLine.{PlacedLine}
 use Rattle.counters.specs.Counters.{counter_at_start}
+use Rattle.counters.specs.WholeCycles as counters
 use Rattle.setups.specs.Wiring.{Wiring}
 use Rattle.hubs.specs.declared.hub.Hub.{Hub}
 use Rattle.net.specs.declared.cycle.Cycle.{Cycle}
@@ -19,7 +20,7 @@ use Rattle.machine.specs.Machine.{MachineState, group_units, machine_at_start}
 use Rattle.machine.specs.Runs.{moved_on}
 use Rattle.whole_cycles.specs.Between.{IsReady, IsRingAsWired, IsSetUp}
 use Rattle.whole_cycles.specs.Laws.{MachinesStayReady}
-use Rattle.whole_cycles.specs.WholeCycles.{WholeCycle, counter_behind}
+use Rattle.whole_cycles.specs.WholeCycles.{WholeCycle}
 use Rattle.whole_cycles.proofs.Parts.{map-both}
 use Rattle.whole_cycles.proofs.Staying.{all-kept, all-made, starts, stays}
 use Rattle.whole_cycles.proofs.Wholes.{cycles-whole}
@@ -48,7 +49,7 @@ set_up-kept : (wiring : Wiring) (cycle : Cycle) (old new : MachineState)
 set_up-kept wiring cycle old new is whole = record {
   rings =
       All-same (IsRingAsWired wiring) new.groups _ whole.groups
-      (all-kept (IsRingAsWired wiring) (counter_behind cycle whole.pictures) (λ group is. is) old.groups is.rings);
+      (all-kept (IsRingAsWired wiring) (counters.after_cycle cycle whole.pictures) (λ group is. is) old.groups is.rings);
   wheels =
       whole.wheels ∙ ap (map emptied) is.wheels ∙ map-both (wheel_at_start wiring) emptied (range_with_len 1 120);
   form = ap (λ (c : CarriageState). c.form) whole.carriage ∙ is.form;

@@ -6,9 +6,10 @@ use Rattle.std.proofs.lemmas.List.Elements.{All-from_get_or, All-map, All-same}
 use Rattle.std.proofs.lemmas.List.FromFn.{get_or-range_with_len, length-map-range_with_len}
 use Rattle.card_code.specs.Rows.{row_place}
 use Rattle.card_code.specs.declared.row.Row.TheVariants.{Eleven}
+use Rattle.counters.proofs.EarliestRows.{points-stay}
 use Rattle.counters.proofs.Staying.{counters-stay}
 use Rattle.counters.specs.Counters.{Counter, counter_at_start, counter_number, counter_sensed}
-use Rattle.counters.specs.Laws.{IsCounter}
+use Rattle.counters.specs.WholeCycles as counters
 use Rattle.setups.specs.Wiring.{Wiring}
 use Rattle.hubs.specs.declared.hub.Hub.{Hub}
 use Rattle.hubs.specs.declared.hub.Hub.TheVariants.{PIX}
@@ -28,7 +29,7 @@ use Rattle.storage_units.specs.WholeCycles as columns
 use Rattle.machine.specs.Machine.{MachineState, machine_at_start, group_units, storage_units}
 use Rattle.whole_cycles.specs.Between.{HasAllRows, IsBetween, IsEmpty, IsIdle}
 use Rattle.whole_cycles.specs.Laws.{MachinesStayBetween}
-use Rattle.whole_cycles.specs.WholeCycles.{WholeCycle, counter_behind}
+use Rattle.whole_cycles.specs.WholeCycles.{WholeCycle}
 use Rattle.whole_cycles.proofs.Parts.{map-both}
 use Rattle.whole_cycles.proofs.Wholes.{cycles-whole}
 
@@ -73,19 +74,13 @@ starts wiring = record {
   wheels = all-made IsEmpty (wheel_at_start wiring) (range_with_len 1 120) (λ v. refl);
 }
 
--- a group stays one through the points of a cycle
-group-points : (cycle : Cycle) (pictures : Point → Hub → Bool) (list : List Point) (group : Counter) → IsCounter group
-    → IsCounter (after_points counter_sensed cycle pictures list group)
-group-points cycle pictures [] group is = is
-group-points cycle pictures (point ∷ others) group is =
-    group-points cycle pictures others (counter_sensed group cycle point (pictures point))
-    (counters-stay.sensed group cycle point (pictures point) is)
-
+-- an idle group is idle behind a cycle
 group-kept : (cycle : Cycle) (pictures : Point → Hub → Bool) (group : Counter) → IsIdle group
-    → IsIdle (counter_behind cycle pictures group)
+    → IsIdle (counters.after_cycle cycle pictures group)
 group-kept cycle pictures group is = record {
   lawful =
-      counters-stay.ended (after_points counter_sensed cycle pictures points group) cycle (group-points cycle pictures points group is.lawful);
+      counters-stay.ended (after_points counter_sensed cycle pictures points group) cycle
+      (points-stay cycle pictures points group is.lawful);
   entered = refl;
   controls = refl;
 }
@@ -102,7 +97,7 @@ storage-point cycle (Row row) picture storage is = record { held = is.held; rece
 storage-point cycle K picture storage is = is
 
 storage-points : (cycle : Cycle) (pictures : Point → Hub → Bool) (list : List Point) (storage : StorageState) → HasAllRows storage
-    → HasAllRows (columns.after_points cycle pictures list storage)
+    → HasAllRows (after_points storage_sensed cycle pictures list storage)
 storage-points cycle pictures [] storage is = is
 storage-points cycle pictures (point ∷ others) storage is =
     storage-points cycle pictures others (storage_sensed storage cycle point (pictures point))
@@ -111,7 +106,7 @@ storage-points cycle pictures (point ∷ others) storage is =
 storage-kept : (cycle : Cycle) (pictures : Point → Hub → Bool) (storage : StorageState) → HasAllRows storage
     → HasAllRows (columns.after_cycle cycle pictures storage)
 storage-kept cycle pictures storage is =
-    let now = columns.after_points cycle pictures points storage in
+    let now = after_points storage_sensed cycle pictures points storage in
     let has = storage-points cycle pictures points storage is in
     record { held = by now.reads_in now has; received = has.received }
   where
@@ -147,10 +142,10 @@ stays wiring cycle old new between whole =
     record {
       comparing = whole.comparing;
       ordered =
-          ap (map counter_number) whole.groups ∙ map-both (counter_behind cycle pictures) counter_number old.groups ∙ between.ordered;
+          ap (map counter_number) whole.groups ∙ map-both (counters.after_cycle cycle pictures) counter_number old.groups ∙ between.ordered;
       groups =
           All-same IsIdle new.groups _ whole.groups
-          (all-kept IsIdle (counter_behind cycle pictures) (group-kept cycle pictures) old.groups between.groups);
+          (all-kept IsIdle (counters.after_cycle cycle pictures) (group-kept cycle pictures) old.groups between.groups);
       numbered =
           ap (map storage_number) whole.storage
           ∙ map-both (columns.after_cycle cycle pictures) storage_number old.storage ∙ between.numbered;

@@ -6,6 +6,7 @@ use Rattle.std.proofs.lemmas.List.FromFn.{get_or-range_with_len}
 use Rattle.card_code.specs.Rows.{row_number}
 use Rattle.card_code.specs.declared.row.Row.{Row as CardRow}
 use Rattle.counters.specs.Counters.{Counter, counter_at_start, counter_closes, counter_number, counter_of, group_of_unit, shows}
+use Rattle.counters.specs.WholeCycles as counters
 use Rattle.hub_table.specs.Ranges.{is_within}
 use Rattle.setups.specs.Wiring.{Wiring, is_wired}
 use Rattle.hubs.specs.declared.hub.Group.{Group}
@@ -20,7 +21,7 @@ use Rattle.machine.specs.Machine.{MachineState, group_units, machine_at_start, s
 use Rattle.whole_cycles.specs.Between.{IsBetween, IsIdle}
 use Rattle.whole_cycles.specs.Laws.{UnitsAreByName}
 use Rattle.whole_cycles.specs.Units.{IsGroup, IsGroupByName, IsStorageByNumber, UnitsStart, group_at, storage_at}
-use Rattle.whole_cycles.specs.WholeCycles.{counter_behind, group_reads_out, storage_reads_out}
+use Rattle.whole_cycles.specs.WholeCycles.{group_reads_out, storage_reads_out}
 use Rattle.whole_cycles.proofs.Alone.{are_alone, at_balances, at_columns, at_positions, group-silent}
 use Rattle.whole_cycles.proofs.Places.{any-one, as_many, in_units, same_group, told_at}
 use Rattle.whole_cycles.proofs.Staying.{starts}
@@ -95,7 +96,7 @@ by_name machine name between is =
           (group_at machine name).latch unit;
       behind = λ wiring cycle new whole.
           ap (λ (gs : List Counter). get_or gs k d) whole.groups
-          ∙ get_or-map (counter_behind cycle whole.pictures) machine.groups k d d at.place;
+          ∙ get_or-map (counters.after_cycle cycle whole.pictures) machine.groups k d d at.place;
     }
   where
     unit_same : (one other : Group) (p q : ℕ) → GX one p ≡ GX other q → unit_of one ≡ unit_of other

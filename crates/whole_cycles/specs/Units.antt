@@ -4,6 +4,7 @@ use Rattle.std.specs.Prelude.{◌≡◌, ℕ, ◌+◌, ◌-◌, ◌≤◌, ◌&&
 use Rattle.card_code.specs.Rows.{row_number}
 use Rattle.card_code.specs.declared.row.Row.{Row as CardRow}
 use Rattle.counters.specs.Counters.{Counter, counter_of, shows}
+use Rattle.counters.specs.WholeCycles as counters
 use Rattle.hub_table.specs.Places.{is_width}
 use Rattle.hub_table.specs.Ranges.{is_within}
 use Rattle.setups.specs.Wiring.{Wiring, is_wired}
@@ -23,7 +24,7 @@ use Rattle.storage_units.specs.Storage.{StorageState, holds, storage_at_start}
 use Rattle.storage_units.specs.WholeCycles as columns
 use Rattle.machine.specs.Machine.{MachineState, closes, machine_at_start}
 use Rattle.whole_cycles.specs.Between.{HasAllRows, IsIdle}
-use Rattle.whole_cycles.specs.WholeCycles.{WholeCycle, counter_behind, row_emits}
+use Rattle.whole_cycles.specs.WholeCycles.{WholeCycle, row_emits}
 
 -- the panel has the counter group
 pub record IsGroup (name : Group) : Type 0 where
@@ -54,7 +55,7 @@ pub record IsGroupByName (machine : MachineState) (name : Group) : Type 0 where
       → closes machine cycle point (BAT name position) ≡ (is_within position 4 && (group_at machine name).latch)
   pub behind :
       (wiring : Wiring) (cycle : Cycle) (new : MachineState) (whole : WholeCycle wiring cycle machine new)
-      → group_at new name ≡ counter_behind cycle whole.pictures (group_at machine name)
+      → group_at new name ≡ counters.after_cycle cycle whole.pictures (group_at machine name)
 
 -- A storage unit alone emits at its exits, and goes through a cycle by itself.
 pub record IsStorageByNumber (machine : MachineState) (number : ℕ) : Type 0 where

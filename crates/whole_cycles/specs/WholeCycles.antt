@@ -7,7 +7,8 @@ use Rattle.std.specs.List.{list_any, range_with_len}
 use Rattle.card_code.specs.Rows.{rows, row_number}
 use Rattle.card_code.specs.declared.row.Row.{Row as CardRow}
 use Rattle.carriage.specs.Carriage.{carriage_sensed, carriage_ended}
-use Rattle.counters.specs.Counters.{Counter, counter_sensed, counter_ended, shows}
+use Rattle.counters.specs.Counters.{Counter, shows}
+use Rattle.counters.specs.WholeCycles as counters
 use Rattle.hub_table.specs.Ranges.{is_within}
 use Rattle.setups.specs.Wiring.{Wiring}
 use Rattle.hubs.specs.declared.hub.Hub.{Hub}
@@ -63,10 +64,6 @@ abbrev pub closing_emits : (Point → Hub → Bool) → Cycle → Hub → Bool
 closing_emits pictures Card (CX p) = is_within p 30 && compares_unlike pictures p
 closing_emits pictures cycle hub = false
 
--- what a counter group becomes by a whole cycle
-abbrev pub counter_behind : Cycle → (Point → Hub → Bool) → Counter → Counter
-counter_behind = after_cycle counter_sensed counter_ended
-
 -- the rows at whose points a wheel's hub is impulsed, in the order of the points
 abbrev pub rows_received : (Point → Hub → Bool) → ℕ → List Bool
 rows_received pictures v = map (λ row. pictures (Row row) (W v)) rows
@@ -93,7 +90,7 @@ pub record WholeCycle (wiring : Wiring) (cycle : Cycle) (old new : MachineState)
   pub closing : IsPicture wiring (closing_emits pictures cycle) (closes old cycle K) (pictures K)
   pub stations : new.stations ≡ old.stations
   pub comparing : new.comparing ≡ comparing_at_start
-  pub groups : new.groups ≡ map (counter_behind cycle pictures) old.groups
+  pub groups : new.groups ≡ map (counters.after_cycle cycle pictures) old.groups
   pub storage : new.storage ≡ map (storage_units.after_cycle cycle pictures) old.storage
   pub pilots : new.pilots ≡ selectors.after_cycle cycle pictures old.pilots
   pub indicate : new.indicate ≡ indicate_ended old.indicate cycle

@@ -8,5 +8,6 @@ mod line;
 mod name;
 mod panel;
 mod read;
+mod scanner;
 
 pub use read::read_setup;

@@ -1,15 +1,17 @@
 //! Reading a line of a wiring chart.
 
 ghost use Rattle.std.specs.Prelude.{◌≡◌, IfOk};
-ghost use Rattle.tokens.specs.Dividing.{texts, tokens_of};
+ghost use Rattle.tokens.specs.Dividing.{tokens_of};
 ghost use Rattle.tokens.specs.HelperLines.{tokens_content};
+ghost use Rattle.tokens.specs.Texts.{texts};
 ghost use Rattle.wiring_reader.specs.Reading.{form_of, jack_of, numbered_jack, statement_of, stop_of, wire_of};
 ghost use Rattle.wiring_reader.specs.TextReading.{content_of, divided_form};
 
 use crate::name::read_hub_name;
+use crate::scanner::{read_number, read_number_to, split_line};
 use hubs::Jack;
 use std::alloc::{AllocError, Global};
-use tokens::{Content, is, read_number, read_number_to, split_line};
+use tokens::{Content, is};
 use wiring_text::{FormNumbers, Statement};
 
 /// The numbers of a line `FORM` with three numbers, or `None` for any other line.

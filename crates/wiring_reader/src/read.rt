@@ -10,10 +10,11 @@ ghost use Rattle.wiring_text.specs.WiringFaults.{HasFault};
 
 use crate::line::{read_form, read_line};
 use crate::panel::put;
+use crate::scanner::{is_larger, is_title_line};
 use card_code::next_line;
 use setups::{Setup, SetupFault, Tape};
 use std::alloc::Global;
-use tokens::{Content, is_larger, is_title_line};
+use tokens::Content;
 use wiring_text::{FormNumbers, Statement, WiringFault};
 
 /// How many lines a wiring chart has at most.

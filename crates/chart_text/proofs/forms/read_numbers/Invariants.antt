@@ -1,6 +1,6 @@
 -- The numbers so far, before those that are left, are the numbers of the tokens.
 use Rattle.std.proofs.Common.{◌≡◌, length, drop}
-use Rattle.tokens.specs.Dividing.{texts}
+use Rattle.tokens.specs.Texts.{texts}
 use Rattle.tokens.specs.NumberReading.{numbers_of}
 use Rattle.chart_text.proofs.Numbers.{led_by}
 use Rattle.chart_text.proofs.forms.read_numbers.Given as goal
