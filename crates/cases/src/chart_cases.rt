@@ -9,7 +9,7 @@ use anyhow::Result;
 use capacity::Profile;
 use chart_rules::{Chart, check};
 use chart_text::read_chart;
-use commands::Fault;
+use commands::{Fault, write_line};
 use compile407::ChartFault;
 use std::alloc::Global;
 use std::fs;
@@ -37,7 +37,10 @@ fn told_by_capacities(alloc: Global, text: &[u8]) -> Result<(), ChartFault> {
 fn write_answer<W: Write>(out: &mut W, name: &str, told: Result<(), ChartFault>) -> Result<()> {
     match told {
         Ok(()) => writeln!(out, "{name} ok")?,
-        Err(fault) => writeln!(out, "{name} {}", Fault::from(fault))?,
+        Err(fault) => {
+            write!(out, "{name} ")?;
+            write_line(&Fault::from(fault), out)?;
+        }
     }
     Ok(())
 }

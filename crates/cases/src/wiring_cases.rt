@@ -5,7 +5,7 @@
 
 use crate::read_case;
 use anyhow::Result;
-use commands::Fault;
+use commands::{Fault, write_line};
 use setups::Setup;
 use std::alloc::Global;
 use std::fs;
@@ -23,7 +23,10 @@ fn write_answer<W: Write>(
             writeln!(out, "{name} ok")?;
             out.write_all(write_setup(alloc, &setup)?.as_bytes())?;
         }
-        Err(fault) => writeln!(out, "{name} {}", Fault::from(fault))?,
+        Err(fault) => {
+            write!(out, "{name} ")?;
+            write_line(&Fault::from(fault), out)?;
+        }
     }
     Ok(())
 }

@@ -1,1 +1,3 @@
 mod Division
+mod Exclusions
+mod Refusing

@@ -1,4 +1,7 @@
+pub mod Answers
 pub mod Commands
 pub mod Input
+pub mod Laws
+pub mod Refusals
 pub mod Status
 pub mod Told

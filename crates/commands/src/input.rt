@@ -1,6 +1,6 @@
 //! Reading what the program is given.
 
-ghost use Rattle.std.specs.Prelude.{◌≡◌, ◌≢◌, ◌<◌, ◌↔◌, ◌⊎◌, ℕ, length, slice_index, IfErr, IfSome, IfNone, IsTrue};
+ghost use Rattle.std.specs.Prelude.{◌≡◌, ◌≢◌, ◌<◌, ◌↔◌, ◌⊎◌, ℕ, length, slice_index, IfOk, IfErr, IfSome, IfNone, IsTrue};
 ghost use Rattle.card_code.specs.Lines.{without_cr};
 ghost use Rattle.commands.specs.Input.{IsDivided, HasNoLineFeed, IsEndPiece};
 
@@ -15,13 +15,14 @@ pub fn read_whole<'a, R: Read + Drop>(
     mut reader: R,
     path: &'a str,
 ) -> Result<Vec<u8>, Fault<'a>>
+    ensures whole { IfOk result (λ bytes. IfSome (R.remaining reader) (λ all. bytes.items ≡ all)) }
     ensures told { IfErr result (λ fault. (fault ≡ Fault.Memory) ⊎ (fault ≡ Fault.File path.entry)) }
 {
     let mut bytes = Vec::new(alloc);
     match reader.read_to_end(&mut bytes) {
         Ok(_) => Ok(bytes),
         Err(error) if error.kind() == ErrorKind::OutOfMemory => Err(Fault::Memory),
-        Err(_) => Err(Fault::File(path)),
+        Err(_) => Err(Fault::File { path }),
     }
 }
 

@@ -6,12 +6,20 @@
 //! and wiring charts, and on `tokens` for what a line END is. The program above it reads the words and opens the files.
 #![tactic(auto)]
 
+mod answers;
 mod command;
 mod fault;
 mod input;
+mod laws;
+mod output;
 mod serving;
+mod telling;
 
+pub use answers::{check, pages, replayed, wiring_chart};
 pub use command::Command;
 pub use fault::Fault;
 pub use input::{chart_and_deck, read_whole};
-pub use serving::{serve, tell, unprinted};
+pub use laws::answered_texts_are_not_refused;
+pub use output::unprinted;
+pub use serving::serve;
+pub use telling::{tell, write_line};

@@ -1,80 +1,64 @@
 //! One command, over any reader and writers.
 
-ghost use Rattle.std.specs.Prelude.{◌≡◌, ◌≢◌};
-ghost use Rattle.std.specs.IoError.{error_kind};
+ghost use Rattle.std.specs.Prelude.{◌≡◌};
 ghost use Rattle.commands.specs.Commands.{IsNoCommand};
-ghost use Rattle.commands.specs.Status.{status_of};
 
+use crate::answers::{check, pages, replayed, wiring_chart};
 use crate::command::Command;
 use crate::fault::Fault;
 use crate::input::read_whole;
-use card_code::read_deck;
-use compile407::{compile, run};
-use machine::simulate;
-use page_text::page_bytes;
+use crate::output::put;
+use crate::telling::tell;
 use std::alloc::Global;
-use std::io;
-use std::io::{ErrorKind, Read, Write};
-use wire_chart::{read_setup, write_setup};
+use std::io::{Read, Write};
+use wire_chart::read_setup;
 
-fn check<'a>(alloc: Global, text: &[u8]) -> Result<(), Fault<'a>> {
-    compile(alloc, text)?;
-    Ok(())
+// Prints that a chart compiles.
+fn serve_check<'a, W: Write>(alloc: Global, text: &[u8], out: &mut W) -> Result<(), Fault<'a>> {
+    check(alloc, text)?;
+    put(out, b"ok\n")
 }
 
-// The wiring chart of a chart.
-fn wiring_chart<'a>(alloc: Global, text: &[u8]) -> Result<String, Fault<'a>> {
-    let compiled = compile(alloc, text)?;
-    Ok(write_setup(alloc, compiled.setup())?)
+// Prints the wiring chart of a chart.
+fn serve_wire<'a, W: Write>(alloc: Global, text: &[u8], out: &mut W) -> Result<(), Fault<'a>> {
+    let written = wiring_chart(alloc, text)?;
+    put(out, written.as_bytes())
 }
 
-// The pages of a chart and a deck.
-fn pages<'a, R: Read + Drop>(
+// Prints the pages of a chart and a deck, which is read before the chart is looked at.
+fn serve_run<'a, R: Read + Drop, W: Write>(
     alloc: Global,
     text: &[u8],
     path: &'a str,
     deck: R,
-) -> Result<Vec<u8>, Fault<'a>> {
+    out: &mut W,
+) -> Result<(), Fault<'a>> {
     let bytes = read_whole(alloc, deck, path)?;
-    let compiled = compile(alloc, text)?;
-    let cards = read_deck(alloc, bytes.as_slice())?;
-    Ok(run(alloc, &compiled, cards.as_slice())?)
+    let printed = pages(alloc, text, bytes.as_slice())?;
+    put(out, printed.as_slice())
 }
 
-// The pages that the machine prints of a deck, wired as a wiring chart says.
-fn replayed<'a, R: Read + Drop>(
+// Prints the pages of a wiring chart and a deck. A fault of the wiring chart is told before a deck that can't be read.
+fn serve_replay<'a, R: Read + Drop, W: Write>(
     alloc: Global,
     text: &[u8],
     path: &'a str,
     deck: R,
-) -> Result<Vec<u8>, Fault<'a>> {
-    let setup = read_setup(alloc, text)?;
-    let bytes = read_whole(alloc, deck, path)?;
-    let cards = read_deck(alloc, bytes.as_slice())?;
-    let lines = simulate(alloc, &setup, cards.as_slice())?;
-    let form_lines = u32::from(setup.tape().lines());
-    Ok(page_bytes(alloc, lines.as_slice(), form_lines)?)
-}
-
-/// What is told where something can't be printed.
-pub fn unprinted(error: &io::Error) -> Fault<'static>
-    ensures memory { error_kind error.now ≡ ErrorKind.OutOfMemory → result ≡ Fault.Memory }
-    ensures others { error_kind error.now ≢ ErrorKind.OutOfMemory → result ≡ Fault.Write }
-{
-    match error.kind() {
-        ErrorKind::OutOfMemory => Fault::Memory,
-        _ => Fault::Write,
+    out: &mut W,
+) -> Result<(), Fault<'a>> {
+    match read_whole(alloc, deck, path) {
+        Ok(bytes) => {
+            let printed = replayed(alloc, text, bytes.as_slice())?;
+            put(out, printed.as_slice())
+        }
+        Err(unread) => {
+            read_setup(alloc, text)?;
+            Err(unread)
+        }
     }
 }
 
-fn put<'a, W: Write>(out: &mut W, bytes: &[u8]) -> Result<(), Fault<'a>> {
-    let written = out.write_all(bytes);
-    match written.and_then(|()| out.flush()) {
-        Ok(()) => Ok(()),
-        Err(error) => Err(unprinted(&error)),
-    }
-}
-
+// Does a command: its answer is printed, or why there is none is the fault.
 fn carry_out<'a, R: Read + Drop, W: Write>(
     alloc: Global,
     command: Command,
@@ -84,13 +68,10 @@ fn carry_out<'a, R: Read + Drop, W: Write>(
     out: &mut W,
 ) -> Result<(), Fault<'a>> {
     match command {
-        Command::Check => {
-            check(alloc, text)?;
-            put(out, b"ok\n")
-        }
-        Command::Wire => put(out, wiring_chart(alloc, text)?.as_bytes()),
-        Command::Run => put(out, pages(alloc, text, path, deck)?.as_slice()),
-        Command::Replay => put(out, replayed(alloc, text, path, deck)?.as_slice()),
+        Command::Check => serve_check(alloc, text, out),
+        Command::Wire => serve_wire(alloc, text, out),
+        Command::Run => serve_run(alloc, text, path, deck, out),
+        Command::Replay => serve_replay(alloc, text, path, deck, out),
     }
 }
 
@@ -113,19 +94,10 @@ pub fn serve<R: Read + Drop, W: Write, V: Write>(
     ensures unknown { IsNoCommand command.now → result ≡ 2 }
 {
     let Some(known) = Command::named(command) else {
-        return tell(&Fault::Unknown(command), faults);
+        return tell(&Fault::Unknown { word: command }, faults);
     };
     match carry_out(alloc, known, text, path, deck, out) {
         Ok(()) => 0,
         Err(fault) => tell(&fault, faults),
     }
-}
-
-/// Tells a fault on one line, and answers its status.
-pub fn tell<V: Write>(fault: &Fault, faults: &mut V) -> u8
-    ensures { result ≡ status_of fault.now }
-{
-    // Where even this can't be written, the status alone tells of the fault.
-    let _ = writeln!(faults, "{fault}");
-    fault.status()
 }

@@ -35,7 +35,7 @@ use Rattle.selectors.specs.Indicate.{is_latch_set}
 use Rattle.selectors.specs.Pilots.{is_normal, is_transferred}
 use Rattle.selectors.specs.Splits.{is_digit_row}
 use Rattle.stations.specs.Punches.{is_punched_at}
-use Rattle.wiring_table.specs.Figures.{IsText, IsAmount, IsSigned, HasPunch, HasPunchAt, rule_of, digit_wheel, point_wheel, mark_wheel, mark_characters}
+use Rattle.wiring_table.specs.Figures.{IsText, IsAmount, IsSigned, HasPunch, HasPunchAt, rule_of, digit_wheel, point_wheel, mark_wheel, mark_text}
 use Rattle.wiring_table.specs.Parts.{pilot_for, negative_side}
 use Rattle.wired_panels.specs.CycleRows.{CycleRow, reads, is_closed}
 use Rattle.panel_cycles.specs.PrintedRows.{IsCardRow}
@@ -206,7 +206,7 @@ module _ (wiring : Wiring) (card : List ℕ) (opens : ℕ) (at : CycleRow) (row 
 
   pub mark-sends : (wheel : ℕ) (name : List ℕ) (mark : Mark) (rule : SignRule) (field : Field) (pilot k : ℕ) → IsSigned at.chart.lines name rule
       → field_named at.chart.lines name ≡ Some field → pilot_for at.plan name ≡ Some pilot
-      → HasPunchAt (mark_characters mark) k (row_number at.row) → is_closed at (negative_side rule pilot (2 + k)) ≡ true
+      → HasPunchAt (mark_text mark) k (row_number at.row) → is_closed at (negative_side rule pilot (2 + k)) ≡ true
       → Sends (says.DetailField wheel name (shown.Marked mark)) (mark_wheel wheel (columns_of field) (decimals_of field.kind) + k)
   mark-sends wheel name mark rule field pilot k is named served punch shut =
       let ruled = negated name rule field is named in

@@ -47,7 +47,7 @@ use Rattle.selectors.specs.Indicate.{is_latch_set}
 use Rattle.selectors.specs.Splits.{is_digit_row}
 use Rattle.wiring_table.specs.Figures.IsFigure.{on_detail as figure_on_detail}
 use Rattle.wiring_table.specs.Figures.IsLiteral.{on_detail}
-use Rattle.wiring_table.specs.Figures.{IsText, IsAmount, IsSigned, HasPunchAt, rule_of, mark_characters, digit_wheel}
+use Rattle.wiring_table.specs.Figures.{IsText, IsAmount, IsSigned, HasPunchAt, rule_of, mark_text, digit_wheel}
 use Rattle.wiring_table.specs.Wires.LineWire.{detail_text, indicated_text_in, indicated_text_out, literal, point, detail_digit, split_digit_in, split_digit_out, detail_mark_in, detail_mark_out}
 use Rattle.wired_panels.specs.CycleRows.{CycleRow, reads}
 use Rattle.panel_cycles.specs.PrintedRows.{IsCardRow}
@@ -87,9 +87,9 @@ indicate-few lines plan control.Intermediate planned =
 indicate-few lines plan control.Major planned =
     at-most 30 _ (length plan.parts.major) planned.major (ap (λ parts. length parts.major) planned.parts)
 
-pub mark-few : (its : Mark) (k row : ℕ) → HasPunchAt (mark_characters its) k row → k ≤ 1
-mark-few mark.Credit k row punch = let e = slice_get_within (mark_characters mark.Credit) k punch.character punch.there in omega (arith, e)
-mark-few mark.Minus k row punch = let e = slice_get_within (mark_characters mark.Minus) k punch.character punch.there in omega (arith, e)
+pub mark-few : (its : Mark) (k row : ℕ) → HasPunchAt (mark_text its) k row → k ≤ 1
+mark-few mark.Credit k row punch = let e = slice_get_within (mark_text mark.Credit) k punch.character punch.there in omega (arith, e)
+mark-few mark.Minus k row punch = let e = slice_get_within (mark_text mark.Minus) k punch.character punch.there in omega (arith, e)
 
 -- an amount that is below 0 has a sign rule
 record HasRule (kind : FieldKind) (card : List ℕ) : Type 0 where
@@ -222,7 +222,7 @@ module _ (wiring : Wiring) (card : List ℕ) (opens : ℕ) (at : CycleRow) (row 
       let lowest = served.from in
       let highest = served.to in
       let within : is_within served.n 16 ≡ true = grind (arith, nat_tests, lowest, highest, few) in
-      let its_punch : HasPunchAt (mark_characters mark) k (row_number at.row) = subst (λ m. HasPunchAt (mark_characters m) k (row_number at.row)) own punch in
+      let its_punch : HasPunchAt (mark_text mark) k (row_number at.row) = subst (λ m. HasPunchAt (mark_text m) k (row_number at.row)) own punch in
       along_contact wiring at row.on_panel row.rises line there says_it
       (detail_mark_in wheel name mark ruled.rule served.n k (row_number at.row) signed served.is its_punch)
       (emitter 4 (emits-four at.cycle row.cycle)) (pilot_common ruled.rule served.n (2 + k))

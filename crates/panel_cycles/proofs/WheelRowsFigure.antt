@@ -12,7 +12,7 @@ use Rattle.charts.specs.declared.statement.Mark.{Mark}
 use Rattle.printed_lines.specs.Shown.Shown.{Amount}
 use Rattle.printed_lines.specs.Shown.{Shown, set_of_character, digit_set, point_sets, mark_sets, sets_of, wheel_of_shown}
 use Rattle.report.specs.Edits.{mark_text}
-use Rattle.wiring_table.specs.Figures.{HasPunch, HasPunchAt, digit_wheel, point_wheel, mark_wheel, mark_characters}
+use Rattle.wiring_table.specs.Figures.{HasPunch, HasPunchAt, digit_wheel, point_wheel, mark_wheel, mark_text}
 use Rattle.panel_cycles.proofs.WheelRows.{stands_on, sent_on, no_rows}
 use Rattle.panel_cycles.proofs.WheelRowsText.{standing, stand, sent-at, punch-of, has-punch, punch-sent, punch-at}
 
@@ -23,7 +23,7 @@ pub data FigureSends (wheel digits decimals : ℕ) (mark : Option Mark) (shown :
       → FigureSends wheel digits decimals mark shown negative row (digit_wheel wheel digits decimals position)
   point : 0 < decimals → HasPunch 46 row
       → FigureSends wheel digits decimals mark shown negative row (point_wheel wheel digits decimals)
-  marked : (its : Mark) (k : ℕ) → mark ≡ Some its → negative ≡ true → HasPunchAt (mark_characters its) k row
+  marked : (its : Mark) (k : ℕ) → mark ≡ Some its → negative ≡ true → HasPunchAt (mark_text its) k row
       → FigureSends wheel digits decimals mark shown negative row (mark_wheel wheel digits decimals + k)
 
 -- how many wheels the point takes
@@ -120,13 +120,13 @@ at-point digits (suc decimals) mark shown negative few long some =
     ∙ at-rest digits (suc decimals) mark shown negative few long 0
 
 -- the mark's characters come where the amount is below 0
-mark-sent : (its : Mark) (k row : ℕ) → HasPunchAt (mark_characters its) k row
+mark-sent : (its : Mark) (k row : ℕ) → HasPunchAt (mark_text its) k row
     → (k < length (mark_sets (Some its) true)) × (has_row (get_or (mark_sets (Some its) true) k 0) row ≡ true)
 mark-sent mark.Credit k row punch = punch-sent (mark_text mark.Credit) k row punch
 mark-sent mark.Minus k row punch = punch-sent (mark_text mark.Minus) k row punch
 
 mark-at : (its : Mark) (k : ℕ) (row : CardRow) → k < mark_width (Some its)
-    → has_row (get_or (mark_sets (Some its) true) k 0) (row_number row) ≡ true → HasPunchAt (mark_characters its) k (row_number row)
+    → has_row (get_or (mark_sets (Some its) true) k 0) (row_number row) ≡ true → HasPunchAt (mark_text its) k (row_number row)
 mark-at mark.Credit k row within on = punch-at (mark_text mark.Credit) k row within on
 mark-at mark.Minus k row within on = punch-at (mark_text mark.Minus) k row within on
 

@@ -40,7 +40,7 @@ use Rattle.report.specs.Edits.{last_digits}
 use Rattle.storage_units.specs.Storage.{StorageState, holds as holds_row}
 use Rattle.whole_cycles.proofs.Units.{units-by_name}
 use Rattle.whole_cycles.specs.Units.{IsGroup, group_at}
-use Rattle.wiring_table.specs.Figures.{IsAmount, IsText, HasPunchAt, digit_wheel, mark_wheel, mark_characters}
+use Rattle.wiring_table.specs.Figures.{IsAmount, IsText, HasPunchAt, digit_wheel, mark_wheel, mark_text}
 use Rattle.wiring_table.specs.Parts.{group_for, unit_for}
 use Rattle.wired_panels.specs.Sources.{EmitsAtControl, digit_at}
 use Rattle.wired_panels.specs.Sources.EmitsAtControl.{card as emits_card, prog as emits_prog, head as emits_head}
@@ -205,7 +205,7 @@ module _ (wiring : Wiring) (its : Level) (held : List ℕ → Printed) (card : L
       → slice_get at.chart.lines place ≡ Some line → Contains at.chart.lines line
       → line.statement ≡ says.TotalAmount level wheel name digits (Some mark) → group_for at.chart.lines at.plan line.number ≡ Some group
       → field_named at.chart.lines name ≡ Some field → chart_number level ≡ level_number its
-      → HasPunchAt (mark_characters mark) k (row_number at.row) → is_closed at (BAT group (3 + k)) ≡ true
+      → HasPunchAt (mark_text mark) k (row_number at.row) → is_closed at (BAT group (3 + k)) ≡ true
       → Sends (says.TotalAmount level wheel name digits (Some mark)) (mark_wheel wheel digits (decimals_of field.kind) + k)
   mark-sends line place level wheel name digits mark field group k listed there says_it served named same punch shut =
       let group_is = group-named at.chart.lines at.plan line.number group row.on_panel.panel.planned served in

@@ -50,7 +50,7 @@ use Rattle.whole_cycles.proofs.Units.{units-by_name}
 use Rattle.whole_cycles.specs.Units.{group_at, storage_at}
 use Rattle.wiring_table.specs.Figures.IsFigure.{on_total as figure_on_total}
 use Rattle.wiring_table.specs.Figures.IsLiteral.{on_total}
-use Rattle.wiring_table.specs.Figures.{IsText, IsAmount, IsSigned, HasPunchAt, rule_of, mark_characters}
+use Rattle.wiring_table.specs.Figures.{IsText, IsAmount, IsSigned, HasPunchAt, rule_of, mark_text}
 use Rattle.wiring_table.specs.Parts.{group_for, panel_group}
 use Rattle.wiring_table.specs.Wires.LineWire.{literal, point, total_digit, total_mark_in, total_mark_out, total_text_out}
 use Rattle.wired_panels.specs.CycleRows.{CycleRow}
@@ -237,7 +237,7 @@ module _ (wiring : Wiring) (its : Level) (held : List ℕ → Printed) (card : L
       let few = mark-few own k (row_number at.row) punch in
       let within : is_within (3 + k) 4 ≡ true = grind (arith, nat_tests, few) in
       let signed : IsSigned at.chart.lines name rule = record { field = field; named = is.named; ruled = ruled } in
-      let its_punch : HasPunchAt (mark_characters mark) k (row_number at.row) = subst (λ m. HasPunchAt (mark_characters m) k (row_number at.row)) e punch in
+      let its_punch : HasPunchAt (mark_text mark) k (row_number at.row) = subst (λ m. HasPunchAt (mark_text m) k (row_number at.row)) e punch in
       along_contact wiring at row.on_panel row.rises line there says_it
       (total_mark_in level wheel name digits mark rule group k (row_number at.row) served signed its_punch) (emits-its level same) refl
       (closed-BAT wiring its held card at row group (3 + k) named

@@ -18,7 +18,7 @@ fn unopened<'a>(error: &io::Error, path: &'a str) -> Fault<'a>
 {
     match error.kind() {
         IoErrorKind::OutOfMemory => Fault::Memory,
-        _ => Fault::File(path),
+        _ => Fault::File { path },
     }
 }
 

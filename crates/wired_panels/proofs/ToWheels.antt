@@ -31,7 +31,7 @@ use Rattle.net.specs.declared.cycle.Point.TheVariants.{Row}
 use Rattle.net.specs.declared.cycle.Point.{Point}
 use Rattle.print_unit.specs.Emitters.{emitter_of}
 use Rattle.whole_cycles.specs.WholeCycles.{row_emits}
-use Rattle.wiring_table.specs.Figures.{IsAmount, HasPunchAt, mark_characters, detail_emitter, total_emitter}
+use Rattle.wiring_table.specs.Figures.{IsAmount, HasPunchAt, mark_text, detail_emitter, total_emitter}
 use Rattle.wiring_table.specs.Parts.{group_for, pilot_for, indicate_for, split_for, negative_side}
 use Rattle.wiring_table.specs.Wires.LineWire.{indicated_text_in, split_digit_in, detail_mark_in, total_mark_in, entry_sign, conversion, transfer_sign}
 use Rattle.wiring_table.specs.Wires.{LineWire, ChartWire}
@@ -151,7 +151,7 @@ module _ (wiring : Wiring) (at : CycleRow) (it : IsPanelCycle at.chart at.plan w
       → Contains at.chart.lines line → Contains at.chart.lines other → line.statement ≡ says.DetailField wheel name (shown.Marked mark)
       → other.statement ≡ its → WireAt at other.number its x common → Emits at x → contact_of (negative_side rule pilot (2 + k)) ≡ Some common
       → pilot_for at.plan name ≡ Some pilot
-      → HasPunchAt (mark_characters mark) k (row_number at.row) × (emitter_of at.cycle ≡ Some detail_emitter)
+      → HasPunchAt (mark_text mark) k (row_number at.row) × (emitter_of at.cycle ≡ Some detail_emitter)
   through_pilot line other wheel k pilot name mark rule {its} {x} listed there says_it says_its wire emits leads served =
       by says_its (subst (λ h. WireAt at other.number its x h) (same (sym (pilot_common rule pilot (2 + k)) ∙ leads)) wire) emits refl refl
     where
@@ -159,7 +159,7 @@ module _ (wiring : Wiring) (at : CycleRow) (it : IsPanelCycle at.chart at.plan w
       same e = cc
 
       by : {its : Statement} {x : Hub} {p q : ℕ} → other.statement ≡ its → WireAt at other.number its x (PIC p q) → Emits at x → p ≡ pilot
-          → q ≡ 2 + k → HasPunchAt (mark_characters mark) k (row_number at.row) × (emitter_of at.cycle ≡ Some detail_emitter)
+          → q ≡ 2 + k → HasPunchAt (mark_text mark) k (row_number at.row) × (emitter_of at.cycle ≡ Some detail_emitter)
       by says_its (detail_mark_in wheel' name' mark' rule' p k' row is served' punch) (emitter from emits) pilots places =
           let e : name' ≡ name = pilot-same at.plan name' name pilot (served' ∙ ap Some pilots) served in
           let f : other.statement ≡ says.DetailField wheel' name (shown.Marked mark')
@@ -169,8 +169,8 @@ module _ (wiring : Wiring) (at : CycleRow) (it : IsPanelCycle at.chart at.plan w
           = sym f ∙ ap (λ l. l.statement) g ∙ says_it in
           let m : mark' ≡ mark = cc in
           let n : k' ≡ k = omega (arith, places) in (
-            subst (λ i. HasPunchAt (mark_characters mark) i (row_number at.row)) n
-                (subst (λ c. HasPunchAt (mark_characters c) k' (row_number at.row)) m punch),
+            subst (λ i. HasPunchAt (mark_text mark) i (row_number at.row)) n
+                (subst (λ c. HasPunchAt (mark_text c) k' (row_number at.row)) m punch),
             emits,
           )
       by says_its (entry_sign level wheel' name' digits mark' rule' p p0 p1 p2) emits pilots places = silent at _ emits refl
@@ -182,7 +182,7 @@ module _ (wiring : Wiring) (at : CycleRow) (it : IsPanelCycle at.chart at.plan w
       → line.statement ≡ says.TotalAmount level wheel name digits (Some mark) → other.statement ≡ its
       → WireAt at other.number its x common → Emits at x → Some (BAC group (3 + k)) ≡ Some common
       → group_for at.chart.lines at.plan line.number ≡ Some group
-      → HasPunchAt (mark_characters mark) k (row_number at.row) × (emitter_of at.cycle ≡ Some (total_emitter (level_number level)))
+      → HasPunchAt (mark_text mark) k (row_number at.row) × (emitter_of at.cycle ≡ Some (total_emitter (level_number level)))
   through_balance line other level wheel k digits group name mark {its} {x} listed there says_it says_its wire emits leads served =
       by says_its (subst (λ h. WireAt at other.number its x h) (same leads) wire) emits refl refl
     where
@@ -191,7 +191,7 @@ module _ (wiring : Wiring) (at : CycleRow) (it : IsPanelCycle at.chart at.plan w
 
       by : {its : Statement} {x : Hub} {g : Group} {p : ℕ} → other.statement ≡ its → WireAt at other.number its x (BAC g p) → Emits at x
           → g ≡ group → p ≡ 3 + k
-          → HasPunchAt (mark_characters mark) k (row_number at.row) × (emitter_of at.cycle ≡ Some (total_emitter (level_number level)))
+          → HasPunchAt (mark_text mark) k (row_number at.row) × (emitter_of at.cycle ≡ Some (total_emitter (level_number level)))
       by says_its (total_mark_in level' wheel' name' digits' mark' rule g k' row served' is punch) (emitter from emits) groups places =
           let n : other.number ≡ line.number
           = group-same at.chart.lines at.plan other.number line.number group it.panel.planned (served' ∙ ap Some groups) served in
@@ -201,8 +201,8 @@ module _ (wiring : Wiring) (at : CycleRow) (it : IsPanelCycle at.chart at.plan w
           let m : mark' ≡ mark = cc in
           let l : level' ≡ level = cc in
           let i : k' ≡ k = omega (arith, places) in (
-            subst (λ i. HasPunchAt (mark_characters mark) i (row_number at.row)) i
-                (subst (λ c. HasPunchAt (mark_characters c) k' (row_number at.row)) m punch),
+            subst (λ i. HasPunchAt (mark_text mark) i (row_number at.row)) i
+                (subst (λ c. HasPunchAt (mark_text c) k' (row_number at.row)) m punch),
             emits ∙ ap (λ each. Some (total_emitter (level_number each))) l,
           )
       by says_its (conversion level' wheel' name' digits' mark' rule g p0 p1) emits groups places = silent at _ emits refl

@@ -1,0 +1,56 @@
+-- A fault of a text as it is told.
+use Rattle.std.proofs.Common.{◌≡◌, ◌≢◌, ◌∙◌, ap, List, ℕ, Result, Ok, Err, IfOk}
+use Rattle.std.specs.Prelude.{IfErr}
+use Rattle.card_code.specs.Deck.{Deck, HasFault}
+use Rattle.card_code.specs.declared.deck.DeckFault.{DeckFault}
+use Rattle.card_code.specs.declared.deck.DeckFault.TheVariants as deck
+use Rattle.compile407.specs.ChartFaults.{HasChartFault}
+use Rattle.compile407.specs.Compilation.{Compilation}
+use Rattle.compile407.specs.RunFaults.{HasRunFault}
+use Rattle.compile407.specs.declared.fault.ChartFault.{ChartFault}
+use Rattle.compile407.specs.declared.fault.ChartFault.TheVariants as chart
+use Rattle.compile407.specs.declared.fault.RunFault.{RunFault}
+use Rattle.compile407.specs.declared.fault.RunFault.TheVariants as run
+use Rattle.wiring_text.specs.WiringFaults as wiring_faults
+use Rattle.wiring_text.specs.declared.fault.WiringFault.{WiringFault}
+use Rattle.wiring_text.specs.declared.fault.WiringFault.TheVariants as wiring
+use Rattle.setups.specs.Wiring.{Wiring}
+use Rattle.wiring_text.specs.WiringText.{ReadsAs}
+use Rattle.commands.specs.Answers.{ArePagesOn, AreReplayedPages, CompilesAs}
+use Rattle.commands.specs.Refusals.{RefusesChart, RefusesDeck, RefusesReplay, RefusesRun, cards, punches, wires}
+use Rattle.commands.specs.Told.{chart_told, deck_told, run_told, wiring_told}
+use Rattle.commands.specs.declared.fault.Fault.{Fault}
+use Rattle.commands.specs.declared.fault.Fault.TheVariants as fault
+
+pub chart_refused : (text : List ℕ) (cause : ChartFault) (told : Fault) → (cause ≢ chart.Memory → HasChartFault text cause)
+    → told ≡ chart_told cause → told ≢ fault.Memory → RefusesChart text told
+chart_refused text cause told has named not_memory =
+    record { cause = cause; at_fault = has (λ is. not_memory (named ∙ ap chart_told is)); named = named }
+
+pub deck_refused : (text : List ℕ) (cause : DeckFault) (told : Fault) → (cause ≢ deck.Memory → HasFault text cause)
+    → told ≡ deck_told cause → told ≢ fault.Memory → RefusesDeck text told
+deck_refused text cause told has named not_memory =
+    record { cause = cause; at_fault = has (λ is. not_memory (named ∙ ap deck_told is)); named = named }
+
+pub cards_refused : (text punched : List ℕ) (compiled : Compilation) (read : List (List ℕ)) (cause : RunFault) (told : Fault)
+    → CompilesAs text compiled → Deck punched read → (cause ≢ run.Memory → HasRunFault compiled.chart read cause)
+    → told ≡ run_told cause → told ≢ fault.Memory → RefusesRun text punched told
+cards_refused text punched compiled read cause told compiles is_deck has named not_memory =
+    cards compiled compiles read is_deck cause (has (λ is. not_memory (named ∙ ap run_told is))) named
+
+pub wiring_refused : (text punched : List ℕ) (cause : WiringFault) (told : Fault)
+    → (cause ≢ wiring.Memory → wiring_faults.HasFault text cause) → told ≡ wiring_told cause → told ≢ fault.Memory
+    → RefusesReplay text punched told
+wiring_refused text punched cause told has named not_memory =
+    wires cause (has (λ is. not_memory (named ∙ ap wiring_told is))) named
+
+-- what a setup prints that a wiring chart reads as
+pub pages_replayed : {X : Type 0} (result : Result X Fault) (items : X → List ℕ) (text deck : List ℕ) (wiring : Wiring) → ReadsAs text wiring
+    → IfOk result (λ pages. ArePagesOn wiring deck (items pages)) → IfOk result (λ pages. AreReplayedPages text deck (items pages))
+pages_replayed (Ok pages) items text deck wiring reads on = record { wiring = wiring; reads = reads; pages = on }
+pages_replayed (Err _) items text deck wiring reads on = tt
+
+pub replay_refused : {X : Type 0} (result : Result X Fault) (text deck : List ℕ) (wiring : Wiring) → ReadsAs text wiring
+    → IfErr result (λ told. told ≢ fault.Memory → RefusesDeck deck told) → IfErr result (λ told. told ≢ fault.Memory → RefusesReplay text deck told)
+replay_refused (Ok _) text deck wiring reads refuses = tt
+replay_refused (Err _) text deck wiring reads refuses = λ not_memory. punches wiring reads (refuses not_memory)
