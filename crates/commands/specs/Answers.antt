@@ -4,7 +4,7 @@ use Rattle.card_code.specs.Deck.{Deck}
 use Rattle.chart_text.specs.ChartText.{Reads}
 use Rattle.compile407.specs.Compilation.{Compilation, IsCompiled}
 use Rattle.compile407.specs.Runnable.{IsRunnable}
-use Rattle.machine.specs.Feeds.{MachineLines}
+use Rattle.machine.specs.Runs.{MachineLines}
 use Rattle.page_text.specs.Pages.{Pages}
 use Rattle.placed_lines.specs.declared.placed_line.PlacedLine.{PlacedLine}
 use Rattle.report.specs.Report.{Report}

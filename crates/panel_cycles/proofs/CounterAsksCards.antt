@@ -28,7 +28,7 @@ use Rattle.report.specs.Amounts.{digit_in, digits_on, number_in}
 use Rattle.wiring_table.specs.Figures.{IsAmount}
 use Rattle.wiring_table.proofs.Listed.{listed-cases}
 use Rattle.wired_panels.proofs.PlanLists.{find_passes}
-use Rattle.wired_panels.proofs.JacksAndTape.{same_tests}
+use Rattle.wired_panels.proofs.Ways.{same_tests}
 
 -- a digit, a blank counting 0
 abbrev pub digit_value : Option ℕ → ℕ

@@ -1,8 +1,8 @@
 -- What a field of a card sends to its wheels.
-use Rattle.std.proofs.Common.{◌≡◌, ◌≢◌, ◌∙◌, refl, sym, ap, ℕ, ◌+◌, ◌-◌, ◌<◌, ◌≤◌, ◌==◌, ◌&&◌, ◌||◌, not, Bool, true, false, cond, List, Option, Some, None, map, slice_get, get_or, option_map, inl, inr, ◌⊎◌, arith}
+use Rattle.std.proofs.Common.{◌≡◌, ◌≢◌, ◌∙◌, refl, sym, ap, ℕ, ◌+◌, ◌-◌, ◌<◌, ◌≤◌, ◌==◌, ◌&&◌, ◌||◌, not, Bool, true, false, cond, List, Option, Some, None, length, map, slice_get, get_or, option_map, inl, inr, ◌⊎◌, arith}
 use Rattle.std.proofs.lemmas.Bool.{cases_lt}
 use Rattle.std.proofs.lemmas.Bool.Decides.{nat_tests}
-use Rattle.std.proofs.lemmas.List.FromFn.{get_or-map-range_with_len}
+use Rattle.std.proofs.lemmas.List.FromFn.{get_or-map-range_with_len, length-map-range_with_len}
 use Rattle.std.proofs.lemmas.Option.{slice_get_within}
 use Rattle.card_code.specs.CardCode.{has_row}
 use Rattle.card_code.specs.Rows.{row_number}
@@ -32,6 +32,18 @@ use Rattle.selectors.specs.Splits.{is_digit_row}
 use Rattle.wiring_table.specs.Figures.{IsAmount}
 use Rattle.wired_panels.proofs.SpeakersLawful.{IsGoodField, named-line, kept-at}
 use Rattle.panel_cycles.proofs.WheelRowsFigure.{amount_shown}
+
+pub left-of : (a b : Bool) → (a && b) ≡ true → a ≡ true
+left-of true b on = refl
+left-of false b on = cc
+
+pub right-of : (a b : Bool) → (a && b) ≡ true → b ≡ true
+right-of true b on = on
+right-of false b on = cc
+
+pub both-of : (a b : Bool) → a ≡ true → b ≡ true → (a && b) ≡ true
+both-of true b on other = other
+both-of false b on other = cc
 
 -- what a field on the line of a card sends, where it is shown
 pub field-sent : (lines : List Line) (opens : ℕ) (card : List ℕ) (wheel : ℕ) (name : List ℕ) (how : DetailOption) (field : Field)
@@ -70,6 +82,9 @@ pub amount-sends : (card : List ℕ) (wheel : ℕ) (mark : Option Mark) (field :
 amount-sends card wheel mark field holds.Text amount = cc
 amount-sends card wheel mark field (holds.Amount decimals rule) amount = refl
 
+pub length-digits_on : (field : Field) (card : List ℕ) → length (digits_on field card) ≡ columns_of field
+length-digits_on field card = length-map-range_with_len (λ column. digit_in (column_of card column)) field.first (columns_of field)
+
 pub digit-on : (field : Field) (card : List ℕ) (position : ℕ) → IsGoodField field → 1 ≤ position → position ≤ columns_of field
     → get_or (digits_on field card) (columns_of field - position) None ≡ digit_in (column_of card (field.last + 1 - position))
 digit-on field card position good low high =
@@ -99,9 +114,18 @@ one-digit field card column valid from to = by (cases_lt column valid.digits.sta
 
 -- a row of a column with a good zone that is not the sign column is a digit's
 digit-rows : (set : ℕ) (row : CardRow) → has_row set 11 ≡ false → has_row set 12 ≡ false → has_row set (row_number row) ≡ true → is_digit_row row ≡ true
+digit-rows set row.Zero eleven twelve on = refl
+digit-rows set row.One eleven twelve on = refl
+digit-rows set row.Two eleven twelve on = refl
+digit-rows set row.Three eleven twelve on = refl
+digit-rows set row.Four eleven twelve on = refl
+digit-rows set row.Five eleven twelve on = refl
+digit-rows set row.Six eleven twelve on = refl
+digit-rows set row.Seven eleven twelve on = refl
+digit-rows set row.Eight eleven twelve on = refl
+digit-rows set row.Nine eleven twelve on = refl
 digit-rows set row.Eleven eleven twelve on = cc
 digit-rows set row.Twelve eleven twelve on = cc
-digit-rows set other eleven twelve on = refl
 
 pub digit-zone : (field : Field) (card : List ℕ) (column : ℕ) (row : CardRow) → IsValidAmount field card → field.first ≤ column → column ≤ field.last
     → sign_column field.kind ≢ Some column → has_row (column_of card column) (row_number row) ≡ true → is_digit_row row ≡ true

@@ -138,6 +138,10 @@ last-at (suc count) n position from to = by (cases_lt count position) (last-at c
         let place : suc count - position ≡ suc (count - position) = omega (arith, low) in
         ap (λ k. get_or (last_digits (suc count) n) k 0) place ∙ rest low
 
+pub last-long : (count n : ℕ) → length (last_digits count n) ≡ count
+last-long zero n = refl
+last-long (suc count) n = ap suc (last-long count n)
+
 -- the line of a total
 pub record HasTotalLine (all lines : List Line) (total : Total) : Type 0 where
   pub line : Line

@@ -1,10 +1,11 @@
 -- What can be said of every storage unit, whatever it holds: it keeps to its own hubs.
 use Rattle.std.specs.Prelude.{◌≡◌, ℕ, ◌≤◌, Bool, true, false}
 use Rattle.hubs.specs.declared.hub.Hub.{Hub}
+use Rattle.net.specs.Nothing.{closes_nothing}
 use Rattle.net.specs.Panel.{owner_of, reader_of}
 use Rattle.net.specs.declared.cycle.Cycle.{Cycle}
 use Rattle.net.specs.declared.cycle.Point.{Point}
-use Rattle.storage_units.specs.Storage.{StorageState, storage_at_start, storage_closes, storage_emits, storage_number, storage_sensed}
+use Rattle.storage_units.specs.Storage.{StorageState, storage_at_start, storage_emits, storage_number, storage_sensed}
 
 -- A unit emits at its own exits, closes no contact and senses its own entries alone: pictures that agree there leave it the
 -- same. Its number among the units is the one that it began with.
@@ -13,7 +14,7 @@ pub record StorageUnitsKeepToTheirOwn : Type 0 where
   pub emits :
       (storage : StorageState) (cycle : Cycle) (point : Point) (hub : Hub)
       → storage_emits storage cycle point hub ≡ true → owner_of hub ≡ storage_number storage
-  pub closes : (storage : StorageState) (cycle : Cycle) (point : Point) (hub : Hub) → storage_closes storage cycle point hub ≡ false
+  pub closes : (storage : StorageState) (cycle : Cycle) (point : Point) (hub : Hub) → closes_nothing storage cycle point hub ≡ false
   pub sensed :
       (storage : StorageState) (cycle : Cycle) (point : Point) (one other : Hub → Bool)
       → ((hub : Hub) → reader_of hub ≡ storage_number storage → one hub ≡ other hub)
