@@ -295,16 +295,6 @@ partly-all totals machine taken groups partly all =
 abbrev pub waiting : List (Option CounterGroup) → ℕ
 waiting taken = sum_by (λ slot. cond (is_some slot) 0 1) taken
 
--- fewer wait once one has taken its group
-pub waiting-less : (taken : List (Option CounterGroup)) (place : ℕ) (group : CounterGroup) → place < length taken
-    → taken_at taken place ≡ None → waiting (set taken place (Some group)) < waiting taken
-waiting-less taken place group within waits =
-    let waits_one : Option CounterGroup → ℕ = λ slot. cond (is_some slot) 0 1 in
-    let count : waiting (set taken place (Some group)) + waits_one (taken_at taken place) ≡ waiting taken + 0 =
-    sum_by-set waits_one taken place (Some group) None within in
-    let one : waits_one (taken_at taken place) ≡ 1 = ap waits_one waits in
-    omega arith
-
 -- groups by the rule are an assignment
 pub IsAssignment-by_rule : (totals : List Total) (machine : Capacities) (groups : List CounterGroup)
     → IsByRule totals machine groups → IsAssignment totals machine groups

@@ -5,6 +5,7 @@ use Rattle.std.proofs.lemmas.Bool.{cases_lt}
 use Rattle.std.proofs.lemmas.Option.{slice_get_within, get_or_from_slice_get}
 use Rattle.charts.specs.Chart.{Chart, NumbersRise}
 use Rattle.charts.specs.declared.chart.Line.{Line}
+use Rattle.charts.proofs.Rising.{NumbersRise-tail}
 use Rattle.chart_rules.specs.declared.rule.Rule.{Rule}
 use Rattle.chart_rules.specs.Rules.{breaks, lacks, Broken, by_line, by_end, IsKept}
 
@@ -27,11 +28,6 @@ PassesBefore-more rule lines count line before at here = below_more _ _ before s
 pub slice_get_seam : {X : Type 0} (xs : List X) (y : X) (ys : List X) → slice_get (xs ++ y ∷ ys) (length xs) ≡ Some y
 slice_get_seam [] y ys = refl
 slice_get_seam (x ∷ xs) y ys = slice_get_seam xs y ys
-
--- the numbers behind the first line rise too
-pub NumbersRise-tail : (line : Line) (lines : List Line) (end : ℕ) → NumbersRise (line ∷ lines) end → NumbersRise lines end
-NumbersRise-tail line [] end rise = tt
-NumbersRise-tail line (next ∷ lines) end rise = rise.1
 
 -- each line stands before END
 pub number-below_end : (lines : List Line) (end place : ℕ) (line : Line) → NumbersRise lines end → slice_get lines place ≡ Some line → line.number < end

@@ -1,1 +1,3 @@
 pub mod Fronts
+pub mod Listed
+pub mod Rising

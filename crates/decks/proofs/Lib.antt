@@ -7,4 +7,3 @@ pub mod Alike
 pub mod FitBefore
 pub mod Begins
 pub mod Running
-pub mod Feeding

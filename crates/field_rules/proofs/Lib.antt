@@ -1,1 +1,2 @@
+pub mod DigitsKept
 pub mod Places

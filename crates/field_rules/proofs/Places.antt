@@ -8,30 +8,18 @@ use Rattle.std.specs.Option.{option_and_then, option_or}
 use Rattle.std.proofs.lemmas.Grind.{common_steps}
 use Rattle.std.proofs.lemmas.Bool.Decides.{nat_tests}
 use Rattle.std.proofs.lemmas.List.Folds.{find_at, position_or_len_push, prefix_len-append}
-use Rattle.std.proofs.lemmas.Option.{slice_get_past, slice_get_read, slice_get_cases}
+use Rattle.std.proofs.lemmas.Option.{slice_get_read, slice_get_cases}
 use Rattle.std.proofs.lemmas.List.Sums.{prefix_len-le-length}
 use Rattle.charts.specs.declared.statement.Field.{Field}
 use Rattle.indexmap.specs.IndexMap.{get}
 use Rattle.field_rules.specs.Fields.{field_of, fields_of, first_named, first_place}
 use Rattle.charts.specs.Name.{is_same_name}
+use Rattle.charts.proofs.Listed.{find_at_position, position-within}
 use Rattle.field_rules.specs.HelperIndex.{Places, IsIndexOf}
-
--- the first element that passes is the one at the first place that passes
-pub find_at_position : {X : Type 0} (p : X → Bool) (xs : List X) → find p xs ≡ option_and_then (slice_get xs) (position p xs)
-find_at_position p xs = find_at p xs ∙ by (nat_lt (position_or_len p xs) (length xs)) refl
-  where
-    by : (b : Bool) → nat_lt (position_or_len p xs) (length xs) ≡ b
-        → slice_get xs (position_or_len p xs) ≡ option_and_then (slice_get xs) (cond b (Some (position_or_len p xs)) None)
-    by true h = refl
-    by false h = slice_get_past xs (position_or_len p xs) (grind (arith, nat_tests))
 
 -- where no field has a name, none is the first with it
 pub first_named-missing : (fields : List Field) (name : List ℕ) → None ≡ first_place fields name → None ≡ first_named fields name
 first_named-missing fields name h = ap (option_and_then (slice_get fields)) h ∙ sym (find_at_position (λ field. is_same_name field.name name) fields)
-
--- a first place is one of the list
-pub position-within : {X : Type 0} (p : X → Bool) (xs : List X) (i : ℕ) → Some i ≡ position p xs → i < length xs
-position-within p xs i h = grind (arith, common_steps)
 
 -- the field at the first place of a name is the first with that name
 pub first_named-at : (fields : List Field) (name : List ℕ) (place : ℕ) (field : Field) → Some place ≡ first_place fields name
@@ -50,6 +38,11 @@ is_same_name-equal [] [] h = refl
 is_same_name-equal [] (b ∷ bs) h = cc
 is_same_name-equal (a ∷ as_one) [] h = cc
 is_same_name-equal (a ∷ as_one) (b ∷ bs) h = let r = is_same_name-equal as_one bs in grind (arith, nat_tests, r)
+
+-- a name is the same as itself
+pub is_same_name-own : (name : List ℕ) → is_same_name name name ≡ true
+is_same_name-own [] = refl
+is_same_name-own (character ∷ name) = let rest = is_same_name-own name in grind (arith, nat_tests, rest)
 
 module _ (fields : List Field) (field : Field) where
   -- a field whose name is taken leaves an index as it was

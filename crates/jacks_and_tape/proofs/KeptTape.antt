@@ -1,13 +1,13 @@
 -- The form and the stops of a lawful chart are those of a carriage tape.
-use Rattle.std.proofs.Common.{ℕ, inl, inr, arith, subst}
+use Rattle.std.proofs.Common.{◌≡◌, ℕ, ◌⊎◌, inl, inr, [], arith, subst}
 use Rattle.std.specs.List.{Contains}
 use Rattle.chart_rules.specs.Rules.{IsLawful}
 use Rattle.charts.specs.Chart.{Chart}
 use Rattle.setups.specs.Tapes.{IsFormed, IsStop}
 use Rattle.report.specs.ChartForm.{form_of, stops_of}
-use Rattle.report.proofs.LawfulForms.{HasNoneOrGoodStops, good_stops, room_of}
+use Rattle.report.proofs.LawfulForms.{IsGoodTape, room_of, stops-good}
 use Rattle.report.proofs.NextStops.{listed_stop, on_form, rising}
-use Rattle.wiring_table.proofs.Listed.{listed-none}
+use Rattle.charts.proofs.Listed.{listed-none}
 use Rattle.jacks_and_tape.specs.HelperJacks.{HasTape}
 
 -- the form of a lawful chart is one of a tape
@@ -27,10 +27,10 @@ formed chart lawful =
 -- the stops of a lawful chart are those of a tape
 stopped : (chart : Chart) → IsLawful chart → (channel line : ℕ) → Contains (stops_of chart.lines channel) line
     → IsStop (form_of chart.lines).lines channel line
-stopped chart lawful channel line there = by (good_stops chart lawful channel)
+stopped chart lawful channel line there = by (stops-good chart lawful channel)
   where
-    by : HasNoneOrGoodStops chart.lines (form_of chart.lines).lines channel → IsStop (form_of chart.lines).lines channel line
-    by (inl none) = absurd (listed-none line (subst (λ stops. Contains stops line) none.1 there))
+    by : (stops_of chart.lines channel ≡ []) ⊎ IsGoodTape (form_of chart.lines).lines channel (stops_of chart.lines channel) → IsStop (form_of chart.lines).lines channel line
+    by (inl none) = absurd (listed-none line (subst (λ stops. Contains stops line) none there))
     by (inr good) =
         let at = listed_stop (stops_of chart.lines channel) line there in
         record {

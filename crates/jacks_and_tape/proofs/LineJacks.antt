@@ -37,13 +37,3 @@ line-jacks lines statement item figure old new known is has added = plugs-as onw
 
         figure-same : (a b : Figure) → Some a ≡ Some b → a ≡ b
         figure-same a b e = cc
-
--- a line without an item, or with one that is no amount, has no jacks
-pub no-jacks : (lines : List Line) (statement : Statement) (setup : Wiring) → FiguresAre lines statement
-    → ((item : Item) → item_of (fields_of lines) statement ≡ Some item → item.figure ≡ None) → Plugs (LineJacks lines statement) setup setup
-no-jacks lines statement setup known none = plugs-none nothing
-  where
-    nothing : (each : Jack) → LineJacks lines statement each → ⊥
-    nothing each jacks =
-        let from = known.back jacks.emitter jacks.wheel jacks.figure jacks.is_figure in
-        let e = sym (none from.item from.is_item) ∙ from.has in cc

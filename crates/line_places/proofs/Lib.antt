@@ -5,5 +5,4 @@ pub mod Placements
 pub mod DueCycles
 pub mod CyclesDue
 pub mod LawfulForms
-pub mod LawfulTapes
 pub mod UnprintedKinds

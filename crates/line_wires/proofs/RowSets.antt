@@ -12,14 +12,6 @@ both true false is = (refl, refl)
 both true true is = cc
 both false b is = cc
 
--- row 10 is none
-pub row_differs : (set row : ℕ) → is_row_set set ≡ true → has_row set row ≡ true → row ≢ 10
-row_differs set row lawful there is =
-    let none = (both (nat_lt set (2 ^ 13)) (has_row set 10) lawful).1 in
-    let P : ℕ → Type 0 = λ r. has_row set r ≡ true in
-    let some = subst P is there in
-    cc
-
 -- and none is above 12
 pub row_below : (set row : ℕ) → is_row_set set ≡ true → has_row set row ≡ true → row < 13
 row_below set row lawful there = by (cases_lt row 13)

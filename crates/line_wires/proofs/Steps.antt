@@ -158,14 +158,6 @@ adds-character {emitter} {character} {set} {entry} coded lawful added = adds-as 
         let in_set : has_row set row ≡ true = subst P same punch.punched in
         below row (row_below set row lawful in_set) (given in_set wire)
 
--- a character without rows
-pub adds-no_character : {emitter character : ℕ} {entry : Hub} {setup : Wiring} → rows_of character ≡ None
-    → Adds (CharacterWires emitter entry character) setup setup
-adds-no_character {emitter} {character} {entry} uncoded = adds-none none
-  where
-    none : (exit to : Hub) → CharacterWires emitter entry character exit to → ⊥
-    none exit to (punched row punch wire) = let coded = punch.coded in cc
-
 -- one wire, between hubs that are the same
 pub one-as : {from to exit entry : Hub} {old new : Wiring} → Adds (One from to) old new → from ≡ exit → to ≡ entry
     → Adds (One exit entry) old new

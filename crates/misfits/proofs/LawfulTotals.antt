@@ -16,63 +16,22 @@ use Rattle.field_rules.specs.Fields.{field_named}
 use Rattle.field_rules.specs.Names.{names_text}
 use Rattle.chart_rules.specs.Rules.{breaks, IsLawful}
 use Rattle.chart_rules.specs.declared.rule.Rule.TheVariants as rule
-use Rattle.chart_rules.proofs.Laws.{breaks-lawful, statement-field}
+use Rattle.chart_rules.proofs.Laws.{breaks-lawful, good-field}
+use Rattle.field_rules.proofs.DigitsKept.{digits-kept}
 use Rattle.misfits.specs.HelperAmounts.{IsColumn, IsGoodAmount}
 use Rattle.misfits.specs.HelperTotals.{IsGoodTotal}
-use Rattle.misfits.proofs.Fields.{line_of, on_card}
-
--- an amount of a size that is not too large has at most 8 digits
-few_digits : (kind : FieldKind) (digits : ℕ) → is_amount kind ≡ true → is_too_large kind digits ≡ false → digits ≤ 8
-few_digits holds.Text digits amount kept = cc
-few_digits (holds.Amount decimals rule) digits amount kept =
-    by (nat_lt 8 digits) (nat_lt 3 decimals) (nat_lt digits decimals) refl kept
-  where
-    by : (a b c : Bool) → nat_lt 8 digits ≡ a → (a || b || c) ≡ false → digits ≤ 8
-    by true b c is none = cc
-    by false b c is none = grind (arith, nat_tests, is)
 
 -- a good sign column is on the card
 good_column : (sign : Option ℕ) → has_good_sign sign ≡ true → IsColumn sign
 good_column None good = tt
-good_column (Some column) good = by (nat_le 1 column) (nat_le column 80) refl refl good
-  where
-    by : (a b : Bool) → nat_le 1 column ≡ a → nat_le column 80 ≡ b → (a && b) ≡ true → (1 ≤ column) × (column ≤ 80)
-    by true true one other both = (grind (arith, nat_tests, one), grind (arith, nat_tests, other))
-    by true false one other both = cc
-    by false b one other both = cc
-
-sign_part : (a b c d : Bool) → not (a && b && c && d) ≡ false → d ≡ true
-sign_part true true true d kept = not-false d kept
-sign_part true true false d kept = cc
-sign_part true false c d kept = cc
-sign_part false b c d kept = cc
+good_column (Some column) good = (grind (arith, nat_tests, good), grind (arith, nat_tests, good))
 
 -- a named amount keeps the bounds
 good_amount : (chart : Chart) → IsLawful chart → (name : List ℕ) (field : Field) → field_named chart.lines name ≡ Some field
     → is_amount field.kind ≡ true → IsGoodAmount field
 good_amount chart lawful name field named amount =
-    let found = line_of chart.lines name field named in
-    let says_it = sym (statement-field found.line.statement field found.says_it) in
-    let columns : breaks_columns (says.Field field) ≡ false
-    = ap breaks_columns says_it ∙ breaks-lawful rule.Columns chart found.earlier found.line found.later lawful found.split in
-    let size : breaks_amount_size (says.Field field) ≡ false
-    = ap breaks_amount_size says_it ∙ breaks-lawful rule.AmountSize chart found.earlier found.line found.later lawful found.split in
-    record {
-      on_card = on_card chart lawful name field named;
-      few = few_digits field.kind (columns_of field) amount size;
-      sign = good_column (sign_column field.kind)
-          (sign_part (nat_le 1 field.first) (nat_le field.first field.last) (nat_le field.last 80) (has_good_sign (sign_column field.kind)) columns);
-    }
-
--- a total that is not out of its digits has at most 8
-total_digits : (field : Field) (digits : ℕ) → is_out_of_digits (Some field) digits ≡ false → digits ≤ 8
-total_digits field digits kept =
-    by (nat_lt digits (columns_of field)) (nat_lt 8 digits) (is_some (sign_column field.kind) && nat_lt 7 digits) refl kept
-  where
-    by : (a b c : Bool) → nat_lt 8 digits ≡ b → (a || b || c) ≡ false → digits ≤ 8
-    by true b c is none = cc
-    by false true c is none = cc
-    by false false c is none = grind (arith, nat_tests, is)
+    let good = good-field chart lawful name field named in
+    record { on_card = good.card; few = good.few amount; sign = good_column (sign_column field.kind) good.sign }
 
 -- the total lines of a lawful chart keep the bounds
 pub good_total : (chart : Chart) (earlier : List Line) (line : Line) (later : List Line) → IsLawful chart
@@ -90,6 +49,6 @@ good_total chart earlier line later lawful split =
         → breaks rule.DigitsRange chart.lines earlier statement ≡ false → IsGoodTotal chart.lines statement
     by (says.TotalAmount level wheel name digits mark) kind range = λ field named. (
       good_amount chart lawful name field named (amount field (field_named chart.lines name) named kind),
-      total_digits field digits (ap (λ o. is_out_of_digits o digits) (sym named) ∙ range),
+      (digits-kept field digits (ap (λ o. is_out_of_digits o digits) (sym named) ∙ range)).few,
     )
     by other kind range = tt

@@ -144,11 +144,6 @@ first_told card level one (Some other) at behind = (
     before (inl later) = grind (arith, nat_tests, same, later)
     before (inr here) = let card_is = here.0 in let higher = here.1 in grind (arith, nat_tests, same, at_level, card_is, higher)
 
--- at one place the first lines are told first
-at_one_place : (o : Option Misfit) → earlier o None ≡ o
-at_one_place None = refl
-at_one_place (Some misfit) = refl
-
 -- the first misfit of some lines and others is the one that is told first of the two
 pub merged : (lines some others : List Line) (card level : ℕ) (outline : List OutlineLine) → Rise level outline
     → first_of (misfits_of lines (some ++ others) card outline)

@@ -5,6 +5,7 @@ use Rattle.std.specs.List.{range_with_len}
 use Rattle.std.proofs.lemmas.List.{map-append}
 use Rattle.std.proofs.Math.Nat.{pow-suc, pow-le-pow_right}
 use Rattle.card_code.specs.CardCode.{has_row}
+use Rattle.charts.proofs.Listed.{found-listed, listed-within}
 use Rattle.report.specs.Amounts.{digit_in, number_in}
 
 -- a digit's share with one digit more behind it
@@ -25,22 +26,13 @@ one_more (Some first ∷ digits) digit =
     omega (arith, more, front)
 
 -- a digit is below 10
-found_below : (p : ℕ → Bool) (from count digit : ℕ) → find p (range_with_len from count) ≡ Some digit → digit < from + count
-found_below p from zero digit is = cc
-found_below p from (suc count) digit is =
-    by (p from) is (λ later. found_below p (from + 1) count digit later)
-  where
-    by : (b : Bool) → cond b (Some from) (find p (range_with_len (from + 1) count)) ≡ Some digit
-        → (find p (range_with_len (from + 1) count) ≡ Some digit → digit < from + 1 + count) → digit < from + suc count
-    by true here more = let same : from ≡ digit = cc in omega (arith, same)
-    by false here more = let below = more here in omega (arith, below)
-
 pub digit_small : (rows : ℕ) → unwrap_or (digit_in rows) 0 < 10
 digit_small rows = by (digit_in rows) refl
   where
     by : (o : Option ℕ) → digit_in rows ≡ o → unwrap_or o 0 < 10
     by None is = omega arith
-    by (Some digit) is = found_below (λ each. has_row rows each) 0 10 digit is
+    by (Some digit) is =
+        listed-within 0 10 digit (found-listed (λ each. has_row rows each) (range_with_len 0 10) digit is).0
 
 -- What a loop over columns keeps: the number of the digits so far, with room for one more.
 pub record Kept (first column number digits : ℕ) : Type 0 where

@@ -28,16 +28,18 @@ use Rattle.totals.specs.Amounts.{lower}
 use Rattle.wiring_table.specs.Figures.{IsAmount, IsSigned, IsUnsigned, rule_of}
 use Rattle.wiring_table.specs.Parts.{HasTotal, IsLowest, group_for}
 use Rattle.wired_panels.proofs.CounterAsksTold.{IsUnder}
-use Rattle.wired_panels.proofs.PlanLists.{split_at, find_passes, find_some}
-use Rattle.wired_panels.proofs.PlanOwners.{level_some, one_total, one_total_line}
+use Rattle.wired_panels.proofs.PlanOwners.{level_some}
 use Rattle.panel_cycles.specs.ChartAmounts.{is_total_at, total_line, digits_of, total_digits, total_group, amount_of}
 use Rattle.wired_panels.specs.Groups.{IsGroupOf}
+use Rattle.wiring_table.proofs.Totals.{one-total, one-total_line}
+use Rattle.charts.proofs.Listed.{found-listed, found-passing}
+use Rattle.chart_rules.proofs.Laws.{kept-line}
 
 -- the line that is found has the total
 pub found_total : (lines : List Line) (name : List ℕ) (level : ℕ) (line : Line) → total_line lines name level ≡ Some line
     → (total : HasTotal lines name level line.number) × (total.line ≡ line)
 found_total lines name level line found =
-    let (on, listed) = find_passes (λ (l : Line). is_total_at name level l.statement) lines line found in
+    let (listed, on) = found-listed (λ (l : Line). is_total_at name level l.statement) lines line found in
     by line.statement refl listed on
   where
     by : (statement : Statement) → line.statement ≡ statement → Contains lines line → is_total_at name level statement ≡ true
@@ -67,7 +69,7 @@ total_found lines name level number total =
     let levels : (level_number total.its_level == level) ≡ true = grind (arith, nat_tests, total.same_level) in
     let on : is_total_at name level total.line.statement ≡ true =
     ap (is_total_at name level) total.says_total ∙ rw (levels, total.same_name) refl in
-    find_some (λ (l : Line). is_total_at name level l.statement) lines total.line total.listed on
+    found-passing (λ (l : Line). is_total_at name level l.statement) lines total.line total.listed on
 
 -- an amount has a total where its lines have one
 pub has_it : (lines : List Line) (plan : Lists) (name : List ℕ) (level number : ℕ) → HasTotal lines name level number
@@ -92,7 +94,7 @@ pub digits_are : (chart : Chart) (plan : Lists) (name : List ℕ) (level number 
 digits_are chart plan name level number lawful total =
     let (line, found) = total_found chart.lines name level number total in
     let (its, is_line) = found_total chart.lines name level line found in
-    let same = one_total_line chart name level number line.number lawful total its in
+    let same = one-total_line chart name lawful level number line.number total its in
     ap total_digits found ∙ ap (λ (l : Line). digits_of l.statement) (sym is_line ∙ sym same) ∙ ap digits_of total.says_total
 
 pub group_is : (chart : Chart) (plan : Lists) (name : List ℕ) (level : ℕ) (group : Group) → IsLawful chart
@@ -100,7 +102,7 @@ pub group_is : (chart : Chart) (plan : Lists) (name : List ℕ) (level : ℕ) (g
 group_is chart plan name level group lawful own =
     let (line, found) = total_found chart.lines name level own.number own.total in
     let (its, is_line) = found_total chart.lines name level line found in
-    let same = one_total chart name level own.number line.number lawful own.total its in
+    let same = one-total chart name lawful level own.number line.number own.total its in
     ap (option_and_then (λ (l : Line). group_for chart.lines plan l.number)) found
     ∙ ap (group_for chart.lines plan) (sym same) ∙ own.served
 
@@ -210,20 +212,13 @@ unsigned_from lines name field amount unsigned = by field.kind refl (sym (ap nam
     by (holds.Amount decimals None) is on = record { field = field; is_amount = amount; unruled = ap rule_of is }
     by (holds.Amount decimals (Some its)) is on = cc
 
--- what a line of a lawful chart keeps
-pub kept : (chart : Chart) (each : Rule) (line : Line) → IsLawful chart → Contains chart.lines line
-    → (earlier : List Line) × (breaks each chart.lines earlier line.statement ≡ false)
-kept chart each line lawful listed =
-    let at = split_at chart.lines line listed in
-    (at.earlier, breaks-lawful each chart at.earlier line at.later lawful at.split)
-
 -- the name of a total stands for an amount
 pub total_field : (chart : Chart) (name : List ℕ) (level number : ℕ) → IsLawful chart → HasTotal chart.lines name level number
     → (field : Field) × IsAmount chart.lines name field
 total_field chart name level number lawful total =
     let same = is_same_name-equal total.its_name name total.same_name in
-    let (before, known) = kept chart rule.UnknownName total.line lawful total.listed in
-    let (earlier, right_kind) = kept chart rule.WrongKind total.line lawful total.listed in
+    let (before, known) = kept-line chart lawful total.line total.listed rule.UnknownName in
+    let (earlier, right_kind) = kept-line chart lawful total.line total.listed rule.WrongKind in
     by (field_named chart.lines name) refl
     (ap (λ n. is_none (field_named chart.lines n)) (sym same) ∙ sym (ap (breaks rule.UnknownName chart.lines before) total.says_total) ∙ known)
     (ap (λ n. names_text (field_named chart.lines n)) (sym same) ∙ sym (ap (breaks rule.WrongKind chart.lines earlier) total.says_total) ∙ right_kind)

@@ -30,12 +30,12 @@ use Rattle.wired_panels.proofs.Contacts.{is_set}
 use Rattle.panel_cycles.proofs.CounterAsksEntries.{card_spells, turn_spells, up_spells}
 use Rattle.panel_cycles.proofs.CounterAsksKinds.{card_act, card_controls}
 use Rattle.panel_cycles.proofs.CounterAsksSteps.{first_controls, other_controls, second_controls, show_act, test_act, third_controls, turn_act}
-use Rattle.wired_panels.proofs.PlanOwners.{has_group}
 use Rattle.wired_panels.specs.Groups.{IsGroupOf}
 use Rattle.panel_cycles.specs.ChartAmounts.{amount_of}
 use Rattle.wired_panels.specs.PanelCycles.{IsCardRead, IsPanelCycle}
 use Rattle.panel_cycles.specs.CounterStates.{IsKindOf, held_in, number_at, state_of}
 use Rattle.panel_cycles.specs.CounterStates.IsKindOf.{card as card_kind, heading as heading_kind, program as program_kind, run_in as run_in_kind}
+use Rattle.wiring_table.proofs.Groups.{group-given}
 
 -- tests
 is_number : (a b : ℕ) → (a == b) ≡ true → a ≡ b
@@ -192,7 +192,7 @@ module _ (chart : Chart) (plan : Lists) (wiring : Wiring) (rise : NumbersRise ch
           let next = is_number (lower amount.has level) (level_number l)
           (second_holds (amount.has (level_number l)) (lower amount.has level == level_number l) goes) in
           let under = under_from chart.lines plan name level (total_level own.total) (level_number l) has next in
-          let (lower_group, served) = has_group chart.lines plan name (level_number l) under.number at.panel.planned under.total in
+          let (lower_group, served) = group-given chart.lines plan name (level_number l) under.number at.panel.planned under.total in
           let given : IsGroupOf chart.lines plan name (level_number l) lower_group =
           record { number = under.number; total = under.total; served = served } in
           let held : state (level_number l) ≡ held_in old (Some lower_group) =

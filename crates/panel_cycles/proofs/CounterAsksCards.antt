@@ -26,9 +26,9 @@ use Rattle.counters.specs.Laws.{IsDigit}
 use Rattle.counters.specs.Numbers.{number}
 use Rattle.report.specs.Amounts.{digit_in, digits_on, number_in}
 use Rattle.wiring_table.specs.Figures.{IsAmount}
-use Rattle.wiring_table.proofs.Listed.{listed-cases}
-use Rattle.wired_panels.proofs.PlanLists.{find_passes}
 use Rattle.wired_panels.proofs.Ways.{same_tests}
+use Rattle.charts.proofs.Listed.{found-listed, listed-cases, listed-within}
+use Rattle.chart_rules.proofs.Laws.{amount-valid, one-digit}
 
 -- a digit, a blank counting 0
 abbrev pub digit_value : Option ℕ → ℕ
@@ -49,22 +49,14 @@ number_values (Some digit ∷ digits) =
 number_values (None ∷ digits) = let below = number_values digits in omega (arith, below)
 
 -- the digits 0 to 9
-in_range : (a n d : ℕ) → Contains (range_with_len a n) d → d < a + n
-in_range a zero d (k, within, is) = absurd (omega (arith, within))
-in_range a (suc n) d there = by (listed-cases d a (range_with_len (a + 1) n) there) (λ later. in_range (a + 1) n d later)
-  where
-    by : (a ≡ d) ⊎ Contains (range_with_len (a + 1) n) d → (Contains (range_with_len (a + 1) n) d → d < a + 1 + n) → d < a + suc n
-    by (inl e) later = omega (arith, e)
-    by (inr there) later = omega (arith, later there)
-
 digit_small : (rows : ℕ) → digit_value (digit_in rows) ≤ 9
 digit_small rows = by (digit_in rows) refl
   where
     by : (o : Option ℕ) → digit_in rows ≡ o → digit_value o ≤ 9
     by None is = omega arith
     by (Some digit) is =
-        let (on, there) = find_passes (λ d. has_row rows d) (range_with_len 0 10) digit is in
-        omega (arith, in_range 0 10 digit there)
+        let (there, on) = found-listed (λ d. has_row rows d) (range_with_len 0 10) digit is in
+        omega (arith, listed-within 0 10 digit there)
 
 digits_small : (card : List ℕ) (columns : List ℕ) → All IsDigit (map digit_value (map (λ column. digit_in (column_of card column)) columns))
 digits_small card [] = All-nil IsDigit
@@ -181,24 +173,10 @@ column_row column row from to few =
         on : (o : Option ℕ) → digit_in column ≡ o → digit_value o ≡ row_number row → has_row column (row_number row) ≡ true
         on None is e = absurd (omega (arith, e, from))
         on (Some digit) is e =
-            ap (has_row column) (sym e) ∙ (find_passes (λ d. has_row column d) (range_with_len 0 10) digit is).0
+            ap (has_row column) (sym e) ∙ (found-listed (λ d. has_row column d) (range_with_len 0 10) digit is).1
 
 -- the columns of an amount on a valid card have one digit at most
 pub few_digits : (chart : Chart) (card : List ℕ) (name : List ℕ) (field : Field) (column : ℕ) → IsValidCard chart card
     → IsAmount chart.lines name field → field.first ≤ column → column ≤ field.last → digit_count (column_of card column) ≤ 1
-unfolding IsValidCard
 few_digits chart card name field column valid amount from to =
-    let (same, (k, within, is)) = find_passes (λ (f : Field). is_same_name f.name name) (fields_of chart.lines) field amount.named in
-    let there = slice_get_read (fields_of chart.lines) (length (fields_of chart.lines)) k field refl within (sym is) in
-    of_kind field.kind refl (valid k within field there)
-  where
-    of_digits : {least : ℕ} → AreDigits field.first field.last least card → digit_count (column_of card column) ≤ 1
-    of_digits digits = by (nat_lt column digits.start) refl
-      where
-        by : (b : Bool) → nat_lt column digits.start ≡ b → digit_count (column_of card column) ≤ 1
-        by true less = let none = digits.blanks column from (grind (arith, nat_tests, less)) in omega (arith, none)
-        by false more = let one = digits.digits column (grind (arith, nat_tests, more)) to in omega (arith, one)
-
-    of_kind : (kind : FieldKind) → field.kind ≡ kind → IsValidKind kind field card → digit_count (column_of card column) ≤ 1
-    of_kind holds.Text is text = absurd (both_ways _ refl (sym (ap is_amount is) ∙ amount.holds_amount))
-    of_kind (holds.Amount decimals rule) is given = of_digits given.digits
+    one-digit field card column (amount-valid chart card name field valid amount.named amount.holds_amount) from to

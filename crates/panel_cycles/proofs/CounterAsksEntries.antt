@@ -49,7 +49,7 @@ use Rattle.wired_panels.proofs.CounterAsksRows.{ReadsDigit, Enters, enters_is, g
 use Rattle.wired_panels.proofs.CounterAsksRows.Enters.{card as enters_card, own_digit, lower_digit}
 use Rattle.wired_panels.proofs.CounterAsksTold.{IsUnder}
 use Rattle.wired_panels.proofs.CounterUnits.{at_unit, counter_there, planned_unit}
-use Rattle.wired_panels.proofs.PlanLists.{find_passes}
+use Rattle.charts.proofs.Listed.{found-listed}
 use Rattle.wired_panels.proofs.PlanOwners.{one_group}
 use Rattle.wired_panels.specs.Groups.{IsGroupOf}
 use Rattle.wired_panels.specs.PanelCycles.{IsPanelCycle, IsCardRead}
@@ -63,7 +63,7 @@ second_holds false b on = cc
 -- the field of a name is on the card
 pub field_on_card : (chart : Chart) (name : List ℕ) (field : Field) → IsLawful chart → field_named chart.lines name ≡ Some field → IsOnCard field
 field_on_card chart name field lawful named =
-    let (same, (k, within, is)) = find_passes (λ (f : Field). is_same_name f.name name) (fields_of chart.lines) field named in
+    let ((k, within, is), same) = found-listed (λ (f : Field). is_same_name f.name name) (fields_of chart.lines) field named in
     AreOnCard-lawful chart lawful k field
     (slice_get_read (fields_of chart.lines) (length (fields_of chart.lines)) k field refl within (sym is))
 

@@ -1,6 +1,7 @@
 -- The control hubs of the counter group of a total are impulsed as what is asked of it says, in each kind of cycle.
 use Rattle.std.proofs.Common.{◌≡◌, ◌∙◌, refl, sym, ap, ℕ, ◌≤◌, ◌==◌, ◌&&◌, not, Bool, true, false, List, Some, arith, if◌then◌else◌}
 use Rattle.std.proofs.lemmas.Bool.Decides.{nat_tests}
+use Rattle.std.proofs.lemmas.Bool.{not-true, false_from_ne_true, both_ways}
 use Rattle.counter_cycles.specs.Acts.{Act, act_controls, IsControlled}
 use Rattle.counter_cycles.specs.Acts.Act.{Still}
 use Rattle.wanted.specs.ChartTotals.{names_signed}
@@ -35,18 +36,6 @@ use Rattle.panel_cycles.specs.ChartAmounts.{amount_of}
 use Rattle.wired_panels.specs.Groups.{IsGroupOf}
 use Rattle.wired_panels.specs.PanelCycles.{IsPanelCycle, IsCardRead}
 
--- tests
-pub no_both : {b : Bool} → b ≡ true → b ≡ false → ⊥
-no_both a b = cc
-
-pub not_true : (b : Bool) → (b ≡ true → ⊥) → b ≡ false
-not_true true none = absurd (none refl)
-not_true false none = refl
-
-pub not_is : (b : Bool) → not b ≡ true → b ≡ false
-not_is true is = cc
-not_is false is = refl
-
 -- what a card asks, by whether the total is the lowest and whether the card is subtracted
 abbrev pub card_act : (is_lowest is_negative : Bool) → ℕ → Act
 card_act is_lowest is_negative size = if is_lowest then posted is_negative size else Still
@@ -55,18 +44,18 @@ card_plus : (z m p : Bool) (size : ℕ) → (p ≡ true → z ≡ true) → (p �
     → p ≡ (act_controls (card_act z m size)).plus
 card_plus true false true size a b c = refl
 card_plus true false false size a b c = c refl refl
-card_plus true true true size a b c = absurd (no_both refl (b refl))
+card_plus true true true size a b c = absurd (both_ways _ (b refl) refl)
 card_plus true true false size a b c = refl
-card_plus false m true size a b c = absurd (no_both (a refl) refl)
+card_plus false m true size a b c = absurd (both_ways _ refl (a refl))
 card_plus false m false size a b c = refl
 
 card_minus : (z m p : Bool) (size : ℕ) → (p ≡ true → z ≡ true) → (p ≡ true → m ≡ true) → (z ≡ true → m ≡ true → p ≡ true)
     → p ≡ (act_controls (card_act z m size)).minus
 card_minus true true true size a b c = refl
 card_minus true true false size a b c = c refl refl
-card_minus true false true size a b c = absurd (no_both (b refl) refl)
+card_minus true false true size a b c = absurd (both_ways _ refl (b refl))
 card_minus true false false size a b c = refl
-card_minus false m true size a b c = absurd (no_both (a refl) refl)
+card_minus false m true size a b c = absurd (both_ways _ refl (a refl))
 card_minus false m false size a b c = refl
 
 card_rest : (z m : Bool) (size : ℕ) → ((act_controls (card_act z m size)).read_out ≡ false) × ((act_controls (card_act z m size)).test ≡ false)
@@ -112,8 +101,8 @@ module _ (chart : Chart) (plan : Lists) (wiring : Wiring) (rise : NumbersRise ch
     card_controls size = record {
       plus = card_plus (below == 0) negative (pictures C (PL group)) size (λ on. plus_low (adds on)) (λ on. plus_sign (adds on)) plus_given;
       minus = card_minus (below == 0) negative (pictures C (MI group)) size (λ on. minus_low (subtracts on)) (λ on. minus_sign (subtracts on)) minus_given;
-      read_out = not_true _ (λ on. no_read (reads on)) ∙ sym (card_rest (below == 0) negative size).0;
-      test = not_true _ (λ on. no_test (tests on)) ∙ sym (card_rest (below == 0) negative size).1;
+      read_out = false_from_ne_true _ (λ on. no_read (reads on)) ∙ sym (card_rest (below == 0) negative size).0;
+      test = false_from_ne_true _ (λ on. no_test (tests on)) ∙ sym (card_rest (below == 0) negative size).1;
     }
       where
         adds : pictures C (PL group) ≡ true → Pluses chart.lines plan (shut old Card) Card name level
@@ -146,7 +135,7 @@ module _ (chart : Chart) (plan : Lists) (wiring : Wiring) (rise : NumbersRise ch
             let sides = positive_closed old Card card rule pilot at.between.ordered (within_panel rule pilot low its_sign served)
             (read.pilots name its_sign.field rule pilot its_sign.named its_sign.ruled served) in
             ap (λ b. b && is_negated field.kind card) (signed_is chart.lines name rule its_sign)
-            ∙ rule_is rule its_sign ∙ not_is (is_negative_by rule card) (sym sides ∙ closed)
+            ∙ rule_is rule its_sign ∙ not-true (is_negative_by rule card) (sym sides ∙ closed)
         plus_sign (up low is under unsigned) = absurd is
         plus_sign (by_latch low rule lower is under its_sign given closed) = absurd is
 

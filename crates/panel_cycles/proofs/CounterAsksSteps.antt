@@ -1,5 +1,6 @@
 -- The control hubs of the counter group of a total in program cycles and in others: they are impulsed as what is asked of it says.
 use Rattle.std.proofs.Common.{◌≡◌, ◌∙◌, refl, sym, ap, subst, ℕ, ◌<◌, ◌≤◌, ◌==◌, ◌&&◌, not, Bool, true, false, List, arith, if◌then◌else◌}
+use Rattle.std.proofs.lemmas.Bool.{not-true, false_from_ne_true}
 use Rattle.std.proofs.lemmas.Bool.Decides.{nat_tests}
 use Rattle.counter_cycles.specs.Acts.{Act, Held, act_controls, IsControlled}
 use Rattle.counter_cycles.specs.Acts.Act.{Still, Test, Turn, Show}
@@ -34,12 +35,11 @@ use Rattle.wired_panels.proofs.CounterAsksControls.Tests.{tests_it}
 use Rattle.wired_panels.proofs.CounterAsksGiven.{gives_plus, gives_minus, gives_read, gives_test}
 use Rattle.wired_panels.proofs.CounterAsksTold.{IsUnder, IsStep, IsCardCycle}
 use Rattle.wired_panels.proofs.CounterUnits.{planned_unit}
-use Rattle.wired_panels.proofs.PlanOwners.{has_group}
 use Rattle.panel_cycles.specs.ChartAmounts.{amount_of}
 use Rattle.wired_panels.specs.Groups.{IsGroupOf}
 use Rattle.wired_panels.specs.PanelCycles.{IsPanelCycle}
 use Rattle.panel_cycles.specs.CounterStates.{state_of, held_in}
-use Rattle.panel_cycles.proofs.CounterAsksKinds.{not_true, not_is}
+use Rattle.wiring_table.proofs.Groups.{group-given}
 
 -- what is asked in the three program cycles of a level: whether it is the total's, whether a negative balance is turned, and whether a
 -- total goes up, by minus or by plus
@@ -129,10 +129,10 @@ module _ (chart : Chart) (plan : Lists) (wiring : Wiring) (rise : NumbersRise ch
   pub other_controls : (cycle : Cycle) → IsPanelCycle chart plan wiring old cycle pictures → ((step : ℕ) (low : ℕ) → IsStep cycle low step → ⊥)
       → (IsCardCycle cycle → ⊥) → IsControlled group (act_controls Still) pictures
   other_controls cycle at no_step no_card = record {
-    plus = not_true _ (λ on. no_plus (plus_is chart plan wiring old cycle pictures at rise name level group own on));
-    minus = not_true _ (λ on. no_minus (minus_is chart plan wiring old cycle pictures at rise name level group own on));
-    read_out = not_true _ (λ on. no_read (read_is chart plan wiring old cycle pictures at rise name level group own on));
-    test = not_true _ (λ on. no_test (test_is chart plan wiring old cycle pictures at rise name level group own on));
+    plus = false_from_ne_true _ (λ on. no_plus (plus_is chart plan wiring old cycle pictures at rise name level group own on));
+    minus = false_from_ne_true _ (λ on. no_minus (minus_is chart plan wiring old cycle pictures at rise name level group own on));
+    read_out = false_from_ne_true _ (λ on. no_read (read_is chart plan wiring old cycle pictures at rise name level group own on));
+    test = false_from_ne_true _ (λ on. no_test (test_is chart plan wiring old cycle pictures at rise name level group own on));
   }
     where
       no_plus : Pluses chart.lines plan (shut old cycle) cycle name level → ⊥
@@ -157,9 +157,9 @@ module _ (chart : Chart) (plan : Lists) (wiring : Wiring) (rise : NumbersRise ch
     pub first_controls : IsPanelCycle chart plan wiring old (Prog l First) pictures
         → IsControlled group (act_controls (test_act (signed && (level_number l == level)))) pictures
     first_controls at = record {
-      plus = not_true _ (λ on. no_plus (plus_is chart plan wiring old (Prog l First) pictures at rise name level group own on)) ∙ sym told.0;
-      minus = not_true _ (λ on. no_minus (minus_is chart plan wiring old (Prog l First) pictures at rise name level group own on)) ∙ sym told.1;
-      read_out = not_true _ (λ on. no_read (read_is chart plan wiring old (Prog l First) pictures at rise name level group own on)) ∙ sym told.2;
+      plus = false_from_ne_true _ (λ on. no_plus (plus_is chart plan wiring old (Prog l First) pictures at rise name level group own on)) ∙ sym told.0;
+      minus = false_from_ne_true _ (λ on. no_minus (minus_is chart plan wiring old (Prog l First) pictures at rise name level group own on)) ∙ sym told.1;
+      read_out = false_from_ne_true _ (λ on. no_read (read_is chart plan wiring old (Prog l First) pictures at rise name level group own on)) ∙ sym told.2;
       test =
           agrees _ _ (λ on. is_tested (test_is chart plan wiring old (Prog l First) pictures at rise name level group own on)) gives
           ∙ sym told.3;
@@ -196,14 +196,14 @@ module _ (chart : Chart) (plan : Lists) (wiring : Wiring) (rise : NumbersRise ch
     pub second_controls : IsPanelCycle chart plan wiring old (Prog l Second) pictures
         → IsControlled group (act_controls (turn_act (signed && ((level_number l == level) && is_set old group)))) pictures
     second_controls at = record {
-      plus = not_true _ (λ on. no_plus (plus_is chart plan wiring old (Prog l Second) pictures at rise name level group own on)) ∙ sym told.0;
+      plus = false_from_ne_true _ (λ on. no_plus (plus_is chart plan wiring old (Prog l Second) pictures at rise name level group own on)) ∙ sym told.0;
       minus =
           agrees _ _ (λ on. minus_turned (minus_is chart plan wiring old (Prog l Second) pictures at rise name level group own on)) gives_it
           ∙ sym told.1;
       read_out =
           agrees _ _ (λ on. read_turned (read_is chart plan wiring old (Prog l Second) pictures at rise name level group own on)) gives_out
           ∙ sym told.2;
-      test = not_true _ (λ on. no_test (test_is chart plan wiring old (Prog l Second) pictures at rise name level group own on)) ∙ sym told.3;
+      test = false_from_ne_true _ (λ on. no_test (test_is chart plan wiring old (Prog l Second) pictures at rise name level group own on)) ∙ sym told.3;
     }
       where
         told : AreControls (turn_act (signed && ((level_number l == level) && is_set old group))) false (signed && ((level_number l == level) && is_set old group)) (signed && ((level_number l == level) && is_set old group)) false
@@ -294,7 +294,7 @@ module _ (chart : Chart) (plan : Lists) (wiring : Wiring) (rise : NumbersRise ch
       read_out =
           agrees _ _ (λ on. read_told (read_is chart plan wiring old (Prog l Third) pictures at rise name level group own on)) read_given
           ∙ sym told.2;
-      test = not_true _ (λ on. no_test (test_is chart plan wiring old (Prog l Third) pictures at rise name level group own on)) ∙ sym told.3;
+      test = false_from_ne_true _ (λ on. no_test (test_is chart plan wiring old (Prog l Third) pictures at rise name level group own on)) ∙ sym told.3;
     }
       where
         told : AreControls (show_act (level_number l == level) goes_up by_minus number)
@@ -316,7 +316,7 @@ module _ (chart : Chart) (plan : Lists) (wiring : Wiring) (rise : NumbersRise ch
         plus_told (by_latch low rule lower_group is under its_sign given closed) =
             let (apart, goes) = up_is low is.0 under in
             let there = planned_unit chart.lines plan given.number lower_group at.panel.planned given.served in
-            let is_reset = not_is _ (sym (normal_balance old (Prog l Third) lower_group 2 at.between.ordered there refl) ∙ closed) in
+            let is_reset = not-true _ (sym (normal_balance old (Prog l Third) lower_group 2 at.between.ordered there refl) ∙ closed) in
             three _ goes_up (not by_minus) apart goes
             (not_false _ (ap (λ b. b && (state (level_number l)).latch) (signed_is chart.lines name rule its_sign)
             ∙ latch_is low lower_group at is.0 given ∙ is_reset))
@@ -353,14 +353,14 @@ module _ (chart : Chart) (plan : Lists) (wiring : Wiring) (rise : NumbersRise ch
         lower_of : (under : IsUnder chart.lines name (level_number l) level)
             → (lower_group : Group) × IsGroupOf chart.lines plan name (level_number l) lower_group
         lower_of under =
-            let (lower_group, served) = has_group chart.lines plan name (level_number l) under.number at.panel.planned under.total in
+            let (lower_group, served) = group-given chart.lines plan name (level_number l) under.number at.panel.planned under.total in
             (lower_group, record { number = under.number; total = under.total; served = served })
 
         plus_given : (not (level_number l == level) && (goes_up && not by_minus)) ≡ true → pictures C (PL group) ≡ true
         plus_given on =
             let rest = second (not (level_number l == level)) (goes_up && not by_minus) on in
             let under = under_of (first goes_up (not by_minus) rest) in
-            let none = not_is by_minus (second goes_up (not by_minus) rest) in
+            let none = not-true by_minus (second goes_up (not by_minus) rest) in
             gives_plus chart plan wiring old (Prog l Third) pictures at rise name level group own (by under signed refl none)
           where
             by : IsUnder chart.lines name (level_number l) level → (b : Bool) → signed ≡ b → (b && (state (level_number l)).latch) ≡ false

@@ -35,13 +35,14 @@ use Rattle.net.specs.declared.cycle.Level.TheVariants.{Minor, Intermediate, Majo
 use Rattle.net.specs.declared.cycle.Ordinal.TheVariants.{First, Second, Third}
 use Rattle.net.specs.declared.cycle.Point.{Point}
 use Rattle.net.specs.declared.cycle.Point.TheVariants.{C}
-use Rattle.line_places.proofs.LawfulTapes.{form-lawful}
+use Rattle.line_places.proofs.LawfulForms.{form-lawful}
 use Rattle.line_places.specs.Placing.{kind_of, asked_of, channel_of, turns_page}
 use Rattle.report.specs.ChartForm.{kind_number, spacing_of, after_of}
 use Rattle.wiring_table.specs.Parts.{source_of}
 use Rattle.wiring_table.specs.Wires.{LineWire}
 use Rattle.wiring_table.specs.Wires.LineWire.{double_space, triple_space, page, skip}
-use Rattle.wired_panels.proofs.SaidOnce.{SaysSpace, SaysAfter, said-once, space-said, space-is, after-said, after-is}
+use Rattle.report.proofs.Said.{SaysSpace, SaysAfter, after-said, space-said}
+use Rattle.wired_panels.proofs.SaidOnce.{said-once, space-is, after-is}
 use Rattle.wired_panels.proofs.Straight.{at_control}
 use Rattle.wired_panels.specs.PanelCycles.{IsPanelCycle, ArrivesAtControl}
 use Rattle.wired_panels.specs.Sources.{EmitsAtControl}

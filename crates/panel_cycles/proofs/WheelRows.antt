@@ -40,7 +40,7 @@ use Rattle.wired_panels.specs.CycleRows.{CycleRow, is_closed}
 use Rattle.wired_panels.specs.Panel.Arrives.{straight, through}
 use Rattle.wired_panels.specs.PanelCycles.{IsPanelCycle}
 use Rattle.wired_panels.proofs.Sources.{sent}
-use Rattle.wired_panels.proofs.SpeakersApart.{place-of}
+use Rattle.charts.proofs.Listed.{place-of}
 use Rattle.wired_panels.proofs.SpeakersLawful.{overlaps-not}
 use Rattle.wired_panels.proofs.Straight.{row_arrives}
 use Rattle.wired_panels.proofs.ToWheels.{ArrivesThere, Emits, WireAt}

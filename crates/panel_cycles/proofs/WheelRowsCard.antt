@@ -40,10 +40,10 @@ use Rattle.wiring_table.specs.Parts.{pilot_for, negative_side}
 use Rattle.wired_panels.specs.CycleRows.{CycleRow, reads, is_closed}
 use Rattle.panel_cycles.specs.PrintedRows.{IsCardRow}
 use Rattle.wired_panels.proofs.Contacts.{closes-IX, closes-CSD, closes-PIT, closes-PIN}
-use Rattle.wired_panels.proofs.SpeakersLawful.{good-field}
+use Rattle.chart_rules.proofs.Laws.{good-field, amount-valid, one-digit}
 use Rattle.panel_cycles.proofs.WheelRows.{SendsRow}
 use Rattle.panel_cycles.proofs.WheelRowsDigits.{digit-in}
-use Rattle.panel_cycles.proofs.WheelRowsField.{left-of, right-of, both-of, field-sent, text-sends, amount-sends, length-digits_on, digit-on, valid-amount, one-digit, digit-zone, amount-shown}
+use Rattle.panel_cycles.proofs.WheelRowsField.{left-of, right-of, both-of, field-sent, text-sends, amount-sends, length-digits_on, digit-on, digit-zone, amount-shown}
 use Rattle.panel_cycles.proofs.WheelRowsFigure.FigureSends.{digit as figure_digit, point as figure_point, marked as figure_marked}
 use Rattle.panel_cycles.proofs.WheelRowsFigure.{FigureSends, amount_shown, figure-sent}
 use Rattle.panel_cycles.proofs.WheelRowsText.{columns-stand, columns-sent}
@@ -129,7 +129,7 @@ module _ (wiring : Wiring) (card : List ℕ) (opens : ℕ) (at : CycleRow) (row 
       (row_number at.row) v
       → Sends (says.DetailField wheel name how) v
   figure-row wheel name how field {v} is on sends =
-      let good = good-field at.chart name field row.on_panel.panel.lawful is.named in
+      let good = good-field at.chart row.on_panel.panel.lawful name field is.named in
       let sent = figure-sent wheel (columns_of field) (decimals_of field.kind) (mark_shown how) (digits_on field card) (is_negated field.kind card)
       (row_number at.row) good.decimals (length-digits_on field card) sends in
       record {
@@ -147,9 +147,9 @@ module _ (wiring : Wiring) (card : List ℕ) (opens : ℕ) (at : CycleRow) (row 
       → FigureSends wheel (columns_of field) (decimals_of field.kind) (mark_shown how) (digits_on field card) (is_negated field.kind card)
       (row_number at.row) (digit_wheel wheel (columns_of field) (decimals_of field.kind) position)
   digit-row wheel name how field position is on from to read low =
-      let good = good-field at.chart name field row.on_panel.panel.lawful is.named in
-      let valid = valid-amount at.chart card name field row.read.valid is in
-      let few = one-digit field card (field.last + 1 - position) valid (omega (arith, from, to)) (omega (arith, from, to, good.order)) in
+      let good = good-field at.chart row.on_panel.panel.lawful name field is.named in
+      let valid = amount-valid at.chart card name field row.read.valid is.named is.holds_amount in
+      let few = one-digit field card (field.last + 1 - position) valid (omega (arith, from, to)) (omega (arith, from, to, good.card.order)) in
       figure_digit position from to
       (ap (λ o. has_row (digit_set o) (row_number at.row)) (digit-on field card position good from to)
       ∙ digit-in (column_of card (field.last + 1 - position)) at.row few
@@ -180,9 +180,9 @@ module _ (wiring : Wiring) (card : List ℕ) (opens : ℕ) (at : CycleRow) (row 
       → Sends (says.DetailField wheel name how) (digit_wheel wheel (columns_of field) (decimals_of field.kind) position)
   digit-sends line place wheel name how field position listed says_it is from to apart read =
       let on = amount-shown at.chart place line wheel name how field opens row.on_panel.panel.lawful listed says_it is in
-      let good = good-field at.chart name field row.on_panel.panel.lawful is.named in
-      let low = digit-zone field card (field.last + 1 - position) at.row (valid-amount at.chart card name field row.read.valid is)
-      (omega (arith, from, to)) (omega (arith, from, to, good.order)) apart (read-has (field.last + 1 - position) read) in
+      let good = good-field at.chart row.on_panel.panel.lawful name field is.named in
+      let low = digit-zone field card (field.last + 1 - position) at.row (amount-valid at.chart card name field row.read.valid is.named is.holds_amount)
+      (omega (arith, from, to)) (omega (arith, from, to, good.card.order)) apart (read-has (field.last + 1 - position) read) in
       figure-row wheel name how field is on (digit-row wheel name how field position is on from to read low)
 
   pub split-sends : (line : Line) (place : ℕ) (wheel : ℕ) (name : List ℕ) (how : DetailOption) (field : Field) (position split : ℕ)

@@ -53,17 +53,20 @@ use Rattle.wired_panels.specs.CycleRows.{CycleRow, reads}
 use Rattle.panel_cycles.specs.PrintedRows.{IsCardRow}
 use Rattle.wired_panels.specs.Sources.EmitsAtRow.{second, emitter}
 use Rattle.wired_panels.proofs.Contacts.{closes-CSD}
-use Rattle.wired_panels.proofs.SpeakersLawful.{IsGoodField, good-field}
-use Rattle.wired_panels.proofs.SpeakersServed.{split-there, pilot-there, indicate-there}
 use Rattle.wired_panels.proofs.ToWheels.{ArrivesThere, along, along_contact, pilot_common}
 use Rattle.panel_cycles.proofs.WheelRows.IsLineOf.{detail}
 use Rattle.panel_cycles.proofs.WheelRows.{IsLineOf, SendsRow, stands_on, sent_on}
 use Rattle.panel_cycles.proofs.WheelRowsCard.{control-low, control-high, has-read, closed-IX, closed-negative, negated-by}
 use Rattle.panel_cycles.proofs.WheelRowsDigits.{digit-in}
-use Rattle.panel_cycles.proofs.WheelRowsField.{left-of, right-of, both-of, field-tested, SendsField, text-sends, amount-sends, length-digits_on, digit-on, valid-amount, one-digit, text-unmarked}
+use Rattle.panel_cycles.proofs.WheelRowsField.{left-of, right-of, both-of, field-tested, SendsField, text-sends, amount-sends, length-digits_on, digit-on, text-unmarked}
 use Rattle.panel_cycles.proofs.WheelRowsFigure.FigureSends.{digit as figure_digit, point as figure_point, marked as figure_marked}
 use Rattle.panel_cycles.proofs.WheelRowsFigure.{FigureSends, amount_shown, figure-of, length-sets}
 use Rattle.panel_cycles.proofs.WheelRowsText.{literal-of, standing, columns-sent, columns-of}
+use Rattle.wiring_table.proofs.Parts.{indicate-given, pilot-given, split-given}
+use Rattle.chart_rules.proofs.Laws.{IsGoodField, amount-valid, good-field, one-digit}
+use Rattle.field_rules.proofs.Places.{is_same_name-own}
+use Rattle.charts.proofs.Listed.{listed-at, place-of}
+use Rattle.wanted.specs.Pilots.{shows}
 
 emits-four : (cycle : Cycle) → cycle ≡ Card → emitter_of cycle ≡ Some 4
 emits-four cycle is = ap emitter_of is
@@ -109,21 +112,21 @@ module _ (wiring : Wiring) (card : List ℕ) (opens : ℕ) (at : CycleRow) (row 
       → is_shown how opens ≡ true → IsText at.chart.lines name field → j < columns_of field
       → has_row (column_of card (field.first + j)) (row_number at.row) ≡ true → ArrivesThere at (W (wheel + j))
   text-arrives line place wheel name shown.Plain field j listed there says_it on is within punched =
-      let good = good-field at.chart name field row.on_panel.panel.lawful is.named in
+      let good = good-field at.chart row.on_panel.panel.lawful name field is.named in
       along wiring at row.on_panel row.rises line there says_it (detail_text wheel name field j is within)
       (second (field.first + j) row.cycle
-      (has-read wiring card opens at row (field.first + j) (omega (arith, good.from)) (omega (arith, within, good.to, good.order)) punched))
+      (has-read wiring card opens at row (field.first + j) (omega (arith, good.card.from)) (omega (arith, within, good.card.to, good.card.order)) punched))
   text-arrives line place wheel name (shown.Indicated level) field j listed there says_it on is within punched =
-      let good = good-field at.chart name field row.on_panel.panel.lawful is.named in
+      let good = good-field at.chart row.on_panel.panel.lawful name field is.named in
       let planned = row.on_panel.panel.planned in
-      let served = indicate-there at.chart.lines at.plan line place wheel name level field j planned listed says_it is.named within in
+      let served = indicate-given at.chart.lines at.plan planned line level wheel name field j there says_it is.named within in
       let few = indicate-few at.chart.lines at.plan level planned in
       let from = served.from in
       let to = served.to in
       let x_within : is_within served.n 30 ≡ true = grind (arith, nat_tests, from, to, few) in
       along_contact wiring at row.on_panel row.rises line there says_it (indicated_text_in wheel name level field j served.n is within served.is)
       (second (field.first + j) row.cycle
-      (has-read wiring card opens at row (field.first + j) (omega (arith, good.from)) (omega (arith, within, good.to, good.order)) punched)) refl
+      (has-read wiring card opens at row (field.first + j) (omega (arith, good.card.from)) (omega (arith, within, good.card.to, good.card.order)) punched)) refl
       (closed-IX wiring card opens at row (control_number level) served.n
       ∙ both-of (is_latch_set at.old.indicate (control_number level)) (is_within served.n 30)
       (row.latches (control_number level) (control-low level) (control-high level) ∙ on) x_within)
@@ -140,10 +143,10 @@ module _ (wiring : Wiring) (card : List ℕ) (opens : ℕ) (at : CycleRow) (row 
   digit-arrives line place wheel name how field position listed there says_it is from to punched low = by (sign_column field.kind) refl
     where
       good : IsGoodField field
-      good = good-field at.chart name field row.on_panel.panel.lawful is.named
+      good = good-field at.chart row.on_panel.panel.lawful name field is.named
 
       read : reads at (field.last + 1 - position) ≡ true
-      read = let g = good in has-read wiring card opens at row (field.last + 1 - position) (omega (arith, from, to, g.from)) (omega (arith, from, g.to)) punched
+      read = let g = good.card in has-read wiring card opens at row (field.last + 1 - position) (omega (arith, from, to, g.from)) (omega (arith, from, g.to)) punched
 
       plain : sign_column field.kind ≢ Some (field.last + 1 - position)
           → ArrivesThere at (W (digit_wheel wheel (columns_of field) (decimals_of field.kind) position))
@@ -156,8 +159,8 @@ module _ (wiring : Wiring) (card : List ℕ) (opens : ℕ) (at : CycleRow) (row 
       split signed =
           let g = good in
           let planned = row.on_panel.panel.planned in
-          let inside : is_inside field (Some (field.last + 1 - position)) ≡ true = grind (arith, nat_tests, from, to, g.order) in
-          let served = split-there at.chart.lines at.plan line place wheel name how field planned listed says_it is.named
+          let inside : is_inside field (Some (field.last + 1 - position)) ≡ true = grind (arith, nat_tests, from, to, g.card.order) in
+          let served = split-given at.chart.lines at.plan planned line wheel name how field there says_it is.named
           (ap (is_inside field) signed ∙ inside) in
           let few : length at.plan.parts.splits ≤ 16
           = at-most 16 _ (length at.plan.parts.splits) planned.splits (ap (λ parts. length parts.splits) planned.parts) in
@@ -197,9 +200,9 @@ module _ (wiring : Wiring) (card : List ℕ) (opens : ℕ) (at : CycleRow) (row 
       (row_number at.row) v
       → ArrivesThere at (W v)
   figure-arrives line place wheel name how field listed there says_it is (figure_digit position from to on) =
-      let good = good-field at.chart name field row.on_panel.panel.lawful is.named in
-      let valid = valid-amount at.chart card name field row.read.valid is in
-      let few = one-digit field card (field.last + 1 - position) valid (omega (arith, from, to)) (omega (arith, from, to, good.order)) in
+      let good = good-field at.chart row.on_panel.panel.lawful name field is.named in
+      let valid = amount-valid at.chart card name field row.read.valid is.named is.holds_amount in
+      let few = one-digit field card (field.last + 1 - position) valid (omega (arith, from, to)) (omega (arith, from, to, good.card.order)) in
       let punched : (has_row (column_of card (field.last + 1 - position)) (row_number at.row) && is_digit_row at.row) ≡ true
       = sym (ap (λ o. has_row (digit_set o) (row_number at.row)) (digit-on field card position good from to)
       ∙ digit-in (column_of card (field.last + 1 - position)) at.row few) ∙ on in
@@ -215,7 +218,7 @@ module _ (wiring : Wiring) (card : List ℕ) (opens : ℕ) (at : CycleRow) (row 
   figure-arrives line place wheel name (shown.Marked mark) field listed there says_it is (figure_marked its k marked below punch) =
       let ruled = rule-there field.kind card below in
       let planned = row.on_panel.panel.planned in
-      let served = pilot-there at.chart.lines at.plan line wheel name (shown.Marked mark) field planned there says_it is.named ruled.signed in
+      let served = pilot-given at.chart.lines at.plan planned line name field there (ap (shows name) says_it ∙ is_same_name-own name) is.named ruled.signed in
       let signed : IsSigned at.chart.lines name ruled.rule = record { field = field; named = is.named; ruled = ruled.is } in
       let own : its ≡ mark = cc in
       let few = pilots-few at.chart.lines at.plan planned in
@@ -249,7 +252,7 @@ module _ (wiring : Wiring) (card : List ℕ) (opens : ℕ) (at : CycleRow) (row 
           (text-arrives line place wheel name how given.field s.j listed there says_it given.on
           (record { named = given.named; holds_text = is }) s.within punched)
       by true is =
-          let good = good-field at.chart name given.field row.on_panel.panel.lawful given.named in
+          let good = good-field at.chart row.on_panel.panel.lawful name given.field given.named in
           let e : sent ≡ amount_shown wheel (columns_of given.field) (decimals_of given.field.kind) (mark_shown how) (digits_on given.field card)
           (is_negated given.field.kind card)
           = given.is ∙ amount-sends card wheel (mark_shown how) given.field given.field.kind is in
@@ -300,7 +303,7 @@ item-of chart opens card v (says.DetailLiteral wheel characters) sent lawful is 
     (text_item (Body body.Detail) wheel (length characters), refl, (omega (arith, s.is), omega (arith, s.is, s.within, n)), detail)
 item-of chart opens card v (says.DetailField wheel name how) sent lawful is there =
     let t = field-tested chart.lines opens card wheel name how sent is in
-    let good = good-field chart name t.field lawful t.named in
+    let good = good-field chart lawful name t.field t.named in
     let (wheels, line) = field-item chart card v wheel how t.field t.field.kind good refl (sym (ap (λ s. stands_on s v) t.is) ∙ there) in (
       detail_item wheel how (columns_of t.field) t.field.kind,
       ap (option_map (λ field. detail_item wheel how (columns_of field) field.kind)) t.named,

@@ -30,7 +30,8 @@ use Rattle.report.specs.Amounts.{columns_in, digits_on, digit_in, is_negated}
 use Rattle.report.specs.BodyLines.{is_shown}
 use Rattle.selectors.specs.Splits.{is_digit_row}
 use Rattle.wiring_table.specs.Figures.{IsAmount}
-use Rattle.wired_panels.proofs.SpeakersLawful.{IsGoodField, named-line, kept-at}
+use Rattle.chart_rules.proofs.Laws.{IsGoodField}
+use Rattle.wired_panels.proofs.SpeakersLawful.{kept-at}
 use Rattle.panel_cycles.proofs.WheelRowsFigure.{amount_shown}
 
 pub left-of : (a b : Bool) → (a && b) ≡ true → a ≡ true
@@ -89,43 +90,13 @@ pub digit-on : (field : Field) (card : List ℕ) (position : ℕ) → IsGoodFiel
     → get_or (digits_on field card) (columns_of field - position) None ≡ digit_in (column_of card (field.last + 1 - position))
 digit-on field card position good low high =
     get_or-map-range_with_len (λ column. digit_in (column_of card column)) field.first (columns_of field) (columns_of field - position)
-    (field.last + 1 - position) None (omega (arith, low, high)) (omega (arith, low, high, good.order))
-
--- the columns of an amount on a valid card
-pub valid-amount : (chart : Chart) (card : List ℕ) (name : List ℕ) (field : Field) → IsValidCard chart card → IsAmount chart.lines name field
-    → IsValidAmount field card
-unfolding IsValidCard
-valid-amount chart card name field valid is =
-    let found = named-line chart.lines name field is.named in
-    by field.kind is.holds_amount
-    (valid found.place (slice_get_within (fields_of chart.lines) found.place field found.at) field found.at)
-  where
-    by : (kind : FieldKind) → is_amount kind ≡ true → IsValidKind kind field card → IsValidAmount field card
-    by holds.Text amount given = cc
-    by (holds.Amount decimals rule) amount given = given
-
-pub one-digit : (field : Field) (card : List ℕ) (column : ℕ) → IsValidAmount field card → field.first ≤ column → column ≤ field.last
-    → digit_count (column_of card column) ≤ 1
-one-digit field card column valid from to = by (cases_lt column valid.digits.start)
-  where
-    by : (column < valid.digits.start) ⊎ (valid.digits.start ≤ column) → digit_count (column_of card column) ≤ 1
-    by (inl before) = let e = valid.digits.blanks column from before in omega (arith, e)
-    by (inr behind) = let e = valid.digits.digits column behind to in omega (arith, e)
+    (field.last + 1 - position) None (omega (arith, low, high)) (omega (arith, low, high, good.card.order))
 
 -- a row of a column with a good zone that is not the sign column is a digit's
 digit-rows : (set : ℕ) (row : CardRow) → has_row set 11 ≡ false → has_row set 12 ≡ false → has_row set (row_number row) ≡ true → is_digit_row row ≡ true
-digit-rows set row.Zero eleven twelve on = refl
-digit-rows set row.One eleven twelve on = refl
-digit-rows set row.Two eleven twelve on = refl
-digit-rows set row.Three eleven twelve on = refl
-digit-rows set row.Four eleven twelve on = refl
-digit-rows set row.Five eleven twelve on = refl
-digit-rows set row.Six eleven twelve on = refl
-digit-rows set row.Seven eleven twelve on = refl
-digit-rows set row.Eight eleven twelve on = refl
-digit-rows set row.Nine eleven twelve on = refl
 digit-rows set row.Eleven eleven twelve on = cc
 digit-rows set row.Twelve eleven twelve on = cc
+digit-rows set other eleven twelve on = refl
 
 pub digit-zone : (field : Field) (card : List ℕ) (column : ℕ) (row : CardRow) → IsValidAmount field card → field.first ≤ column → column ≤ field.last
     → sign_column field.kind ≢ Some column → has_row (column_of card column) (row_number row) ≡ true → is_digit_row row ≡ true

@@ -15,6 +15,7 @@ use Rattle.report.specs.Edits.{mark_text}
 use Rattle.wiring_table.specs.Figures.{HasPunch, HasPunchAt, digit_wheel, point_wheel, mark_wheel, mark_text}
 use Rattle.panel_cycles.proofs.WheelRows.{stands_on, sent_on, no_rows}
 use Rattle.panel_cycles.proofs.WheelRowsText.{standing, stand, sent-at, punch-of, has-punch, punch-sent, punch-at}
+use Rattle.printed_lines.proofs.ItemWheels.{mark-sets}
 
 -- An amount of so many digits and decimals sends a row to a wheel: the row of a digit, a row of the point, or one of its mark.
 pub data FigureSends (wheel digits decimals : ℕ) (mark : Option Mark) (shown : List (Option ℕ)) (negative : Bool) (row : ℕ) : ℕ → Type 0 where
@@ -29,11 +30,6 @@ pub data FigureSends (wheel digits decimals : ℕ) (mark : Option Mark) (shown :
 -- how many wheels the point takes
 abbrev pub point_width : ℕ → ℕ
 point_width decimals = cond (nat_lt 0 decimals) 1 0
-
-length-mark : (mark : Option Mark) (negative : Bool) → length (mark_sets mark negative) ≡ mark_width mark
-length-mark None negative = refl
-length-mark (Some mark.Credit) negative = refl
-length-mark (Some mark.Minus) negative = refl
 
 length-point : (decimals : ℕ) → length (point_sets decimals) ≡ point_width decimals
 length-point zero = refl
@@ -65,7 +61,7 @@ module _ (digits decimals : ℕ) (mark : Option Mark) (shown : List (Option ℕ)
       let a = length-append (front digits decimals shown) (point_sets decimals ++ (back digits decimals shown ++ mark_sets mark negative)) in
       let b = length-append (point_sets decimals) (back digits decimals shown ++ mark_sets mark negative) in
       let c = length-append (back digits decimals shown) (mark_sets mark negative) in
-      sums _ _ _ _ _ _ (point_width decimals) (length (mark_sets mark negative)) (mark_width mark) a b c length-front (length-point decimals) length-back (length-mark mark negative)
+      sums _ _ _ _ _ _ (point_width decimals) (length (mark_sets mark negative)) (mark_width mark) a b c length-front (length-point decimals) length-back (mark-sets mark negative)
     where
       sums : (all rest more f p b w n m : ℕ) → all ≡ f + rest → rest ≡ p + more → more ≡ b + n → f ≡ digits - decimals → p ≡ w → b ≡ decimals → n ≡ m
           → all ≡ digits + w + m
@@ -198,7 +194,7 @@ figure-sent wheel digits decimals mark shown negative row few long (point some p
 figure-sent wheel digits decimals mark shown negative row few long (marked its k is below punch) =
     let (within, on) = mark-sent its k row punch in
     let e : mark_sets mark negative ≡ mark_sets (Some its) true = ap (λ m. mark_sets m negative) is ∙ ap (mark_sets (Some its)) below in
-    let f : length (mark_sets (Some its) true) ≡ mark_width mark = sym (ap length e) ∙ length-mark mark negative in
+    let f : length (mark_sets (Some its) true) ≡ mark_width mark = sym (ap length e) ∙ mark-sets mark negative in
     sends-at (amount_shown wheel digits decimals mark shown negative) wheel (digits + point_width decimals + k) (digits + point_width decimals + mark_width mark)
     (get_or (mark_sets (Some its) true) k 0) row _ refl (length-sets digits decimals mark shown negative few long)
     (at-mark digits decimals mark shown negative few long k ∙ ap (λ l. get_or l k 0) e) (omega arith) (omega (arith, within, f)) on

@@ -42,7 +42,7 @@ use Rattle.panel_cycles.specs.PrintedRows.{IsCardRow, IsHeadingRow, IsTotalRow}
 use Rattle.wired_panels.specs.Sources.EmitsAtRow.{second, digit, column, emitter}
 use Rattle.panel_cycles.specs.WheelLaws.{WheelsReceiveHeadings, WheelsReceiveCards, WheelsReceiveTotals}
 use Rattle.wired_panels.proofs.ReadingOut.{can_print, group-third, unit-third}
-use Rattle.wired_panels.proofs.SpeakersApart.{place-of}
+use Rattle.charts.proofs.Listed.{place-of}
 use Rattle.wired_panels.proofs.ToWheels.{ArrivesThere, Emits, WireAt, through_balance, through_indicate, through_pilot, through_split, silent}
 use Rattle.panel_cycles.proofs.WheelRows.{IsLineOf, SendsRow, rows-same, stands_on}
 use Rattle.panel_cycles.proofs.WheelRowsCard as card

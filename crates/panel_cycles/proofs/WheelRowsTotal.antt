@@ -47,15 +47,19 @@ use Rattle.wired_panels.specs.Sources.EmitsAtControl.{card as emits_card, prog a
 use Rattle.wired_panels.specs.CycleRows.{CycleRow, is_closed}
 use Rattle.panel_cycles.specs.PrintedRows.{IsTotalRow, HoldsTotal}
 use Rattle.wired_panels.proofs.ReadingOut.{total-read, text-read}
-use Rattle.wired_panels.proofs.SpeakersApart.{same-line, group-same, unit-same}
-use Rattle.wired_panels.proofs.SpeakersLawful.{good-field, kept-at}
+use Rattle.charts.proofs.Rising as rising
+use Rattle.chart_rules.proofs.Laws.{good-field}
+use Rattle.wiring_table.proofs.Groups as groups
+use Rattle.wiring_table.proofs.Parts as parts
+use Rattle.report.proofs.EditLaws.{last_digits-length}
+use Rattle.wired_panels.proofs.SpeakersLawful.{kept-at}
 use Rattle.panel_cycles.proofs.WheelRows.{SendsRow}
 use Rattle.panel_cycles.proofs.WheelRowsDigits.{digit-row}
 use Rattle.panel_cycles.proofs.WheelRowsField.{right-of}
 use Rattle.panel_cycles.proofs.WheelRowsFigure.FigureSends.{digit as figure_digit, marked as figure_marked}
 use Rattle.panel_cycles.proofs.WheelRowsFigure.{FigureSends, amount_shown, figure-sent}
 use Rattle.panel_cycles.proofs.WheelRowsText.{columns-stand, columns-sent}
-use Rattle.panel_cycles.proofs.WheelRowsUnits.{group-named, group-own, digit-of, unit-own, last-at, last-long}
+use Rattle.panel_cycles.proofs.WheelRowsUnits.{group-named, group-own, digit-of, unit-own, last-at}
 
 -- a total in a chart that breaks no rule is of an amount, in as many digits as its field has columns at least
 pub total-amount : (chart : Chart) (place : ℕ) (line : Line) (its : ChartLevel) (wheel : ℕ) (name : List ℕ) (digits : ℕ) (mark : Option Mark)
@@ -79,7 +83,7 @@ total-digits chart place line its wheel name digits mark field lawful at says_it
     let e : is_out_of_digits (field_named chart.lines name) digits ≡ false
     = sym (ap (λ s. breaks rule.DigitsRange chart.lines chart.lines s) says_it) ∙ kept in
     let f : nat_lt digits (columns_of field) ≡ false = first (nat_lt digits (columns_of field)) (nat_lt 8 digits) (is_some (sign_column field.kind) && nat_lt 7 digits) (sym (ap (λ o. is_out_of_digits o digits) named) ∙ e) in
-    let good = (good-field chart name field lawful named).decimals in
+    let good = (good-field chart lawful name field named).decimals in
     grind (arith, nat_tests, f, good)
   where
     first : (a b c : Bool) → (a || b || c) ≡ false → a ≡ false
@@ -92,7 +96,7 @@ module _ (wiring : Wiring) (its : Level) (held : List ℕ → Printed) (card : L
 
   -- lines with one number
   one-line : (one other : Line) → Contains at.chart.lines one → Contains at.chart.lines other → one.number ≡ other.number → one ≡ other
-  one-line one other here there same = same-line at.chart.lines at.chart.end one other row.rises here there same
+  one-line one other here there same = rising.one-line at.chart.lines at.chart.end one other row.rises here there same
 
   -- a line of the level
   pub tested : (level : ChartLevel) → chart_number level ≡ level_number its → (chart_number level == level_number its) ≡ true
@@ -100,13 +104,13 @@ module _ (wiring : Wiring) (its : Level) (held : List ℕ → Printed) (card : L
 
   -- the digits that a total shows
   pub digits-long : (digits : ℕ) (name : List ℕ) → length (map Some (last_digits digits (held name).figure)) ≡ digits
-  digits-long digits name = length-map (last_digits digits (held name).figure) Some ∙ last-long digits (held name).figure
+  digits-long digits name = length-map (last_digits digits (held name).figure) Some ∙ last_digits-length digits (held name).figure
 
   pub digit-shown : (digits : ℕ) (name : List ℕ) (position row : ℕ) → 1 ≤ position → position ≤ digits
       → has_row (digit_set (get_or (map Some (last_digits digits (held name).figure)) (digits - position) None)) row
       ≡ (digit_of (held name).figure position == row)
   digit-shown digits name position r from to =
-      let long = last-long digits (held name).figure in
+      let long = last_digits-length digits (held name).figure in
       ap (λ o. has_row (digit_set o) r)
       (get_or-map Some (last_digits digits (held name).figure) (digits - position) 0 None (omega (arith, from, to, long))
       ∙ ap Some (last-at digits (held name).figure position from to))
@@ -137,7 +141,7 @@ module _ (wiring : Wiring) (its : Level) (held : List ℕ → Printed) (card : L
       → group_for at.chart.lines at.plan line.number ≡ Some group → at.pictures C (RO group) ≡ true → chart_number level ≡ level_number its
   group-level line level wheel name digits mark group listed says_it served out =
       let (its_name, own) = total-read wiring at row.on_panel row.rises its row.cycle group out in
-      let n = group-same at.chart.lines at.plan own.number line.number group row.on_panel.panel.planned own.served served in
+      let n = groups.group-own at.chart.lines at.plan row.on_panel.panel.planned own.number line.number group own.served served in
       let total = own.total in
       let e = one-line total.line line total.listed listed (total.is_number ∙ n) in
       by total.its_level total.wheel total.its_name total.digits total.mark (sym total.says_total ∙ ap (λ l. l.statement) e ∙ says_it)
@@ -152,7 +156,7 @@ module _ (wiring : Wiring) (its : Level) (held : List ℕ → Printed) (card : L
       → unit_for at.plan line.number ≡ Some unit → at.pictures C (SO unit) ≡ true → chart_number level ≡ level_number its
   unit-level line level wheel name unit listed says_it served out =
       let u = text-read wiring at row.on_panel its row.cycle unit out in
-      let n = unit-same at.plan u.line.number line.number unit u.served served in
+      let n = parts.unit-own at.plan u.line.number line.number unit u.served served in
       let e = one-line u.line line u.listed listed n in
       by u.level u.wheel u.name (sym u.is_text ∙ ap (λ l. l.statement) e ∙ says_it) (emits_third u.printed refl refl)
     where

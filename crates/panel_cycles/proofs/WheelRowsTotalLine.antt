@@ -62,9 +62,12 @@ use Rattle.wired_panels.specs.Sources.{EmitsAtControl, digit_at}
 use Rattle.wired_panels.proofs.ReadingOut.{reads-total, reads-text}
 use Rattle.wired_panels.proofs.ToCounters.{with_group}
 use Rattle.wired_panels.proofs.ToWheels.{ArrivesThere, Emits, along, along_contact}
-use Rattle.wired_panels.proofs.SpeakersApart.{same-line, group-at}
+use Rattle.wiring_table.proofs.Parts.{unit-given}
+use Rattle.wiring_table.specs.Parts.{HasTotal}
+use Rattle.wiring_table.proofs.Groups.{group-given, group-room}
+use Rattle.wiring_table.proofs.Totals.{total-of}
+use Rattle.charts.proofs.Listed.{listed-at, place-of}
 use Rattle.wired_panels.proofs.SpeakersLawful.{kept-at}
-use Rattle.wired_panels.proofs.SpeakersServed.{unit-there, group-there}
 use Rattle.panel_cycles.proofs.WheelRows.IsLineOf.{total as its_total}
 use Rattle.panel_cycles.proofs.WheelRows.{IsLineOf, SendsRow, stands_on, sent_on}
 use Rattle.panel_cycles.proofs.WheelRowsCardLine.{at-most, mark-few}
@@ -73,7 +76,8 @@ use Rattle.panel_cycles.proofs.WheelRowsFigure.FigureSends.{digit as figure_digi
 use Rattle.panel_cycles.proofs.WheelRowsFigure.{FigureSends, amount_shown, figure-of, length-sets}
 use Rattle.panel_cycles.proofs.WheelRowsText.{literal-of, standing, columns-sent, columns-of}
 use Rattle.panel_cycles.proofs.WheelRowsTotal.{total-amount, total-digits, digits-long, digit-shown, held-digit, closed-BAT}
-use Rattle.panel_cycles.proofs.WheelRowsUnits.{group-named, group-listed, counter-is, unit-listed, unit-place, last-long, total-line}
+use Rattle.panel_cycles.proofs.WheelRowsUnits.{group-named, group-listed, counter-is, unit-listed, unit-place}
+use Rattle.report.proofs.EditLaws.{last_digits-length}
 
 -- what a total line's line sends
 pub record SendsTotal (lines : List Line) (number : ℕ) (held : List ℕ → Printed) (its : ChartLevel) (wheel : ℕ) (name : List ℕ) (digits : ℕ)
@@ -137,47 +141,14 @@ total-ruled chart place line its wheel name digits own field lawful at says_it n
     by (holds.Amount decimals None) amount kept = cc
     by (holds.Amount decimals (Some r)) amount kept = (r, refl)
 
--- the need of a total on a line
-total-number : (lines : List Line) (number : ℕ) (statement : Statement) (total : Total) → total_of lines number statement ≡ Some total → total.line ≡ number
-total-number lines number (says.TotalAmount its wheel name digits mark) total is =
-    let e : record { level = its; line = number; need = need_of (field_named lines name) digits } ≡ total = cc in ap (λ t. t.line) (sym e)
-total-number lines number other total is = cc
-
-total-need : (lines : List Line) (number : ℕ) (its : ChartLevel) (wheel : ℕ) (name : List ℕ) (digits : ℕ) (mark : Option Mark) (total : Total)
-    → total_of lines number (says.TotalAmount its wheel name digits mark) ≡ Some total → digits ≤ total.need
-total-need lines number its wheel name digits mark total is =
-    let e : record { level = its; line = number; need = need_of (field_named lines name) digits } ≡ total = cc in
-    let f : need_of (field_named lines name) digits ≡ total.need = ap (λ t. t.need) e in
-    least (field_named lines name) f
-  where
-    least : (o : Option Field) → need_of o digits ≡ total.need → digits ≤ total.need
-    least o same = by (names_signed o) same
-      where
-        by : (b : Bool) → digits + cond b 1 0 ≡ total.need → digits ≤ total.need
-        by true e = omega (arith, e)
-        by false e = omega (arith, e)
-
 -- a group is as wide as its total has digits
 pub total-wide : (chart : Chart) (plan : Lists) (line : Line) (its : ChartLevel) (wheel : ℕ) (name : List ℕ) (digits : ℕ) (mark : Option Mark) (group : Group)
     → NumbersRise chart.lines chart.end → IsFor chart.lines plan → Contains chart.lines line
     → line.statement ≡ says.TotalAmount its wheel name digits mark → group_for chart.lines plan line.number ≡ Some group → digits ≤ group.width
 total-wide chart plan line its wheel name digits mark group rises planned listed says_it served =
-    let at = group-at chart.lines plan line.number group served in
-    let t = total-line chart.lines chart.lines at.place at.total at.listed in
-    let n : t.line.number ≡ line.number = number_is (sym (total-number chart.lines t.line.number t.line.statement at.total t.is)) at.on in
-    let e : t.line ≡ line = same-line chart.lines chart.end t.line line rises (contained t.place t.at) listed n in
-    let is : total_of chart.lines line.number (says.TotalAmount its wheel name digits mark) ≡ Some at.total
-    = sym (ap (λ l. total_of chart.lines l.number l.statement) e ∙ ap (total_of chart.lines line.number) says_it) ∙ t.is in
-    let need = total-need chart.lines line.number its wheel name digits mark at.total is in
-    let enough = planned.groups.enough at.place at.total at.its_group at.listed at.taken in
-    let wide : at.its_group.width ≡ group.width = ap (λ g. g.width) at.named in
-    omega (arith, need, enough, wide)
-  where
-    number_is : {a b c : ℕ} → a ≡ b → (b == c) ≡ true → a ≡ c
-    number_is e test = grind (arith, nat_tests, e, test)
-
-    contained : {x : Line} (place : ℕ) → slice_get chart.lines place ≡ Some x → Contains chart.lines x
-    contained {x} place got = (place, slice_get_within chart.lines place x got, get_or_from_slice_get chart.lines place x x got)
+    let room = group-room chart.lines plan planned chart.end name (chart_number its) line.number group rises
+    (total-of chart.lines line its wheel name digits mark listed says_it) served in
+    omega (arith, room)
 
 -- a text on a total line is of a field of characters
 text-kind : (chart : Chart) (place : ℕ) (line : Line) (its : ChartLevel) (wheel : ℕ) (name : List ℕ) (field : Field) → IsLawful chart
@@ -251,7 +222,7 @@ module _ (wiring : Wiring) (its : Level) (held : List ℕ → Printed) (card : L
       → has_row (column_of card (field.first + j)) (row_number at.row) ≡ true → ArrivesThere at (W (wheel + j))
   text-arrives line place level wheel name field j listed there says_it is same within punched =
       let planned = row.on_panel.panel.planned in
-      let served = unit-there at.chart.lines at.plan line place level wheel name planned listed says_it in
+      let served = unit-given at.chart.lines at.plan planned line level wheel name there says_it in
       let few : length at.plan.parts.storage ≤ 4
       = at-most 4 _ (length at.plan.parts.storage) planned.storage_units (ap (λ parts. length parts.storage) planned.parts) in
       let from = served.from in
@@ -300,9 +271,10 @@ module _ (wiring : Wiring) (its : Level) (held : List ℕ → Printed) (card : L
       let lawful = row.on_panel.panel.lawful in
       let amount = total-amount at.chart place line level wheel name digits mark t.field lawful listed says_it t.named in
       let few = total-digits at.chart place line level wheel name digits mark t.field lawful listed says_it t.named in
-      let g = group-there at.chart.lines at.plan line place level wheel name digits mark row.on_panel.panel.planned listed says_it in
-      figure-arrives line place level wheel name digits mark t.field (panel_group g.its) listed there says_it
-      (record { named = t.named; holds_amount = amount }) t.same g.is
+      let (group, served) = group-given at.chart.lines at.plan name (chart_number level) line.number row.on_panel.panel.planned
+      (total-of at.chart.lines line level wheel name digits mark there says_it) in
+      figure-arrives line place level wheel name digits mark t.field group listed there says_it
+      (record { named = t.named; holds_amount = amount }) t.same served
       (figure-of wheel digits (decimals_of t.field.kind) mark (map Some (last_digits digits (held name).figure)) (held name).latch at.row v few
       (digits-long wiring its held card at row digits name) (sym (ap (λ x. stands_on x v) t.is) ∙ sent.there)
       (sym (ap (λ x. has_row (sent_on x v) (row_number at.row)) t.is) ∙ sent.on))
@@ -330,7 +302,7 @@ item-of chart its held card v place line (says.TotalAmount level wheel name digi
     let few = total-digits chart place line level wheel name digits mark t.field lawful listed says_it t.named in
     let s = standing (amount_shown wheel digits (decimals_of t.field.kind) mark (map Some (last_digits digits (held name).figure)) (held name).latch) v
     (sym (ap (λ x. stands_on x v) t.is) ∙ there) in
-    let long = length-map (last_digits digits (held name).figure) Some ∙ last-long digits (held name).figure in
+    let long = length-map (last_digits digits (held name).figure) Some ∙ last_digits-length digits (held name).figure in
     let n = length-sets digits (decimals_of t.field.kind) mark (map Some (last_digits digits (held name).figure)) (held name).latch few long in
     let within : s.j < figure_width (record { digits = digits; decimals = decimals_of t.field.kind; mark = mark }) = subst (λ m. s.j < m) n s.within in (
       total_item level wheel digits mark t.field.kind,

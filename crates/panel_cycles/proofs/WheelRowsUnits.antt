@@ -29,7 +29,7 @@ use Rattle.whole_cycles.specs.Units.{IsGroup, group_at, storage_at}
 use Rattle.wiring_table.specs.Parts.{group_for, panel_group}
 use Rattle.wired_panels.specs.Sources.{digit_at}
 use Rattle.wired_panels.proofs.Contacts.{is_set}
-use Rattle.wired_panels.proofs.SpeakersApart.{group-at}
+use Rattle.wiring_table.proofs.Groups.{group-there}
 
 -- the units of the counter groups and of the storage units, in order
 unit-at : (k : ℕ) → k < 32 → get_or group_units k 0 ≡ 3 + k
@@ -42,14 +42,10 @@ storage-at k within = get_or-range_with_len 35 4 k 0 within
 pub group-named : (lines : List Line) (plan : Lists) (number : ℕ) (group : Group) → IsFor lines plan
     → group_for lines plan number ≡ Some group → IsGroup group
 group-named lines plan number group planned is =
-    let at = group-at lines plan number group is in
-    subst (λ g. IsGroup g) at.named (by at.its_group (planned.groups.there at.place at.its_group at.taken))
-  where
-    by : (g : CounterGroup) → HasGroup standard g → IsGroup (panel_group g)
-    by g has = of g.width g.number has.from has.to
-      where
-        of : (w n : ℕ) → 1 ≤ n → n ≤ groups_of standard w → IsGroup (record { width = w; number = n })
-        of w n from to = record { width = grind (arith, nat_tests, from, to); number = grind (arith, nat_tests, from, to) }
+    let has = group-there lines plan planned number group is in
+    let from = has.from in
+    let to = has.to in
+    record { width = grind (arith, nat_tests, from, to); number = grind (arith, nat_tests, from, to) }
 
 module _ (machine : MachineState) (between : IsBetween machine) where
   many : length machine.groups ≡ 32
@@ -137,30 +133,3 @@ last-at (suc count) n position from to = by (cases_lt count position) (last-at c
     by (inr low) rest =
         let place : suc count - position ≡ suc (count - position) = omega (arith, low) in
         ap (λ k. get_or (last_digits (suc count) n) k 0) place ∙ rest low
-
-pub last-long : (count n : ℕ) → length (last_digits count n) ≡ count
-last-long zero n = refl
-last-long (suc count) n = ap suc (last-long count n)
-
--- the line of a total
-pub record HasTotalLine (all lines : List Line) (total : Total) : Type 0 where
-  pub line : Line
-  pub place : ℕ
-  pub at : slice_get lines place ≡ Some line
-  pub is : total_of all line.number line.statement ≡ Some total
-
-pub total-line : (all lines : List Line) (k : ℕ) (total : Total)
-    → slice_get (filter_map (λ line. total_of all line.number line.statement) lines) k ≡ Some total → HasTotalLine all lines total
-total-line all [] k total at = cc
-total-line all (line ∷ lines) k total at = by (total_of all line.number line.statement) refl k at (λ j. total-line all lines j total)
-  where
-    behind : HasTotalLine all lines total → HasTotalLine all (line ∷ lines) total
-    behind t = record { line = t.line; place = suc t.place; at = t.at; is = t.is }
-
-    by : (o : Option Total) → total_of all line.number line.statement ≡ o → (k : ℕ)
-        → slice_get (cons_option o (filter_map (λ line. total_of all line.number line.statement) lines)) k ≡ Some total
-        → ((j : ℕ) → slice_get (filter_map (λ line. total_of all line.number line.statement) lines) j ≡ Some total → HasTotalLine all lines total)
-        → HasTotalLine all (line ∷ lines) total
-    by None is k at rest = behind (rest k at)
-    by (Some x) is zero at rest = let e : x ≡ total = cc in record { line = line; place = 0; at = refl; is = is ∙ ap Some e }
-    by (Some x) is (suc k) at rest = behind (rest k at)

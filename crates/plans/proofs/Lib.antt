@@ -1,3 +1,4 @@
 pub mod CounterGroups
 pub mod Enough
+pub mod Numbers
 pub mod Single

@@ -9,14 +9,14 @@ use Rattle.chart_rules.specs.ValidCard.{IsValidAmount}
 use Rattle.report.specs.Amounts.{number_in, digits_on, is_blank_on, is_negated, signed, value_of}
 use Rattle.report.specs.BodyLines.{amount_on}
 use Rattle.report.specs.Edits.{last_digits, free_digits, marked, size, is_below_zero, edited, edited_blank, edited_digits}
-use Rattle.report.proofs.ReadBack.{signed-size}
 use Rattle.print_unit.specs.ZeroControl.{printed_from}
 use Rattle.printed_lines.specs.Held.{HoldsTotal}
 use Rattle.printed_lines.specs.Shown.{Amount, Printed}
+use Rattle.report.proofs.ReadBack.{signed-size}
 use Rattle.printed_lines.proofs.AmountText.{amount_wheels, amount-edited, amount-blank}
 use Rattle.printed_lines.proofs.CardDigits.{OnCard, blank, numeral, OnCard-valid, digits-length}
 use Rattle.printed_lines.proofs.ItemText.{Spells}
-use Rattle.printed_lines.proofs.LawfulItems.{IsGoodField}
+use Rattle.chart_rules.proofs.Laws.{IsGoodField}
 use Rattle.printed_lines.proofs.Numbers.{value, any_above_zero, AreDigits, AreSmall-numeral, IsNumeral-digits, number_in-small, last_digits-columns, any_above_zero-number}
 
 below-signed : (negated : Bool) (number : ℕ) → is_below_zero (signed negated number) ≡ (not (number == 0) && negated)

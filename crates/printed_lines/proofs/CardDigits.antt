@@ -6,12 +6,13 @@ use Rattle.std.proofs.lemmas.List.Sums.{sum_by-cons}
 use Rattle.std.proofs.lemmas.List.FromFn.{length-map-range_with_len}
 use Rattle.std.proofs.Math.Bool.{or-true}
 use Rattle.card_code.specs.CardCode.{has_row}
+use Rattle.charts.proofs.Listed.{found-listed, listed-within}
 use Rattle.charts.specs.Field.{columns_of, decimals_of}
 use Rattle.charts.specs.declared.statement.Field.{Field}
 use Rattle.chart_rules.specs.ValidCard.{column_of, digit_count, digit_rows, IsValidAmount}
 use Rattle.report.specs.Amounts.{digit_in, digits_on, is_blank_on}
 use Rattle.report.specs.Edits.{free_digits}
-use Rattle.printed_lines.proofs.LawfulItems.{IsGoodField}
+use Rattle.chart_rules.proofs.Laws.{IsGoodField}
 use Rattle.printed_lines.proofs.Numbers.{AreDigits, IsNumeral, AreBlank}
 
 -- where no element passes none is found
@@ -36,16 +37,6 @@ one-found test (x ∷ xs) some =
     by true some rest = (x, refl)
     by false some rest = rest (omega (arith, some))
 
--- what is found in a range is within it
-found-within : (test : ℕ → Bool) (from count x : ℕ) → find test (range_with_len from count) ≡ Some x → x < from + count
-found-within test from zero x found = cc
-found-within test from (suc count) x found = by (test from) found (found-within test (from + 1) count x)
-  where
-    by : (b : Bool) → cond b (Some from) (find test (range_with_len (from + 1) count)) ≡ Some x
-        → (find test (range_with_len (from + 1) count) ≡ Some x → x < from + 1 + count) → x < from + suc count
-    by true found rest = let is : from ≡ x = cc in omega (arith, is)
-    by false found rest = let below = rest found in omega (arith, below)
-
 -- the digits of a column, counted by their numbers
 count-digits : (set : ℕ) → digit_count set ≡ count_by (λ digit. has_row set digit) (range_with_len 0 10)
 unfolding digit_count digit_rows
@@ -59,7 +50,7 @@ digit-one : (set : ℕ) → digit_count set ≡ 1 → (digit : ℕ) × (digit < 
 digit-one set one =
     let some = one-found (λ digit. has_row set digit) (range_with_len 0 10)
     (let is = sym (count-digits set) ∙ one in omega (arith, is)) in
-    (some.0, found-within (λ digit. has_row set digit) 0 10 some.0 some.1, some.1)
+    (some.0, listed-within 0 10 some.0 (found-listed (λ digit. has_row set digit) (range_with_len 0 10) some.0 some.1).0, some.1)
 
 -- digits in each of some columns
 AreDigits-columns : (card : List ℕ) (from count : ℕ)
@@ -161,7 +152,7 @@ OnCard-valid field card good valid = by valid.digits.enough
     count = columns_of field
 
     ends : field.first + count ≡ field.last + 1
-    ends = let order = good.order in omega (arith, order)
+    ends = let order = good.card.order in omega (arith, order)
 
     by : (valid.digits.start ≡ field.last + 1) ⊎ (valid.digits.start + max (decimals_of field.kind) 1 ≤ field.last + 1)
         → OnCard field card
@@ -177,7 +168,7 @@ OnCard-valid field card good valid = by valid.digits.enough
         low (ap not (some-digit free (digits_on field card) low (omega (arith, order, long, ends))))
       where
         order : field.first ≤ field.last
-        order = good.order
+        order = good.card.order
 
         long : length (digits_on field card) ≡ count
         long = digits-length field card

@@ -27,7 +27,7 @@ use Rattle.printed_lines.specs.Shown.{Shown, Characters, Amount, card_sends, fie
 use Rattle.printed_lines.proofs.AmountLines.{card-amount}
 use Rattle.printed_lines.proofs.CardDigits.{digits-length}
 use Rattle.printed_lines.proofs.ItemText.{Spells}
-use Rattle.printed_lines.proofs.LawfulItems.{IsGoodField, named-good, named-valid}
+use Rattle.chart_rules.proofs.Laws.{IsGoodField, good-field, named-valid}
 use Rattle.printed_lines.proofs.Lines.{SpellsPiece, body-line}
 use Rattle.printed_lines.proofs.Sending.{IsItems, IsSending}
 use Rattle.printed_lines.proofs.Spelled.{literal-spelled, columns-spelled, literal-item, text-item, amount-item}
@@ -110,7 +110,7 @@ field-spells : (field : Field) (card : List ℕ) (wheel : ℕ) (how : DetailOpti
     (Some (piece_at wheel (field_on card (mark_shown how) field kind)))
 field-spells field card wheel how good valid holds.Text is =
     let text : IsText field.first field.last card = subst (λ k. IsValidKind k field card) is valid in
-    let order = good.order in (
+    let order = good.card.order in (
       refl,
       columns-spelled card card field.first (columns_of field) (λ column low high. refl)
           (λ column low high. text column low (omega (arith, high, order))),
@@ -138,7 +138,7 @@ card-spells chart opens card lawful texts valid line there = by line.statement r
     shown_field wheel name how false o named = tt
     shown_field wheel name how true None named = tt
     shown_field wheel name how true (Some field) named =
-        field-spells field card wheel how (named-good chart lawful name field named) (named-valid chart card name field valid named)
+        field-spells field card wheel how (good-field chart lawful name field named) (named-valid chart card name field valid named)
         field.kind refl
 
     by : (statement : Statement) → line.statement ≡ statement

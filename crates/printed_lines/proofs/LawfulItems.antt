@@ -1,4 +1,4 @@
--- What a lawful chart keeps of its fields and items: where they stand, and how many digits amounts have.
+-- What a lawful chart keeps of its items: where they stand, and how many digits amounts have.
 use Rattle.std.proofs.Common.{◌≡◌, ◌∙◌, refl, sym, ap, subst, ℕ, ◌≤◌, ◌&&◌, ◌||◌, nat_lt, Bool, true, false, List, Contains, slice_get, Option, Some, None, option_map, is_some, arith}
 use Rattle.std.specs.List.{position_or_len}
 use Rattle.std.proofs.lemmas.Bool.Decides.{nat_tests}
@@ -28,53 +28,8 @@ use Rattle.print_rules.specs.Items.{item_of, mark_shown, text_item, detail_item,
 use Rattle.chart_rules.specs.Rules.{IsLawful}
 use Rattle.chart_rules.specs.ValidCard.{IsValidCard, IsValidField}
 use Rattle.print_rules.specs.Wheels.{is_off_wheels}
-use Rattle.chart_rules.proofs.Laws.{breaks-lawful, LineOf-field, statement-field, AreOnCard-lawful}
-use Rattle.printed_lines.proofs.Meeting.{Place-line}
-
--- where the field of a name stands among the fields
-named-place : (lines : List Line) (name : List ℕ) (field : Field) → field_named lines name ≡ Some field
-    → (place : ℕ) × (slice_get (fields_of lines) place ≡ Some field)
-named-place lines name field named =
-    let test = λ (other : Field). is_same_name other.name name in
-    (position_or_len test (fields_of lines), sym (find_at test (fields_of lines)) ∙ named)
-
--- a field that a name stands for is valid on a valid card
-pub named-valid : (chart : Chart) (card name : List ℕ) (field : Field) → IsValidCard chart card
-    → field_named chart.lines name ≡ Some field → IsValidField field card
-unfolding IsValidCard
-named-valid chart card name field valid named =
-    let at = named-place chart.lines name field named in
-    valid at.0 (slice_get_within (fields_of chart.lines) at.0 field at.1) field at.1
-
--- A field has a column, and no more decimals than columns.
-pub record IsGoodField (field : Field) : Type 0 where
-  pub order : field.first ≤ field.last
-  pub decimals : decimals_of field.kind ≤ columns_of field
-
--- decimals that keep the rule on the size of amounts
-few_decimals : (kind : FieldKind) (columns : ℕ) → is_too_large kind columns ≡ false → decimals_of kind ≤ columns
-few_decimals holds.Text columns kept = omega arith
-few_decimals (holds.Amount decimals rule) columns kept =
-    by (nat_lt 8 columns) (nat_lt 3 decimals) (nat_lt columns decimals) refl kept
-  where
-    by : (a b c : Bool) → nat_lt columns decimals ≡ c → (a || b || c) ≡ false → decimals ≤ columns
-    by false false false test kept = grind (arith, nat_tests, test)
-    by true b c test kept = cc
-    by false true c test kept = cc
-    by false false true test kept = cc
-
--- the fields of a lawful chart are good
-pub named-good : (chart : Chart) → IsLawful chart → (name : List ℕ) (field : Field) → field_named chart.lines name ≡ Some field
-    → IsGoodField field
-named-good chart lawful name field named =
-    let at = named-place chart.lines name field named in
-    let found = LineOf-field chart.lines at.0 field at.1 in
-    let kept = breaks-lawful rule.AmountSize chart found.earlier found.line found.later lawful found.split in
-    record {
-      order = (AreOnCard-lawful chart lawful at.0 field at.1).order;
-      decimals = few_decimals field.kind (columns_of field)
-          (ap breaks_amount_size (sym (statement-field found.line.statement field found.says_it)) ∙ kept);
-    }
+use Rattle.chart_rules.proofs.Laws.{IsGoodField, good-field, kept-line}
+use Rattle.field_rules.proofs.DigitsKept.{digits-kept}
 
 -- An item stands on wheels of the machine.
 pub record IsOnWheels (item : Item) : Type 0 where
@@ -84,9 +39,7 @@ pub record IsOnWheels (item : Item) : Type 0 where
 pub item-on_wheels : (chart : Chart) → IsLawful chart → (line : Line) (item : Item) → Contains chart.lines line
     → item_of (fields_of chart.lines) line.statement ≡ Some item → IsOnWheels item
 item-on_wheels chart lawful line item there is =
-    let place = Place-line chart.lines line there in
-    let kept : is_off_wheels (Some item) ≡ false
-    = sym (ap is_off_wheels is) ∙ breaks-lawful rule.WheelRange chart place.earlier line place.later lawful place.split in
+    let kept : is_off_wheels (Some item) ≡ false = sym (ap is_off_wheels is) ∙ (kept-line chart lawful line there rule.WheelRange).1 in
     record { first = grind (arith, nat_tests, kept); end = grind (arith, nat_tests, kept) }
 
 -- An amount has a digit, and no more decimals than digits.
@@ -94,21 +47,10 @@ pub record IsGoodFigure (figure : Figure) : Type 0 where
   pub some : 1 ≤ figure.digits
   pub decimals : figure.decimals ≤ figure.digits
 
--- a total has as many digits as its field has columns, or more
-enough_digits : (field : Field) (digits : ℕ) → is_out_of_digits (Some field) digits ≡ false → columns_of field ≤ digits
-enough_digits field digits kept =
-    by (nat_lt digits (columns_of field)) (nat_lt 8 digits) (is_some (sign_column field.kind) && nat_lt 7 digits) refl kept
-  where
-    by : (a b c : Bool) → nat_lt digits (columns_of field) ≡ a → (a || b || c) ≡ false → columns_of field ≤ digits
-    by false b c test kept = grind (arith, nat_tests, test)
-    by true b c test kept = cc
-
 -- the amounts of a lawful chart are good
 pub figure-good : (chart : Chart) → IsLawful chart → (line : Line) (item : Item) (figure : Figure) → Contains chart.lines line
     → item_of (fields_of chart.lines) line.statement ≡ Some item → item.figure ≡ Some figure → IsGoodFigure figure
-figure-good chart lawful line item figure there is has =
-    let place = Place-line chart.lines line there in
-    by line.statement (breaks-lawful rule.DigitsRange chart place.earlier line place.later lawful place.split) is
+figure-good chart lawful line item figure there is has = by line.statement (kept-line chart lawful line there rule.DigitsRange).1 is
   where
     -- the figure of the item is this one
     is_good : (other : Figure) → Some other ≡ item.figure → IsGoodFigure other → IsGoodFigure figure
@@ -125,7 +67,7 @@ figure-good chart lawful line item figure there is has =
         is_good (record { digits = columns_of field; decimals = decimals; mark = mark_shown shown })
         (ap (λ (i : Item). i.figure) same)
         (record {
-          some = let order = good.order in omega (arith, order);
+          some = let order = good.card.order in omega (arith, order);
           decimals = subst (λ (k : FieldKind). decimals_of k ≤ columns_of field) kind good.decimals;
         })
 
@@ -135,9 +77,9 @@ figure-good chart lawful line item figure there is has =
     total level wheel digits mark field good kept same =
         is_good (record { digits = digits; decimals = decimals_of field.kind; mark = mark })
         (ap (λ (i : Item). i.figure) same)
-        (let order = good.order in
+        (let order = good.card.order in
         let few = good.decimals in
-        let enough = enough_digits field digits kept in
+        let enough = (digits-kept field digits kept).enough in
         record { some = omega (arith, order, enough); decimals = omega (arith, few, enough) })
 
     by : (statement : Statement) → breaks_digits_range (fields_of chart.lines) statement ≡ false
@@ -151,7 +93,7 @@ figure-good chart lawful line item figure there is has =
             → option_map (λ field. detail_item wheel shown (columns_of field) field.kind) o ≡ Some item → IsGoodFigure figure
         named None none is = cc
         named (Some field) there is =
-            detail wheel shown field field.kind (named-good chart lawful name field there) refl cc
+            detail wheel shown field field.kind (good-field chart lawful name field there) refl cc
     by (says.TotalText level wheel name) kept is = named (field_named chart.lines name) is
       where
         named : (o : Option Field) → option_map (λ field. text_item (Body (body.Total level)) wheel (columns_of field)) o ≡ Some item
@@ -164,5 +106,5 @@ figure-good chart lawful line item figure there is has =
             → option_map (λ field. total_item level wheel digits mark field.kind) o ≡ Some item → IsGoodFigure figure
         named None none kept is = cc
         named (Some field) there kept is =
-            total level wheel digits mark field (named-good chart lawful name field there) kept cc
+            total level wheel digits mark field (good-field chart lawful name field there) kept cc
     by other kept is = cc

@@ -3,6 +3,8 @@ use Rattle.std.proofs.Common.{◌≡◌, ◌∙◌, ◌⊎◌, inl, inr, refl, s
 use Rattle.std.specs.List.{list_any}
 use Rattle.std.proofs.lemmas.Bool.{eqb-true, and_parts}
 use Rattle.std.proofs.lemmas.Bool.Decides.{nat_tests}
+use Rattle.std.proofs.lemmas.List.Elements.{Contains-append_right}
+use Rattle.charts.proofs.Listed.{Order, is_one, goes_before, goes_behind, listed-first, listed-order, none-any}
 use Rattle.charts.specs.Chart.{Chart}
 use Rattle.charts.specs.declared.chart.Line.{Line}
 use Rattle.charts.specs.declared.statement.Mark.{Mark}
@@ -15,62 +17,6 @@ use Rattle.print_rules.specs.Items.{item_of, is_same_line}
 use Rattle.chart_rules.specs.Rules.{IsLawful}
 use Rattle.print_rules.specs.Wheels.{HasWheel, meet, overlap, clash, is_body, may_share, is_same_style, is_same_mark}
 use Rattle.chart_rules.proofs.Laws.{breaks-lawful}
-
--- where a line stands among others
-pub record Place (lines : List Line) (line : Line) : Type 0 where
-  pub earlier : List Line
-  pub later : List Line
-  pub split : lines ≡ earlier ++ line ∷ later
-
--- behind one line more
-Place-behind : (first : Line) (lines : List Line) (line : Line) → Place lines line → Place (first ∷ lines) line
-Place-behind first lines line place =
-    record { earlier = first ∷ place.earlier; later = place.later; split = ap (λ others. first ∷ others) place.split }
-
--- a line of a list stands somewhere
-pub Place-line : (lines : List Line) (line : Line) → Contains lines line → Place lines line
-Place-line [] line (k, within, is) = absurd (omega (arith, within))
-Place-line (first ∷ lines) line (zero, within, is) = record { earlier = []; later = lines; split = ap (λ l. l ∷ lines) is }
-Place-line (first ∷ lines) line (suc k, within, is) =
-    Place-behind first lines line (Place-line lines line (k, omega (arith, within), is))
-
--- Two lines of a list are the same, or one stands before the other.
-pub data Order (lines : List Line) (one other : Line) : Type 0 where
-  same : one ≡ other → Order lines one other
-  before : (a b c : List Line) → lines ≡ (a ++ one ∷ b) ++ other ∷ c → Order lines one other
-  behind : (a b c : List Line) → lines ≡ (a ++ other ∷ b) ++ one ∷ c → Order lines one other
-
-Order-behind : (first : Line) (lines : List Line) (one other : Line) → Order lines one other → Order (first ∷ lines) one other
-Order-behind first lines one other (same is) = same is
-Order-behind first lines one other (before a b c split) = before (first ∷ a) b c (ap (λ others. first ∷ others) split)
-Order-behind first lines one other (behind a b c split) = behind (first ∷ a) b c (ap (λ others. first ∷ others) split)
-
-Order-lines : (lines : List Line) (one other : Line) → Contains lines one → Contains lines other → Order lines one other
-Order-lines [] one other (k, within, is) there = absurd (omega (arith, within))
-Order-lines (first ∷ lines) one other (zero, within, is) (zero, within_other, is_other) = same (sym is ∙ is_other)
-Order-lines (first ∷ lines) one other (zero, within, is) (suc k, within_other, is_other) =
-    let place = Place-line lines other (k, omega (arith, within_other), is_other) in
-    before [] place.earlier place.later (ap₂ (λ l others. l ∷ others) is place.split)
-Order-lines (first ∷ lines) one other (suc k, within, is) (zero, within_other, is_other) =
-    let place = Place-line lines one (k, omega (arith, within), is) in
-    behind [] place.earlier place.later (ap₂ (λ l others. l ∷ others) is_other place.split)
-Order-lines (first ∷ lines) one other (suc k, within, is) (suc j, within_other, is_other) =
-    Order-behind first lines one other
-    (Order-lines lines one other (k, omega (arith, within), is) (j, omega (arith, within_other), is_other))
-
--- a test that no line of a list passes is not passed by one that stands among them
-pub not_there : (test : Line → Bool) (a : List Line) (line : Line) (b : List Line) → list_any test (a ++ line ∷ b) ≡ false
-    → test line ≡ false
-not_there test [] line b none = by (test line) none
-  where
-    by : (t : Bool) → (t || list_any test b) ≡ false → t ≡ false
-    by true none = none
-    by false none = refl
-not_there test (first ∷ a) line b none = not_there test a line b (by (test first) none)
-  where
-    by : (t : Bool) → (t || list_any test (a ++ line ∷ b)) ≡ false → list_any test (a ++ line ∷ b) ≡ false
-    by true none = cc
-    by false none = none
 
 -- Two items agree where neither is an amount, or both are amounts with the same last wheel, decimals and mark.
 pub data Agree (one other : Item) : Type 0 where
@@ -150,14 +96,15 @@ KeepApart-lines : (chart : Chart) → IsLawful chart → (line other_line : Line
     → item_of (fields_of chart.lines) other_line.statement ≡ Some other → KeepApart one other
 KeepApart-lines chart lawful line other_line a b c one other split is is_other =
     let fields = fields_of chart.lines in
+    let among : Contains (a ++ line ∷ b) line = Contains-append_right a (line ∷ b) line (listed-first line b) in
     let no_overlap : overlap (Some one) (Some other) ≡ false
     = sym (ap₂ overlap is is_other)
-    ∙ not_there (λ l. overlap (item_of fields l.statement) (item_of fields other_line.statement)) a line b
-    (breaks-lawful rule.WheelOverlap chart (a ++ line ∷ b) other_line c lawful split) in
+    ∙ none-any (λ l. overlap (item_of fields l.statement) (item_of fields other_line.statement)) (a ++ line ∷ b) line
+    (breaks-lawful rule.WheelOverlap chart (a ++ line ∷ b) other_line c lawful split) among in
     let no_clash : clash (Some one) (Some other) ≡ false
     = sym (ap₂ clash is is_other)
-    ∙ not_there (λ l. clash (item_of fields l.statement) (item_of fields other_line.statement)) a line b
-    (breaks-lawful rule.WheelClash chart (a ++ line ∷ b) other_line c lawful split) in
+    ∙ none-any (λ l. clash (item_of fields l.statement) (item_of fields other_line.statement)) (a ++ line ∷ b) line
+    (breaks-lawful rule.WheelClash chart (a ++ line ∷ b) other_line c lawful split) among in
     record {
       overlap = overlap-false one other no_overlap;
       clash = λ first second meets.
@@ -171,15 +118,15 @@ pub one-line : (chart : Chart) → IsLawful chart → (line other_line : Line) (
     → is_same_line one.line other.line ≡ true → is_same_line other.line one.line ≡ true
     → HasWheel one wheel → HasWheel other wheel → line ≡ other_line
 one-line chart lawful line other_line one other wheel there there_other is is_other first second on on_other =
-    by (Order-lines chart.lines line other_line there there_other)
+    by (listed-order chart.lines line other_line there there_other)
   where
     by : Order chart.lines line other_line → line ≡ other_line
-    by (same it) = it
-    by (before a b c split) =
+    by (is_one it) = it
+    by (goes_before a b c split) =
         let apart = (KeepApart-lines chart lawful line other_line a b c one other split is is_other).overlap
         (meet-wheel one other wheel on on_other) in
         cc
-    by (behind a b c split) =
+    by (goes_behind a b c split) =
         let apart = (KeepApart-lines chart lawful other_line line a b c other one split is_other is).overlap
         (meet-wheel other one wheel on_other on) in
         cc
@@ -191,16 +138,16 @@ pub same-or-agree : (chart : Chart) → IsLawful chart → (line other_line : Li
     → is_body one.line ≡ true → is_body other.line ≡ true
     → HasWheel one wheel → HasWheel other wheel → (one ≡ other) ⊎ Agree one other
 same-or-agree chart lawful line other_line one other wheel there there_other is is_other first second on on_other =
-    by (Order-lines chart.lines line other_line there there_other)
+    by (listed-order chart.lines line other_line there there_other)
   where
     by : Order chart.lines line other_line → (one ≡ other) ⊎ Agree one other
-    by (same it) =
+    by (is_one it) =
         let items : Some one ≡ Some other = sym is ∙ ap (λ l. item_of (fields_of chart.lines) l.statement) it ∙ is_other in
         inl cc
-    by (before a b c split) =
+    by (goes_before a b c split) =
         inr ((KeepApart-lines chart lawful line other_line a b c one other split is is_other).clash first second
         (meet-wheel one other wheel on on_other))
-    by (behind a b c split) =
+    by (goes_behind a b c split) =
         inr (Agree-turned other one
         ((KeepApart-lines chart lawful other_line line a b c other one split is_other is).clash second first
         (meet-wheel other one wheel on_other on)))

@@ -9,14 +9,12 @@ use Rattle.chart_rules.specs.declared.rule.Rule.TheVariants as rule
 use Rattle.field_rules.specs.Fields.{fields_of, field_named}
 use Rattle.field_rules.specs.Names.{breaks_wrong_kind, names_amount}
 use Rattle.chart_rules.specs.ValidCard.{IsValidKind}
-use Rattle.chart_rules.proofs.Laws.{breaks-lawful}
+use Rattle.chart_rules.proofs.Laws.{kept-line, text-valid}
 use Rattle.report.specs.Amounts.{is_negated, number_in, digits_on, signed}
 use Rattle.report.specs.Edits.{is_below_zero}
 use Rattle.report.specs.Totals.{total_of}
 use Rattle.wiring_table.specs.Figures.{rule_of}
 use Rattle.printed_lines.specs.Laws.{UnsignedTotalsHaveNoSign, TotalTextsAreTexts}
-use Rattle.printed_lines.proofs.LawfulItems.{named-valid}
-use Rattle.printed_lines.proofs.Meeting.{Place-line}
 
 -- an amount without a sign rule is not negated
 not-negated : (kind : FieldKind) (card : List ℕ) → rule_of kind ≡ None → is_negated kind card ≡ false
@@ -39,17 +37,9 @@ unsigned-total field (card ∷ cards) none =
 pub unsigned_totals : UnsignedTotalsHaveNoSign
 unsigned_totals field group none = ap is_below_zero (unsigned-total field group none).1
 
--- a field that is no amount is a text
-pub text-kind : (kind : FieldKind) → is_amount kind ≡ false → kind ≡ holds.Text
-text-kind holds.Text is = refl
-text-kind (holds.Amount decimals rule) is = cc
-
 -- the texts of total lines are texts on every valid card
 pub total_texts : TotalTextsAreTexts
 total_texts chart card line level wheel name field lawful valid there is named =
-    let place = Place-line chart.lines line there in
     let kept : names_amount (field_named chart.lines name) ≡ false
-    = sym (ap (breaks_wrong_kind (fields_of chart.lines)) is)
-    ∙ breaks-lawful rule.WrongKind chart place.earlier line place.later lawful place.split in
-    subst (λ kind. IsValidKind kind field card) (text-kind field.kind (sym (ap names_amount named) ∙ kept))
-    (named-valid chart card name field valid named)
+    = sym (ap (breaks_wrong_kind (fields_of chart.lines)) is) ∙ (kept-line chart lawful line there rule.WrongKind).1 in
+    text-valid chart card name field valid named (sym (ap names_amount named) ∙ kept)

@@ -1,7 +1,7 @@
 -- The total line of a level: what the chart's lines send to it comes from their items, and spells what the report puts there.
 use Rattle.std.proofs.Common.{◌≡◌, ◌∙◌, refl, ap, subst, ℕ, ◌==◌, if◌then◌else◌, Bool, true, false, List, length, map, Contains, Option, Some, None, option_map, arith}
-use Rattle.std.proofs.lemmas.Bool.Decides.{nat_tests}
 use Rattle.std.proofs.lemmas.Bool.{not-false}
+use Rattle.std.proofs.lemmas.Bool.Decides.{nat_tests}
 use Rattle.charts.specs.Chart.{Chart}
 use Rattle.charts.specs.Field.{columns_of, decimals_of, is_amount}
 use Rattle.charts.specs.Levels.{level_number}
@@ -23,7 +23,7 @@ use Rattle.field_rules.specs.Names.{breaks_wrong_kind, names_text}
 use Rattle.chart_rules.specs.Rules.{IsLawful}
 use Rattle.chart_rules.specs.ValidCard.{column_of}
 use Rattle.print_rules.specs.Wheels.{is_body}
-use Rattle.chart_rules.proofs.Laws.{breaks-lawful}
+use Rattle.chart_rules.proofs.Laws.{good-field, kept-line}
 use Rattle.report.specs.Amounts.{columns_in}
 use Rattle.report.specs.BodyLines.{piece_at, total_piece, text_on, a_card_of}
 use Rattle.report.specs.Edits.{last_digits, edited}
@@ -33,9 +33,7 @@ use Rattle.printed_lines.specs.Held.{HoldsLine}
 use Rattle.printed_lines.specs.Laws.{TotalLinesPrint}
 use Rattle.printed_lines.specs.Shown.{Shown, Characters, Amount, Printed, total_sends, set_of_character}
 use Rattle.printed_lines.proofs.AmountLines.{total-amount, last_digits-length}
-use Rattle.printed_lines.proofs.LawfulItems.{named-good}
 use Rattle.printed_lines.proofs.Lines.{SpellsPiece, body-line}
-use Rattle.printed_lines.proofs.Meeting.{Place-line}
 use Rattle.printed_lines.proofs.Sending.{IsItems, IsSending}
 use Rattle.printed_lines.proofs.Spelled.{literal-spelled, columns-spelled, literal-item, text-item, amount-item}
 
@@ -132,9 +130,7 @@ pub total-sending : (chart : Chart) → IsLawful chart → (level : ℕ) (held :
 total-sending chart lawful level held card = record {
   one = total-line level;
   items = λ line shown there sent.
-      let place = Place-line chart.lines line there in
-      total-items chart.lines level held card line.statement shown
-      (breaks-lawful rule.WrongKind chart place.earlier line place.later lawful place.split) sent;
+      total-items chart.lines level held card line.statement shown (kept-line chart lawful line there rule.WrongKind).1 sent;
 }
 
 -- each line of the chart spells what the report puts on the total line of a group
@@ -157,7 +153,7 @@ total-spells chart level group held card lawful texts holds line there = by line
     text_held its_level wheel name is true None on named = tt
     text_held its_level wheel name is true (Some field) on named =
         let text = holds.texts line its_level wheel name field there is (grind (arith, nat_tests, on)) named in
-        let order = (named-good chart lawful name field named).order in (
+        let order = (good-field chart lawful name field named).card.order in (
           refl,
           columns-spelled card (a_card_of group) field.first (columns_of field)
               (λ column low high. text.same column low (omega (arith, high, order)))

@@ -18,7 +18,7 @@ use Rattle.net.specs.declared.cycle.Ordinal.TheVariants.{First}
 use Rattle.line_places.proofs.BodyLines.{jacks-print}
 use Rattle.line_places.proofs.CyclesDue.{cards-due, cards-wait, others-come}
 use Rattle.line_places.proofs.DueCycles.{due, is_between, stage_behind}
-use Rattle.line_places.proofs.LawfulTapes.{form-lawful}
+use Rattle.line_places.proofs.LawfulForms.{form-lawful}
 use Rattle.line_places.specs.FormFacts.{HasGoodForm}
 use Rattle.line_places.specs.Placing.{IsCarriageOf, IsAt, prints_kind, printing_of_chart}
 use Rattle.program_unit.specs.CycleOrder.{card_over, is_fresh, levels_to, top_level, headed as headed_by}

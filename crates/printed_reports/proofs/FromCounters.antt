@@ -22,12 +22,12 @@ use Rattle.panel_cycles.proofs.CounterAsks.{asks_card, asks_heading, asks_run_in
 use Rattle.panel_cycles.proofs.AmountsLawful.{lawful_amount}
 use Rattle.panel_cycles.proofs.Rings.{ring_is}
 use Rattle.wired_panels.proofs.CounterUnits.{at_unit, counter_there, planned_unit}
-use Rattle.wired_panels.proofs.PlanLists.{map-contains}
 use Rattle.wired_panels.proofs.BehindCycles.{cycle-of}
-use Rattle.wired_panels.proofs.PlanOwners.{has_group}
 use Rattle.wired_panels.specs.Groups.{IsGroupOf}
 use Rattle.panel_cycles.specs.ChartAmounts.{amount_of, positions_of, total_group, total_line}
 use Rattle.panel_cycles.specs.CounterStates.{held_in}
+use Rattle.wiring_table.proofs.Groups.{group-given}
+use Rattle.charts.proofs.Listed.{listed-map}
 use Rattle.wired_panels.specs.Panel.{IsPanel}
 use Rattle.machine.specs.Cycles.{CycleRun}
 use Rattle.machine.specs.Machine.{MachineState}
@@ -73,7 +73,7 @@ group_done wiring cycle old new group act signed is is_new all there ring fits a
     let done = acts-done act counter cycle all.pictures (record { is_counter = idle.lawful; entered = idle.entered }) room asked in
     let behind = after_cycle cycle all.pictures counter in
     let listed_new : Contains new.groups behind
-    = subst (λ (gs : List Counter). Contains gs behind) (sym all.groups) (map-contains (after_cycle cycle all.pictures) old.groups counter listed) in
+    = subst (λ (gs : List Counter). Contains gs behind) (sym all.groups) (listed-map (after_cycle cycle all.pictures) old.groups counter listed) in
     held_there new behind group is_new.between listed_new (done.name ∙ named)
     ∙ done.held
     ∙ ap (λ (b : Bool). held_after b counter.name.width act (held_by counter))
@@ -160,7 +160,7 @@ module _ (chart : Chart) (plan : Lists) (wiring : Wiring) (panel : IsPanel chart
             by (Some line) some =
                 let has : (amount_of chart.lines plan name).has level ≡ true = ap is_some some in
                 let (number, total) = has_from chart.lines plan name level has in
-                let (group, served) = has_group chart.lines plan name level number panel.planned total in
+                let (group, served) = group-given chart.lines plan name level number panel.planned total in
                 with_total cycle card old new name field level group is (machines-ready.kept wiring cycle old new is run)
                 (whole wiring cycle old new is run) read amount small
                 (record { number = number; total = total; served = served })

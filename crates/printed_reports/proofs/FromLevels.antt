@@ -26,10 +26,11 @@ use Rattle.charts.specs.declared.statement.Statement.TheVariants as says
 use Rattle.decks.specs.Alike.{AlikeWith}
 use Rattle.setups.specs.Wiring.{Wiring}
 use Rattle.hubs.specs.declared.hub.Group.{Group}
-use Rattle.panel_cycles.proofs.AmountFacts.{digits_are, group_is, has_it, kept, total_field}
+use Rattle.panel_cycles.proofs.AmountFacts.{digits_are, group_is, has_it, total_field}
 use Rattle.panel_cycles.proofs.JacksAndTape.{wheel_jacks-are}
-use Rattle.wired_panels.proofs.SpeakersServed.{number-range}
-use Rattle.wired_panels.proofs.PlanOwners.{own_name}
+use Rattle.plans.proofs.Numbers.{number-stands}
+use Rattle.field_rules.proofs.Places.{is_same_name-own}
+use Rattle.chart_rules.proofs.Laws.{kept-line}
 use Rattle.wired_panels.proofs.ToCounters.{IsLine, with_group}
 use Rattle.panel_cycles.proofs.WheelRowsLaws.{wheels-totals}
 use Rattle.panel_cycles.proofs.WheelRowsUnits.{group-listed, group-named, unit-listed, unit-place}
@@ -122,7 +123,7 @@ module _ (chart : Chart) (plan : Lists) (wiring : Wiring) (panel : IsPanel chart
     is_text_field : (line : Line) (its : ChartLevel) (wheel : ℕ) (name : List ℕ) (field : Field) → Contains chart.lines line
         → line.statement ≡ says.TotalText its wheel name → field_named chart.lines name ≡ Some field → IsText chart.lines name field
     is_text_field line its wheel name field there says named =
-        let (earlier, right) = kept chart rule.WrongKind line panel.lawful there in
+        let (earlier, right) = kept-line chart panel.lawful line there rule.WrongKind in
         record {
           named = named;
           holds_text = sym (ap names_amount named) ∙ sym (ap (breaks_wrong_kind (fields_of chart.lines)) says) ∙ right;
@@ -149,9 +150,9 @@ module _ (chart : Chart) (plan : Lists) (wiring : Wiring) (panel : IsPanel chart
         → field_named chart.lines name ≡ Some field → j < columns_of field
         → holds_column (storage_at old unit) row (j + 1) ≡ has_row (column_of card (field.first + j)) (row_number row)
     units_hold stored line its wheel name field unit j there says same served named less =
-        let within = number-range (λ (served : ℕ). served == line.number) plan.parts.storage unit 4 served few_units in
-        let low : 1 ≤ unit = grind (arith, nat_tests, within) in
-        let high : unit ≤ 4 = grind (arith, nat_tests, within) in
+        let (stands, low, to) = number-stands (λ (each : ℕ). each == line.number) plan.parts.storage unit served in
+        let few = few_units in
+        let high : unit ≤ 4 = omega (arith, to, few) in
         stored line its wheel name field unit (storage_at old unit) row j there says
         (is_text_field line its wheel name field there says named) served (unit-listed old is.between unit low high)
         (unit-place old is.between unit low high) less
@@ -210,7 +211,7 @@ module _ (chart : Chart) (plan : Lists) (wiring : Wiring) (panel : IsPanel chart
             mark = mark;
             says_total = says;
             same_level = refl;
-            same_name = own_name name;
+            same_name = is_same_name-own name;
           } in
           let total = subst (λ k. HasTotal chart.lines name k line.number) same total_at in
           let found_amount = total_field chart name n line.number panel.lawful total in
@@ -222,7 +223,7 @@ module _ (chart : Chart) (plan : Lists) (wiring : Wiring) (panel : IsPanel chart
           = digits_are chart plan name (levels.level_number its) line.number panel.lawful total_at in
           let many_here : (amount_of chart.lines plan name).digits n ≡ digits
           = ap (amount_of chart.lines plan name).digits (sym same) ∙ many in
-          let (earlier, right) = kept chart rule.MarkMismatch line panel.lawful there in
+          let (earlier, right) = kept-line chart panel.lawful line there rule.MarkMismatch in
           let good : is_mismatched (field_named chart.lines name) mark ≡ false
           = sym (ap (breaks_mark_mismatch (fields_of chart.lines)) says) ∙ right in
           let good_kind : is_mismatched_kind field.kind mark ≡ false

@@ -1,5 +1,6 @@
 -- What the third program cycle of a level prints: the total line of its group.
 use Rattle.std.proofs.Common.{◌≡◌, ◌∙◌, refl, sym, ap, ℕ, zero, suc, ◌+◌, ◌≤◌, ◌<◌, ◌==◌, ◌&&◌, nat_le, not, Bool, true, false, List, [], ◌∷◌, ◌++◌, Contains, Some, None, All, if◌then◌else◌, arith}
+use Rattle.std.proofs.lemmas.Bool.{not-false}
 use Rattle.std.proofs.lemmas.Bool.Decides.{nat_tests}
 use Rattle.std.proofs.lemmas.List.Elements.{All-contains, All-head}
 use Rattle.std.proofs.lemmas.List.Sums.{AllPass-from_list_all}
@@ -22,9 +23,8 @@ use Rattle.charts.specs.declared.statement.Field.{Field}
 use Rattle.charts.specs.declared.statement.Statement.{Statement}
 use Rattle.charts.specs.declared.statement.Statement.TheVariants as says
 use Rattle.decks.specs.Alike.{AlikeWith}
-use Rattle.panel_cycles.proofs.AmountFacts.{kept}
-use Rattle.wired_panels.proofs.PlanLists.{filter_map-contains}
-use Rattle.wired_panels.proofs.Sources.{found}
+use Rattle.charts.proofs.Listed.{any-passing, listed-given}
+use Rattle.chart_rules.proofs.Laws.{kept-line}
 use Rattle.report.specs.BodyLines.{a_card_of}
 use Rattle.report.specs.Breaks.{taking}
 use Rattle.report.specs.Groups.{control_fields, control_field, is_same_at, is_same_on}
@@ -82,16 +82,12 @@ pub controlled : (chart : Chart) (line : Line) (level : ChartLevel) (wheel : ℕ
     → Contains chart.lines line → line.statement ≡ says.TotalText level wheel name → field_named chart.lines name ≡ Some field
     → IsControlled chart.lines level field
 controlled chart line level wheel name field lawful listed is named =
-    let (earlier, right) = kept chart rule.TotalTextNotControl line lawful listed in
+    let (earlier, right) = kept-line chart lawful line listed rule.TotalTextNotControl in
     let by_some : is_controlled_by chart.lines level name ≡ true
-    = on (is_controlled_by chart.lines level name) (sym (ap (breaks_total_text_not_control chart.lines) is) ∙ right) in
-    let f = found (λ (l : Line). controls_by level name l.statement) chart.lines by_some in
-    from f.item f.listed f.item.statement refl f.on
+    = not-false (is_controlled_by chart.lines level name) (sym (ap (breaks_total_text_not_control chart.lines) is) ∙ right) in
+    let f = any-passing (λ (l : Line). controls_by level name l.statement) chart.lines by_some in
+    from f.element f.listed f.element.statement refl f.passes
   where
-    on : (b : Bool) → not b ≡ false → b ≡ true
-    on true none = refl
-    on false none = cc
-
     split : (a b : Bool) → (a && b) ≡ true → (a ≡ true) × (b ≡ true)
     split true true both = (refl, refl)
     split true false both = cc
@@ -112,7 +108,7 @@ controlled chart line level wheel name field lawful listed is named =
           above = control_number its;
           low = grind (arith, nat_tests, both.0);
           high = three its;
-          controls = filter_map-contains (λ (each : Line). control_field chart.lines (control_number its) each.statement) chart.lines l field there
+          controls = listed-given (λ (each : Line). control_field chart.lines (control_number its) each.statement) chart.lines l field there
               (ap (control_field chart.lines (control_number its)) says_it
               ∙ ap (λ (b : Bool). if b then field_named chart.lines its_name else None) here
               ∙ ap (field_named chart.lines) same ∙ named);

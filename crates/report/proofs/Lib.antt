@@ -14,3 +14,4 @@ pub mod LawfulForms
 pub mod NextStops
 pub mod LinePlaces
 pub mod RisingPlaces
+pub mod Said

@@ -13,7 +13,7 @@ use Rattle.charts.specs.declared.statement.Statement.TheVariants as says
 use Rattle.setups.specs.Wiring.{Wiring}
 use Rattle.hubs.specs.declared.hub.Hub.{Hub}
 use Rattle.line_wires.proofs.Steps.{adds-as, adds-none}
-use Rattle.wiring_table.proofs.Listed.{found-listed, none-found}
+use Rattle.charts.proofs.Listed.{found-listed, none-found}
 use Rattle.line_wires.specs.HelperAdds.{Adds}
 use Rattle.total_wires.specs.HelperLevels.{OfNext, next, is_total_of, total_at}
 use Rattle.wiring_table.specs.Parts.{HasTotal, IsLowest, IsNextHigher}

@@ -34,10 +34,6 @@ pub record IsReadTo {X Y : Type 0} (f : X → List Y) (xs : List X) (list rest :
   pub back : rest ≡ flat_map f (drop i xs) → list ≡ flat_map f xs
 
 module _ {X Y : Type 0} (f : X → List Y) (xs : List X) (list : List Y) where
-  -- at the start nothing is read
-  pub IsReadTo-start : IsReadTo f xs list list 0
-  IsReadTo-start = record { there = λ e. e; back = λ e. e }
-
   module _ (rest : List Y) (i : ℕ) (x : X) (lt : i < length xs) (at : x ≡ get_or xs i x) (read : IsReadTo f xs list rest i) where
     -- an element without a piece
     pub IsReadTo-nothing : f x ≡ [] → IsReadTo f xs list rest (i + 1)

@@ -3,6 +3,7 @@ use Rattle.std.proofs.Common.{◌≡◌, ℕ, zero, suc, ◌<◌, ◌≤◌, Boo
 use Rattle.std.proofs.lemmas.Grind.{common_steps}
 use Rattle.charts.specs.Chart.{NumbersRise}
 use Rattle.charts.specs.declared.chart.Line.{Line}
+use Rattle.charts.proofs.Rising.{NumbersRise-tail}
 use Rattle.wanted.specs.HelperLines.{FirstIsLowest}
 use Rattle.wanted.specs.Units.{IsLowestOf}
 
@@ -36,15 +37,10 @@ FirstIsLowest-front : (number : ℕ) (list : List ℕ) → IsBelow number list �
 FirstIsLowest-front number list below zero within = omega arith
 FirstIsLowest-front number list below (suc k) within = below k (omega arith)
 
--- the lines behind the first rise too
-NumbersRise-behind : (line : Line) (lines : List Line) (end : ℕ) → NumbersRise (line ∷ lines) end → NumbersRise lines end
-NumbersRise-behind line [] end rise = tt
-NumbersRise-behind line (next ∷ lines) end rise = rise.1
-
 -- of the lines that pass a test the first is the lowest
 pub FirstIsLowest-lines : (p : Line → Bool) (lines : List Line) (end : ℕ) → NumbersRise lines end → FirstIsLowest (numbers p lines)
 FirstIsLowest-lines p [] end rise = λ place within. absurd (omega arith)
-FirstIsLowest-lines p (line ∷ lines) end rise = by (p line) (IsBelow-line p line lines end rise) (FirstIsLowest-lines p lines end (NumbersRise-behind line lines end rise))
+FirstIsLowest-lines p (line ∷ lines) end rise = by (p line) (IsBelow-line p line lines end rise) (FirstIsLowest-lines p lines end (NumbersRise-tail line lines end rise))
   where
     by : (b : Bool) → IsBelow line.number (numbers p lines) → FirstIsLowest (numbers p lines)
         → FirstIsLowest (map (λ l. l.number) (cond b (line ∷ filter p lines) (filter p lines)))

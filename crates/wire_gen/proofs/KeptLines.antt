@@ -47,17 +47,16 @@ use Rattle.chart_rules.specs.declared.rule.Rule.{Rule}
 use Rattle.chart_rules.specs.declared.rule.Rule.TheVariants as rule
 use Rattle.charts.specs.Chart.{Chart, NumbersRise}
 use Rattle.charts.specs.Name.{is_same_name}
-use Rattle.wiring_table.proofs.Listed.{listed-cases, listed-none, none-any, any-passing}
+use Rattle.charts.proofs.Listed.{listed-cases, listed-none, listed-at, listed-given, any-passing}
 use Rattle.line_wires.specs.HelperItems.{HasWheels, DetailRanges}
 use Rattle.line_wires.specs.HelperRanges.{HasChannel}
 use Rattle.wiring_table.specs.Parts.{HasTotal}
-use Rattle.wire_gen.proofs.KeptFields.{kept-line, good-field, known-name, named-by, good-sign, wheels-within}
-use Rattle.wire_gen.proofs.KeptTotals.{group-there, total-alone}
-
--- a name is the same as itself
-name-itself : (name : List ℕ) → is_same_name name name ≡ true
-name-itself [] = refl
-name-itself (character ∷ name) = let rest = name-itself name in grind (arith, nat_tests, rest)
+use Rattle.chart_rules.proofs.Laws.{kept-line, good-listed, good-field}
+use Rattle.field_rules.proofs.Places.{is_same_name-own}
+use Rattle.field_rules.specs.Fields.{field_of}
+use Rattle.wiring_table.proofs.Totals.{digits-grow, one-total, total-digits, total-of}
+use Rattle.wire_gen.proofs.KeptFields.{known-name, named-by, good-sign, wheels-within}
+use Rattle.wire_gen.proofs.KeptTotals.{group-for}
 
 -- where none of some lines is wide, a line that is listed isn't
 narrow-line : (test : Line → Bool) (lines : List Line) (line : Line) → length (map (λ l. l.number) (filter test lines)) ≡ 0
@@ -125,10 +124,10 @@ module _ (chart : Chart) (plan : Lists) (lawful : IsLawful chart) (rise : Number
       let known = named (says.DetailField wheel name shown) name is (λ earlier. refl) in
       let good = good-field chart lawful name known.0 known.1 in
       named-by (field_named chart.lines name) known.0 (IsGoodDetail wheel shown) known.1
-      (record { card = good.card; wheels = by known.0 known.1 good.whole known.0.kind refl })
+      (record { card = good.card; wheels = by known.0 known.1 good.decimals known.0.kind refl })
     where
       by : (field : Field) → field_named chart.lines name ≡ Some field
-          → (decimals_of field.kind ≤ columns_of field) ⊎ (is_amount field.kind ≡ false)
+          → decimals_of field.kind ≤ columns_of field
           → (kind : FieldKind) → field.kind ≡ kind → DetailRanges wheel field shown kind
       by field at whole holds.Text is_kind =
           let item : item_of (fields_of chart.lines) (says.DetailField wheel name shown) ≡ Some (detail_item wheel shown (columns_of field) holds.Text) =
@@ -148,7 +147,7 @@ module _ (chart : Chart) (plan : Lists) (lawful : IsLawful chart) (rise : Number
           record {
             first = within.0;
             last = ends (columns_of field) decimals (decimals_of field.kind) (mark_width (mark_shown shown)) decimals_are within.1;
-            whole = whole-of (ap is_amount is_kind) whole;
+            whole = whole;
           }
         where
           ends : (digits decimals same width : ℕ) → same ≡ decimals
@@ -156,11 +155,6 @@ module _ (chart : Chart) (plan : Lists) (lawful : IsLawful chart) (rise : Number
           ends digits decimals same width e less =
               let P : ℕ → Type 0 = λ d. mark_wheel wheel digits d + width ≤ 121 in
               subst P (sym e) (omega (arith, less))
-
-          whole-of : is_amount field.kind ≡ true → (decimals_of field.kind ≤ columns_of field) ⊎ (is_amount field.kind ≡ false)
-              → decimals_of field.kind ≤ columns_of field
-          whole-of amount (inl less) = less
-          whole-of amount (inr text) = cc
 
   total_text-good : (level : Level) (wheel : ℕ) (name : List ℕ) → line.statement ≡ says.TotalText level wheel name
       → IsNamed (field_named chart.lines name) (IsGoodTotalText wheel)
@@ -190,52 +184,17 @@ module _ (chart : Chart) (plan : Lists) (lawful : IsLawful chart) (rise : Number
       narrow-of : (field : Field) → field_named chart.lines name ≡ Some field → columns_of field ≤ 16
       narrow-of field at = narrow-field chart.lines line level wheel name field few listed is at
 
-  -- a total in as many digits as its field has columns
-  digits-enough : (field : Option Field) (known : Field) (digits : ℕ) → field ≡ Some known → is_out_of_digits field digits ≡ false
-      → columns_of known ≤ digits
-  digits-enough None known digits same is = cc
-  digits-enough (Some other) known digits same is =
-      let e : other ≡ known = cc in
-      let out = ap (λ f. is_out_of_digits (Some f) digits) (sym e) ∙ is in
-      of-parts (nat_lt digits (columns_of known)) (nat_lt 8 digits) (is_some (sign_column known.kind) && nat_lt 7 digits) out refl
-    where
-      of-parts : (b c d : Bool) → (b || c || d) ≡ false → b ≡ nat_lt digits (columns_of known) → columns_of known ≤ digits
-      of-parts false c d is e = grind (arith, nat_tests, e)
-      of-parts true c d is e = cc
-
   -- the next higher total has as many digits, and a group for them
   upper-group : (level : Level) (wheel : ℕ) (name : List ℕ) (digits : ℕ) (mark : Option Mark)
       → line.statement ≡ says.TotalAmount level wheel name digits mark → (other : ℕ)
       → IsNextHigher chart.lines name (level_number level) other → HasGroupFor chart.lines plan other digits
   upper-group level wheel name digits mark is other next_one =
-      let total = next_one.total in
-      let found = group-there chart.lines chart.end plan rise is_for total.line total.listed total.its_level total.wheel total.its_name
-      total.digits total.mark total.says_total in
-      let shrink = kept-line chart lawful total.line total.listed rule.DigitsShrink in
-      let none : has_wider_below chart.lines total.its_level total.its_name total.digits ≡ false =
-      sym (ap (breaks rule.DigitsShrink chart.lines shrink.0) total.says_total) ∙ shrink.1 in
-      let here = none-any (λ l. is_wider_below total.its_level total.its_name total.digits l.statement) chart.lines line none listed in
-      let at = sym (ap (is_wider_below total.its_level total.its_name total.digits) is) ∙ here in
-      let names = is_same_name-equal total.its_name name total.same_name in
-      let above = next_one.above in
-      let same = total.same_level in
-      let less : digits ≤ total.digits =
-      not-wider (nat_lt (level_number level) (level_number total.its_level)) (is_same_name name total.its_name)
-      (grind (arith, nat_tests, above, same)) (same-name name total.its_name names) at in
+      let found = group-for chart.lines chart.end plan rise is_for name next_one.higher other next_one.total in
+      let less : digits ≤ next_one.total.digits =
+      digits-grow chart name lawful (level_number level) next_one.higher line.number other next_one.above (total-of chart.lines line level wheel name digits mark listed is)
+      next_one.total in
       let enough = found.wide in
-      let number : total.line.number ≡ other = total.is_number in
-      let P : ℕ → Type 0 = λ n. HasGroupFor chart.lines plan n digits in
-      subst P number
-      (record { group = found.group; there = found.there; on_panel = found.on_panel; wide = omega (arith, less, enough) })
-    where
-      same-name : (a b : List ℕ) → b ≡ a → is_same_name a b ≡ true
-      same-name a b e = ap (is_same_name a) e ∙ name-itself a
-
-      not-wider : (a b : Bool) → a ≡ true → b ≡ true → (a && b && nat_lt next_one.total.digits digits) ≡ false
-          → digits ≤ next_one.total.digits
-      not-wider true true e f is_not = grind (arith, nat_tests, is_not)
-      not-wider false b e f is_not = cc
-      not-wider true false e f is_not = cc
+      record { group = found.group; there = found.there; on_panel = found.on_panel; wide = omega (arith, less, enough) }
 
   -- the next higher total stands on one line
   next-alone : (level : Level) (name : List ℕ) (former latter : ℕ) → IsNextHigher chart.lines name (level_number level) former
@@ -250,7 +209,7 @@ module _ (chart : Chart) (plan : Lists) (lawful : IsLawful chart) (rise : Number
       by (inr more) (inr less) =
           let same : is.higher ≡ is_other.higher = omega (arith, more, less) in
           let P : ℕ → Type 0 = λ h. HasTotal chart.lines name h former in
-          total-alone chart lawful name is_other.higher former latter (subst P same is.total) is_other.total
+          one-total chart name lawful is_other.higher former latter (subst P same is.total) is_other.total
 
   amount-good : (level : Level) (wheel : ℕ) (name : List ℕ) (digits : ℕ) (mark : Option Mark)
       → line.statement ≡ says.TotalAmount level wheel name digits mark
@@ -260,8 +219,9 @@ module _ (chart : Chart) (plan : Lists) (lawful : IsLawful chart) (rise : Number
       let good = good-field chart lawful name known.0 known.1 in
       let right = kept rule.WrongKind (says.TotalAmount level wheel name digits mark) is in
       let amount : is_amount known.0.kind ≡ true = not-false (is_amount known.0.kind) (sym (ap names_text known.1) ∙ right.1) in
-      let range = kept rule.DigitsRange (says.TotalAmount level wheel name digits mark) is in
-      let enough = digits-enough (field_named chart.lines name) known.0 digits known.1 range.1 in
+      let own = total-of chart.lines line level wheel name digits mark listed is in
+      let enough = (total-digits chart name lawful (level_number level) line.number known.0 own known.1).enough in
+      let decimals = good.decimals in
       let item = ap (option_map (λ f. total_item level wheel digits mark f.kind)) known.1 in
       let within = wheels (says.TotalAmount level wheel name digits mark) (total_item level wheel digits mark known.0.kind) wheel
       (wheel + (digits + cond (nat_lt 0 (decimals_of known.0.kind)) 1 0 + mark_width mark)) is item refl refl in
@@ -272,18 +232,13 @@ module _ (chart : Chart) (plan : Lists) (lawful : IsLawful chart) (rise : Number
         wheels = record {
           first = within.0;
           last = omega (arith, within.1);
-          whole = whole-of known.0 amount enough good.whole;
+          whole = omega (arith, decimals, enough);
         };
         enough = enough;
-        group = group-there chart.lines chart.end plan rise is_for line listed level wheel name digits mark is;
+        group = group-for chart.lines chart.end plan rise is_for name (level_number level) line.number own;
         upper = upper-group level wheel name digits mark is;
         alone = next-alone level name;
       })
-    where
-      whole-of : (field : Field) → is_amount field.kind ≡ true → columns_of field ≤ digits
-          → (decimals_of field.kind ≤ columns_of field) ⊎ (is_amount field.kind ≡ false) → decimals_of field.kind ≤ digits
-      whole-of field amount_is enough_is (inl less) = omega (arith, less, enough_is)
-      whole-of field amount_is enough_is (inr text) = cc
 
   channel-good : (line_kind : BodyLine) (follows : After) → line.statement ≡ says.After line_kind follows → HasChannel follows
   channel-good line_kind action.Page is = tt
@@ -305,7 +260,9 @@ module _ (chart : Chart) (plan : Lists) (lawful : IsLawful chart) (rise : Number
       of-tape earlier other same good = cc
 
   good : (statement : Statement) → line.statement ≡ statement → IsGood chart.lines plan line.number statement
-  good (says.Field field) is = good-sign field (kept rule.Columns (says.Field field) is).1
+  good (says.Field field) is =
+      good-sign (sign_column field.kind)
+      (good-listed chart lawful field (listed-given (λ (each : Line). field_of each.statement) chart.lines line field listed (ap field_of is))).sign
   good (says.Control level name) is = control-good level name is
   good (says.Head its_line wheel text) is =
       literal-wheels (says.Head its_line wheel text) wheel text (text_item (Heading its_line) wheel (length text)) is refl refl refl
@@ -323,5 +280,4 @@ module _ (chart : Chart) (plan : Lists) (lawful : IsLawful chart) (rise : Number
 pub good-lines : (chart : Chart) (plan : Lists) → IsLawful chart → NumbersRise chart.lines chart.end → IsFor chart.lines plan
     → (place : ℕ) (line : Line) → slice_get chart.lines place ≡ Some line → IsGood chart.lines plan line.number line.statement
 good-lines chart plan lawful rise is_for place line at =
-    let listed : Contains chart.lines line = (place, slice_get_within chart.lines place line at, get_or_from_slice_get chart.lines place line line at) in
-    good chart plan lawful rise is_for line listed line.statement refl
+    good chart plan lawful rise is_for line (listed-at chart.lines place line at) line.statement refl

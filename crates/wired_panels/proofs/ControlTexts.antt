@@ -17,9 +17,7 @@ use Rattle.charts.specs.declared.statement.Field.{Field}
 use Rattle.charts.specs.declared.statement.FieldKind.{FieldKind}
 use Rattle.charts.specs.declared.statement.FieldKind.TheVariants as holds
 use Rattle.charts.specs.declared.statement.Statement.TheVariants as says
-use Rattle.std.proofs.lemmas.Option.{slice_get_within}
-use Rattle.wired_panels.proofs.SpeakersApart.{place-of}
-use Rattle.wired_panels.proofs.SpeakersLawful.{kept-at, named-line}
+use Rattle.chart_rules.proofs.Laws.{kept-line, text-valid}
 
 -- a set with a print character is the set of the first pair, or has its character further on
 one-passes : (pair : ℕ × ℕ) (rest : Option ℕ) (set : ℕ) (b : Bool) → (pair.1 == set) ≡ b → is_row_set pair.1 ≡ true
@@ -45,23 +43,15 @@ pub printed-set : (set : ℕ) → is_printed (deck_character set) ≡ true → i
 unfolding code deck_character
 printed-set set on = found-set code set refl on
 
--- what is no amount is a text
-no-amount : (kind : FieldKind) → is_amount kind ≡ false → kind ≡ holds.Text
-no-amount holds.Text is = refl
-no-amount (holds.Amount decimals rule) is = cc
-
 -- a control field is a text on every valid card
 control-text : (chart : Chart) (card : List ℕ) (line : Line) (level : ControlLevel) (name : List ℕ) (field : Field) → IsLawful chart
     → IsValidCard chart card → Contains chart.lines line → line.statement ≡ says.Control level name
     → field_named chart.lines name ≡ Some field → IsText field.first field.last card
-unfolding IsValidCard
-control-text chart card line level name field lawful valid (place, within, is) controls named =
-    let right_kind = kept-at rule.WrongKind chart place line lawful (place-of chart.lines line place within is) in
+control-text chart card line level name field lawful valid listed controls named =
+    let (earlier, right_kind) = kept-line chart lawful line listed rule.WrongKind in
     let no : names_amount (field_named chart.lines name) ≡ false
-    = sym (ap (breaks rule.WrongKind chart.lines (take place chart.lines)) controls) ∙ right_kind in
-    let found = named-line chart.lines name field named in
-    subst (λ kind. IsValidKind kind field card) (no-amount field.kind (sym (ap names_amount named) ∙ no))
-    (valid found.place (slice_get_within (fields_of chart.lines) found.place field found.at) field found.at)
+    = sym (ap (breaks rule.WrongKind chart.lines earlier) controls) ∙ right_kind in
+    text-valid chart card name field valid named (sym (ap names_amount named) ∙ no)
 
 -- Each column of a control field of a chart that breaks no rule is a set of the twelve rows on a valid card.
 pub control-set : (chart : Chart) (card : List ℕ) (line : Line) (level : ControlLevel) (name : List ℕ) (field : Field) (j : ℕ)

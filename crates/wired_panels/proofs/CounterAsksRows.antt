@@ -27,7 +27,8 @@ use Rattle.wiring_table.specs.Wires.{ChartWire}
 use Rattle.wiring_table.specs.Wires.LineWire.{entry, feedback, transfer}
 use Rattle.wired_panels.proofs.CounterAsksControls.{numbered}
 use Rattle.wired_panels.proofs.CounterAsksTold.{moved, IsUnder, goes_under, next_higher, wire_of}
-use Rattle.wired_panels.proofs.PlanOwners.{one_owner, one_total}
+use Rattle.wired_panels.proofs.PlanOwners.{one_owner}
+use Rattle.wiring_table.proofs.Totals.{one-total}
 use Rattle.wired_panels.proofs.Sending.{sending}
 use Rattle.wired_panels.proofs.Sources.{sent}
 use Rattle.wired_panels.proofs.ToCounters.{itself, ToEntry, to_entry}
@@ -173,5 +174,5 @@ module _ (chart : Chart) (plan : Lists) (wiring : Wiring) (old : MachineState) (
           lower_served : (low : ℕ) (lower : Group) (under : IsUnder chart.lines name low level) → IsGroupOf chart.lines plan name low lower
               → group_for chart.lines plan under.number ≡ Some lower
           lower_served low lower under given =
-              ap (group_for chart.lines plan) (one_total chart name low under.number given.number at.panel.lawful under.total given.total)
+              ap (group_for chart.lines plan) (one-total chart name at.panel.lawful low under.number given.number under.total given.total)
               ∙ given.served

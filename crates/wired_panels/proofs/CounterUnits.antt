@@ -18,8 +18,8 @@ use Rattle.machine.specs.Fields.{AreInUnitOrder}
 use Rattle.machine.specs.Machine.{group_units}
 use Rattle.net.specs.Panel.{unit_of, unit_behind}
 use Rattle.wiring_table.specs.Parts.{group_for}
-use Rattle.wired_panels.proofs.PlanLists.{here, behind, first_or_behind}
-use Rattle.wired_panels.proofs.PlanOwners.{group_there}
+use Rattle.wiring_table.proofs.Groups.{group-there}
+use Rattle.charts.proofs.Listed.{listed-behind, listed-cases, listed-first}
 
 -- a group of the standard machine is one of the units 3 and up
 pub unit_there : (group : Group) → HasGroup standard (record { width = group.width; number = group.number }) → 3 ≤ unit_of group
@@ -63,7 +63,7 @@ from_at : {X : Type 0} (f : Counter → X) (d : X) (k : ℕ) (groups : List Coun
     → Contains groups counter → (k ≤ counter_number counter) × (slice_index_or (map f groups) (counter_number counter - k) d ≡ f counter)
 from_at f d k [] counter from (i, within, is) = absurd (omega (arith, within))
 from_at f d k (group ∷ groups) counter (is, from) there =
-    by (first_or_behind group groups counter there) (λ later. from_at f d (suc k) groups counter from later)
+    by (listed-cases counter group groups there) (λ later. from_at f d (suc k) groups counter from later)
   where
     by : (group ≡ counter) ⊎ Contains groups counter
         → (Contains groups counter → (suc k ≤ counter_number counter)
@@ -94,11 +94,11 @@ from_there k (group ∷ groups) unit (is, from) low high =
         → (counter : Counter) × Contains (group ∷ groups) counter × (counter_number counter ≡ unit)
     by true at later =
         let same : counter_number group ≡ unit = grind (arith, nat_tests, at, low, is) in
-        (group, here group groups, same)
+        (group, listed-first group groups, same)
     by false above later =
         let less : suc k ≤ unit = grind (arith, nat_tests, above) in
         let (counter, there, number) = later less in
-        (counter, behind group groups counter there, number)
+        (counter, listed-behind group groups there, number)
 
 -- as many groups as units
 many_groups : (groups : List Counter) (units : List ℕ) → map counter_number groups ≡ units → length groups ≡ length units
@@ -121,4 +121,4 @@ counter_there groups group ordered there =
 
 pub planned_unit : (lines : List Line) (plan : Lists) (number : ℕ) (group : Group) → IsFor lines plan
     → group_for lines plan number ≡ Some group → 3 ≤ unit_of group
-planned_unit lines plan number group planned served = unit_there group (group_there lines plan number group planned served)
+planned_unit lines plan number group planned served = unit_there group (group-there lines plan planned number group served)

@@ -15,8 +15,8 @@ use Rattle.charts.specs.declared.statement.Field.{Field}
 use Rattle.charts.specs.declared.statement.Statement.{Statement}
 use Rattle.charts.specs.declared.statement.Statement.TheVariants as says
 use Rattle.report.specs.Groups.{control_field, is_same_on, is_same_at}
-use Rattle.wired_panels.proofs.SaidOnce.{further}
 use Rattle.wired_panels.specs.PanelCycles.{Differs}
+use Rattle.charts.proofs.Listed.{listed-behind}
 
 -- A column of a row of them that fails a test.
 record Fails (test : ℕ → Bool) (first many : ℕ) : Type 0 where
@@ -70,7 +70,7 @@ fields-fail whole (line ∷ lines) level card next is =
     behind : FailsOn whole lines level card next → FailsOn whole (line ∷ lines) level card next
     behind f = record {
       line = f.line;
-      listed = further lines f.line line f.listed;
+      listed = listed-behind line lines f.listed;
       its_level = f.its_level;
       name = f.name;
       field = f.field;

@@ -7,16 +7,13 @@ pub mod IndicateLatches
 pub mod SaidOnce
 pub mod Straight
 pub mod ChartLines
-pub mod PlanPlaces
 pub mod ToPilots
 pub mod ToStorage
 pub mod SameColumns
 pub mod Differing
-pub mod PlanGives
 pub mod ControlTexts
 pub mod ToComparing
 pub mod BehindCycles
-pub mod PlanLists
 pub mod PlanOwners
 pub mod ToCounters
 pub mod CounterAsksTold
@@ -27,8 +24,6 @@ pub mod CounterAsksContacts
 pub mod CounterAsksRows
 pub mod ReadingGroups
 pub mod ReadingOut
-pub mod SpeakersApart
 pub mod SpeakersLawful
 pub mod ToWheels
-pub mod SpeakersServed
 mod PanelLaws

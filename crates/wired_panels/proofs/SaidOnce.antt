@@ -19,8 +19,9 @@ use Rattle.charts.specs.declared.statement.BodyLine.TheVariants as body
 use Rattle.charts.specs.declared.statement.Statement.{Statement}
 use Rattle.charts.specs.declared.statement.Statement.TheVariants as says
 use Rattle.report.specs.ChartForm.{kind_number, spacing_of, spacing_from, after_of, after_from}
-use Rattle.printed_lines.proofs.Meeting.{not_there}
-use Rattle.wiring_table.proofs.Listed.{none-any}
+use Rattle.std.proofs.lemmas.List.Elements.{Contains-append_right}
+use Rattle.report.proofs.Said.{SaysAfter, SaysSpace}
+use Rattle.charts.proofs.Listed.{listed-first, none-any}
 
 -- no line of a list says again what another before it says
 abbrev pub IsSaidOnce : List Line → Type 0
@@ -35,7 +36,8 @@ behind-once chart lawful before line middle (other ∷ rest) split =
     let kept : list_any (λ each. repeats each.statement other.statement) (before ++ line ∷ middle) ≡ false =
     breaks-lawful rule.LineTwice chart (before ++ line ∷ middle) other rest lawful split in
     let here : repeats line.statement other.statement ≡ false =
-    not_there (λ each. repeats each.statement other.statement) before line middle kept in
+    none-any (λ each. repeats each.statement other.statement) (before ++ line ∷ middle) line kept
+    (Contains-append_right before (line ∷ middle) line (listed-first line middle)) in
     rw here (behind-once chart lawful before line (middle ++ other ∷ []) rest
     (split ∙ append_assoc before (line ∷ middle) (other ∷ rest)
     ∙ ap (λ l. before ++ line ∷ l) (sym (append_assoc middle (other ∷ []) rest))
@@ -69,94 +71,6 @@ same-body (body.Total one) body.Detail is = absurd (by one is)
     by level.Intermediate e = omega (arith, e)
     by level.Major e = omega (arith, e)
     by level.Final e = omega (arith, e)
-
--- A line of a chart gives the kind of body line with a number a spacing of so many lines.
-pub record SaysSpace (lines : List Line) (kind many : ℕ) : Type 0 where
-  pub line : Line
-  pub listed : Contains lines line
-  pub its_kind : BodyLine
-  pub its_spacing : Spacing
-  pub is_space : line.statement ≡ says.Space its_kind its_spacing
-  pub same_kind : kind_number its_kind ≡ kind
-  pub same_spacing : spacing_number its_spacing ≡ many
-
--- A line of a chart says what follows the kind of body line with a number.
-pub record SaysAfter (lines : List Line) (kind : ℕ) (follows : After) : Type 0 where
-  pub line : Line
-  pub listed : Contains lines line
-  pub its_kind : BodyLine
-  pub is_after : line.statement ≡ says.After its_kind follows
-  pub same_kind : kind_number its_kind ≡ kind
-
--- behind one line more
-pub further : {X : Type 0} (list : List X) (x first : X) → Contains list x → Contains (first ∷ list) x
-further list x first (k, within, is) = (suc k, omega (arith, within), is)
-
--- a spacing that isn't single is said
-pub space-said : (lines : List Line) (kind many : ℕ) → 2 ≤ many → spacing_of lines kind ≡ many → SaysSpace lines kind many
-space-said [] kind many more is = absurd (omega (arith, more, is))
-space-said (line ∷ lines) kind many more is = by line.statement refl is (λ found. behind (space-said lines kind many more found))
-  where
-    behind : SaysSpace lines kind many → SaysSpace (line ∷ lines) kind many
-    behind s = record {
-      line = s.line;
-      listed = further lines s.line line s.listed;
-      its_kind = s.its_kind;
-      its_spacing = s.its_spacing;
-      is_space = s.is_space;
-      same_kind = s.same_kind;
-      same_spacing = s.same_spacing;
-    }
-
-    either : (its : BodyLine) (spacing : Spacing) → line.statement ≡ says.Space its spacing → (b : Bool) → (kind_number its == kind) ≡ b
-        → (if b then spacing_number spacing else spacing_of lines kind) ≡ many
-        → (spacing_of lines kind ≡ many → SaysSpace (line ∷ lines) kind many) → SaysSpace (line ∷ lines) kind many
-    either its spacing says_it true same found below = record {
-      line = line;
-      listed = (0, omega arith, refl);
-      its_kind = its;
-      its_spacing = spacing;
-      is_space = says_it;
-      same_kind = grind (arith, nat_tests, same);
-      same_spacing = found;
-    }
-    either its spacing says_it false same found below = below found
-
-    by : (statement : Statement) → line.statement ≡ statement → spacing_from kind statement (spacing_of lines kind) ≡ many
-        → (spacing_of lines kind ≡ many → SaysSpace (line ∷ lines) kind many) → SaysSpace (line ∷ lines) kind many
-    by (says.Space its spacing) says_it found below = either its spacing says_it (kind_number its == kind) refl found below
-    by other says_it found below = below found
-
--- what follows a kind is said
-pub after-said : (lines : List Line) (kind : ℕ) (follows : After) → after_of lines kind ≡ Some follows → SaysAfter lines kind follows
-after-said [] kind follows is = cc
-after-said (line ∷ lines) kind follows is = by line.statement refl is (λ found. behind (after-said lines kind follows found))
-  where
-    behind : SaysAfter lines kind follows → SaysAfter (line ∷ lines) kind follows
-    behind s = record {
-      line = s.line;
-      listed = further lines s.line line s.listed;
-      its_kind = s.its_kind;
-      is_after = s.is_after;
-      same_kind = s.same_kind;
-    }
-
-    either : (its : BodyLine) (action : After) → line.statement ≡ says.After its action → (b : Bool) → (kind_number its == kind) ≡ b
-        → (if b then Some action else after_of lines kind) ≡ Some follows
-        → (after_of lines kind ≡ Some follows → SaysAfter (line ∷ lines) kind follows) → SaysAfter (line ∷ lines) kind follows
-    either its action says_it true same found below = record {
-      line = line;
-      listed = (0, omega arith, refl);
-      its_kind = its;
-      is_after = let one : action ≡ follows = cc in says_it ∙ ap (λ a. says.After its a) one;
-      same_kind = grind (arith, nat_tests, same);
-    }
-    either its action says_it false same found below = below found
-
-    by : (statement : Statement) → line.statement ≡ statement → after_from kind statement (after_of lines kind) ≡ Some follows
-        → (after_of lines kind ≡ Some follows → SaysAfter (line ∷ lines) kind follows) → SaysAfter (line ∷ lines) kind follows
-    by (says.After its action) says_it found below = either its action says_it (kind_number its == kind) refl found below
-    by other says_it found below = below found
 
 -- a line that speaks of the spacing of a kind is the only one that does
 module _ (kind : ℕ) (rest : List Line) (its_kind : BodyLine) (same_kind : kind_number its_kind ≡ kind) where

@@ -26,6 +26,7 @@ use Rattle.wired_panels.specs.Sources.{EmitsAtControl, EmitsAtRow, ReadsFirst, d
 use Rattle.wired_panels.specs.Sources.ReadsFirst.{run_in, card as card_reads}
 use Rattle.wired_panels.specs.Sources.EmitsAtControl.{card as tells_card, prog as tells_prog, head as tells_head}
 use Rattle.wired_panels.specs.Sources.EmitsAtRow.{first, second, digit, column, emitter}
+use Rattle.charts.proofs.Listed.{any-listed}
 
 -- a hub of the panel is itself
 pub own : (hub : Hub) (n : ℕ) → number_of hub ≡ Some n → is_hub hub hub ≡ true
@@ -36,17 +37,6 @@ pub telling : {cycle : Cycle} {hub : Hub} (n : ℕ) → EmitsAtControl cycle hub
 telling n tells_card is = refl
 telling n (tells_prog level ordinal) is = own (PX (level_number level) (ordinal_number ordinal)) n is
 telling n (tells_head heading) is = own (HX (ordinal_number heading)) n is
-
--- one of a list for which a test holds
-pub any_from : {X : Type 0} (test : X → Bool) (list : List X) (x : X) → Contains list x → test x ≡ true → list_any test list ≡ true
-any_from test [] x (k, within, is) on = absurd (omega (arith, within))
-any_from test (y ∷ ys) x (zero, within, is) on = rw (ap test is ∙ on) refl
-any_from test (y ∷ ys) x (suc k, within, is) on =
-    rw (any_from test ys x (k, omega (arith, within), is) on) (any-true (test y))
-  where
-    any-true : (b : Bool) → (b || true) ≡ true
-    any-true true = refl
-    any-true false = refl
 
 -- a group shows the digit of each of its positions
 showing :
@@ -129,13 +119,13 @@ sending old pictures cycle row n (second c is punched) there =
     first_of _ _ _ _ (reading_second old cycle row c is punched)
 sending old pictures cycle row n (digit group position listed out low high is) there =
     second_of (stations_emits old.stations cycle (Row row) (GX group.name position)) _ _ _
-    (any_from (λ g. group_reads_out pictures row g (GX group.name position)) old.groups group listed
+    (any-listed (λ g. group_reads_out pictures row g (GX group.name position)) old.groups group listed
     (both (pictures C (RO group.name)) (shows group.name (row_number row) group.digits (GX group.name position)) out
     (showing group.name (row_number row) group.digits position n low high is there)))
 sending old pictures cycle row n (column storage c listed out held) there =
     let same : (storage.place == storage.place) ≡ true = grind (arith, nat_tests) in
     third_of (stations_emits old.stations cycle (Row row) (SX storage.place c)) _ _ _
-    (any_from (λ s. storage_reads_out pictures row s (SX storage.place c)) old.storage storage listed
+    (any-listed (λ s. storage_reads_out pictures row s (SX storage.place c)) old.storage storage listed
     (both (pictures C (SO storage.place) && (storage.place == storage.place)) (holds storage row c)
     (both (pictures C (SO storage.place)) _ out same) held))
 sending old pictures cycle row n (emitter e is) there =

@@ -25,6 +25,7 @@ use Rattle.wired_panels.specs.Sources.{EmitsAtControl, EmitsAtRow, digit_at}
 use Rattle.wired_panels.specs.Sources.EmitsAtControl.{card as tells_card, prog as tells_prog, head as tells_head}
 use Rattle.wired_panels.specs.Sources.ReadsFirst.{run_in as reads_run_in, card as reads_card}
 use Rattle.wired_panels.specs.Sources.EmitsAtRow.{first, second, digit, column, emitter}
+use Rattle.charts.proofs.Listed.{any-passing}
 
 -- the exit that emits at the control point tells of the cycle
 pub told : (cycle : Cycle) (hub : Hub) → control_emits cycle hub ≡ true → EmitsAtControl cycle hub
@@ -38,23 +39,6 @@ told (Prog level ordinal) hub on =
     (tells_prog level ordinal)
 told (Head heading) hub on =
     subst (λ h. EmitsAtControl (Head heading) h) (is_hub-same (HX (ordinal_number heading)) hub on) (tells_head heading)
-
--- one of a list for which a test holds
-pub record Found {X : Type 0} (test : X → Bool) (list : List X) : Type 0 where
-  pub item : X
-  pub listed : Contains list item
-  pub on : test item ≡ true
-
-pub found : {X : Type 0} (test : X → Bool) (list : List X) → list_any test list ≡ true → Found test list
-found test [] on = cc
-found test (x ∷ xs) on = by (test x) refl on (found test xs)
-  where
-    more : Found test xs → Found test (x ∷ xs)
-    more f = let (k, within, is) = f.listed in record { item = f.item; listed = (suc k, omega (arith, within), is); on = f.on }
-
-    by : (b : Bool) → test x ≡ b → (b || list_any test xs) ≡ true → (list_any test xs ≡ true → Found test xs) → Found test (x ∷ xs)
-    by true is any others = record { item = x; listed = (0, omega arith, refl); on = is }
-    by false is any others = more (others any)
 
 -- a column at first reading
 first_source :
@@ -181,12 +165,12 @@ sent old pictures cycle row hub on =
         → EmitsAtRow old pictures cycle row hub
     by (inl station) = station_source old pictures cycle row hub station
     by (inr (inl group)) =
-        let f = found (λ g. group_reads_out pictures row g hub) old.groups group in
-        shown_by f.item f.listed _ _ refl refl f.on
+        let f = any-passing (λ g. group_reads_out pictures row g hub) old.groups group in
+        shown_by f.element f.listed _ _ refl refl f.passes
     by (inr (inr (inl storage))) =
-        let f = found (λ s. storage_reads_out pictures row s hub) old.storage storage in
-        let (c, same, given, held) = stored_source pictures row f.item hub f.on in
-        subst (λ h. EmitsAtRow old pictures cycle row h) (sym same) (column f.item c f.listed given held)
+        let f = any-passing (λ s. storage_reads_out pictures row s hub) old.storage storage in
+        let (c, same, given, held) = stored_source pictures row f.element hub f.passes in
+        subst (λ h. EmitsAtRow old pictures cycle row h) (sym same) (column f.element c f.listed given held)
     by (inr (inr (inr emitting))) =
         let (e, is, same) = emitter_source (emitter_of cycle) row hub emitting in
         subst (λ h. EmitsAtRow old pictures cycle row h) (sym same) (emitter e is)

@@ -36,14 +36,12 @@ use Rattle.whole_cycles.specs.WholeCycles.{closing_emits, compares_unlike}
 use Rattle.wiring_table.specs.Parts.{comparing_for}
 use Rattle.wiring_table.specs.Wires.{LineWire, ChartWire}
 use Rattle.wiring_table.specs.Wires.LineWire.{compared_first, compared_second, level_called}
-use Rattle.wiring_table.proofs.Listed.{none-any}
 use Rattle.wired_panels.proofs.ControlTexts.{control-set}
 use Rattle.wired_panels.proofs.Differing.{differs-where, where-differs}
 use Rattle.wired_panels.proofs.Ways.{same_tests}
-use Rattle.wired_panels.proofs.PlanGives.{comparing-given}
-use Rattle.wired_panels.proofs.PlanPlaces.{comparing-own}
+use Rattle.charts.proofs.Listed.{any-passing, none-any}
+use Rattle.wiring_table.proofs.Parts.{comparing-given, comparing-own}
 use Rattle.wired_panels.proofs.SameColumns.{row-listed, same-sets}
-use Rattle.wired_panels.proofs.Sources.{found}
 use Rattle.wired_panels.proofs.Straight.{at_row, at_closing}
 use Rattle.wired_panels.proofs.ToPilots.{sends-first, sends-second, column-there}
 use Rattle.wired_panels.proofs.ToStorage.{punched-in, in-punched}
@@ -127,7 +125,7 @@ module _ (chart : Chart) (plan : Lists) (wiring : Wiring) (old : MachineState) (
               → has_row (column_of next (field.first + j)) (row_number row) ≡ true
           by number sends (compared_first level' name' field' j' n named' below' served') served =
               let columns : field'.first + j' ≡ field.first + j =
-              (comparing-own plan number (field'.first + j') line.number (field.first + j) n served' served).1 in
+              (comparing-own plan number line.number (field'.first + j') (field.first + j) n served' served).1 in
               punched-in old.stations.first next row (field.first + j) waits (sends-first (field.first + j) sends (ap FR columns))
 
       second-came : (row : CardRow) → ArrivesAtRow chart.lines plan old pictures Card row (CB position)
@@ -140,7 +138,7 @@ module _ (chart : Chart) (plan : Lists) (wiring : Wiring) (old : MachineState) (
               → has_row (column_of card (field.first + j)) (row_number row) ≡ true
           by number sends (compared_second level' name' field' j' n named' below' served') served =
               let columns : field'.first + j' ≡ field.first + j =
-              (comparing-own plan number (field'.first + j') line.number (field.first + j) n served' served).1 in
+              (comparing-own plan number line.number (field'.first + j') (field.first + j) n served' served).1 in
               punched-in old.stations.second card row (field.first + j) stands (sends-second (field.first + j) sends (ap SR columns))
 
       -- its entries have the rows of the two cards
@@ -174,9 +172,9 @@ module _ (chart : Chart) (plan : Lists) (wiring : Wiring) (old : MachineState) (
           by false is = refl
           by true is =
               let same : column_of card (field.first + j) ≡ column_of next (field.first + j) = grind (arith, nat_tests, is) in
-              let f = found (λ row. are_unlike (pictures (Row row) (CA position)) (pictures (Row row) (CB position))) rows unlike in
-              absurd (unlike-self (pictures (Row f.item) (CA position)) (pictures (Row f.item) (CB position))
-              (first-is f.item ∙ ap (λ c. has_row c (row_number f.item)) (sym same) ∙ sym (second-is f.item)) f.on)
+              let f = any-passing (λ row. are_unlike (pictures (Row row) (CA position)) (pictures (Row row) (CB position))) rows unlike in
+              absurd (unlike-self (pictures (Row f.element) (CA position)) (pictures (Row f.element) (CB position))
+              (first-is f.element ∙ ap (λ c. has_row c (row_number f.element)) (sym same) ∙ sym (second-is f.element)) f.passes)
 
       -- where the columns differ it compares unlike
       differs-unlike : IsValidCard chart card → IsValidCard chart next
@@ -224,15 +222,15 @@ module _ (chart : Chart) (plan : Lists) (wiring : Wiring) (old : MachineState) (
     -- and the other way
     differs-called : (n : ℕ) → IsValidCard chart card → IsValidCard chart next → Differs chart.lines n card next → pictures K (ST n) ≡ true
     differs-called n valid valid' d =
-        let given = comparing-given chart.lines plan d.line d.its_level d.name d.field d.place it.panel.planned d.listed d.controls d.named
+        let given = comparing-given chart.lines plan it.panel.planned d.line d.its_level d.name d.field d.place d.listed d.controls d.named
         d.within in
-        let unlike = differs-unlike d.line d.listed d.its_level d.name d.field d.place given.its d.controls d.named d.within given.is valid valid'
+        let unlike = differs-unlike d.line d.listed d.its_level d.name d.field d.place given.n d.controls d.named d.within given.is valid valid'
         d.differs in
-        let there = position-within d.line d.listed d.its_level d.name d.field d.place given.its d.controls d.named d.within given.is in
-        let emits : closing_emits pictures Card (CX given.its) ≡ true = rw there unlike in
-        let wire = call-wire d.line d.listed d.its_level d.name d.field d.place given.its d.controls d.named d.within given.is in
+        let there = position-within d.line d.listed d.its_level d.name d.field d.place given.n d.controls d.named d.within given.is in
+        let emits : closing_emits pictures Card (CX given.n) ≡ true = rw there unlike in
+        let wire = call-wire d.line d.listed d.its_level d.name d.field d.place given.n d.controls d.named d.within given.is in
         subst (λ m. pictures K (ST m) ≡ true) d.same_level
-        ((at_call (control_number d.its_level)).1 (record { exit = CX given.its; emits = emits; wire = wire }))
+        ((at_call (control_number d.its_level)).1 (record { exit = CX given.n; emits = emits; wire = wire }))
 
     -- A level is called for exactly where the cards are not the same at it.
     pub level-called : (n : ℕ) → IsValidCard chart card → IsValidCard chart next → pictures K (ST n) ≡ not (is_same_at chart.lines n card next)

@@ -17,8 +17,8 @@ use Rattle.wiring_table.specs.Figures.{IsAmount, IsSigned, IsUnsigned}
 use Rattle.wiring_table.specs.Parts.{HasTotal, IsLowest, IsNextHigher, group_for, pilot_for, negative_side, positive_side}
 use Rattle.wiring_table.specs.Wires.{LineWire}
 use Rattle.wiring_table.specs.Wires.LineWire.{detail_mark_in, entry, entry_adds, entry_sign, entry_plus, entry_minus, read_out, balance_test, conversion, conversion_read_out, conversion_minus, feedback, total_mark_in, transfer, transfer_adds, transfer_sign, transfer_plus, transfer_minus}
-use Rattle.wired_panels.proofs.PlanOwners.{own_name}
 use Rattle.wired_panels.specs.Groups.{IsGroupOf}
+use Rattle.field_rules.proofs.Places.{is_same_name-own}
 
 -- the total that a line says
 pub the_total :
@@ -36,7 +36,7 @@ the_total lines line level wheel name digits mark number listed numbered says_it
   mark = mark;
   says_total = says_it;
   same_level = refl;
-  same_name = own_name name;
+  same_name = is_same_name-own name;
 }
 
 -- a line of the chart with a number and what it says

@@ -29,9 +29,10 @@ use Rattle.wiring_table.specs.Figures.{rule_of}
 use Rattle.wiring_table.specs.Parts.{pilot_for}
 use Rattle.wiring_table.specs.Wires.{LineWire, ChartWire}
 use Rattle.wiring_table.specs.Wires.LineWire.{pickup}
-use Rattle.wired_panels.proofs.ChartLines.{field-own, field-line}
+use Rattle.wired_panels.proofs.ChartLines.{field-own}
 use Rattle.wired_panels.proofs.Ways.{same_tests}
-use Rattle.wired_panels.proofs.PlanPlaces.{pilot-own}
+use Rattle.wiring_table.proofs.Parts.{pilot-own}
+use Rattle.chart_rules.proofs.Laws.{field-line}
 use Rattle.wired_panels.proofs.Straight.{at_row}
 use Rattle.wired_panels.specs.PanelCycles.{IsPanelCycle, ArrivesAtRow, PilotsTellSigns, has_sign}
 use Rattle.wired_panels.specs.Sources.{EmitsAtRow, ReadsFirst}

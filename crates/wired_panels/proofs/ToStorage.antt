@@ -33,12 +33,12 @@ use Rattle.wiring_table.specs.Figures.{IsText}
 use Rattle.wiring_table.specs.Parts.{unit_for}
 use Rattle.wiring_table.specs.Wires.{LineWire, ChartWire}
 use Rattle.wiring_table.specs.Wires.LineWire.{total_text_in, total_text_taken, total_text_given}
-use Rattle.wired_panels.proofs.ChartLines.{same-line}
+use Rattle.charts.proofs.Rising.{one-line}
 use Rattle.wired_panels.proofs.Contacts.{is_card_cycle}
 use Rattle.wired_panels.proofs.Ways.{same_tests}
-use Rattle.wired_panels.proofs.PlanPlaces.{unit-own}
-use Rattle.wired_panels.proofs.SaidOnce.{further}
 use Rattle.wired_panels.proofs.Straight.{at_control, at_row}
+use Rattle.wiring_table.proofs.Parts.{unit-own}
+use Rattle.charts.proofs.Listed.{listed-behind}
 use Rattle.wired_panels.proofs.ToPilots.{sends-second, column-there}
 use Rattle.wired_panels.specs.PanelCycles.{IsPanelCycle, ArrivesAtControl, ArrivesAtRow, UnitsHold, IsTextPrinted}
 use Rattle.wired_panels.specs.Sources.{EmitsAtRow, EmitsAtControl}
@@ -166,7 +166,7 @@ module _ (chart : Chart) (plan : Lists) (wiring : Wiring) (old : MachineState) (
               → unit_for plan line.number ≡ Some n → has_row (column_of card (field.first + j)) (row_number row) ≡ true
           by other its_listed sends is (total_text_in its wheel' name' field' n j' text' below' served') same served =
               let numbers : other.number ≡ line.number = unit-own plan other.number line.number n served' served in
-              let lines : other ≡ line = same-line chart.lines chart.end other line rising its_listed listed numbers in
+              let lines : other ≡ line = one-line chart.lines chart.end other line rising its_listed listed numbers in
               let statements : says.TotalText its wheel' name' ≡ says.TotalText level wheel name =
               sym is ∙ ap (λ (l : Line). l.statement) lines ∙ says_it in
               let names : name' ≡ name = cc in
@@ -222,7 +222,7 @@ mapped f [] y (k, within, is) = absurd (omega (arith, within))
 mapped f (x ∷ list) y (zero, within, is) = record { item = x; listed = (0, omega arith, refl); is = is }
 mapped f (x ∷ list) y (suc k, within, is) =
     let below = mapped f list y (k, omega (arith, within), is) in
-    record { item = below.item; listed = further list below.item x below.listed; is = below.is }
+    record { item = below.item; listed = listed-behind x list below.listed; is = below.is }
 
 module _ (chart : Chart) (plan : Lists) (wiring : Wiring) (old : MachineState) (cycle : Cycle) (pictures : Point → Hub → Bool)
     (it : IsPanelCycle chart plan wiring old cycle pictures) where

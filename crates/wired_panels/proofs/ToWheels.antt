@@ -41,7 +41,9 @@ use Rattle.wired_panels.specs.Panel.{Arrives}
 use Rattle.wired_panels.specs.PanelCycles.{IsPanelCycle}
 use Rattle.wired_panels.specs.Sources.EmitsAtRow.{first, second, digit, column, emitter}
 use Rattle.wired_panels.specs.Sources.{EmitsAtRow}
-use Rattle.wired_panels.proofs.SpeakersApart.{same-line, indicate-same, split-same, pilot-same, group-same}
+use Rattle.charts.proofs.Rising.{one-line}
+use Rattle.wiring_table.proofs.Groups.{group-own}
+use Rattle.wiring_table.proofs.Parts.{indicate-own, pilot-own, split-own}
 use Rattle.wired_panels.proofs.SpeakersLawful.{detail-same}
 use Rattle.wired_panels.proofs.Straight.{emits_at_row}
 
@@ -93,7 +95,7 @@ pilot_common (sign.NX c) pilot position = refl
 module _ (wiring : Wiring) (at : CycleRow) (it : IsPanelCycle at.chart at.plan wiring at.old at.cycle at.pictures)
     (rises : NumbersRise at.chart.lines at.chart.end) where
   one_line : (one other : Line) → Contains at.chart.lines one → Contains at.chart.lines other → one.number ≡ other.number → one ≡ other
-  one_line one other here there same = same-line at.chart.lines at.chart.end one other rises here there same
+  one_line one other here there same = one-line at.chart.lines at.chart.end one other rises here there same
 
   -- through a position of group indication comes the column that it serves
   pub through_indicate :
@@ -112,7 +114,7 @@ module _ (wiring : Wiring) (at : CycleRow) (it : IsPanelCycle at.chart at.plan w
           let e : level' ≡ level = control-same level' level levels in
           let f : indicate_for at.plan level other.number (field.first + j) ≡ Some position
           = ap (λ l. indicate_for at.plan l other.number (field.first + j)) (sym e) ∙ served' ∙ ap Some places in
-          let g = indicate-same at.plan level other.number line.number (field.first + j) c position f served in
+          let g = indicate-own at.plan level other.number line.number (field.first + j) c position f served in
           (card, subst (λ n. reads at n ≡ true) g.1 punched)
 
   -- through a split comes the sign column of its amount
@@ -134,7 +136,7 @@ module _ (wiring : Wiring) (at : CycleRow) (it : IsPanelCycle at.chart at.plan w
       by : {its : Statement} {x : Hub} {s : ℕ} → other.statement ≡ its → WireAt at other.number its x (CSE s) → Emits at x → s ≡ split
           → (at.cycle ≡ Card) × (reads at (field.last + 1 - position) ≡ true)
       by says_its (split_digit_in wheel' name' how' field' position' s is' low' high' signed' served') (second c card punched) splits =
-          let n : other.number ≡ line.number = split-same at.plan other.number line.number split (served' ∙ ap Some splits) served in
+          let n : other.number ≡ line.number = split-own at.plan other.number line.number split (served' ∙ ap Some splits) served in
           let e : other ≡ line = one_line other line there listed n in
           let f : says.DetailField wheel' name' how' ≡ says.DetailField wheel name how = sym says_its ∙ ap (λ l. l.statement) e ∙ says_it in
           let names : name' ≡ name = cc in
@@ -161,7 +163,7 @@ module _ (wiring : Wiring) (at : CycleRow) (it : IsPanelCycle at.chart at.plan w
       by : {its : Statement} {x : Hub} {p q : ℕ} → other.statement ≡ its → WireAt at other.number its x (PIC p q) → Emits at x → p ≡ pilot
           → q ≡ 2 + k → HasPunchAt (mark_text mark) k (row_number at.row) × (emitter_of at.cycle ≡ Some detail_emitter)
       by says_its (detail_mark_in wheel' name' mark' rule' p k' row is served' punch) (emitter from emits) pilots places =
-          let e : name' ≡ name = pilot-same at.plan name' name pilot (served' ∙ ap Some pilots) served in
+          let e : name' ≡ name = pilot-own at.plan name' name pilot (served' ∙ ap Some pilots) served in
           let f : other.statement ≡ says.DetailField wheel' name (shown.Marked mark')
           = says_its ∙ ap (λ n. says.DetailField wheel' n (shown.Marked mark')) e in
           let g : other ≡ line = detail-same at.chart other line wheel' wheel name (shown.Marked mark') (shown.Marked mark) it.panel.lawful there listed f says_it in
@@ -194,7 +196,7 @@ module _ (wiring : Wiring) (at : CycleRow) (it : IsPanelCycle at.chart at.plan w
           → HasPunchAt (mark_text mark) k (row_number at.row) × (emitter_of at.cycle ≡ Some (total_emitter (level_number level)))
       by says_its (total_mark_in level' wheel' name' digits' mark' rule g k' row served' is punch) (emitter from emits) groups places =
           let n : other.number ≡ line.number
-          = group-same at.chart.lines at.plan other.number line.number group it.panel.planned (served' ∙ ap Some groups) served in
+          = group-own at.chart.lines at.plan it.panel.planned other.number line.number group (served' ∙ ap Some groups) served in
           let e : other ≡ line = one_line other line there listed n in
           let f : says.TotalAmount level' wheel' name' digits' (Some mark') ≡ says.TotalAmount level wheel name digits (Some mark)
           = sym says_its ∙ ap (λ l. l.statement) e ∙ says_it in

@@ -1,1 +1,3 @@
-pub mod Listed
+pub mod Groups
+pub mod Parts
+pub mod Totals

@@ -1,4 +1,4 @@
-use Rattle.line_places.proofs.LawfulTapes.{form-lawful}
+use Rattle.line_places.proofs.LawfulForms.{form-lawful}
 use Rattle.line_places.proofs.laws.lawful_charts_have_good_forms.Goals as goal
 
 pub returns : goal.returns

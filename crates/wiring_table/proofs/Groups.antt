@@ -1,0 +1,124 @@
+-- Each total of a chart has a counter group of its plan, wide enough for it, and no two totals have one.
+use Rattle.std.proofs.Common.{◌≡◌, ◌∙◌, refl, sym, ap, subst, ℕ, ◌≤◌, ◌==◌, List, Option, Some, None, option_map, option_and_then, position, slice_get, get_or, arith}
+use Rattle.std.proofs.lemmas.Bool.Decides.{nat_tests}
+use Rattle.std.proofs.lemmas.Option.{slice_get_within, slice_get-get_or}
+use Rattle.capacity.specs.Capacities.{HasGroup, standard}
+use Rattle.capacity.specs.declared.group.CounterGroup.{CounterGroup}
+use Rattle.charts.specs.Chart.{NumbersRise}
+use Rattle.charts.specs.declared.chart.Line.{Line}
+use Rattle.charts.specs.declared.statement.Statement.{Statement}
+use Rattle.charts.specs.declared.statement.Statement.TheVariants as says
+use Rattle.charts.proofs.Listed.{given-by, listed-at, listed-given, position-passing, position-stands}
+use Rattle.charts.proofs.Rising.{one-line}
+use Rattle.field_rules.proofs.Places.{is_same_name-equal}
+use Rattle.field_rules.specs.Fields.{field_named}
+use Rattle.hubs.specs.declared.hub.Group.{Group}
+use Rattle.plans.specs.Plans.{Lists, IsFor}
+use Rattle.wanted.specs.ChartTotals.{need_of, total_of, totals_of}
+use Rattle.wanted.specs.declared.total.Total.{Total}
+use Rattle.wiring_table.specs.Parts.{HasTotal, group_for, panel_group}
+
+-- The total of a line, by its number, and its counter group.
+pub record IsServed (lines : List Line) (plan : Lists) (number : ℕ) (group : Group) : Type 0 where
+  pub place : ℕ
+  pub total : Total
+  pub counter_group : CounterGroup
+  pub is_total : slice_get (totals_of lines) place ≡ Some total
+  pub line : total.line ≡ number
+  pub there : slice_get plan.groups place ≡ Some counter_group
+  pub is_group : panel_group counter_group ≡ group
+
+pub is-served : (lines : List Line) (plan : Lists) (number : ℕ) (group : Group) → group_for lines plan number ≡ Some group
+    → IsServed lines plan number group
+is-served lines plan number group served = by (position (λ (t : Total). t.line == number) (totals_of lines)) refl served
+  where
+    at : (place : ℕ) → position (λ (t : Total). t.line == number) (totals_of lines) ≡ Some place → (o : Option CounterGroup)
+        → slice_get plan.groups place ≡ o → option_map panel_group o ≡ Some group → IsServed lines plan number group
+    at place is None none same = cc
+    at place is (Some found) there same =
+        let stands = position-stands (λ (t : Total). t.line == number) (totals_of lines) place is in
+        let passes = stands.passes in
+        record {
+          place = place;
+          total = stands.element;
+          counter_group = found;
+          is_total = stands.there;
+          line = grind (arith, nat_tests, passes);
+          there = there;
+          is_group = cc;
+        }
+
+    by : (o : Option ℕ) → position (λ (t : Total). t.line == number) (totals_of lines) ≡ o
+        → option_map panel_group (option_and_then (slice_get plan.groups) o) ≡ Some group → IsServed lines plan number group
+    by None is same = cc
+    by (Some place) is same = at place is (slice_get plan.groups place) refl same
+
+-- each total has a counter group
+pub group-given : (lines : List Line) (plan : Lists) (name : List ℕ) (level number : ℕ) → IsFor lines plan
+    → HasTotal lines name level number → (group : Group) × (group_for lines plan number ≡ Some group)
+group-given lines plan name level number planned total =
+    let made : Total = record { level = total.its_level; line = total.line.number; need = need_of (field_named lines total.its_name) total.digits } in
+    let listed = listed-given (λ (l : Line). total_of lines l.number l.statement) lines total.line made total.listed
+    (ap (total_of lines total.line.number) total.says_total) in
+    let same = total.is_number in
+    let (place, at) = position-passing (λ (t : Total). t.line == number) (totals_of lines) made listed (grind (arith, nat_tests, same)) in
+    let stands = position-stands (λ (t : Total). t.line == number) (totals_of lines) place at in
+    let within = slice_get_within (totals_of lines) place stands.element stands.there in
+    let group = get_or plan.groups place (record { width = 0; number = 0 }) in (
+      panel_group group,
+      ap (λ o. option_map panel_group (option_and_then (slice_get plan.groups) o)) at
+          ∙ ap (option_map panel_group) (slice_get-get_or plan.groups place (record { width = 0; number = 0 }) (omega (arith, within, planned.groups.many))),
+    )
+
+module _ (lines : List Line) (plan : Lists) (planned : IsFor lines plan) where
+  -- one counter group serves one line
+  pub group-own : (one other : ℕ) (group : Group) → group_for lines plan one ≡ Some group → group_for lines plan other ≡ Some group
+      → one ≡ other
+  group-own one other group served served_too =
+      let a = is-served lines plan one group served in
+      let b = is-served lines plan other group served_too in
+      let same_group : a.counter_group ≡ b.counter_group =
+      ap (λ (g : Group). record { width = g.width; number = g.number }) (a.is_group ∙ sym b.is_group) in
+      let same_place : a.place ≡ b.place =
+      planned.groups.own a.place b.place a.counter_group a.there (b.there ∙ ap Some (sym same_group)) in
+      let same_total : Some a.total ≡ Some b.total =
+      sym a.is_total ∙ ap (slice_get (totals_of lines)) same_place ∙ b.is_total in
+      let total : a.total ≡ b.total = cc in
+      sym a.line ∙ ap (λ (t : Total). t.line) total ∙ b.line
+
+  -- it is one of the standard machine
+  pub group-there : (number : ℕ) (group : Group) → group_for lines plan number ≡ Some group
+      → HasGroup standard (record { width = group.width; number = group.number })
+  group-there number group served =
+      let a = is-served lines plan number group served in
+      subst (λ (g : Group). HasGroup standard (record { width = g.width; number = g.number })) a.is_group
+      (planned.groups.there a.place a.counter_group a.there)
+
+  -- and has room for its total
+  pub group-room : (end : ℕ) (name : List ℕ) (level number : ℕ) (group : Group) → NumbersRise lines end
+      → (total : HasTotal lines name level number) → group_for lines plan number ≡ Some group
+      → need_of (field_named lines name) total.digits ≤ group.width
+  group-room end name level number group rise total served =
+      let a = is-served lines plan number group served in
+      let from = given-by (λ (l : Line). total_of lines l.number l.statement) lines a.total
+      (listed-at (totals_of lines) a.place a.total a.is_total) in
+      let its_number : from.element.number ≡ total.line.number =
+      numbered from.element.number from.element.statement a.total from.gives ∙ a.line ∙ sym total.is_number in
+      let line = one-line lines end from.element total.line rise from.listed total.listed its_number in
+      let made = need-made total.line.number a.total
+      (sym (ap (total_of lines total.line.number) total.says_total) ∙ ap (λ (l : Line). total_of lines l.number l.statement) (sym line)
+      ∙ from.gives) in
+      let need : need_of (field_named lines name) total.digits ≡ a.total.need =
+      ap (λ n. need_of (field_named lines n) total.digits) (sym (is_same_name-equal total.its_name name total.same_name)) ∙ made in
+      let wide : a.counter_group.width ≡ group.width = ap (λ (g : Group). g.width) a.is_group in
+      let enough = planned.groups.enough a.place a.total a.counter_group a.is_total a.there in
+      omega (arith, need, wide, enough)
+    where
+      numbered : (its : ℕ) (statement : Statement) (found : Total) → total_of lines its statement ≡ Some found → its ≡ found.line
+      numbered its (says.TotalAmount its_level wheel its_name digits mark) found is = cc
+      numbered its other found is = cc
+
+      need-made : (its : ℕ) (found : Total)
+          → Some (record { level = total.its_level; line = its; need = need_of (field_named lines total.its_name) total.digits }) ≡ Some found
+          → need_of (field_named lines total.its_name) total.digits ≡ found.need
+      need-made its found is = cc
