@@ -1,3 +1,4 @@
 mod Division
 mod Exclusions
+mod Outcomes
 mod Refusing

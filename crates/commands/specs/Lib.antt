@@ -3,5 +3,6 @@ pub mod Commands
 pub mod Input
 pub mod Laws
 pub mod Refusals
+pub mod Served
 pub mod Status
 pub mod Told

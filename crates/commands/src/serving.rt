@@ -1,7 +1,9 @@
 //! One command, over any reader and writers.
 
-ghost use Rattle.std.specs.Prelude.{◌≡◌};
-ghost use Rattle.commands.specs.Commands.{IsNoCommand};
+ghost use Rattle.std.specs.Prelude.{◌≡◌, ℕ, List, Option, IfErr, OnOk};
+ghost use Rattle.commands.specs.Commands.{IsNoCommand, word_of};
+ghost use Rattle.commands.specs.Served.{IsDone, IsRefused};
+ghost use Rattle.commands.specs.Status.{status_of};
 
 use crate::answers::{check, pages, replayed, wiring_chart};
 use crate::command::Command;
@@ -13,14 +15,24 @@ use std::alloc::Global;
 use std::io::{Read, Write};
 use wire_chart::read_setup;
 
-// Prints that a chart compiles.
-fn serve_check<'a, W: Write>(alloc: Global, text: &[u8], out: &mut W) -> Result<(), Fault<'a>> {
+// Prints that a chart compiles. No deck is read, so the clauses say it for any.
+fn serve_check<'a, W: Write>(alloc: Global, text: &[u8], out: &mut W) -> Result<(), Fault<'a>>
+    ensures done { OnOk result ((deck : Option (List ℕ))
+        → IsDone Command.Check text.now deck (W.contents out.old) (W.contents out.new)) }
+    ensures refused { IfErr result (λ told. status_of told ≡ 3
+        → ((deck : Option (List ℕ)) → IsRefused Command.Check text.now deck told) × (out.new ≡ out.old)) }
+{
     check(alloc, text)?;
     put(out, b"ok\n")
 }
 
-// Prints the wiring chart of a chart.
-fn serve_wire<'a, W: Write>(alloc: Global, text: &[u8], out: &mut W) -> Result<(), Fault<'a>> {
+// Prints the wiring chart of a chart, for any deck as well.
+fn serve_wire<'a, W: Write>(alloc: Global, text: &[u8], out: &mut W) -> Result<(), Fault<'a>>
+    ensures done { OnOk result ((deck : Option (List ℕ))
+        → IsDone Command.Wire text.now deck (W.contents out.old) (W.contents out.new)) }
+    ensures refused { IfErr result (λ told. status_of told ≡ 3
+        → ((deck : Option (List ℕ)) → IsRefused Command.Wire text.now deck told) × (out.new ≡ out.old)) }
+{
     let written = wiring_chart(alloc, text)?;
     put(out, written.as_bytes())
 }
@@ -32,7 +44,11 @@ fn serve_run<'a, R: Read + Drop, W: Write>(
     path: &'a str,
     deck: R,
     out: &mut W,
-) -> Result<(), Fault<'a>> {
+) -> Result<(), Fault<'a>>
+    ensures done { OnOk result (IsDone Command.Run text.now (R.remaining deck) (W.contents out.old) (W.contents out.new)) }
+    ensures refused { IfErr result (λ told. status_of told ≡ 3
+        → IsRefused Command.Run text.now (R.remaining deck) told × (out.new ≡ out.old)) }
+{
     let bytes = read_whole(alloc, deck, path)?;
     let printed = pages(alloc, text, bytes.as_slice())?;
     put(out, printed.as_slice())
@@ -45,7 +61,11 @@ fn serve_replay<'a, R: Read + Drop, W: Write>(
     path: &'a str,
     deck: R,
     out: &mut W,
-) -> Result<(), Fault<'a>> {
+) -> Result<(), Fault<'a>>
+    ensures done { OnOk result (IsDone Command.Replay text.now (R.remaining deck) (W.contents out.old) (W.contents out.new)) }
+    ensures refused { IfErr result (λ told. status_of told ≡ 3
+        → IsRefused Command.Replay text.now (R.remaining deck) told × (out.new ≡ out.old)) }
+{
     match read_whole(alloc, deck, path) {
         Ok(bytes) => {
             let printed = replayed(alloc, text, bytes.as_slice())?;
@@ -66,7 +86,11 @@ fn carry_out<'a, R: Read + Drop, W: Write>(
     path: &'a str,
     deck: R,
     out: &mut W,
-) -> Result<(), Fault<'a>> {
+) -> Result<(), Fault<'a>>
+    ensures done { OnOk result (IsDone command text.now (R.remaining deck) (W.contents out.old) (W.contents out.new)) }
+    ensures refused { IfErr result (λ told. status_of told ≡ 3
+        → IsRefused command text.now (R.remaining deck) told × (out.new ≡ out.old)) }
+{
     match command {
         Command::Check => serve_check(alloc, text, out),
         Command::Wire => serve_wire(alloc, text, out),
@@ -92,6 +116,10 @@ pub fn serve<R: Read + Drop, W: Write, V: Write>(
     faults: &mut V,
 ) -> u8
     ensures unknown { IsNoCommand command.now → result ≡ 2 }
+    ensures done { result ≡ 0 → (known : Command) × (command.now ≡ word_of known)
+        × IsDone known text.now (R.remaining deck) (W.contents out.old) (W.contents out.new) }
+    ensures refused { result ≡ 3 → (known : Command) × (told : Fault) × (command.now ≡ word_of known)
+        × IsRefused known text.now (R.remaining deck) told × (out.new ≡ out.old) }
 {
     let Some(known) = Command::named(command) else {
         return tell(&Fault::Unknown { word: command }, faults);

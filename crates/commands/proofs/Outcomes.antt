@@ -1,0 +1,118 @@
+-- What the parts of a command answer, gathered.
+use Rattle.std.proofs.Common.{◌≡◌, ◌≢◌, ◌∙◌, ap, sym, subst, arith, refl, ℕ, List, [], Option, None, Some, Result, Ok, Err, unwrap_or, IfSome}
+use Rattle.std.specs.Prelude.{IfErr, OnOk, codes}
+use Rattle.std.specs.Io.KnownBytes.{Appends}
+use Rattle.wiring_text.specs.WiringFaults as wiring_faults
+use Rattle.wiring_text.specs.declared.fault.WiringFault.{WiringFault}
+use Rattle.wiring_text.specs.declared.fault.WiringFault.TheVariants as wiring
+use Rattle.commands.proofs.Refusing.{wiring_refused}
+use Rattle.commands.specs.Answers.{Answers, Compiles, IsWiringChartOf}
+use Rattle.commands.specs.Refusals.{Refuses}
+use Rattle.commands.specs.Told.{wiring_told}
+use Rattle.commands.specs.Served.{IsDone, IsRefused}
+use Rattle.commands.specs.Status.{status_of}
+use Rattle.commands.specs.declared.command.Command.{Command}
+use Rattle.commands.specs.declared.command.Command.TheVariants as command
+use Rattle.commands.specs.declared.fault.Fault.{Fault}
+use Rattle.commands.specs.declared.fault.Fault.TheVariants as fault
+
+refusal_is_not_memory : (told : Fault) → status_of told ≡ 3 → told ≢ fault.Memory
+refusal_is_not_memory told three is =
+    let five : status_of told ≡ 5 = ap status_of is in
+    omega (arith, three, five)
+
+-- where no deck is read, the known one, or none, stands for it
+is_known : (deck : Option (List ℕ)) → IfSome deck (λ known. unwrap_or deck [] ≡ known)
+is_known None = tt
+is_known (Some known) = refl
+
+-- what was read is what stands in memory
+read_is_known : (deck : Option (List ℕ)) (read items : List ℕ) → read ≡ items → IfSome deck (λ known. items ≡ known)
+    → IfSome deck (λ known. read ≡ known)
+read_is_known deck read items same is = subst (λ (bytes : List ℕ). IfSome deck (λ known. bytes ≡ known)) (sym same) is
+
+-- the answer on the deck in memory is written
+pub done : {X E : Type 0} (result : Result X E) (command : Command) (text read items answer bytes : List ℕ) (deck old new : Option (List ℕ))
+    → read ≡ items → IfSome deck (λ known. items ≡ known) → Answers command text read answer → bytes ≡ answer
+    → OnOk result (Appends old new bytes) → OnOk result (IsDone command text deck old new)
+done (Ok _) command text read items answer bytes deck old new same is_deck answers is_answer written =
+    record {
+      read = read;
+      is_deck = read_is_known deck read items same is_deck;
+      answer = answer;
+      answers = answers;
+      written = subst (λ (put : List ℕ). Appends old new put) is_answer written;
+    }
+done (Err _) command text read items answer bytes deck old new same is_deck answers is_answer written = tt
+
+-- no deck is read
+pub check_done : {X E : Type 0} (result : Result X E) (text : List ℕ) (old new : Option (List ℕ)) → Compiles text
+    → OnOk result (Appends old new (codes "ok\n")) → OnOk result ((deck : Option (List ℕ)) → IsDone command.Check text deck old new)
+check_done (Ok _) text old new compiles written = λ deck.
+    record { read = unwrap_or deck []; is_deck = is_known deck; answer = codes "ok\n"; answers = (compiles, refl); written = written }
+check_done (Err _) text old new compiles written = tt
+
+pub wire_done : {X E : Type 0} (result : Result X E) (text answer bytes : List ℕ) (old new : Option (List ℕ)) → IsWiringChartOf text answer
+    → bytes ≡ answer → OnOk result (Appends old new bytes) → OnOk result ((deck : Option (List ℕ)) → IsDone command.Wire text deck old new)
+wire_done (Ok _) text answer bytes old new is is_answer written = λ deck.
+    record {
+      read = unwrap_or deck [];
+      is_deck = is_known deck;
+      answer = answer;
+      answers = is;
+      written = subst (λ (put : List ℕ). Appends old new put) is_answer written;
+    }
+wire_done (Err _) text answer bytes old new is is_answer written = tt
+
+-- where no deck is read, the texts are refused whatever it is
+pub refused_for_any : (command : Command) (text : List ℕ) (met told : Fault)
+    → ((read : List ℕ) → met ≢ fault.Memory → Refuses command text read met) → told ≡ met → status_of told ≡ 3
+    → (deck : Option (List ℕ)) → IsRefused command text deck told
+refused_for_any command text met told refuses same three deck =
+    subst (λ (fault : Fault). IsRefused command text deck fault) (sym same)
+    (record {
+      read = unwrap_or deck [];
+      is_deck = is_known deck;
+      refuses = refuses (unwrap_or deck []) (refusal_is_not_memory met (ap status_of (sym same) ∙ three));
+    })
+
+-- the deck in memory is what was read
+pub refused : (command : Command) (text read items : List ℕ) (deck : Option (List ℕ)) (met told : Fault) → read ≡ items
+    → IfSome deck (λ known. items ≡ known) → (met ≢ fault.Memory → Refuses command text read met) → told ≡ met → status_of told ≡ 3
+    → IsRefused command text deck told
+refused command text read items deck met told same_read is_deck refuses same three =
+    subst (λ (fault : Fault). IsRefused command text deck fault) (sym same)
+    (record {
+      read = read;
+      is_deck = read_is_known deck read items same_read is_deck;
+      refuses = refuses (refusal_is_not_memory met (ap status_of (sym same) ∙ three));
+    })
+
+-- a fault of the wiring chart, whatever the deck is that can't be read
+pub wiring_refused_for_any : (text : List ℕ) (deck : Option (List ℕ)) (cause : WiringFault) (told : Fault)
+    → (cause ≢ wiring.Memory → wiring_faults.HasFault text cause) → told ≡ wiring_told cause → status_of told ≡ 3
+    → IsRefused command.Replay text deck told
+wiring_refused_for_any text deck cause told has named three =
+    record {
+      read = unwrap_or deck [];
+      is_deck = is_known deck;
+      refuses = wiring_refused text (unwrap_or deck []) cause told has named (refusal_is_not_memory told three);
+    }
+
+-- what holds for any deck holds for this one
+pub done_for_deck : {X E : Type 0} (result : Result X E) (command unread : Command) (text : List ℕ) (deck old new : Option (List ℕ))
+    → command ≡ unread → OnOk result ((any : Option (List ℕ)) → IsDone unread text any old new)
+    → OnOk result (IsDone command text deck old new)
+done_for_deck (Ok _) command unread text deck old new same of_any =
+    subst (λ (of : Command). IsDone of text deck old new) (sym same) (of_any deck)
+done_for_deck (Err _) command unread text deck old new same of_any = tt
+
+pub refused_for_deck : {X : Type 0} (result : Result X Fault) (command unread : Command) (text : List ℕ) (deck : Option (List ℕ)) (Q : Type 0)
+    → command ≡ unread
+    → IfErr result (λ told. status_of told ≡ 3 → ((any : Option (List ℕ)) → IsRefused unread text any told) × Q)
+    → IfErr result (λ told. status_of told ≡ 3 → IsRefused command text deck told × Q)
+refused_for_deck (Ok _) command unread text deck Q same of_any = tt
+refused_for_deck (Err told) command unread text deck Q same of_any = λ three. (
+  subst (λ (of : Command). IsRefused of text deck told) (sym same) ((of_any three).0 deck),
+  (of_any three).1,
+)

@@ -1,0 +1,16 @@
+use Rattle.std.proofs.Common.{refl}
+use Rattle.std.proofs.lemmas.Result.{err_from_is_err_and}
+use Rattle.commands.specs.declared.command.Command.TheVariants as command
+use Rattle.commands.proofs.Outcomes.{check_done, refused_for_any}
+use Rattle.commands.proofs.serving.serve_check.Goals as goal
+
+pub returns-in_err-check-clause-refused : goal.returns-in_err-check-clause-refused
+returns-in_err-check-clause-refused g c =
+    let exit = err_from_is_err_and c.from_residual.result c.from_residual.ensures.1 in
+    rw exit.1 (λ three. (
+      refused_for_any command.Check c.args.text.now c.in_err-check.field-0.0 exit.0 (λ read. c.in_err-check.ensures.refused) exit.2 three,
+      refl,
+    ))
+
+pub returns-clause-done : goal.returns-clause-done
+returns-clause-done g c = check_done c.put.result c.args.text.now _ _ c.in_ok-check.ensures.compiles c.put.ensures.written

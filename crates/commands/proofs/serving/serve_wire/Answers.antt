@@ -1,0 +1,19 @@
+use Rattle.std.proofs.Common.{refl}
+use Rattle.std.proofs.lemmas.Result.{err_from_is_err_and}
+use Rattle.std.specs.Prelude.{string_bytes}
+use Rattle.commands.specs.declared.command.Command.TheVariants as command
+use Rattle.commands.proofs.Outcomes.{refused_for_any, wire_done}
+use Rattle.commands.proofs.serving.serve_wire.Goals as goal
+
+pub returns-in_err-written-clause-refused : goal.returns-in_err-written-clause-refused
+returns-in_err-written-clause-refused g c =
+    let exit = err_from_is_err_and c.from_residual.result c.from_residual.ensures.1 in
+    rw exit.1 (λ three. (
+      refused_for_any command.Wire c.args.text.now c.in_err-written.field-0.0 exit.0 (λ read. c.in_err-written.ensures.refused) exit.2 three,
+      refl,
+    ))
+
+pub returns-clause-done : goal.returns-clause-done
+returns-clause-done g c =
+    wire_done c.put.result c.args.text.now (string_bytes c.in_ok-written.written) c.as_bytes.result.now _ _ c.in_ok-written.ensures.written
+    c.as_bytes.ensures.value c.put.ensures.written

@@ -1,0 +1,22 @@
+-- What a command has done where it ends well, and what it has told where it refuses its texts. The deck is known where its reader tells
+-- its bytes beforehand, and what is written where the writer tells what it holds.
+use Rattle.std.specs.Prelude.{◌≡◌, ℕ, List, Option, IfSome}
+use Rattle.std.specs.Io.KnownBytes.{Appends}
+use Rattle.commands.specs.Answers.{Answers}
+use Rattle.commands.specs.Refusals.{Refuses}
+use Rattle.commands.specs.declared.command.Command.{Command}
+use Rattle.commands.specs.declared.fault.Fault.{Fault}
+
+-- what the command answers on the text and the deck that was read is written behind what was there
+pub record IsDone (command : Command) (text : List ℕ) (deck old new : Option (List ℕ)) : Type 0 where
+  pub read : List ℕ
+  pub is_deck : IfSome deck (λ known. read ≡ known)
+  pub answer : List ℕ
+  pub answers : Answers command text read answer
+  pub written : Appends old new answer
+
+-- the command refuses the text and the deck that was read, and this is told of them
+pub record IsRefused (command : Command) (text : List ℕ) (deck : Option (List ℕ)) (told : Fault) : Type 0 where
+  pub read : List ℕ
+  pub is_deck : IfSome deck (λ known. read ≡ known)
+  pub refuses : Refuses command text read told
