@@ -9,7 +9,7 @@ use Rattle.chart_rules.specs.declared.card.CardFault.TheVariants as card
 use Rattle.report.specs.Misfits.{Misfit, first_of, misfits}
 use Rattle.compile407.specs.declared.fault.RunFault.{RunFault}
 use Rattle.compile407.specs.declared.fault.RunFault.TheVariants as deck
-use Rattle.compile407.specs.Headline.{IsDeck}
+use Rattle.printed_reports.specs.Promises.{IsDeck}
 
 -- the fault of a card with a number, as one of a deck
 abbrev pub of_card : CardFault → ℕ → RunFault

@@ -5,7 +5,7 @@ ghost use Rattle.chart_text.specs.ChartText.{Reads};
 ghost use Rattle.compile407.specs.Compilation.{IsCompiled};
 ghost use Rattle.compile407.specs.ChartFaults.{HasChartFault};
 ghost use Rattle.compile407.specs.declared.fault.ChartFault.TheVariants as chart;
-ghost use Rattle.compile407.specs.Headline.{BeginsReport, PrintsReport};
+ghost use Rattle.printed_reports.specs.Promises.{BeginsReport, PrintsReport};
 
 use crate::compiled::Compiled;
 use crate::fault::ChartFault;

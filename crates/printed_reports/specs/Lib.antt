@@ -4,3 +4,4 @@ pub mod Begun
 pub mod Goes
 pub mod Content
 pub mod Going
+pub mod Promises
