@@ -1,16 +1,10 @@
 -- The control fields of a level.
-use Rattle.std.proofs.Common.{◌≡◌, ◌∙◌, refl, sym, ap, ℕ, ◌&&◌, List, [], ◌∷◌, Option, Some, None, position, slice_get}
+use Rattle.std.proofs.Common.{◌≡◌, ◌∙◌, refl, ap, ℕ, ◌&&◌, List, [], ◌∷◌, Option, Some, None}
 use Rattle.std.specs.List.{cons_option, filter_map, list_all}
 use Rattle.report.specs.Groups.{control_field, is_same_on}
 use Rattle.misfits.specs.HelperGroups.{all_stay_same, is_same_where}
-use Rattle.std.specs.Option.{option_and_then}
-use Rattle.charts.specs.Chart.{Chart}
-use Rattle.charts.specs.Name.{is_same_name}
 use Rattle.charts.specs.declared.chart.Line.{Line}
 use Rattle.charts.specs.declared.statement.Field.{Field}
-use Rattle.field_rules.specs.Fields.{fields_of, field_named}
-use Rattle.chart_rules.specs.HelperOnCard.{IsOnCard}
-use Rattle.chart_rules.specs.Rules.{IsLawful}
 
 -- the control fields of a level are those that the lines name one by one
 pub stay_same : (lines some : List Line) (level : ℕ) (one other : List ℕ)

@@ -1,25 +1,34 @@
 -- The totals of a lawful chart keep the bounds.
-use Rattle.std.proofs.Common.{◌≡◌, ◌∙◌, refl, sym, ap, ℕ, ◌≤◌, ◌&&◌, ◌||◌, not, nat_le, nat_lt, Bool, true, false, List, ◌∷◌, ◌++◌, Option, Some, None, is_some, arith}
+use Rattle.std.proofs.Common.{◌≡◌, ◌∙◌, refl, sym, ap, subst, ℕ, true, false, List, [], ◌∷◌, ◌++◌, Contains, Option, Some, None, option_map, arith}
+use Rattle.std.specs.List.{All, cons_option}
 use Rattle.std.proofs.lemmas.Bool.Decides.{nat_tests}
 use Rattle.std.proofs.lemmas.Bool.{not-false}
+use Rattle.std.proofs.lemmas.Int.{ints}
+use Rattle.std.proofs.lemmas.List.Elements.{All-nil, All-cons}
 use Rattle.charts.specs.Chart.{Chart}
-use Rattle.charts.specs.Field.{columns_of, sign_column, is_amount}
+use Rattle.charts.specs.Field.{sign_column, is_amount}
+use Rattle.charts.specs.Levels.{level_number}
 use Rattle.charts.specs.declared.chart.Line.{Line}
+use Rattle.charts.specs.declared.level.Level.{Level}
 use Rattle.charts.specs.declared.statement.Field.{Field}
-use Rattle.charts.specs.declared.statement.FieldKind.{FieldKind}
-use Rattle.charts.specs.declared.statement.FieldKind.TheVariants as holds
+use Rattle.charts.specs.declared.statement.Mark.{Mark}
 use Rattle.charts.specs.declared.statement.Statement.{Statement}
 use Rattle.charts.specs.declared.statement.Statement.TheVariants as says
-use Rattle.field_rules.specs.Columns.{breaks_columns, breaks_amount_size, has_good_sign, is_too_large}
+use Rattle.charts.proofs.Listed.{listed-behind, listed-first, listed-place}
+use Rattle.field_rules.specs.Columns.{has_good_sign}
 use Rattle.field_rules.specs.Digits.{is_out_of_digits}
 use Rattle.field_rules.specs.Fields.{field_named}
 use Rattle.field_rules.specs.Names.{names_text}
+use Rattle.field_rules.proofs.DigitsKept.{AreGoodDigits, digits-kept}
 use Rattle.chart_rules.specs.Rules.{breaks, IsLawful}
 use Rattle.chart_rules.specs.declared.rule.Rule.TheVariants as rule
 use Rattle.chart_rules.proofs.Laws.{breaks-lawful, good-field}
-use Rattle.field_rules.proofs.DigitsKept.{digits-kept}
+use Rattle.report.specs.Breaks.{no_cards}
+use Rattle.report.specs.Totals.{total_of}
 use Rattle.misfits.specs.HelperAmounts.{IsColumn, IsGoodAmount}
-use Rattle.misfits.specs.HelperTotals.{IsGoodTotal}
+use Rattle.misfits.specs.HelperTotals.{IsKept, IsWithin}
+use Rattle.misfits.specs.OpenTotals.{open_of, open_on, open_totals}
+use Rattle.misfits.specs.declared.open_total.OpenTotal.{OpenTotal}
 
 -- a good sign column is on the card
 good_column : (sign : Option ℕ) → has_good_sign sign ≡ true → IsColumn sign
@@ -33,22 +42,76 @@ good_amount chart lawful name field named amount =
     let good = good-field chart lawful name field named in
     record { on_card = good.card; few = good.few amount; sign = good_column (sign_column field.kind) good.sign }
 
--- the total lines of a lawful chart keep the bounds
-pub good_total : (chart : Chart) (earlier : List Line) (line : Line) (later : List Line) → IsLawful chart
-    → chart.lines ≡ earlier ++ line ∷ later → IsGoodTotal chart.lines line.statement
-good_total chart earlier line later lawful split =
-    by line.statement (breaks-lawful rule.WrongKind chart earlier line later lawful split)
-    (breaks-lawful rule.DigitsRange chart earlier line later lawful split)
+-- a total of a field of a lawful chart keeps the bounds
+pub good_total : (chart : Chart) (earlier : List Line) (line : Line) (later : List Line) (level : Level) (wheel : ℕ) (name : List ℕ) (digits : ℕ)
+    (mark : Option Mark) (field : Field) → IsLawful chart → chart.lines ≡ earlier ++ line ∷ later
+    → line.statement ≡ says.TotalAmount level wheel name digits mark → field_named chart.lines name ≡ Some field
+    → IsGoodAmount field × AreGoodDigits field digits
+good_total chart earlier line later level wheel name digits mark field lawful split is named =
+    let kind = sym (ap (breaks rule.WrongKind chart.lines earlier) is) ∙ breaks-lawful rule.WrongKind chart earlier line later lawful split in
+    let range = sym (ap (breaks rule.DigitsRange chart.lines earlier) is) ∙ breaks-lawful rule.DigitsRange chart earlier line later lawful split in (
+      good_amount chart lawful name field named (amount (field_named chart.lines name) named kind),
+      digits-kept field digits (ap (λ o. is_out_of_digits o digits) (sym named) ∙ range),
+    )
   where
-    amount : (field : Field) (o : Option Field) → o ≡ Some field → names_text o ≡ false → is_amount field.kind ≡ true
-    amount field None is kept = cc
-    amount field (Some other) is kept =
+    amount : (o : Option Field) → o ≡ Some field → names_text o ≡ false → is_amount field.kind ≡ true
+    amount None is kept = cc
+    amount (Some other) is kept =
         let same : other ≡ field = cc in ap (λ f. is_amount f.kind) (sym same) ∙ not-false (is_amount other.kind) kept
 
-    by : (statement : Statement) → breaks rule.WrongKind chart.lines earlier statement ≡ false
-        → breaks rule.DigitsRange chart.lines earlier statement ≡ false → IsGoodTotal chart.lines statement
-    by (says.TotalAmount level wheel name digits mark) kind range = λ field named. (
-      good_amount chart lawful name field named (amount field (field_named chart.lines name) named kind),
-      (digits-kept field digits (ap (λ o. is_out_of_digits o digits) (sym named) ∙ range)).few,
-    )
-    by other kind range = tt
+-- An open total is that of a total line of the chart.
+pub record FromLine (chart : Chart) (so_far : ℕ → List (List ℕ)) (line : Line) (total : OpenTotal) : Type 0 where
+  pub wheel : ℕ
+  pub name : List ℕ
+  pub mark : Option Mark
+  pub says_so : line.statement ≡ says.TotalAmount total.level wheel name total.digits mark
+  pub named : field_named chart.lines name ≡ Some total.field
+  pub is_sum : total.sum ≡ total_of total.field (so_far (level_number total.level))
+
+from_line : (chart : Chart) (so_far : ℕ → List (List ℕ)) (line : Line) (total : OpenTotal)
+    → open_on chart.lines so_far line.statement ≡ Some total → FromLine chart so_far line total
+from_line chart so_far line total opens = by line.statement refl opens
+  where
+    of : (level : Level) (wheel : ℕ) (name : List ℕ) (digits : ℕ) (mark : Option Mark) (o : Option Field)
+        → line.statement ≡ says.TotalAmount level wheel name digits mark → field_named chart.lines name ≡ o
+        → option_map (open_of level digits so_far) o ≡ Some total → FromLine chart so_far line total
+    of level wheel name digits mark None is named none = cc
+    of level wheel name digits mark (Some field) is named some =
+        let same : open_of level digits so_far field ≡ total = cc in
+        subst (FromLine chart so_far line) same
+        (record { wheel = wheel; name = name; mark = mark; says_so = is; named = named; is_sum = refl })
+
+    by : (statement : Statement) → line.statement ≡ statement → open_on chart.lines so_far statement ≡ Some total
+        → FromLine chart so_far line total
+    by (says.TotalAmount level wheel name digits mark) is some = of level wheel name digits mark (field_named chart.lines name) is refl some
+    by other is none = cc
+
+-- before the first card the open totals of a lawful chart keep the bounds
+pub kept_at_first : (chart : Chart) → IsLawful chart → All (IsKept 0) (open_totals chart.lines no_cards chart.lines)
+kept_at_first chart lawful = all chart.lines (λ line there. there)
+  where
+    on : (line : Line) (total : OpenTotal) → Contains chart.lines line → open_on chart.lines no_cards line.statement ≡ Some total
+        → IsKept 0 total
+    on line total there opens =
+        let from = from_line chart no_cards line total opens in
+        let place = listed-place line chart.lines there in
+        let good = good_total chart place.earlier line place.later total.level from.wheel from.name total.digits from.mark total.field lawful
+        place.parts from.says_so from.named in
+        let few = good.1.few in
+        record {
+          amount = good.0;
+          few_digits = omega (arith, few);
+          small = subst (IsWithin 0) (sym from.is_sum) (omega (arith, ints), omega (arith, ints));
+        }
+
+    all : (some : List Line) → ((line : Line) → Contains some line → Contains chart.lines line)
+        → All (IsKept 0) (open_totals chart.lines no_cards some)
+    all [] there = All-nil (IsKept 0)
+    all (line ∷ some) there =
+        by (open_on chart.lines no_cards line.statement) refl (all some (λ other stands. there other (listed-behind line some stands)))
+      where
+        by : (o : Option OpenTotal) → open_on chart.lines no_cards line.statement ≡ o → All (IsKept 0) (open_totals chart.lines no_cards some)
+            → All (IsKept 0) (cons_option o (open_totals chart.lines no_cards some))
+        by None none rest = rest
+        by (Some total) opens rest =
+            All-cons (IsKept 0) total (open_totals chart.lines no_cards some) (on line total (there line (listed-first line some)) opens) rest

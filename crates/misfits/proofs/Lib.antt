@@ -1,7 +1,10 @@
 pub mod Numbers
+pub mod Bounds
 pub mod LawfulTotals
+pub mod FewTotals
+pub mod InPlace
+pub mod Taking
+pub mod Opening
+pub mod Deck
 pub mod Fields
-pub mod Steps
-pub mod Merging
-pub mod OneTotal
-pub mod LineByLine
+pub mod OpenTotals

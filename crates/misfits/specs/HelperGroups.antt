@@ -1,10 +1,9 @@
 -- Helper words of the code: where groups end, line of the chart by line.
-use Rattle.std.specs.Prelude.{ℕ, Bool, true, List, ◌∷◌, Option, Some, None, nat_le}
+use Rattle.std.specs.Prelude.{ℕ, Bool, true, List, Option, Some, None}
 use Rattle.std.specs.List.{list_all}
 use Rattle.charts.specs.declared.chart.Line.{Line}
 use Rattle.charts.specs.declared.statement.Field.{Field}
 use Rattle.charts.specs.declared.statement.Statement.{Statement}
-use Rattle.report.specs.Breaks.{highest}
 use Rattle.report.specs.Groups.{control_field, is_same_on}
 
 -- whether two cards are equal on a field, if there is one
@@ -19,8 +18,3 @@ stays_same lines level one other statement = is_same_where one other (control_fi
 -- whether two cards are equal on the control fields of a level that some lines name
 abbrev pub all_stay_same : List Line → ℕ → List ℕ → List ℕ → List Line → Bool
 all_stay_same lines level one other some = list_all (λ line. stays_same lines level one other line.statement) some
-
--- whether a group of a level ends with the first of some cards: there is no other, or the next one differs at the level or a higher one
-abbrev pub ends_group : List Line → ℕ → List (List ℕ) → Bool
-ends_group lines level (card ∷ next ∷ cards) = nat_le level (highest lines card next)
-ends_group lines level other = true

@@ -4,9 +4,9 @@ ghost use Rattle.std.specs.Prelude.{◌≡◌, ◌≤◌, ◌<◌, length, nat_e
 ghost use Rattle.chart_rules.specs.HelperOnCard.{IsOnCard};
 ghost use Rattle.chart_rules.specs.Rules.{IsLawful};
 ghost use Rattle.chart_rules.specs.ValidCard.{column_of};
-ghost use Rattle.report.specs.Breaks.{highest};
+ghost use Rattle.report.specs.Breaks.{ended_behind, highest};
 ghost use Rattle.report.specs.Groups.{is_same_at, is_same_on};
-ghost use Rattle.misfits.specs.HelperGroups.{all_stay_same, ends_group, stays_same};
+ghost use Rattle.misfits.specs.HelperGroups.{all_stay_same, stays_same};
 
 use card_code::Card;
 use chart_rules::Chart;
@@ -62,7 +62,8 @@ fn is_same_at(chart: &Chart, level: u8, one: &Card, other: &Card) -> bool
 
 /// The highest of the levels 1 to 3 at which a break stands between two cards, or 0.
 fn highest_break(chart: &Chart, one: &Card, other: &Card) -> u8
-    ensures { result ≡ highest chart.now.lines one.now other.now }
+    ensures value { result ≡ highest chart.now.lines one.now other.now }
+    ensures levels { result ≤ 3 }
 {
     if !is_same_at(chart, 3, one, other) {
         3
@@ -75,12 +76,13 @@ fn highest_break(chart: &Chart, one: &Card, other: &Card) -> u8
     }
 }
 
-/// Whether a group of a level ends with the first of some cards.
-pub(crate) fn ends_group(chart: &Chart, level: u8, cards: &[Card]) -> bool
-    ensures { result ≡ ends_group chart.now.lines level cards.now }
+/// The highest level whose group ends after a card: that of the break before the next card, and 4 after the last card.
+pub(crate) fn ended_behind(chart: &Chart, card: &Card, next: Option<Card>) -> u8
+    ensures value { result ≡ ended_behind chart.now.lines card.now next }
+    ensures levels { result ≤ 4 }
 {
-    match cards {
-        [card, next, ..] => level <= highest_break(chart, card, next),
-        _ => true,
+    match next {
+        Some(next) => highest_break(chart, card, &next),
+        None => 4,
     }
 }

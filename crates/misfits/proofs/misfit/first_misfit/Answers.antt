@@ -1,34 +1,31 @@
-use Rattle.std.proofs.Common.{◌∙◌, option_map}
+use Rattle.std.proofs.Common.{◌∙◌, sym, ap, option_map}
 use Rattle.misfits.specs.Told.{told}
-use Rattle.misfits.proofs.LineByLine.{none_yet, line_more, good_line, all_done}
+use Rattle.misfits.proofs.Deck.{kept_first, kept_more, told_first_of_deck}
 use Rattle.misfits.proofs.misfit.first_misfit.Goals as goal
 
-pub loop-line-init : goal.loop-line-init
-loop-line-init c = none_yet c.args.chart.now.lines c.args.cards.now
+pub loop-place-init : goal.loop-place-init
+loop-place-init c = kept_first c.args.chart.now.lines c.args.cards.now c.new-sums.result c.new-sums.ensures.begun c.new-sums.ensures.no_cards
 
-pub misfit_of-requires-clause-total : goal.misfit_of-requires-clause-total
-misfit_of-requires-clause-total c =
-    good_line c.args.chart.now c.lines-line-items.result.now c.loop-line.line-index c.line-item.result
-    c.lines-line-items.ensures.lawful
-    c.lines-line-items.ensures.value
-    c.loop-line-test.true
-    c.line-item.is
+pub loop-place-preserved : goal.loop-place-preserved
+loop-place-preserved c =
+    let so_far = c.loop-place.invariant.so_far in
+    let are = c.loop-place.invariant.are in
+    kept_more c.args.chart.now.lines c.args.cards.now c.loop-place.place c.index-cards-place.result c.card_at.result c.loop-place.sums
+    c.loop-place.invariant
+    c.loop-place-test.true
+    c.index-cards-place.is
+    c.card_at.ensures
+    c.take.new.self
+    (sym (ap (option_map told) c.in_default.is) ∙ c.take.ensures.told so_far are)
+    (c.take.ensures.goes_on so_far are)
+    c.take.ensures.counted
 
-pub loop-line-preserved : goal.loop-line-preserved
-loop-line-preserved c =
-    c.earlier-first.ensures
-    ∙ line_more c.args.chart.now.lines c.lines-line-items.result.now c.args.cards.now c.loop-line.line-index c.line-item.result
-    (option_map told c.loop-line.first)
-    (option_map told c.misfit_of.result)
-    c.lines-line-items.ensures.value
-    c.loop-line-test.true
-    c.line-item.is
-    c.loop-line.invariant
-    c.misfit_of.ensures
-
-pub returns : goal.returns
-returns c =
-    c.loop-line.invariant
-    ∙ all_done c.args.chart.now.lines c.lines-line-items.result.now c.args.cards.now c.loop-line.line-index
-    c.lines-line-items.ensures.value
-    c.loop-line-test.false
+pub returns-in-Some : goal.returns-in-Some
+returns-in-Some c =
+    told_first_of_deck c.args.chart.now.lines c.args.cards.now c.loop-place.place c.index-cards-place.result c.card_at.result c.loop-place.sums
+    c.loop-place.invariant
+    c.loop-place-test.true
+    c.index-cards-place.is
+    c.card_at.ensures
+    (told c.in-Some.misfit)
+    (sym (ap (option_map told) c.in-Some.is) ∙ c.take.ensures.told c.loop-place.invariant.so_far c.loop-place.invariant.are)

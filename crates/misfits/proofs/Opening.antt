@@ -1,0 +1,65 @@
+-- The open totals of a chart before the first card, line by line.
+use Rattle.std.proofs.Common.{◌≡◌, ◌∙◌, sym, ap, subst, ℕ, ◌+◌, ◌<◌, ◌≤◌, List, [], ◌∷◌, ◌++◌, Option, Some, None, length, length-append, get_or, take, drop, append-nil, arith}
+use Rattle.std.specs.List.{All, cons_option}
+use Rattle.std.proofs.lemmas.List.{take-append-drop, take_all, take_more}
+use Rattle.std.proofs.lemmas.List.Elements.{filter_map-append}
+use Rattle.charts.specs.Chart.{Chart}
+use Rattle.charts.specs.declared.chart.Line.{Line}
+use Rattle.chart_rules.specs.Rules.{IsLawful}
+use Rattle.report.specs.Breaks.{no_cards}
+use Rattle.misfits.specs.HelperTotals.{IsKept}
+use Rattle.misfits.specs.OpenTotals.{open_on, open_totals}
+use Rattle.misfits.specs.declared.open_total.OpenTotal.{OpenTotal}
+use Rattle.misfits.proofs.FewTotals.{few_totals}
+use Rattle.misfits.proofs.LawfulTotals.{kept_at_first}
+
+-- one line more
+more : (lines given : List Line) (i : ℕ) (line : Line) (o : Option OpenTotal) → given ≡ lines → i < length given
+    → line ≡ get_or given i line → open_on lines no_cards line.statement ≡ o
+    → open_totals lines no_cards (take (i + 1) lines) ≡ open_totals lines no_cards (take i lines) ++ cons_option o []
+more lines given i line o same within at is =
+    ap (open_totals lines no_cards) longer
+    ∙ filter_map-append (λ (each : Line). open_on lines no_cards each.statement) (take i lines) (line ∷ [])
+    ∙ ap (λ one. open_totals lines no_cards (take i lines) ++ cons_option one []) is
+  where
+    longer : take (i + 1) lines ≡ take i lines ++ line ∷ []
+    longer =
+        ap (take (i + 1)) (sym same)
+        ∙ take_more given i line within
+        ∙ ap (λ each. take i given ++ each ∷ []) (sym at)
+        ∙ ap (λ l. take i l ++ line ∷ []) same
+
+pub one_line : (lines given : List Line) (i : ℕ) (line : Line) (total : OpenTotal) (old new : List OpenTotal) → given ≡ lines
+    → i < length given → line ≡ get_or given i line → old ≡ open_totals lines no_cards (take i lines)
+    → open_on lines no_cards line.statement ≡ Some total → new ≡ old ++ total ∷ [] → new ≡ open_totals lines no_cards (take (i + 1) lines)
+one_line lines given i line total old new same within at so_far opens is =
+    is ∙ ap (λ l. l ++ total ∷ []) so_far ∙ sym (more lines given i line (Some total) same within at opens)
+
+pub no_line : (lines given : List Line) (i : ℕ) (line : Line) (old : List OpenTotal) → given ≡ lines
+    → i < length given → line ≡ get_or given i line → old ≡ open_totals lines no_cards (take i lines)
+    → open_on lines no_cards line.statement ≡ None → old ≡ open_totals lines no_cards (take (i + 1) lines)
+no_line lines given i line old same within at so_far none =
+    so_far
+    ∙ sym (append-nil (open_totals lines no_cards (take i lines)))
+    ∙ sym (more lines given i line None same within at none)
+
+-- there is room for one more
+pub has_room : (chart : Chart) (given : List Line) (i : ℕ) (line : Line) (total : OpenTotal) (old : List OpenTotal) → IsLawful chart
+    → given ≡ chart.lines → i < length given → line ≡ get_or given i line → old ≡ open_totals chart.lines no_cards (take i chart.lines)
+    → open_on chart.lines no_cards line.statement ≡ Some total → length old < 480
+has_room chart given i line total old lawful same within at so_far opens =
+    let most = few_totals chart no_cards (take (i + 1) chart.lines) (drop (i + 1) chart.lines) lawful (sym (take-append-drop (i + 1) chart.lines)) in
+    let is = ap length (more chart.lines given i line (Some total) same within at opens) in
+    let parts = length-append (open_totals chart.lines no_cards (take i chart.lines)) (total ∷ []) in
+    let long = ap length so_far in
+    omega (arith, most, is, parts, long)
+
+pub all_open : (lines given : List Line) (i : ℕ) (old : List OpenTotal) → given ≡ lines → length given ≤ i
+    → old ≡ open_totals lines no_cards (take i lines) → old ≡ open_totals lines no_cards lines
+all_open lines given i old same past so_far =
+    so_far ∙ ap (open_totals lines no_cards) (ap (take i) (sym same) ∙ take_all i given past ∙ same)
+
+pub all_kept : (chart : Chart) (given : List Line) (i : ℕ) (old : List OpenTotal) → IsLawful chart → given ≡ chart.lines → length given ≤ i
+    → old ≡ open_totals chart.lines no_cards (take i chart.lines) → All (IsKept 0) old
+all_kept chart given i old lawful same past so_far =
+    subst (All (IsKept 0)) (sym (all_open chart.lines given i old same past so_far)) (kept_at_first chart lawful)

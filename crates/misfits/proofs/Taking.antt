@@ -1,0 +1,64 @@
+-- What the open totals are behind a card, and what they tell.
+use Rattle.std.proofs.Common.{◌≡◌, ◌∙◌, ap, ap₂, ℕ, ◌+◌, ◌<◌, ◌≤◌, List, [], ◌++◌, Option, length, map, drop, append-nil, arith}
+use Rattle.std.specs.List.{refill}
+use Rattle.std.proofs.lemmas.List.{length-map, take_all, drop_all}
+use Rattle.card_code.specs.MostCards.{most_cards}
+use Rattle.charts.specs.declared.chart.Line.{Line}
+use Rattle.decks.specs.CardMisfits.{misfits_to}
+use Rattle.report.specs.Breaks.{cleared, taking}
+use Rattle.report.specs.Misfits.{Misfit, first_of}
+use Rattle.misfits.specs.HelperTotals.{misfits_among}
+use Rattle.misfits.specs.OpenSums.{AreSumsOf, Sums}
+use Rattle.misfits.specs.OpenTotals.{closed_to, open_totals, with_card}
+use Rattle.misfits.specs.declared.open_total.OpenTotal.{OpenTotal}
+use Rattle.misfits.proofs.OpenTotals.{among, cards_add, groups_close}
+
+-- what stands in the places of a list where each element was changed
+pub refilled : {X : Type 0} (change : X → X) (items lent left : List X) → lent ≡ items → left ≡ map change lent
+    → refill (length items) items left ≡ map change items
+refilled change items lent left same is =
+    take_all (length items) (left ++ drop (length left) items) (omega (arith, whole)) ∙ ap (λ l. left ++ l) none ∙ append-nil left ∙ all
+  where
+    all : left ≡ map change items
+    all = is ∙ ap (map change) same
+
+    long : length left ≡ length items
+    long = ap length all ∙ length-map items change
+
+    none : drop (length left) items ≡ []
+    none = ap (λ n. drop n items) long ∙ drop_all (length items) items (omega arith)
+
+    whole : length (left ++ drop (length left) items) ≡ length items
+    whole = ap (λ l. length (left ++ l)) none ∙ ap length (append-nil left) ∙ long
+
+-- with the card the totals are those of the groups with the card
+added : (lines : List Line) (so_far : ℕ → List (List ℕ)) (card : List ℕ) (sums : Sums) (items shown : List OpenTotal)
+    → AreSumsOf lines so_far sums → items ≡ sums.totals → shown ≡ map (with_card card) items
+    → shown ≡ open_totals lines (taking card so_far) lines
+added lines so_far card sums items shown are same is =
+    is ∙ ap (map (with_card card)) (same ∙ are) ∙ cards_add lines so_far card
+
+pub told_after : (lines : List Line) (so_far : ℕ → List (List ℕ)) (card : List ℕ) (sums : Sums) (items shown : List OpenTotal)
+    (number cards ended its : ℕ) (found : Option Misfit)
+    → AreSumsOf lines so_far sums → items ≡ sums.totals → shown ≡ map (with_card card) items → number ≡ cards → ended ≡ its
+    → found ≡ first_of (misfits_among shown number ended)
+    → found ≡ first_of (misfits_to lines cards its (taking card so_far))
+told_after lines so_far card sums items shown number cards ended its found are same is numbers levels tells =
+    tells
+    ∙ ap (λ l. first_of (misfits_among l number ended)) (added lines so_far card sums items shown are same is)
+    ∙ ap first_of (among lines (taking card so_far) number ended)
+    ∙ ap₂ (λ n e. first_of (misfits_to lines n e (taking card so_far))) numbers levels
+
+pub open_after : (lines : List Line) (so_far : ℕ → List (List ℕ)) (card : List ℕ) (sums : Sums) (items shown left : List OpenTotal) (ended its : ℕ)
+    → AreSumsOf lines so_far sums → items ≡ sums.totals → shown ≡ map (with_card card) items → ended ≡ its
+    → left ≡ map (closed_to ended) shown
+    → left ≡ open_totals lines (cleared its (taking card so_far)) lines
+open_after lines so_far card sums items shown left ended its are same is levels closed =
+    closed
+    ∙ ap (map (closed_to ended)) (added lines so_far card sums items shown are same is)
+    ∙ groups_close lines (taking card so_far) ended
+    ∙ ap (λ e. open_totals lines (cleared e (taking card so_far)) lines) levels
+
+-- one card more is not too many
+pub room_for : (cards : ℕ) (sums : Sums) → cards ≡ sums.cards → sums.cards < most_cards → cards + 1 ≤ most_cards
+room_for cards sums same few = omega (arith, same, few)

@@ -1,0 +1,56 @@
+use Rattle.std.proofs.Common.{◌∙◌, sym, ap, subst, ◌+◌, map, length}
+use Rattle.std.specs.List.{All, refill}
+use Rattle.card_code.specs.MostCards.{most_cards}
+use Rattle.misfits.specs.HelperTotals.{IsKept}
+use Rattle.misfits.specs.OpenTotals.{closed_to, with_card}
+use Rattle.misfits.proofs.Bounds.{all_wider, all_with_card, all_closed}
+use Rattle.misfits.proofs.Taking.{room_for, refilled, told_after, open_after}
+use Rattle.misfits.proofs.open_sums.OpenSums.take.Goals as goal
+
+pub first_misfit_to-misfit-requires-clause-kept : goal.first_misfit_to-misfit-requires-clause-kept
+first_misfit_to-misfit-requires-clause-kept c =
+    let items = c.self.inside.totals.items in
+    let added = refilled (with_card c.args.card.now) items c.as_mut_slice.result.now c.add_card.new.totals c.as_mut_slice.ensures.value c.add_card.ensures in
+    subst (All (IsKept most_cards)) (sym (c.as_slice.ensures.value ∙ added))
+    (all_wider (c.self.inside.cards + 1) most_cards (map (with_card c.args.card.now) items)
+    (room_for c.self.inside.cards c.args.self.now (ap (λ v. v.cards) c.self.view_is) c.requires)
+    (all_with_card c.self.inside.cards c.args.card.now items c.self.invariant.1))
+
+pub invariant_of-self : goal.invariant_of-self
+invariant_of-self c =
+    let items = c.self.inside.totals.items in
+    let added = refilled (with_card c.args.card.now) items c.as_mut_slice.result.now c.add_card.new.totals c.as_mut_slice.ensures.value c.add_card.ensures in
+    let closed = refilled (closed_to c.ended_behind-ended.result) (refill (length items) items c.add_card.new.totals) c.as_mut_slice-2.result.now
+    c.end_groups.new.totals c.as_mut_slice-2.ensures.value c.end_groups.ensures in (
+      room_for c.self.inside.cards c.args.self.now (ap (λ v. v.cards) c.self.view_is) c.requires,
+      subst (All (IsKept (c.self.inside.cards + 1))) (sym (closed ∙ ap (map (closed_to c.ended_behind-ended.result)) added))
+          (all_closed (c.self.inside.cards + 1) c.ended_behind-ended.result (map (with_card c.args.card.now) items)
+          (all_with_card c.self.inside.cards c.args.card.now items c.self.invariant.1)),
+    )
+
+pub returns-clause-told : goal.returns-clause-told
+returns-clause-told c = λ so_far are.
+    let items = c.self.inside.totals.items in
+    let added = refilled (with_card c.args.card.now) items c.as_mut_slice.result.now c.add_card.new.totals c.as_mut_slice.ensures.value c.add_card.ensures in
+    told_after c.args.chart.now.lines so_far c.args.card.now c.args.self.now items c.as_slice.result.now (c.self.inside.cards + 1)
+    (c.args.self.now.cards + 1) c.ended_behind-ended.result _ _
+    are
+    (ap (λ v. v.totals) c.self.view_is)
+    (c.as_slice.ensures.value ∙ added)
+    (ap (λ v. v.cards + 1) c.self.view_is)
+    c.ended_behind-ended.ensures.value
+    c.first_misfit_to-misfit.ensures
+
+pub returns-clause-goes_on : goal.returns-clause-goes_on
+returns-clause-goes_on c = λ so_far are.
+    let items = c.self.inside.totals.items in
+    let added = refilled (with_card c.args.card.now) items c.as_mut_slice.result.now c.add_card.new.totals c.as_mut_slice.ensures.value c.add_card.ensures in
+    let closed = refilled (closed_to c.ended_behind-ended.result) (refill (length items) items c.add_card.new.totals) c.as_mut_slice-2.result.now
+    c.end_groups.new.totals c.as_mut_slice-2.ensures.value c.end_groups.ensures in
+    open_after c.args.chart.now.lines so_far c.args.card.now c.args.self.now items (refill (length items) items c.add_card.new.totals) _
+    c.ended_behind-ended.result _
+    are
+    (ap (λ v. v.totals) c.self.view_is)
+    added
+    c.ended_behind-ended.ensures.value
+    closed

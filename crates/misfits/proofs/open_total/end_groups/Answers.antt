@@ -1,0 +1,12 @@
+use Rattle.std.proofs.Common.{◌∙◌, sym, ap, set}
+use Rattle.std.proofs.lemmas.List.Edits.{map_over_more}
+use Rattle.misfits.specs.OpenTotals.{closed_to}
+use Rattle.misfits.proofs.open_total.end_groups.Goals as goal
+
+pub loop-total-preserved : goal.loop-total-preserved
+loop-total-preserved c =
+    ap (set c.loop-total.totals c.loop-total.total-index) (c.close.ensures ∙ ap (closed_to c.args.ended) (sym c.total-item.is))
+    ∙ map_over_more (closed_to c.args.ended) c.args.totals.now c.loop-total.totals c.loop-total.total-index c.total-item.result
+    c.loop-total-test.true
+    c.loop-total.invariant
+    c.total-item.is

@@ -1,0 +1,109 @@
+//! The totals of a chart, card by card.
+
+ghost use Rattle.std.specs.Prelude.{◌≡◌, ◌+◌, ◌<◌, ◌≤◌, ℕ, List, [], length, map, option_map};
+ghost use Rattle.std.specs.List.{All};
+ghost use Rattle.card_code.specs.MostCards.{most_cards};
+ghost use Rattle.chart_rules.specs.Rules.{IsLawful};
+ghost use Rattle.decks.specs.CardMisfits.{misfits_to};
+ghost use Rattle.report.specs.Breaks.{cleared, ended_behind, no_cards, taking};
+ghost use Rattle.report.specs.Misfits.{first_of};
+ghost use Rattle.misfits.specs.OpenSums.{AreSumsOf};
+ghost use Rattle.misfits.specs.OpenTotals.{open_on};
+ghost use Rattle.misfits.specs.Told.{told};
+
+use crate::groups::ended_behind;
+use crate::misfit::Misfit;
+use crate::open_total::{OpenTotal, add_card, end_groups, first_misfit_to};
+use arrayvec::ArrayVec;
+use card_code::Card;
+use chart_rules::Chart;
+use charts::Statement;
+use std::marker::Model;
+
+// How many totals of amounts a chart has at most: one for each wheel of each of the four total lines.
+const MOST_TOTALS: usize = 480;
+
+/// The totals of a chart over the cards so far of the groups that have not ended, and how many cards there were, at most 999,999.
+///
+/// It takes the cards of a deck one by one, and tells the first total that has more digits than its total line has room for where the
+/// total's group ends. No memory is taken.
+///
+/// Contracts see the open totals in the order of the chart's lines, and the number of cards.
+#[derive(Drop)]
+pub struct OpenSums {
+    totals: ArrayVec<OpenTotal, MOST_TOTALS>,
+    cards: u32,
+}
+
+impl Model for OpenSums {
+    ghost use Rattle.std.specs.Prelude.{◌≤◌};
+    ghost use Rattle.std.specs.List.{All};
+    ghost use Rattle.card_code.specs.MostCards.{most_cards};
+    ghost use Rattle.misfits.specs.OpenSums.{Sums};
+    ghost use Rattle.misfits.specs.HelperTotals.{IsKept};
+
+    ghost Value = { Sums };
+
+    ghost view = { λ sums. record { totals = sums.totals.items; cards = sums.cards } };
+
+    ghost invariant = { λ sums. (sums.cards ≤ most_cards) × All (IsKept sums.cards) sums.totals.items };
+}
+
+// The open total of a line of the chart before the first card, if the line is a total of an amount.
+fn open_total(chart: &Chart, statement: &Statement) -> Option<OpenTotal>
+    ensures { result ≡ open_on chart.now.lines no_cards statement.now }
+{
+    match statement {
+        Statement::TotalAmount {
+            level,
+            name,
+            digits,
+            ..
+        } => {
+            let field = chart.field(*name)?;
+            Some(OpenTotal {
+                level: *level,
+                digits: *digits,
+                field,
+                sum: 0,
+            })
+        }
+        _ => None,
+    }
+}
+
+impl OpenSums {
+    /// Before the first card: each total is 0.
+    pub fn new(chart: &Chart) -> OpenSums
+        ensures begun { AreSumsOf chart.now.lines no_cards result }
+        ensures no_cards { result.cards ≡ 0 }
+    {
+        let mut totals = ArrayVec::new();
+        for line in chart.lines() {
+            if let Some(total) = open_total(chart, &line.statement) {
+                totals.push(total);
+            }
+        }
+        OpenSums { totals, cards: 0 }
+    }
+
+    /// Takes a card of the chart's deck, given the one after it, and ends the groups that end with it; after the last card of the deck all
+    /// groups end. Tells the first of their totals that does not fit: by its level, the lowest first, then by its line of the chart.
+    pub fn take(&mut self, chart: &Chart, card: &Card, next: Option<Card>) -> Option<Misfit>
+        requires { self.old.cards < most_cards }
+        ensures told { (so_far : ℕ → List (List ℕ)) → AreSumsOf chart.now.lines so_far self.old →
+            option_map told result ≡ first_of (misfits_to chart.now.lines (self.old.cards + 1)
+            (ended_behind chart.now.lines card.now next) (taking card.now so_far)) }
+        ensures goes_on { (so_far : ℕ → List (List ℕ)) → AreSumsOf chart.now.lines so_far self.old →
+            AreSumsOf chart.now.lines
+            (cleared (ended_behind chart.now.lines card.now next) (taking card.now so_far)) self.new }
+        ensures counted { self.new.cards ≡ self.old.cards + 1 }
+    {
+        add_card(self.totals.as_mut_slice(), card);
+        self.cards += 1;
+        let ended = ended_behind(chart, card, next);
+        let misfit = first_misfit_to(self.totals.as_slice(), ended, self.cards);
+        end_groups(self.totals.as_mut_slice(), ended);
+        misfit
+    }
+}
