@@ -11,11 +11,14 @@ use std::io::Write;
 /// A sink of bytes that may fail.
 ///
 /// Contracts see the bytes that it holds, where they are known, and whether it has failed, which is so after every call that
-/// answers an error. One that has failed fails again.
+/// answers an error. One that has failed fails again. Of a sink that is borrowed they see which borrow it is, and that it stays that one:
+/// so who lends a sink to a writer knows afterwards what it holds.
 pub trait Sink {
     ghost held: { Self → Option (List ℕ) };
 
     ghost has_failed: { Self → Bool };
+
+    ghost borrow: { Self → ℕ } = { λ _. 0 };
 
     /// Takes bytes from the front of `bytes` and answers how many: one at least, where there is one.
     ///
@@ -27,7 +30,8 @@ pub trait Sink {
         ensures some { IfOk result (λ taken. 0 < length bytes.now → 0 < taken) }
         ensures bytes { WriteAppends (held self.old) (held self.new) result bytes.now }
         ensures failed { HasFailedBy result (has_failed self.old) (has_failed self.new) }
-        ensures again { has_failed self.old ≡ true → IsErr result };
+        ensures again { has_failed self.old ≡ true → IsErr result }
+        ensures same { borrow self.new ≡ borrow self.old };
 
     /// Hands on all that was taken.
     ///
@@ -37,7 +41,8 @@ pub trait Sink {
     fn flush(&mut self) -> Result<(), DeviceFailed>
         ensures bytes { Keeps (held self.old) (held self.new) }
         ensures failed { HasFailedBy result (has_failed self.old) (has_failed self.new) }
-        ensures again { has_failed self.old ≡ true → IsErr result };
+        ensures again { has_failed self.old ≡ true → IsErr result }
+        ensures same { borrow self.new ≡ borrow self.old };
 }
 
 /// A writer of std as a sink.
@@ -94,5 +99,21 @@ impl<W: Write + Drop> Sink for ToWrite<W> {
         } else {
             Err(DeviceFailed)
         }
+    }
+}
+
+impl<S: Sink> Sink for &mut S {
+    ghost held = { λ sink. S.held sink.now };
+
+    ghost has_failed = { λ sink. S.has_failed sink.now };
+
+    ghost borrow = { λ sink. sink.ghost_name };
+
+    fn write(&mut self, bytes: &[u8]) -> Result<usize, DeviceFailed> {
+        Sink::write(&mut **self, bytes)
+    }
+
+    fn flush(&mut self) -> Result<(), DeviceFailed> {
+        Sink::flush(&mut **self)
     }
 }

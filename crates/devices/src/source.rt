@@ -11,13 +11,16 @@ use std::io::Read;
 /// A source of bytes that may fail.
 ///
 /// Contracts see the bytes that it has left, where they are known; how many reads there were, counted up to the largest `u64`;
-/// and whether it has failed, which is so after every read that answers an error. One that has failed fails again.
+/// and whether it has failed, which is so after every read that answers an error. One that has failed fails again. Of a source that is
+/// borrowed they see which borrow it is, and that it stays that one: so who lends a source knows afterwards what it has left.
 pub trait Source {
     ghost left: { Self → Option (List ℕ) };
 
     ghost reads: { Self → ℕ };
 
     ghost has_failed: { Self → Bool };
+
+    ghost borrow: { Self → ℕ } = { λ _. 0 };
 
     /// Reads bytes into the front of `bytes` and answers how many; none, where there is room, only at the end.
     ///
@@ -29,7 +32,8 @@ pub trait Source {
         ensures bytes { ReadConsumes (left self.old) (left self.new) result bytes.new }
         ensures counted { reads self.new ≡ min (reads self.old + 1) (2 ^ 64 - 1) }
         ensures failed { HasFailedBy result (has_failed self.old) (has_failed self.new) }
-        ensures again { has_failed self.old ≡ true → IsErr result };
+        ensures again { has_failed self.old ≡ true → IsErr result }
+        ensures same { borrow self.new ≡ borrow self.old };
 }
 
 /// A reader of std as a source.
@@ -79,5 +83,19 @@ impl<R: Read + Drop> Source for FromRead<R> {
                 Err(DeviceFailed)
             }
         }
+    }
+}
+
+impl<S: Source> Source for &mut S {
+    ghost left = { λ source. S.left source.now };
+
+    ghost reads = { λ source. S.reads source.now };
+
+    ghost has_failed = { λ source. S.has_failed source.now };
+
+    ghost borrow = { λ source. source.ghost_name };
+
+    fn read(&mut self, bytes: &mut [u8]) -> Result<usize, DeviceFailed> {
+        Source::read(&mut **self, bytes)
     }
 }

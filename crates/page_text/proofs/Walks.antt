@@ -108,14 +108,14 @@ record IsLeft (long page line : ℕ) (left all : List PlacedLine) : Type 0 where
   agree : AgreeBehind page line left all
 
 -- a place behind one behind a place is behind that
-after-trans : (a b c d e f : ℕ) → IsAfter a b c d → IsAfter c d e f → IsAfter a b e f
+pub after-trans : (a b c d e f : ℕ) → IsAfter a b c d → IsAfter c d e f → IsAfter a b e f
 after-trans a b c d e f (inl x) (inl y) = inl (omega (arith, x, y))
 after-trans a b c d e f (inl x) (inr y) = inl (omega (arith, x, y.0))
 after-trans a b c d e f (inr x) (inl y) = inl (omega (arith, x.0, y))
 after-trans a b c d e f (inr x) (inr y) = inr (omega (arith, x.0, y.0), omega (arith, x.1, y.1))
 
 -- whether a line stands at a place
-at_place : (placed : PlacedLine) (page line : ℕ)
+pub at_place : (placed : PlacedLine) (page line : ℕ)
     → ((placed.page ≡ page) × (placed.line ≡ line) × ((placed.page == page && placed.line == line) ≡ true))
     ⊎ (((placed.page ≡ page) → (placed.line ≡ line) → ⊥) × ((placed.page == page && placed.line == line) ≡ false))
 at_place placed page line = by_tests (eqb_tells placed.page page) (eqb_tells placed.line line)
@@ -151,7 +151,7 @@ ap_left : {long page line : ℕ} {one other all : List PlacedLine} → one ≡ o
 ap_left {long} {page} {line} {one} {other} {all} same is = subst (λ l. IsLeft long page line l all) same is
 
 -- no place is behind itself
-not_itself : (page line p l : ℕ) → IsAfter page line p l → page ≡ p → line ≡ l → ⊥
+pub not_itself : (page line p l : ℕ) → IsAfter page line p l → page ≡ p → line ≡ l → ⊥
 not_itself page line p l (inl x) e f = omega (arith, x, e)
 not_itself page line p l (inr x) e f = omega (arith, x.1, f)
 

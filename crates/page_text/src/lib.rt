@@ -6,5 +6,5 @@
 
 mod pages;
 
-pub use pages::page_bytes;
+pub use pages::{page_bytes, without_trailing_blanks};
 pub use placed_lines::in_order;

@@ -88,8 +88,8 @@ fn push_line(out: &mut Vec<u8>, text: &[u8]) -> Result<(), AllocError>
     Ok(())
 }
 
-// A text without the blanks at its end.
-fn without_trailing_blanks(text: &[u8]) -> &[u8]
+/// A text without the blanks at its end.
+pub fn without_trailing_blanks(text: &[u8]) -> &[u8]
     ensures { result.now ≡ without_trailing_blanks text.now }
 {
     let mut end = text.len();

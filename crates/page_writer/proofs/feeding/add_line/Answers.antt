@@ -1,0 +1,57 @@
+use Rattle.std.proofs.Common.{◌-◌, ◌++◌, ◌∷◌, [], length, ap, arith}
+use Rattle.std.proofs.lemmas.Result.{err_from_is_err_and}
+use Rattle.page_text.specs.Pages.{without_trailing_blanks}
+use Rattle.page_writer.specs.Added.{feeds}
+use Rattle.page_writer.proofs.Lengths.{cut_long, line_long}
+use Rattle.page_writer.proofs.Sending.{breaks_after, breaks_before, breaks_in, takes_as, takes_then, total_after}
+use Rattle.page_writer.proofs.feeding.add_line.Goals as goal
+
+pub take-requires-clause-few : goal.take-requires-clause-few
+take-requires-clause-few g c = omega (arith, ap length c.without_trailing_blanks.ensures, cut_long c.args.placed.now.text)
+
+pub take-requires-clause-fits : goal.take-requires-clause-fits
+take-requires-clause-fits g c =
+    omega (
+      arith,
+      ap length c.without_trailing_blanks.ensures,
+      total_after c.in_ok-feed.ensures,
+      line_long c.args.form_lines c.args.from.page c.args.from.lines c.args.placed.now,
+      c.requires.fits,
+    )
+
+pub returns-in_err-feed : goal.returns-in_err-feed
+returns-in_err-feed g c =
+    let placed = c.args.placed.now in
+    let fed = feeds c.args.form_lines c.args.from.page c.args.from.lines placed.page (placed.line - 1) in
+    let p = err_from_is_err_and c.from_residual.result c.from_residual.ensures.1 in
+    rw (p.1, p.2) (c.in_err-feed.ensures.0, breaks_before {one = fed} (without_trailing_blanks placed.text ++ 10 ∷ []) c.in_err-feed.ensures.1)
+
+pub returns-in_err-take : goal.returns-in_err-take
+returns-in_err-take g c =
+    let placed = c.args.placed.now in
+    let fed = feeds c.args.form_lines c.args.from.page c.args.from.lines placed.page (placed.line - 1) in
+    let p = err_from_is_err_and c.from_residual-in_err-take.result c.from_residual-in_err-take.ensures.1 in
+    rw (p.1, p.2) (
+      c.in_err-take.ensures.0,
+      breaks_after {one = fed} c.in_ok-feed.ensures
+          (breaks_in (10 ∷ []) (ap (λ t. t ++ 10 ∷ []) c.without_trailing_blanks.ensures) c.in_err-take.ensures.1),
+    )
+
+pub take-requires-2-clause-fits : goal.take-requires-2-clause-fits
+take-requires-2-clause-fits g c =
+    omega (
+      arith,
+      ap length c.without_trailing_blanks.ensures,
+      total_after c.in_ok-feed.ensures,
+      total_after c.in_ok-take.ensures,
+      line_long c.args.form_lines c.args.from.page c.args.from.lines c.args.placed.now,
+      c.requires.fits,
+    )
+
+pub returns : goal.returns
+returns g c =
+    takes_then g.S.Sink.held g.S.Sink.has_failed g.S.Sink.borrow
+    (feeds c.args.form_lines c.args.from.page c.args.from.lines c.args.placed.now.page (c.args.placed.now.line - 1))
+    (without_trailing_blanks c.args.placed.now.text ++ 10 ∷ []) _ c.feed.new.out _ c.in_ok-feed.ensures c.take-2.result
+    (takes_then g.S.Sink.held g.S.Sink.has_failed g.S.Sink.borrow (without_trailing_blanks c.args.placed.now.text) (10 ∷ []) _ c.take.new.self _
+    (takes_as c.without_trailing_blanks.ensures c.in_ok-take.ensures) c.take-2.result c.take-2.ensures)

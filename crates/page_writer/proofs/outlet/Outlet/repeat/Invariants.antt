@@ -1,0 +1,6 @@
+use Rattle.std.proofs.Common.{replicate}
+use Rattle.page_writer.specs.Outgoing.{TakesUp}
+use Rattle.page_writer.proofs.outlet.Outlet.repeat.Given as goal
+
+abbrev pub invariant-loop-time : goal.invariant-loop-time
+invariant-loop-time g l = TakesUp g.S.Sink.held g.S.Sink.borrow (replicate l._time l.byte) l.initial.self l.self

@@ -1,0 +1,40 @@
+use Rattle.std.proofs.Common.{sym, subst, arith}
+use Rattle.page_writer.proofs.Lengths.{added_long}
+use Rattle.page_writer.proofs.Sending.{total_after}
+use Rattle.page_writer.proofs.writer.PageWriter.add.Goals as goal
+use Rattle.page_writer.specs.Added.{added}
+use Rattle.page_writer.specs.Writing.{Writing}
+use Rattle.placed_lines.specs.InOrder.{IsAfter, IsOnForm}
+
+pub add_line-requires-clause-fits : goal.add_line-requires-clause-fits
+add_line-requires-clause-fits g c =
+    let of = c.self.inside in
+    let placed = c.args.placed.now in
+    let after = subst (λ (w : Writing g.row.S.Denot). IsAfter w.page w.line placed.page placed.line) (sym c.self.view_is) c.requires.after in
+    let on_form = subst (λ (w : Writing g.row.S.Denot). IsOnForm w.form_lines placed) (sym c.self.view_is) c.requires.on_form in
+    omega (
+      arith,
+      added_long of.form_lines of.page of.line placed c.self.invariant.0 c.self.invariant.3 (omega arith) after on_form,
+      on_form.line_to,
+      on_form.page_to,
+      c.self.invariant.0,
+      c.self.invariant.4 c.in_ok-check.ensures.well,
+    )
+
+pub invariant_of-self-2 : goal.invariant_of-self-2
+invariant_of-self-2 g c =
+    let of = c.self.inside in
+    let placed = c.args.placed.now in
+    let after = subst (λ (w : Writing g.row.S.Denot). IsAfter w.page w.line placed.page placed.line) (sym c.self.view_is) c.requires.after in
+    let on_form = subst (λ (w : Writing g.row.S.Denot). IsOnForm w.form_lines placed) (sym c.self.view_is) c.requires.on_form in (
+      c.self.invariant.0,
+      on_form.page_from,
+      on_form.page_to,
+      on_form.line_to,
+      λ _. omega (
+        arith,
+        added_long of.form_lines of.page of.line placed c.self.invariant.0 c.self.invariant.3 (omega arith) after on_form,
+        total_after {bytes = added of.form_lines of.page of.line placed} c.in_ok-add_line.ensures,
+        c.self.invariant.4 c.in_ok-check.ensures.well,
+      ),
+    )

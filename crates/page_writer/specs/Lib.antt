@@ -1,0 +1,5 @@
+pub mod Added
+pub mod Laws
+pub mod Open
+pub mod Outgoing
+pub mod Writing

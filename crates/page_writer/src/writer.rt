@@ -1,0 +1,179 @@
+//! A writer of pages, line by line.
+
+ghost use Rattle.std.specs.Prelude.{◌≡◌, ◌+◌, ◌-◌, ◌*◌, ◌^◌, ◌<◌, ◌≤◌, [], ◌++◌, length, true, false, IsErr, OnErr, OnOk};
+ghost use Rattle.page_writer.specs.Added.{added, added_all, last_end, line_after, page_after};
+ghost use Rattle.page_writer.specs.Outgoing.{HandsBack, Takes, total};
+ghost use Rattle.page_writer.specs.Writing.{Writing};
+ghost use Rattle.placed_lines.specs.InOrder.{FollowInOrder, IsAfter, IsOnForm};
+
+use crate::fault::WriteFault;
+use crate::feeding::{Place, add_line, end_pages};
+use crate::outlet::Outlet;
+use devices::Sink;
+use placed_lines::PlacedLine;
+use std::marker::Model;
+
+/// Writes the pages of lines in order, line by line, to a sink that may fail.
+///
+/// [`add`](PageWriter::add) takes a line up, and its bytes are written once they are a block of 8 KB; [`put`](PageWriter::put) writes
+/// it at once, with all that waits. [`finish`](PageWriter::finish) ends the last page. What was written is always a prefix of the pages.
+///
+/// Contracts see the sink; the bytes taken up and not written yet; how many are written; whether a fault was told; the lines of a form;
+/// and the place of the last line, at first page 1 after none of its lines.
+#[derive(Drop)]
+pub struct PageWriter<S: Sink + Drop> {
+    out: Outlet<S>,
+    form_lines: u32,
+    page: u64,
+    line: u32,
+}
+
+impl<S: Sink + Drop> Model for PageWriter<S> {
+    ghost Value = { Writing S };
+
+    ghost view = { λ writer. record {
+      out = writer.out;
+      form_lines = writer.form_lines;
+      page = writer.page;
+      line = writer.line;
+    } };
+
+    ghost invariant = { λ writer. (writer.form_lines ≤ 144) × (1 ≤ writer.page) × (writer.page ≤ 2 ^ 32) × (writer.line ≤ writer.form_lines)
+        × (writer.out.has_failed ≡ false → total writer.out ≤ 20000 * writer.page + 130 * writer.line) };
+}
+
+impl<S: Sink + Drop> PageWriter<S> {
+    /// A writer of pages of `form_lines` lines, at most 144. Nothing is written yet, and the sink is as it was.
+    pub fn new(sink: S, form_lines: u32) -> PageWriter<S>
+        requires { form_lines ≤ 144 }
+        ensures sink { result.out.sink ≡ sink }
+        ensures none_wait { result.out.waiting ≡ [] }
+        ensures none_written { result.out.written ≡ 0 }
+        ensures well { result.out.has_failed ≡ false }
+        ensures form { result.form_lines ≡ form_lines }
+        ensures page { result.page ≡ 1 }
+        ensures line { result.line ≡ 0 }
+    {
+        PageWriter {
+            out: Outlet::new(sink),
+            form_lines,
+            page: 1,
+            line: 0,
+        }
+    }
+
+    /// How many bytes the sink took.
+    pub fn written(&self) -> u64
+        ensures { result ≡ self.now.out.written }
+    {
+        self.out.written()
+    }
+
+    /// Takes a line up: all that comes before it on the pages, its text without the blanks at its end, and LF. What waits is written
+    /// where it makes a block.
+    ///
+    /// The line stands after the last one, on a page up to 2^32 and a line of the form.
+    ///
+    /// # Errors
+    ///
+    /// Where the sink fails, or has failed before: then it is not called. The fault tells how many bytes are written in all. The place
+    /// stays that of the last line taken up whole.
+    pub fn add(&mut self, placed: &PlacedLine) -> Result<(), WriteFault>
+        requires after { IsAfter self.old.page self.old.line placed.now.page placed.now.line }
+        requires on_form { IsOnForm self.old.form_lines placed.now }
+        ensures bytes { Takes S.held S.has_failed S.borrow (added self.old.form_lines self.old.page self.old.line placed.now) result
+            self.old.out self.new.out }
+        ensures page { OnOk result (self.new.page ≡ placed.now.page) }
+        ensures line { OnOk result (self.new.line ≡ placed.now.line) }
+        ensures stays { OnErr result ((self.new.page ≡ self.old.page) × (self.new.line ≡ self.old.line)) }
+        ensures form { self.new.form_lines ≡ self.old.form_lines }
+        ensures again { self.old.out.has_failed ≡ true → IsErr result × (self.new ≡ self.old) }
+    {
+        self.out.check()?;
+        let from = Place {
+            page: self.page,
+            lines: self.line,
+        };
+        add_line(&mut self.out, self.form_lines, from, placed)?;
+        self.page = placed.page;
+        self.line = placed.line;
+        Ok(())
+    }
+
+    /// Takes lines up, one after another, as `add` does.
+    ///
+    /// # Errors
+    ///
+    /// Where the sink fails, or has failed before, as `add`. The place is that of the last line taken up whole.
+    pub fn add_all(&mut self, lines: &[PlacedLine]) -> Result<(), WriteFault>
+        requires { FollowInOrder self.old.form_lines self.old.page self.old.line lines.now }
+        ensures bytes { Takes S.held S.has_failed S.borrow (added_all self.old.form_lines self.old.page self.old.line lines.now) result
+            self.old.out self.new.out }
+        ensures page { OnOk result (self.new.page ≡ page_after self.old.page lines.now) }
+        ensures line { OnOk result (self.new.line ≡ line_after self.old.line lines.now) }
+        ensures form { self.new.form_lines ≡ self.old.form_lines }
+        ensures again { self.old.out.has_failed ≡ true → IsErr result × (self.new ≡ self.old) }
+    {
+        self.out.check()?;
+        for placed in lines {
+            self.add(placed)?;
+        }
+        Ok(())
+    }
+
+    /// Writes all that waits.
+    ///
+    /// # Errors
+    ///
+    /// Where the sink fails, or has failed before: then it is not called. The fault tells how many bytes are written in all.
+    pub fn put_out(&mut self) -> Result<(), WriteFault>
+        ensures bytes { Takes S.held S.has_failed S.borrow [] result self.old.out self.new.out }
+        ensures all { OnOk result (self.new.out.waiting ≡ []) }
+        ensures place { (self.new.page ≡ self.old.page) × (self.new.line ≡ self.old.line) }
+        ensures form { self.new.form_lines ≡ self.old.form_lines }
+        ensures again { self.old.out.has_failed ≡ true → IsErr result × (self.new ≡ self.old) }
+    {
+        self.out.check()?;
+        self.out.put_out()
+    }
+
+    /// Writes a line, and all that waits: `add` and then `put_out`.
+    ///
+    /// # Errors
+    ///
+    /// Where the sink fails, or has failed before, as `add`.
+    pub fn put(&mut self, placed: &PlacedLine) -> Result<(), WriteFault>
+        requires after { IsAfter self.old.page self.old.line placed.now.page placed.now.line }
+        requires on_form { IsOnForm self.old.form_lines placed.now }
+        ensures bytes { Takes S.held S.has_failed S.borrow (added self.old.form_lines self.old.page self.old.line placed.now) result
+            self.old.out self.new.out }
+        ensures all { OnOk result (self.new.out.waiting ≡ []) }
+        ensures page { OnOk result (self.new.page ≡ placed.now.page) }
+        ensures line { OnOk result (self.new.line ≡ placed.now.line) }
+        ensures form { self.new.form_lines ≡ self.old.form_lines }
+        ensures again { self.old.out.has_failed ≡ true → IsErr result × (self.new ≡ self.old) }
+    {
+        self.add(placed)?;
+        self.put_out()
+    }
+
+    /// Ends the last page, writes all that waits, flushes the sink and hands it back, also where it has failed. Where no line was taken up
+    /// there is no page.
+    ///
+    /// # Errors
+    ///
+    /// Where the sink fails, or has failed before: then it is not called. The fault tells how many bytes are written in all.
+    pub fn finish(self) -> (S, Result<(), WriteFault>)
+        ensures bytes { HandsBack S.held S.has_failed S.borrow (last_end self.form_lines self.line) result.1 self.out result.0 }
+        ensures again { self.out.has_failed ≡ true → IsErr result.1 × (result.0 ≡ self.out.sink) }
+    {
+        let PageWriter {
+            mut out,
+            form_lines,
+            line,
+            ..
+        } = self;
+        let ended = end_pages(&mut out, form_lines, line);
+        (out.into_sink(), ended)
+    }
+}
