@@ -55,7 +55,7 @@ no_misfits lines card (suc level) groups fit =
     λ i. below i ++ group i
 
 -- the first misfit of a card and the cards behind it is not before it
-first-least : (lines : List Line) (number : ℕ) (so_far : ℕ → List (List ℕ)) (card : List ℕ) (cards : List (List ℕ))
+pub first-least : (lines : List Line) (number : ℕ) (so_far : ℕ → List (List ℕ)) (card : List ℕ) (cards : List (List ℕ))
     (misfit : Misfit) → first_of (misfits_from lines number so_far card cards) ≡ Some misfit → number ≤ misfit.card
 first-least lines number so_far card [] misfit first =
     let is = first-card lines number 4 (taking card so_far) misfit first in omega (arith, is)

@@ -5,5 +5,6 @@ pub mod Places
 pub mod Pages
 pub mod Alike
 pub mod FitBefore
+pub mod FitSoFar
 pub mod Begins
 pub mod Running

@@ -1,5 +1,5 @@
 -- Laws of decks: how a report, its misfits and its places follow the cards.
-use Rattle.std.specs.Prelude.{◌≡◌, ◌↔◌, ℕ, ◌+◌, ◌*◌, ◌^◌, ◌≤◌, ◌<◌, List, ◌∷◌, ◌++◌, Some, length, All}
+use Rattle.std.specs.Prelude.{◌≡◌, ◌↔◌, ℕ, ◌+◌, ◌*◌, ◌^◌, ◌≤◌, ◌<◌, List, [], ◌∷◌, ◌++◌, Some, None, length, slice_get, All}
 use Rattle.std.specs.List.{Contains}
 use Rattle.card_code.specs.MostCards.{most_cards}
 use Rattle.placed_lines.specs.declared.placed_line.PlacedLine.{PlacedLine}
@@ -12,9 +12,11 @@ use Rattle.report.specs.Groups.{control_fields}
 use Rattle.report.specs.Places.{BodyText, Left, before_all, placed}
 use Rattle.report.specs.Report.{body_lines, report_lines}
 use Rattle.report.specs.Misfits.{Misfit, misfits, first_of}
+use Rattle.report.specs.Totals.{Fits}
 use Rattle.decks.specs.Alike.{AlikeWith}
 use Rattle.decks.specs.CardMisfits.{misfits_by_cards, FirstFit}
 use Rattle.decks.specs.FitBefore.{FitBefore}
+use Rattle.decks.specs.FitSoFar.{FitSoFar, misfits_of_last}
 use Rattle.decks.specs.Left.{left_behind}
 use Rattle.decks.specs.Stands.{at_first, bodies_before, stand_before, last_of, report_before}
 
@@ -79,3 +81,30 @@ TotalTextsAreTheLastCards =
     (lines : List Line) (so_far : ℕ → List (List ℕ)) (card : List ℕ) (level above : ℕ) (field : Field)
     → AlikeWith lines so_far card → level ≤ above → above ≤ 3 → Contains (control_fields lines above) field
     → text_on (a_card_of (taking card so_far level)) field ≡ text_on card field
+
+-- Of a first card no group has ended; and where the groups that end with the last card have no misfit, one card more can come.
+abbrev pub FitsGoOn : Type 0
+FitsGoOn =
+    (lines : List Line) (card : List ℕ)
+    → FitSoFar lines card []
+    × ((cards : List (List ℕ)) (next : List ℕ) → FitSoFar lines card cards → misfits_of_last lines card cards (Some next) ≡ []
+    → FitSoFar lines card (cards ++ next ∷ []))
+
+-- Then the totals that end before the last card fit, whatever cards come later.
+abbrev pub FitsSoFarAreBefore : Type 0
+FitsSoFarAreBefore =
+    (lines : List Line) (card : List ℕ) (cards later : List (List ℕ)) → FitSoFar lines card cards
+    → FitBefore lines (card ∷ (cards ++ later)) (length cards)
+
+-- Where the groups that end with the last card of a deck have no misfit either, the deck fits.
+abbrev pub FitsSoFarEnd : Type 0
+FitsSoFarEnd =
+    (lines : List Line) (card : List ℕ) (cards : List (List ℕ)) → FitSoFar lines card cards
+    → misfits_of_last lines card cards None ≡ [] → Fits lines (card ∷ cards)
+
+-- The first misfit of the groups that end with the last card is the first of the deck, whatever cards come later, and is told of that card.
+abbrev pub FirstMisfitsAreTold : Type 0
+FirstMisfitsAreTold =
+    (lines : List Line) (card : List ℕ) (cards later : List (List ℕ)) (misfit : Misfit) → FitSoFar lines card cards
+    → first_of (misfits_of_last lines card cards (slice_get later 0)) ≡ Some misfit
+    → (first_of (misfits lines (card ∷ (cards ++ later))) ≡ Some misfit) × (misfit.card ≡ length cards + 1)

@@ -1,5 +1,6 @@
 pub mod CardMisfits
 pub mod FitBefore
+pub mod FitSoFar
 pub mod Alike
 pub mod Left
 pub mod Stands

@@ -1,6 +1,7 @@
 //! Laws of decks. The functions do nothing: the contract of each is the law.
 
 ghost use Rattle.decks.specs.Laws.{MisfitsGoByCards, TotalsFitBeforeTheFirstMisfit, GroupsFitBeforeTheFirstMisfit, PlacesSplit};
+ghost use Rattle.decks.specs.Laws.{FitsGoOn, FitsSoFarAreBefore, FitsSoFarEnd, FirstMisfitsAreTold};
 ghost use Rattle.decks.specs.Laws.{ReportsBeginByCards, PagesAreFew, PagesHaveNumbers, GroupsAreAlike, TotalTextsAreTheLastCards};
 
 /// The misfits of a deck are those of its cards.
@@ -16,6 +17,26 @@ pub fn totals_fit_before_the_first_misfit()
 /// The groups that end, card by card, before the card of the first misfit fit.
 pub fn groups_fit_before_the_first_misfit()
     ensures { GroupsFitBeforeTheFirstMisfit }
+{}
+
+/// Before the second card no group has ended; and where the groups that end with the last card have no misfit, one card more can come.
+pub fn fits_go_on()
+    ensures { FitsGoOn }
+{}
+
+/// Where no group that ended so far has a misfit, the totals that end before the last card fit, whatever cards come later.
+pub fn fits_so_far_are_before()
+    ensures { FitsSoFarAreBefore }
+{}
+
+/// Where the groups that end with the last card of a deck have no misfit either, the deck fits.
+pub fn fits_so_far_end()
+    ensures { FitsSoFarEnd }
+{}
+
+/// The first misfit of the groups that end with the last card is the first of the deck, whatever cards come later.
+pub fn first_misfits_are_told()
+    ensures { FirstMisfitsAreTold }
 {}
 
 /// Body lines stand where the body lines before them leave the form.
