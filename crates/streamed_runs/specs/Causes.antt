@@ -1,5 +1,5 @@
 -- Why a streamed run stops.
-use Rattle.std.specs.Prelude.{◌≡◌, ℕ, ◌+◌, ◌-◌, Bool, true, false, List, [], ◌∷◌, ◌++◌, Option, Some, None, length}
+use Rattle.std.specs.Prelude.{◌≡◌, ℕ, ◌+◌, ◌-◌, Bool, true, false, List, [], ◌∷◌, ◌++◌, Option, Some, None, length, ⊤}
 use Rattle.card_lines.specs.Faults.{HasFaultNext, read_fault_number}
 use Rattle.card_lines.specs.declared.fault.ReadFault.{ReadFault}
 use Rattle.charts.specs.Chart.{Chart}
