@@ -6,5 +6,6 @@ pub mod InPlace
 pub mod Taking
 pub mod Opening
 pub mod Deck
+pub mod Following
 pub mod Fields
 pub mod OpenTotals

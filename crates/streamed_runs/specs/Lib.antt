@@ -1,3 +1,5 @@
 pub mod Causes
+pub mod Laws
 pub mod Reading
 pub mod Runs
+pub mod Streams
