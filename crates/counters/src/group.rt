@@ -144,7 +144,9 @@ impl Unit for Group {
             }
             Point::K => {
                 let carry = carry_of(&self.digits[..width], &self.entered[..width], self.controls);
-                exits.insert_where(Hub::CO(self.name), carry);
+                if carry {
+                    exits.insert(Hub::CO(self.name));
+                }
             }
         }
     }
