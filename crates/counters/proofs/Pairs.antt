@@ -1,5 +1,5 @@
 -- Two groups through which one carry goes, as one counter.
-use Rattle.std.proofs.Common.{◌≡◌, ◌∙◌, refl, sym, ap, ℕ, ◌+◌, ◌*◌, ◌^◌, List, [], ◌∷◌, ◌++◌, length, arith}
+use Rattle.std.proofs.Common.{Bool, ◌≡◌, ◌∙◌, refl, sym, ap, ℕ, ◌+◌, ◌*◌, ◌^◌, List, [], ◌∷◌, ◌++◌, length, arith}
 use Rattle.std.proofs.lemmas.List.{length-append}
 use Rattle.std.proofs.lemmas.List.Elements.{All-append}
 use Rattle.std.proofs.lemmas.Nat.{pow-add}
@@ -32,6 +32,14 @@ wheels_of-append controls (d ∷ ds) [] lower below same = absurd (omega (arith,
 wheels_of-append controls (d ∷ ds) (e ∷ es) lower below same =
     ap (λ ws. wheel_of controls d e ∷ ws) (wheels_of-append controls ds es lower below (omega (arith, same)))
 
+-- a test of the balance turns no wheel
+wheels_of-tested : (controls : Controls) (test : Bool) (digits entered : List ℕ)
+    → wheels_of controls digits entered ≡ wheels_of (record controls { test = test }) digits entered
+wheels_of-tested controls test [] entered = refl
+wheels_of-tested controls test (d ∷ ds) [] = refl
+wheels_of-tested controls test (d ∷ ds) (e ∷ es) =
+    ap (λ ws. wheel_of controls d e ∷ ws) (wheels_of-tested controls test ds es)
+
 -- the pair as one row of digits
 pub ended-pair : PairsAreCounters
 ended-pair is_ring upper lower cycle is and_is coupled =
@@ -47,6 +55,7 @@ ended-pair is_ring upper lower cycle is and_is coupled =
     ∙ ap (λ n. length upper.entered + n) as_many_below ∙ sym (length-append upper.entered lower.entered) in
     let wheels : wheels_of controls digits entered ≡ over ++ under =
     wheels_of-append controls upper.digits upper.entered lower.digits lower.entered as_many
+    ∙ ap (λ ws. ws ++ under) (wheels_of-tested controls upper.controls.test upper.digits upper.entered)
     ∙ ap (λ k. wheels_of k upper.digits upper.entered ++ under) (sym coupled.controls) in
     let long : length digits ≡ upper.name.width + lower.name.width =
     length-append upper.digits lower.digits ∙ ap (λ n. n + length lower.digits) is.positions

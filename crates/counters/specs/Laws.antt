@@ -77,9 +77,9 @@ SumsAreLeft =
     + added_number counter.controls power (number counter.entered))
 
 -- One carry goes through two groups: what leaves the lower one comes in at the upper one, and in a ring what leaves that comes in
--- at the lower one again.
+-- at the lower one again. They are under the same controls, but that each may test its balance or not.
 pub record AreCoupled (is_ring : Bool) (upper lower : Counter) : Type 0 where
-  pub controls : upper.controls ≡ lower.controls
+  pub controls : upper.controls ≡ record lower.controls { test = upper.controls.test }
   pub into_lower : lower.carry ≡ carries_in is_ring (wheels_in upper ++ wheels_in lower)
   pub into_upper : upper.carry ≡ carries_out (wheels_in lower) lower.carry
 
@@ -87,7 +87,7 @@ pub record AreCoupled (is_ring : Bool) (upper lower : Counter) : Type 0 where
 abbrev pub number_of_both : List ℕ → List ℕ → ℕ
 number_of_both upper lower = number upper * 10 ^ length lower + number lower
 
--- Two coupled groups under the same controls are one counter, of as many positions as both have.
+-- Two coupled groups are one counter, of as many positions as both have.
 abbrev pub PairsAreCounters : Type 0
 PairsAreCounters =
     (is_ring : Bool) (upper lower : Counter) (cycle : Cycle)

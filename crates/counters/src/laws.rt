@@ -28,7 +28,8 @@ pub fn cycles_are_sums()
 {}
 
 /// Two groups under the same controls through which one carry goes, out of the lower one into the upper one, are one counter of
-/// as many positions as both have: on the line, and as a ring where what leaves the upper one comes in at the lower one.
+/// as many positions as both have: on the line, and as a ring where what leaves the upper one comes in at the lower one. A test
+/// of the balance may be told to one of them alone.
 pub fn pairs_are_counters()
     ensures { PairsAreCounters }
 {}
