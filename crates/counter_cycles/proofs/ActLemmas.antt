@@ -12,7 +12,7 @@ use Rattle.net.specs.declared.cycle.Point.{Point}
 use Rattle.net.specs.declared.cycle.Point.TheVariants.{C}
 use Rattle.counters.specs.Counters.{Counter, controls_of, counter_sensed, top_is_nine}
 use Rattle.counters.specs.Numbers.{added_number, left_number, number, start_number}
-use Rattle.counters.specs.WholeCycles.{after_cycle, digits_given}
+use Rattle.counters.specs.WholeCycles.{ComesRound, after_cycle, digits_given}
 use Rattle.counters.specs.declared.controls.Controls.{Controls}
 use Rattle.counters.proofs.EarliestRows.{earliest-entered, points-stay}
 use Rattle.counters.proofs.Staying.{counters-stay}
@@ -54,34 +54,33 @@ latch-behind Still is_ring power held = refl
 latch-behind other is_ring power held = refl
 
 -- A group goes through a cycle under the controls of what is asked, by what its number becomes.
-done-by : (act : Act) (counter : Counter) (cycle : Cycle) (pictures : Point → Hub → Bool)
-    → IsReady counter → IsControlled counter.name (act_controls act) pictures
-    → left_number counter.is_ring (10 ^ counter.name.width)
+done-by : (is_ring : Bool) (act : Act) (counter : Counter) (cycle : Cycle) (pictures : Point → Hub → Bool)
+    → IsReady counter → IsControlled counter.name (act_controls act) pictures → ComesRound is_ring counter cycle pictures
+    → left_number is_ring (10 ^ counter.name.width)
     (start_number (act_controls act) (number counter.digits)
     + added_number (act_controls act) (10 ^ counter.name.width) (number (digits_given counter.name pictures)))
-    ≡ number_after counter.is_ring (10 ^ counter.name.width) act (number counter.digits)
-    → HasDone act counter (after_cycle cycle pictures counter)
-done-by act counter cycle pictures ready controlled becomes =
+    ≡ number_after is_ring (10 ^ counter.name.width) act (number counter.digits)
+    → HasDone is_ring act counter (after_cycle cycle pictures counter)
+done-by is_ring act counter cycle pictures ready controlled round becomes =
     let power = 10 ^ counter.name.width in
     let behind = after_cycle cycle pictures counter in
     let stays = counters-stay.ended (after_points counter_sensed cycle pictures points counter) cycle
     (points-stay cycle pictures points counter ready.is_counter) in
-    let after = number_after counter.is_ring power act (number counter.digits) in
+    let after = number_after is_ring power act (number counter.digits) in
     let is_number : number behind.digits ≡ after
-    = (earliest-entered counter cycle pictures ready.is_counter ready.entered).number
-    ∙ ap (λ k. left_number counter.is_ring power
+    = (earliest-entered counter cycle pictures ready.is_counter ready.entered).number is_ring round
+    ∙ ap (λ k. left_number is_ring power
     (start_number k (number counter.digits) + added_number k power (number (digits_given counter.name pictures))))
     (controls_of-act counter.name (act_controls act) pictures controlled)
     ∙ becomes in
     let is_latch : behind.latch ≡ latch_after power act (held_by counter)
     = ap (λ b. if b then top_is_nine behind.digits else counter.latch) controlled.test
     ∙ ap (λ b. if (act_controls act).test then b else counter.latch) (tops behind stays ∙ ap (λ n. nat_le (9 * power) (10 * n)) is_number)
-    ∙ latch-behind act counter.is_ring power (held_by counter) in
+    ∙ latch-behind act is_ring power (held_by counter) in
     record {
       held = ap (λ n. held_with n behind.latch) is_number ∙ ap (held_with after) is_latch;
       ready = record { is_counter = stays; entered = refl };
       name = refl;
-      is_ring = refl;
       controls = refl;
     }
 
@@ -90,28 +89,28 @@ behind-nothing : (is_ring : Bool) (power n : ℕ) → left_number is_ring power 
 behind-nothing is_ring power n = let same : 0 + n ≡ n = omega arith in ap (left_number is_ring power) same
 
 pub acts-done : GroupsDoWhatIsAsked
-acts-done Still counter cycle pictures ready fits asks =
-    done-by Still counter cycle pictures ready asks.controls
-    (left-still counter.is_ring (10 ^ counter.name.width) (number counter.digits) (number-within counter ready.is_counter))
-acts-done Test counter cycle pictures ready fits asks =
-    done-by Test counter cycle pictures ready asks.controls
-    (left-still counter.is_ring (10 ^ counter.name.width) (number counter.digits) (number-within counter ready.is_counter))
-acts-done Turn counter cycle pictures ready fits asks =
+acts-done is_ring Still counter cycle pictures ready fits asks round =
+    done-by is_ring Still counter cycle pictures ready asks.controls round
+    (left-still is_ring (10 ^ counter.name.width) (number counter.digits) (number-within counter ready.is_counter))
+acts-done is_ring Test counter cycle pictures ready fits asks round =
+    done-by is_ring Test counter cycle pictures ready asks.controls round
+    (left-still is_ring (10 ^ counter.name.width) (number counter.digits) (number-within counter ready.is_counter))
+acts-done is_ring Turn counter cycle pictures ready fits asks round =
     let n = number counter.digits in
     let power = 10 ^ counter.name.width in
-    done-by Turn counter cycle pictures ready asks.controls
-    (ap (λ m. left_number counter.is_ring power (0 + (power - 1 - m)))
+    done-by is_ring Turn counter cycle pictures ready asks.controls round
+    (ap (λ m. left_number is_ring power (0 + (power - 1 - m)))
     (given-number counter.name n pictures (number-within counter ready.is_counter) asks.entered)
-    ∙ behind-nothing counter.is_ring power (power - 1 - n))
-acts-done Show counter cycle pictures ready fits asks =
-    done-by Show counter cycle pictures ready asks.controls
-    (left-still counter.is_ring (10 ^ counter.name.width) 0 (power-some counter.name.width))
-acts-done (Plus n) counter cycle pictures ready fits asks =
-    done-by (Plus n) counter cycle pictures ready asks.controls
-    (ap (λ m. left_number counter.is_ring (10 ^ counter.name.width) (number counter.digits + m))
+    ∙ behind-nothing is_ring power (power - 1 - n))
+acts-done is_ring Show counter cycle pictures ready fits asks round =
+    done-by is_ring Show counter cycle pictures ready asks.controls round
+    (left-still is_ring (10 ^ counter.name.width) 0 (power-some counter.name.width))
+acts-done is_ring (Plus n) counter cycle pictures ready fits asks round =
+    done-by is_ring (Plus n) counter cycle pictures ready asks.controls round
+    (ap (λ m. left_number is_ring (10 ^ counter.name.width) (number counter.digits + m))
     (given-number counter.name n pictures fits asks.entered))
-acts-done (Minus n) counter cycle pictures ready fits asks =
+acts-done is_ring (Minus n) counter cycle pictures ready fits asks round =
     let power = 10 ^ counter.name.width in
-    done-by (Minus n) counter cycle pictures ready asks.controls
-    (ap (λ m. left_number counter.is_ring power (number counter.digits + (power - 1 - m)))
+    done-by is_ring (Minus n) counter cycle pictures ready asks.controls round
+    (ap (λ m. left_number is_ring power (number counter.digits + (power - 1 - m)))
     (given-number counter.name n pictures fits asks.entered))

@@ -51,7 +51,7 @@ number-zeros zero = refl
 number-zeros (suc count) = omega (arith, number-zeros count)
 
 pub groups-begin : GroupsBeginEmpty
-groups-begin wiring unit from to = (
-  record { is_counter = counters-stay.start wiring unit from to; entered = refl },
+groups-begin unit from to = (
+  record { is_counter = counters-stay.start unit from to; entered = refl },
   ap (λ n. record { number = n; latch = false }) (number-zeros (width_of unit)),
 )

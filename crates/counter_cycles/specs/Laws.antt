@@ -1,6 +1,5 @@
 -- What can be said of a counter group and what is asked of it in a cycle, in numbers.
 use Rattle.std.specs.Prelude.{◌≡◌, ◌≢◌, ℕ, ◌-◌, ◌*◌, ◌^◌, ◌≤◌, ◌<◌, ◌==◌, nat_le, Bool, false, List, All, length, replicate, slice_index}
-use Rattle.setups.specs.Wiring.{Wiring}
 use Rattle.hubs.specs.declared.hub.Group.{Group}
 use Rattle.hubs.specs.declared.hub.Hub.{Hub}
 use Rattle.hubs.specs.declared.hub.Hub.TheVariants.{GX}
@@ -9,7 +8,7 @@ use Rattle.net.specs.declared.cycle.Point.{Point}
 use Rattle.counters.specs.Counters.{Counter, counter_at_start, no_controls, shows, top_is_nine}
 use Rattle.counters.specs.Laws.{IsCounter, IsDigit}
 use Rattle.counters.specs.Numbers.{number}
-use Rattle.counters.specs.WholeCycles.{after_cycle}
+use Rattle.counters.specs.WholeCycles.{ComesRound, after_cycle}
 use Rattle.counter_cycles.specs.Acts.{Act, Asks, IsWithinGroup, digit_of, held_after, held_by}
 use Rattle.counter_cycles.specs.Digits.{spelt}
 
@@ -19,20 +18,20 @@ pub record IsReady (counter : Counter) : Type 0 where
   pub entered : counter.entered ≡ replicate counter.name.width 0
 
 -- A group behind a cycle holds what the act leaves of what it held, and is the same group, ready for the next cycle.
-pub record HasDone (act : Act) (counter behind : Counter) : Type 0 where
-  pub held : held_by behind ≡ held_after counter.is_ring counter.name.width act (held_by counter)
+pub record HasDone (is_ring : Bool) (act : Act) (counter behind : Counter) : Type 0 where
+  pub held : held_by behind ≡ held_after is_ring counter.name.width act (held_by counter)
   pub ready : IsReady behind
   pub name : behind.name ≡ counter.name
-  pub is_ring : behind.is_ring ≡ counter.is_ring
   pub controls : behind.controls ≡ no_controls
 
--- A group does what is asked of it in a cycle.
+-- A group does what is asked of it in a cycle, as a ring or without one.
 abbrev pub GroupsDoWhatIsAsked : Type 0
 GroupsDoWhatIsAsked =
-    (act : Act) (counter : Counter) (cycle : Cycle) (pictures : Point → Hub → Bool)
+    (is_ring : Bool) (act : Act) (counter : Counter) (cycle : Cycle) (pictures : Point → Hub → Bool)
     → IsReady counter → IsWithinGroup counter.name.width act
     → Asks act (number counter.digits) counter.name pictures
-    → HasDone act counter (after_cycle cycle pictures counter)
+    → ComesRound is_ring counter cycle pictures
+    → HasDone is_ring act counter (after_cycle cycle pictures counter)
 
 -- Everything can be asked of every group: there are pictures that ask it.
 abbrev pub EverythingCanBeAsked : Type 0
@@ -42,9 +41,9 @@ EverythingCanBeAsked =
 -- At the start a group is ready, holds 0, and has its latch reset.
 abbrev pub GroupsBeginEmpty : Type 0
 GroupsBeginEmpty =
-    (wiring : Wiring) (unit : ℕ) → 3 ≤ unit → unit ≤ 34
-    → IsReady (counter_at_start wiring unit)
-    × (held_by (counter_at_start wiring unit) ≡ record { number = 0; latch = false })
+    (unit : ℕ) → 3 ≤ unit → unit ≤ 34
+    → IsReady (counter_at_start unit)
+    × (held_by (counter_at_start unit) ≡ record { number = 0; latch = false })
 
 -- The digits of a group are those of its number, and so are the rows at which its exits show them. No other hub shows any.
 pub record ShowsItsNumber (counter : Counter) : Type 0 where

@@ -3,7 +3,8 @@
 ghost use Rattle.counter_cycles.specs.Laws.{DigitsAndNumbers, EverythingCanBeAsked, GroupsBeginEmpty, GroupsDoWhatIsAsked, GroupsShowTheirDigits, TopWheelsAtNine};
 
 /// Whatever is asked of a group in a cycle, to add or subtract only a number that has room in it, it then holds the number and
-/// the balance latch that this leaves, and is ready for the next cycle. What comes at its entries without plus and minus doesn't matter.
+/// the balance latch that this leaves, as a ring where a carry comes round and without one where none comes in, and is ready for
+/// the next cycle. What comes at its entries without plus and minus doesn't matter.
 pub fn groups_do_what_is_asked()
     ensures { GroupsDoWhatIsAsked }
 {}

@@ -1,10 +1,10 @@
 -- The carry through wheels, step by step.
 use Rattle.std.proofs.Common.{◌≡◌, ◌∙◌, refl, sym, ap, ℕ, zero, suc, ◌+◌, ◌<◌, ◌==◌, ◌&&◌, ◌||◌, ◌⊎◌, inl, inr, Bool, true, false, List, [], ◌∷◌, ◌++◌, length, take, drop, get_or, arith}
-use Rattle.std.proofs.lemmas.Bool.{false≢true}
+use Rattle.std.proofs.lemmas.Bool.{and_from, and_parts, false≢true, or_cases, or_left, or_right}
 use Rattle.std.proofs.lemmas.Bool.Decides.{nat_tests}
 use Rattle.std.proofs.lemmas.List.{take-append-drop}
-use Rattle.counters.specs.Places.{GetsCarry, FollowsCarryRule, wheel_at, wheels_below}
-use Rattle.counters.specs.Wheels.{passes, stands, stepped, carries_out, carries_in, turned, turned_round}
+use Rattle.counters.specs.Places.{FollowsSteps, GetsCarry, PassOn, RingsFollowCarryRule, WheelsFollowCarryRule, wheel_at, wheels_below}
+use Rattle.counters.specs.Wheels.{all_nines, passes, stands, stepped, carries_out, carries_in, turned, turned_round}
 use Rattle.counters.specs.declared.wheel.Wheel.{Wheel}
 
 -- as many digits as wheels
@@ -18,6 +18,26 @@ pub carries_out-append : (upper lower : List Wheel) (carry : Bool)
 carries_out-append [] lower carry = refl
 carries_out-append (w ∷ upper) lower carry =
     ap (λ b. passes w || ((stands w == 9) && b)) (carries_out-append upper lower carry)
+
+-- the digits of two rows of wheels through which a carry goes
+pub turned-append : (upper lower : List Wheel) (carry : Bool)
+    → turned (upper ++ lower) carry ≡ turned upper (carries_out lower carry) ++ turned lower carry
+turned-append [] lower carry = refl
+turned-append (w ∷ upper) lower carry =
+    ap (λ b. stepped w b ∷ turned (upper ++ lower) carry) (carries_out-append upper lower carry)
+    ∙ ap (λ ds. stepped w (carries_out upper (carries_out lower carry)) ∷ ds) (turned-append upper lower carry)
+
+-- A carry leaves the top where one leaves it anyway, or where one comes in and all wheels stand at 9.
+pub carries_out-split : (ws : List Wheel) (carry : Bool)
+    → carries_out ws carry ≡ (carries_out ws false || (all_nines ws && carry))
+carries_out-split [] carry = refl
+carries_out-split (w ∷ ws) carry =
+    split (passes w) (stands w == 9) (carries_out ws false) (all_nines ws) carry (carries_out-split ws carry)
+  where
+    split : (p n a b c : Bool) {d : Bool} → d ≡ (a || (b && c)) → (p || (n && d)) ≡ ((p || (n && a)) || ((n && b) && c))
+    split true n a b c e = refl
+    split false true a b c e = e
+    split false false a b c e = refl
 
 -- Wheels pass a carry on as it comes, or what leaves them doesn't hang on it.
 passes_on : (p n : Bool) (below : Bool → Bool)
@@ -108,25 +128,70 @@ pub rule-from_carry : (ws : List Wheel) → carries_out ws false ≡ true → Ge
 rule-from_carry [] carry = absurd (false≢true carry)
 rule-from_carry (w ∷ ws) carry = further w ws (rule-from_carry ws) (passes w) refl carry
 
--- the wheels turn by the rule
-pub turned_round-rule : (is_ring : Bool) (ws : List Wheel) → FollowsCarryRule is_ring ws (turned_round is_ring ws)
-turned_round-rule is_ring ws = record {
-  as_many = length-turned ws (carries_in is_ring ws);
-  carried = λ place within gets.
-      at place within
-      ∙ ap (stepped (wheel_at ws place)) (carry-from_rule (wheels_below is_ring ws place) gets.from gets.within gets.passed gets.between);
-  others = λ place within none. at place within ∙ ap (stepped (wheel_at ws place)) (off (wheels_below is_ring ws place) none);
+-- all wheels stand at 9 where each of them does
+pub all_nines-places : (ws : List Wheel) → ((place : ℕ) → place < length ws → stands (wheel_at ws place) ≡ 9) → all_nines ws ≡ true
+all_nines-places [] nines = refl
+all_nines-places (w ∷ ws) nines =
+    and_from (stands w == 9) (all_nines ws) (by (nines 0 (omega arith)))
+    (all_nines-places ws (λ place within. nines (suc place) (omega (arith, within))))
+  where
+    by : {n : ℕ} → n ≡ 9 → (n == 9) ≡ true
+    by e = grind (arith, nat_tests, e)
+
+pub places-all_nines : (ws : List Wheel) → all_nines ws ≡ true → (place : ℕ) → place < length ws → stands (wheel_at ws place) ≡ 9
+places-all_nines [] all place within = absurd (omega (arith, within))
+places-all_nines (w ∷ ws) all zero within = by (and_parts (stands w == 9) (all_nines ws) all).0
+  where
+    by : {n : ℕ} → (n == 9) ≡ true → n ≡ 9
+    by e = grind (arith, nat_tests, e)
+places-all_nines (w ∷ ws) all (suc place) within =
+    places-all_nines ws (and_parts (stands w == 9) (all_nines ws) all).1 place (omega (arith, within))
+
+-- digits follow where a test tells which places get a step
+follows : (Gets : ℕ → Type 0) (gets : ℕ → Bool) (ws : List Wheel) (digits : List ℕ) → length digits ≡ length ws
+    → ((place : ℕ) → place < length ws → get_or digits place 0 ≡ stepped (wheel_at ws place) (gets place))
+    → ((place : ℕ) → Gets place → gets place ≡ true) → ((place : ℕ) → gets place ≡ true → Gets place)
+    → FollowsSteps Gets ws digits
+follows Gets gets ws digits long at there back = record {
+  as_many = long;
+  stepped = λ place within got. at place within ∙ ap (stepped (wheel_at ws place)) (there place got);
+  others = λ place within none. at place within ∙ ap (stepped (wheel_at ws place)) (off place none (gets place) refl);
 }
   where
-    at : (place : ℕ) → place < length ws
-        → get_or (turned_round is_ring ws) place 0 ≡ stepped (wheel_at ws place) (carries_out (wheels_below is_ring ws place) false)
-    at place within =
-        turned-at ws (carries_in is_ring ws) place within
-        ∙ ap (stepped (wheel_at ws place)) (comes_from_below is_ring ws place)
+    off : (place : ℕ) → ¬ Gets place → (b : Bool) → gets place ≡ b → gets place ≡ false
+    off place none true e = absurd (none (back place e))
+    off place none false e = e
 
-    off : (below : List Wheel) → ¬ GetsCarry below → carries_out below false ≡ false
-    off below none = by (carries_out below false) refl
-      where
-        by : (b : Bool) → carries_out below false ≡ b → b ≡ false
-        by true e = absurd (none (rule-from_carry below e))
-        by false e = refl
+-- the wheels of a group turn by the rule
+pub turned-rule : WheelsFollowCarryRule
+turned-rule carry ws =
+    follows (λ place. GetsCarry (drop (place + 1) ws) ⊎ PassOn carry (drop (place + 1) ws)) (λ place. carries_out (drop (place + 1) ws) carry)
+    ws (turned ws carry) (length-turned ws carry) (λ place within. turned-at ws carry place within)
+    (λ place. on (drop (place + 1) ws)) (λ place. back (drop (place + 1) ws))
+  where
+    on : (below : List Wheel) → GetsCarry below ⊎ PassOn carry below → carries_out below carry ≡ true
+    on below (inl gets) =
+        carries_out-split below carry
+        ∙ or_left (carries_out below false) _ (carry-from_rule below gets.from gets.within gets.passed gets.between)
+    on below (inr pass) =
+        carries_out-split below carry
+        ∙ or_right (carries_out below false) _ (and_from (all_nines below) carry (all_nines-places below pass.nines) pass.came)
+
+    back : (below : List Wheel) → carries_out below carry ≡ true → GetsCarry below ⊎ PassOn carry below
+    back below out =
+        elim (or_cases (carries_out below false) (all_nines below && carry) (sym (carries_out-split below carry) ∙ out)) [
+          | inl anyway ↦ inl (rule-from_carry below anyway)
+          | inr passed ↦
+              let both = and_parts (all_nines below) carry passed in
+              inr (record { came = both.1; nines = places-all_nines below both.0 })
+        ]
+
+-- the wheels of a ring turn by the rule of its order
+pub turned_round-rule : RingsFollowCarryRule
+turned_round-rule is_ring ws =
+    follows (λ place. GetsCarry (wheels_below is_ring ws place)) (λ place. carries_out (wheels_below is_ring ws place) false)
+    ws (turned_round is_ring ws) (length-turned ws (carries_in is_ring ws))
+    (λ place within.
+    turned-at ws (carries_in is_ring ws) place within ∙ ap (stepped (wheel_at ws place)) (comes_from_below is_ring ws place))
+    (λ place gets. carry-from_rule (wheels_below is_ring ws place) gets.from gets.within gets.passed gets.between)
+    (λ place. rule-from_carry (wheels_below is_ring ws place))

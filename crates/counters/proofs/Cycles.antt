@@ -1,14 +1,15 @@
 -- A counter cycle as a sum of numbers.
-use Rattle.std.proofs.Common.{◌≡◌, ◌∙◌, refl, sym, ap, ℕ, suc, ◌+◌, ◌-◌, ◌*◌, ◌^◌, ◌≤◌, Bool, true, false, List, [], ◌∷◌, All, length, map, arith, if◌then◌else◌}
+use Rattle.std.proofs.Common.{◌≡◌, ◌∙◌, refl, sym, ap, subst, ℕ, suc, ◌+◌, ◌-◌, ◌*◌, ◌^◌, ◌≤◌, Bool, true, false, List, [], ◌∷◌, All, length, map, arith, if◌then◌else◌}
 use Rattle.std.proofs.lemmas.List.{length-map, map-id}
 use Rattle.std.proofs.lemmas.List.Elements.{All-cons, All-head, All-nil, All-tail}
 use Rattle.std.proofs.Math.Nat.{pow-succ'}
-use Rattle.counters.specs.Counters.{base_of, advance_of, wheel_of, wheels_of}
-use Rattle.counters.specs.Laws.{CyclesAreSums, IsDigit, IsWheel}
+use Rattle.counters.specs.Counters.{base_of, advance_of, counter_ended, wheel_of, wheels_in, wheels_of}
+use Rattle.counters.specs.Laws.{CyclesAreSums, IsDigit, IsWheel, SumsAreLeft, carry_number}
 use Rattle.counters.specs.Numbers.{number, start_number, added_number, left_number}
+use Rattle.counters.specs.Wheels.{carries_out, turned, turned_round}
 use Rattle.counters.specs.declared.controls.Controls.{Controls}
 use Rattle.counters.specs.declared.wheel.Wheel.{Wheel}
-use Rattle.counters.proofs.Sums.{turned_round-number}
+use Rattle.counters.proofs.Sums.{turned-sum, turned_round-number}
 
 -- as many wheels as digits
 pub length-wheels_of : (controls : Controls) (digits entered : List ℕ) → length digits ≡ length entered
@@ -82,23 +83,65 @@ number-advances true p ds all = omega (arith, complement ds all)
 number-advances false true ds all = ap number (map-id ds)
 number-advances false false ds all = number-zeros ds
 
+-- what wheels start from and advance by, as numbers
+pub start-number : (controls : Controls) (digits entered : List ℕ) → length digits ≡ length entered
+    → number (map (λ (wheel : Wheel). wheel.base) (wheels_of controls digits entered)) ≡ start_number controls (number digits)
+start-number controls digits entered same =
+    ap number (map-bases controls digits entered same) ∙ number-bases controls.read_out digits
+
+pub added-number : (controls : Controls) (digits entered : List ℕ) → length digits ≡ length entered → All IsDigit entered
+    → number (map (λ (wheel : Wheel). wheel.advance) (wheels_of controls digits entered))
+    ≡ added_number controls (10 ^ length digits) (number entered)
+added-number controls digits entered same all =
+    ap number (map-advances controls digits entered same)
+    ∙ number-advances controls.minus controls.plus entered all
+    ∙ ap (λ n. added_number controls (10 ^ n) (number entered)) (sym same)
+
+-- what wheels start from and advance by together
+wheels-sum : (controls : Controls) (digits entered : List ℕ) → length digits ≡ length entered → All IsDigit entered
+    → number (map (λ (wheel : Wheel). wheel.base) (wheels_of controls digits entered))
+    + number (map (λ (wheel : Wheel). wheel.advance) (wheels_of controls digits entered))
+    ≡ start_number controls (number digits) + added_number controls (10 ^ length digits) (number entered)
+wheels-sum controls digits entered same all =
+    ap (λ n. n + number (map (λ (wheel : Wheel). wheel.advance) (wheels_of controls digits entered))) (start-number controls digits entered same)
+    ∙ ap (λ n. start_number controls (number digits) + n) (added-number controls digits entered same all)
+
+-- digits through a cycle, with the carry that comes in and the one that goes out
+pub digits-sum : (controls : Controls) (digits entered : List ℕ) (carry : Bool) → length digits ≡ length entered
+    → All IsDigit digits → All IsDigit entered
+    → number (turned (wheels_of controls digits entered) carry)
+    + carry_number (carries_out (wheels_of controls digits entered) carry) * 10 ^ length digits
+    ≡ start_number controls (number digits) + added_number controls (10 ^ length digits) (number entered) + carry_number carry
+digits-sum controls digits entered carry same all others =
+    let wheels = wheels_of controls digits entered in
+    ap (λ n. number (turned wheels carry) + carry_number (carries_out wheels carry) * 10 ^ n) (sym (length-wheels_of controls digits entered same))
+    ∙ turned-sum wheels carry (wheels_of-IsWheel controls digits entered all others)
+    ∙ ap (λ n. n + carry_number carry) (wheels-sum controls digits entered same others)
+
+-- digits through a cycle in a ring or without one
+pub digits-left : (is_ring : Bool) (controls : Controls) (digits entered : List ℕ) → length digits ≡ length entered
+    → All IsDigit digits → All IsDigit entered
+    → number (turned_round is_ring (wheels_of controls digits entered))
+    ≡ left_number is_ring (10 ^ length digits)
+    (start_number controls (number digits) + added_number controls (10 ^ length digits) (number entered))
+digits-left is_ring controls digits entered same all others =
+    let wheels = wheels_of controls digits entered in
+    let sum = start_number controls (number digits) + added_number controls (10 ^ length digits) (number entered) in
+    turned_round-number is_ring wheels sum (wheels_of-IsWheel controls digits entered all others) (wheels-sum controls digits entered same others)
+    ∙ ap (λ n. left_number is_ring (10 ^ n) sum) (length-wheels_of controls digits entered same)
+
 -- the sum of a cycle
-pub ended-number : CyclesAreSums
-ended-number counter cycle is =
-    let controls = counter.controls in
-    let wheels = wheels_of controls counter.digits counter.entered in
-    let as_many : length counter.digits ≡ length counter.entered = is.positions ∙ sym is.entries in
-    let long : length wheels ≡ counter.name.width = length-wheels_of controls counter.digits counter.entered as_many ∙ is.positions in
-    let bases : number (map (λ (wheel : Wheel). wheel.base) wheels) ≡ start_number controls (number counter.digits)
-    = ap number (map-bases controls counter.digits counter.entered as_many) ∙ number-bases controls.read_out counter.digits in
-    let advances : number (map (λ (wheel : Wheel). wheel.advance) wheels)
-    ≡ added_number controls (10 ^ counter.name.width) (number counter.entered)
-    = ap number (map-advances controls counter.digits counter.entered as_many)
-    ∙ number-advances controls.minus controls.plus counter.entered is.entered
-    ∙ ap (λ n. added_number controls (10 ^ n) (number counter.entered)) is.entries in
-    let sum = start_number controls (number counter.digits)
-    + added_number controls (10 ^ counter.name.width) (number counter.entered) in
-    turned_round-number counter.is_ring wheels sum (wheels_of-IsWheel controls counter.digits counter.entered is.digits is.entered)
-    (ap (λ n. n + number (map (λ (wheel : Wheel). wheel.advance) wheels)) bases
-    ∙ ap (λ n. start_number controls (number counter.digits) + n) advances)
-    ∙ ap (λ n. left_number counter.is_ring (10 ^ n) sum) long
+pub ended-sum : CyclesAreSums
+ended-sum counter cycle is =
+    subst (λ (n : ℕ). number (counter_ended counter cycle).digits + carry_number (carries_out (wheels_in counter) counter.carry) * 10 ^ n
+    ≡ start_number counter.controls (number counter.digits) + added_number counter.controls (10 ^ n) (number counter.entered)
+    + carry_number counter.carry) is.positions
+    (digits-sum counter.controls counter.digits counter.entered counter.carry (is.positions ∙ sym is.entries) is.digits is.entered)
+
+-- what is left of it
+pub ended-left : SumsAreLeft
+ended-left is_ring counter cycle is carry =
+    ap (λ b. number (turned (wheels_in counter) b)) carry
+    ∙ digits-left is_ring counter.controls counter.digits counter.entered (is.positions ∙ sym is.entries) is.digits is.entered
+    ∙ ap (λ n. left_number is_ring (10 ^ n) (start_number counter.controls (number counter.digits)
+    + added_number counter.controls (10 ^ n) (number counter.entered))) is.positions

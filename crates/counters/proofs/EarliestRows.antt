@@ -8,7 +8,7 @@ use Rattle.card_code.specs.declared.row.Row.{Row as CardRow}
 use Rattle.card_code.specs.declared.row.Row.TheVariants.{Zero, Eleven, Twelve}
 use Rattle.hubs.specs.declared.hub.Group.{Group}
 use Rattle.hubs.specs.declared.hub.Hub.{Hub}
-use Rattle.hubs.specs.declared.hub.Hub.TheVariants.{GE}
+use Rattle.hubs.specs.declared.hub.Hub.TheVariants.{CI, GE}
 use Rattle.net.specs.Cycles.{points}
 use Rattle.net.specs.WholeCycles.{after_points}
 use Rattle.net.specs.declared.cycle.Cycle.{Cycle}
@@ -17,9 +17,9 @@ use Rattle.net.specs.declared.cycle.Point.TheVariants.{C, K, Row}
 use Rattle.counters.specs.Counters.{Counter, all_taken, controls_of, counter_sensed, taken, takes}
 use Rattle.counters.specs.Laws.{IsCounter}
 use Rattle.counters.specs.Numbers.{added_number, left_number, number, start_number}
-use Rattle.counters.specs.WholeCycles.{EarliestRowsAreEntered, digit_given, digit_rows, digits_given, first_digit, listed}
+use Rattle.counters.specs.WholeCycles.{EarliestRowsAreEntered, after_its_points, digit_given, digit_rows, digits_given, first_digit, listed}
 use Rattle.counters.specs.declared.controls.Controls.{Controls}
-use Rattle.counters.proofs.Cycles.{ended-number}
+use Rattle.counters.proofs.Cycles.{ended-left}
 use Rattle.counters.proofs.ListedDigits.{all_taken-listed, listed-same, zeros-listed}
 use Rattle.counters.proofs.Staying.{counters-stay}
 
@@ -37,7 +37,10 @@ rows_taken controls name pictures (row ∷ others) entered =
 -- a group behind some rows has entered what they give, and no more
 after_rows : (cycle : Cycle) (pictures : Point → Hub → Bool) (some : List CardRow) (counter : Counter)
     → after_points counter_sensed cycle pictures (map Row some ++ (K ∷ [])) counter
-    ≡ record counter { entered = rows_taken counter.controls counter.name pictures some counter.entered }
+    ≡ record counter {
+      entered = rows_taken counter.controls counter.name pictures some counter.entered;
+      carry = pictures K (CI counter.name);
+    }
 after_rows cycle pictures [] counter = refl
 after_rows cycle pictures (first ∷ others) counter =
     after_rows cycle pictures others (counter_sensed counter cycle (Row first) (pictures (Row first)))
@@ -151,7 +154,7 @@ earliest-entered counter cycle pictures is none =
     let controls = controls_of counter.name (pictures C) in
     let digits = digits_given counter.name pictures in
     let power = 10 ^ counter.name.width in
-    let behind = after_points counter_sensed cycle pictures points counter in
+    let behind = after_its_points cycle pictures counter in
     let all = after_rows cycle pictures rows (record counter { controls = controls }) in
     let taken = rows_taken-all controls counter.name pictures counter.entered none in
     let entered : behind.entered ≡ (if controls.plus || controls.minus then digits else counter.entered)
@@ -159,10 +162,11 @@ earliest-entered counter cycle pictures is none =
     record {
       controlled = refl;
       entered = entered;
-      number =
-          ended-number behind cycle (points-stay cycle pictures points counter is)
-          ∙ ap (λ ds. left_number counter.is_ring power (start_number controls (number counter.digits) + added_number controls power (number ds)))
+      carry = ap (λ (c : Counter). c.carry) all;
+      number = λ is_ring round.
+          ended-left is_ring behind cycle (points-stay cycle pictures points counter is) (ap (λ (c : Counter). c.carry) all ∙ round)
+          ∙ ap (λ ds. left_number is_ring power (start_number controls (number counter.digits) + added_number controls power (number ds)))
           entered
-          ∙ ap (λ n. left_number counter.is_ring power (start_number controls (number counter.digits) + n))
+          ∙ ap (λ n. left_number is_ring power (start_number controls (number counter.digits) + n))
           (added-same controls.minus controls.plus power digits counter.entered);
     }

@@ -1,10 +1,10 @@
 -- Without plus, minus and read-out nothing turns.
-use Rattle.std.proofs.Common.{◌≡◌, ◌∙◌, refl, sym, ap, ℕ, ◌≤◌, ◌==◌, ◌&&◌, ◌||◌, Bool, true, false, List, [], ◌∷◌, All, length, arith}
+use Rattle.std.proofs.Common.{◌≡◌, ◌∙◌, refl, sym, ap, ℕ, ◌≤◌, ◌==◌, ◌&&◌, ◌||◌, Bool, false, List, [], ◌∷◌, All, length, arith}
 use Rattle.std.proofs.lemmas.Bool.Decides.{nat_tests}
 use Rattle.std.proofs.lemmas.List.Elements.{All-head, All-tail}
 use Rattle.counters.specs.Counters.{wheel_of, wheels_of}
 use Rattle.counters.specs.Laws.{IsDigit}
-use Rattle.counters.specs.Wheels.{passes, stands, stepped, carries_out, turned, turned_round}
+use Rattle.counters.specs.Wheels.{passes, stands, stepped, carries_out, turned}
 use Rattle.counters.specs.declared.controls.Controls.{Controls}
 
 -- a wheel that starts from its digit and doesn't advance
@@ -36,11 +36,8 @@ idle-turned controls (d ∷ ds) (e ∷ es) read minus plus all same =
     ∙ ap (λ k. k ∷ turned (wheels_of controls ds es) false) (rests controls d e read minus plus (All-head IsDigit d ds all)).0
     ∙ ap (λ ks. d ∷ ks) (idle-turned controls ds es read minus plus (All-tail IsDigit d ds all) (omega (arith, same)))
 
--- a group in whose cycle nothing turns keeps its digits
-pub idle-round : (is_ring : Bool) (controls : Controls) (ds es : List ℕ)
+-- the wheels of a group that rests turn back to its digits
+pub idle-turned_back : (controls : Controls) (ds es : List ℕ)
     → controls.read_out ≡ false → controls.minus ≡ false → controls.plus ≡ false → All IsDigit ds → length ds ≡ length es
-    → ds ≡ turned_round is_ring (wheels_of controls ds es)
-idle-round false controls ds es read minus plus all same = sym (idle-turned controls ds es read minus plus all same)
-idle-round true controls ds es read minus plus all same =
-    sym (ap (turned (wheels_of controls ds es)) (idle-carries_out controls ds es read minus plus all)
-    ∙ idle-turned controls ds es read minus plus all same)
+    → ds ≡ turned (wheels_of controls ds es) false
+idle-turned_back controls ds es read minus plus all same = sym (idle-turned controls ds es read minus plus all same)

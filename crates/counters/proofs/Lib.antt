@@ -8,6 +8,8 @@ pub mod NumberLemmas
 pub mod Staying
 pub mod TakenRows
 pub mod OwnHubs
+pub mod Pairs
+pub mod Rings
 pub mod ShownRows
 pub mod Starts
 pub mod Steps

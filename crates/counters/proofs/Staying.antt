@@ -12,7 +12,6 @@ use Rattle.net.specs.declared.cycle.Point.{Point}
 use Rattle.net.specs.declared.cycle.Point.TheVariants.{C, Row, K}
 use Rattle.counters.specs.Counters.{Counter, counter_sensed, all_taken, takes, wheels_of, width_of}
 use Rattle.counters.specs.Laws.{CountersStay, IsCounter, IsDigit}
-use Rattle.counters.specs.Wheels.{carries_in}
 use Rattle.counters.proofs.Carries.{length-turned}
 use Rattle.counters.proofs.Cycles.{length-wheels_of}
 use Rattle.counters.proofs.Steps.{taken-digit}
@@ -65,7 +64,14 @@ stays counter cycle (Row row) picture is =
           entered-digits on (row_number row) impulsed counter.entered
           (row_of_takes (counter.controls.plus || counter.controls.minus) (row_number row)) is.entered;
     }
-stays counter cycle K picture is = is
+stays counter cycle K picture is = record {
+  width = is.width;
+  named = is.named;
+  positions = is.positions;
+  entries = is.entries;
+  digits = is.digits;
+  entered = is.entered;
+}
 
 begins : (unit : ℕ) → 3 ≤ unit → unit ≤ 34 → is_width (width_of unit) ≡ true
 begins unit from to = grind (arith, nat_tests)
@@ -73,7 +79,7 @@ begins unit from to = grind (arith, nat_tests)
 -- a group begins as one, and stays one
 pub counters-stay : CountersStay
 counters-stay = record {
-  start = λ wiring unit from to. record {
+  start = λ unit from to. record {
     width = begins unit from to;
     named = grind (arith, nat_tests);
     positions = length-replicate (width_of unit) 0;
@@ -89,10 +95,10 @@ counters-stay = record {
         width = is.width;
         named = is.named;
         positions =
-            length-turned wheels (carries_in counter.is_ring wheels)
+            length-turned wheels counter.carry
             ∙ length-wheels_of controls counter.digits counter.entered (is.positions ∙ sym is.entries) ∙ is.positions;
         entries = length-replicate counter.name.width 0;
-        digits = turned-digits wheels (carries_in counter.is_ring wheels);
+        digits = turned-digits wheels counter.carry;
         entered = All-replicate IsDigit counter.name.width 0 (omega arith);
       };
 }

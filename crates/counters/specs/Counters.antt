@@ -1,30 +1,32 @@
 -- A counter group as a unit. Under read-out each position emits its digit, and the group then holds only what it
 -- enters in that cycle. Under plus each wheel advances by the digit entered, under minus by what that digit lacks of
--- 9; minus rules over plus. Carries follow. Under balance test the latch tells whether the top wheel stands at 9 in
--- the end.
+-- 9; minus rules over plus. Carries follow at the closing point: one that leaves the top is emitted at the carry exit, one at
+-- the carry entry comes in at the units, under whatever controls, and while all wheels stand at 9 a contact leads from the carry
+-- entry to the carry exit. Under balance test the latch tells whether the top wheel stands at 9 in the end.
 use Rattle.std.specs.Prelude.{ℕ, ◌+◌, ◌-◌, ◌%◌, ◌==◌, ◌&&◌, ◌||◌, not, nat_le, nat_lt, Bool, false, List, [], ◌∷◌, length, replicate, if◌then◌else◌}
 use Rattle.card_code.specs.Rows.{row_number}
 use Rattle.hub_table.specs.Ranges.{is_within}
-use Rattle.setups.specs.Wiring.{Wiring, is_wired}
 use Rattle.hubs.specs.declared.hub.Group.{Group}
 use Rattle.hubs.specs.declared.hub.Hub.{Hub}
 use Rattle.hubs.specs.declared.hub.Hub.TheVariants.{GX, CO, BAN, BAT, GE, PL, MI, RO, BT, CI}
+use Rattle.net.specs.Cycles.{is_closing}
 use Rattle.net.specs.HubSets.{is_hub}
 use Rattle.net.specs.Panel.{unit_of}
 use Rattle.net.specs.declared.cycle.Cycle.{Cycle}
 use Rattle.net.specs.declared.cycle.Point.{Point}
 use Rattle.net.specs.declared.cycle.Point.TheVariants.{C, Row, K}
-use Rattle.counters.specs.Wheels.{turned_round}
+use Rattle.counters.specs.Wheels.{all_nines, carries_out, turned}
 use Rattle.counters.specs.declared.controls.Controls.{Controls}
 use Rattle.counters.specs.declared.wheel.Wheel.{Wheel}
 
 -- A counter group. Digits and entered digits are given by position, the top one first; the units are last. An entered
--- digit is 0 where nothing was entered. The controls are those of the cycle that runs.
+-- digit is 0 where nothing was entered. The controls are those of the cycle that runs, and so is the carry, which tells whether
+-- one came in at the units.
 pub record Counter : Type 0 where
   pub name : Group
   pub digits : List ℕ
   pub entered : List ℕ
-  pub is_ring : Bool
+  pub carry : Bool
   pub controls : Controls
   pub latch : Bool
 
@@ -41,21 +43,19 @@ abbrev pub group_of_unit : ℕ → Group
 group_of_unit unit = record { width = width_of unit; number = (unit - 3) % 8 + 1 }
 
 -- at the start all wheels stand at 0 and the latch is reset
-abbrev pub counter_of : Group → Bool → Counter
-counter_of name is_ring = record {
+abbrev pub counter_of : Group → Counter
+counter_of name = record {
   name = name;
   digits = replicate name.width 0;
   entered = replicate name.width 0;
-  is_ring = is_ring;
+  carry = false;
   controls = no_controls;
   latch = false;
 }
 
--- the group at the start, by the setup and its unit: its wheels form a ring where its carry exit is wired to its
--- carry entry
-abbrev pub counter_at_start : Wiring → ℕ → Counter
-counter_at_start wiring unit =
-    counter_of (group_of_unit unit) (is_wired wiring (CO (group_of_unit unit)) (CI (group_of_unit unit)))
+-- the group at the start, by its unit
+abbrev pub counter_at_start : ℕ → Counter
+counter_at_start unit = counter_of (group_of_unit unit)
 
 -- the unit of a group
 abbrev pub counter_number : Counter → ℕ
@@ -67,22 +67,48 @@ shows name given [] hub = false
 shows name given (digit ∷ below) hub =
     ((digit == given) && is_hub (GX name (length below + 1)) hub) || shows name given below hub
 
--- Under read-out each position emits at the row of its digit, as it stood at the start of the cycle.
+-- the digit from which a wheel starts: 0 under read-out
+abbrev pub base_of : Controls → ℕ → ℕ
+base_of controls digit = if controls.read_out then 0 else digit
+
+-- by how many steps a wheel advances for an entered digit: minus rules over plus
+abbrev pub advance_of : Controls → ℕ → ℕ
+advance_of controls entered = if controls.minus then 9 - entered else if controls.plus then entered else 0
+
+-- a wheel, by its digit and what was entered
+abbrev pub wheel_of : Controls → ℕ → ℕ → Wheel
+wheel_of controls digit entered = record { base = base_of controls digit; advance = advance_of controls entered }
+
+-- the wheels of a group, from the top down
+abbrev pub wheels_of : Controls → List ℕ → List ℕ → List Wheel
+wheels_of controls (digit ∷ digits) (entered ∷ others) =
+    wheel_of controls digit entered ∷ wheels_of controls digits others
+wheels_of controls digits entered = []
+
+-- the wheels of a group in the cycle that runs, by what was entered so far
+abbrev pub wheels_in : Counter → List Wheel
+wheels_in counter = wheels_of counter.controls counter.digits counter.entered
+
+-- Under read-out each position emits at the row of its digit, as it stood at the start of the cycle. At the closing point a
+-- carry that leaves the top is emitted, as the wheels make it by themselves.
 abbrev pub counter_emits : Counter → Cycle → Point → Hub → Bool
 counter_emits counter cycle C hub = false
 counter_emits counter cycle (Row row) hub =
     counter.controls.read_out && shows counter.name (row_number row) counter.digits hub
-counter_emits counter cycle K hub = false
+counter_emits counter cycle K hub = carries_out (wheels_in counter) false && is_hub (CO counter.name) hub
 
 -- whether a balance position, 1 to 4, is one of the group's own
 abbrev pub has_balance : Counter → Group → ℕ → Bool
 has_balance counter group position = (unit_of group == counter_number counter) && is_within position 4
 
 -- The contacts of the balance positions, at every point: the normal ones are closed while the latch is reset, the
--- transferred ones while it is set.
+-- transferred ones while it is set. And the contact from the carry entry to the carry exit, at the closing point: it is closed
+-- where all wheels stand at 9.
 abbrev pub counter_closes : Counter → Cycle → Point → Hub → Bool
 counter_closes counter cycle point (BAN group position) = has_balance counter group position && not counter.latch
 counter_closes counter cycle point (BAT group position) = has_balance counter group position && counter.latch
+counter_closes counter cycle point (CO group) =
+    is_closing point && ((unit_of group == counter_number counter) && all_nines (wheels_in counter))
 counter_closes counter cycle point other = false
 
 -- the controls that are impulsed
@@ -115,50 +141,31 @@ entered_after counter row picture =
     then all_taken row (λ position. picture (GE counter.name position)) counter.entered
     else counter.entered
 
--- Sensing a picture: the control point sets the controls of the cycle, the rows enter digits, and the closing point
--- changes nothing.
+-- Sensing a picture: the control point sets the controls of the cycle, the rows enter digits, and at the closing point a carry
+-- comes in where the carry entry is impulsed.
 abbrev pub counter_sensed : Counter → Cycle → Point → (Hub → Bool) → Counter
 counter_sensed counter cycle C picture = record counter { controls = controls_of counter.name picture }
 counter_sensed counter cycle (Row row) picture =
     record counter { entered = entered_after counter (row_number row) picture }
-counter_sensed counter cycle K picture = counter
-
--- the digit from which a wheel starts: 0 under read-out
-abbrev pub base_of : Controls → ℕ → ℕ
-base_of controls digit = if controls.read_out then 0 else digit
-
--- by how many steps a wheel advances for an entered digit: minus rules over plus
-abbrev pub advance_of : Controls → ℕ → ℕ
-advance_of controls entered = if controls.minus then 9 - entered else if controls.plus then entered else 0
-
--- a wheel, by its digit and what was entered
-abbrev pub wheel_of : Controls → ℕ → ℕ → Wheel
-wheel_of controls digit entered = record { base = base_of controls digit; advance = advance_of controls entered }
-
--- the wheels of a group, from the top down
-abbrev pub wheels_of : Controls → List ℕ → List ℕ → List Wheel
-wheels_of controls (digit ∷ digits) (entered ∷ others) =
-    wheel_of controls digit entered ∷ wheels_of controls digits others
-wheels_of controls digits entered = []
+counter_sensed counter cycle K picture = record counter { carry = picture (CI counter.name) }
 
 -- the digits of a group at the end of a cycle
 abbrev pub digits_ended : Counter → List ℕ
-digits_ended counter =
-    turned_round counter.is_ring (wheels_of counter.controls counter.digits counter.entered)
+digits_ended counter = turned (wheels_in counter) counter.carry
 
 -- whether the top wheel stands at 9
 abbrev pub top_is_nine : List ℕ → Bool
 top_is_nine [] = false
 top_is_nine (digit ∷ below) = digit == 9
 
--- At the end of a cycle the wheels have turned, the latch is set or reset under balance test, and entries and
+-- At the end of a cycle the wheels have turned, the latch is set or reset under balance test, and entries, the carry and
 -- controls are forgotten.
 abbrev pub counter_ended : Counter → Cycle → Counter
 counter_ended counter cycle = record {
   name = counter.name;
   digits = digits_ended counter;
   entered = replicate counter.name.width 0;
-  is_ring = counter.is_ring;
+  carry = false;
   controls = no_controls;
   latch = if counter.controls.test then top_is_nine (digits_ended counter) else counter.latch;
 }

@@ -11,7 +11,7 @@ counter_in group = record {
   name = group.name;
   digits = take group.name.width group.digits;
   entered = take group.name.width group.entered;
-  is_ring = group.is_ring;
+  carry = group.carry;
   controls = group.controls;
   latch = group.latch;
 }

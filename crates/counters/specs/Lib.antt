@@ -3,6 +3,7 @@ pub mod Fields
 pub mod Laws
 pub mod Numbers
 pub mod Places
+pub mod Rings
 pub mod Shown
 pub mod Wheels
 pub mod WholeCycles

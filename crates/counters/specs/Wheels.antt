@@ -1,7 +1,7 @@
 -- The wheels of a counter in a cycle, and their carry. A wheel starts from a digit and advances by so many steps. One
 -- that passes from 9 to 0 carries a step to the wheel above it, and one that stands at 9 passes on the step that it
 -- gets from below.
-use Rattle.std.specs.Prelude.{ℕ, ◌+◌, ◌%◌, ◌==◌, ◌&&◌, ◌||◌, nat_le, Bool, false, List, [], ◌∷◌, if◌then◌else◌}
+use Rattle.std.specs.Prelude.{ℕ, ◌+◌, ◌%◌, ◌==◌, ◌&&◌, ◌||◌, nat_le, Bool, true, false, List, [], ◌∷◌, if◌then◌else◌}
 use Rattle.counters.specs.declared.wheel.Wheel.{Wheel}
 
 -- whether a wheel passes from 9 to 0 by its own advance
@@ -21,6 +21,12 @@ abbrev pub carries_out : List Wheel → Bool → Bool
 carries_out [] carry = carry
 carries_out (wheel ∷ below) carry = passes wheel || ((stands wheel == 9) && carries_out below carry)
 
+-- Whether all wheels stand at 9 after their own advance, before any carry: a carry that comes in at the lowest then leaves the
+-- top.
+abbrev pub all_nines : List Wheel → Bool
+all_nines [] = true
+all_nines (wheel ∷ below) = (stands wheel == 9) && all_nines below
+
 -- the digits of the wheels in the end, where a carry comes in at the lowest or not
 abbrev pub turned : List Wheel → Bool → List ℕ
 turned [] carry = []
@@ -30,6 +36,6 @@ turned (wheel ∷ below) carry = stepped wheel (carries_out below carry) ∷ tur
 abbrev pub carries_in : Bool → List Wheel → Bool
 carries_in is_ring wheels = is_ring && carries_out wheels false
 
--- the digits of the wheels in the end, where nothing comes in from outside
+-- the digits of the wheels in the end, in a ring or where nothing comes in
 abbrev pub turned_round : Bool → List Wheel → List ℕ
 turned_round is_ring wheels = turned wheels (carries_in is_ring wheels)

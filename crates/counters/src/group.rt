@@ -5,10 +5,9 @@ ghost use Rattle.std.specs.Prelude.{◌≡◌, ◌≤◌};
 use crate::controls::Controls;
 use crate::digits::{Digits, from_units, number_of};
 use crate::sensing::{controls_of, show, take_row, takes};
-use crate::turn::{latch_after, turn_round};
+use crate::turn::{all_nines, carry_of, latch_after, turn_wheels};
 use hubs::Hub;
 use net::{Cycle, Picture, Point, Unit};
-use setups::Setup;
 use std::marker::Model;
 
 /// The most positions that a group has.
@@ -18,7 +17,9 @@ pub(crate) const PLACES: usize = 8;
 ///
 /// The controls that are impulsed at the control point hold for the cycle. Under plus or minus each position takes
 /// the earliest of the rows 9 to 1 at which it is impulsed; under read-out it emits its digit and starts from 0. At
-/// the end of the cycle the wheels turn, and their carries follow.
+/// the closing point it emits the carry that leaves its top at its carry exit, and takes a carry in at the units where its
+/// carry entry is impulsed, under whatever controls. While all its positions stand at 9 a contact leads there from the one to
+/// the other, so a carry that comes in goes on. At the end of the cycle the wheels turn, and their carries follow.
 #[derive(Drop)]
 pub struct Group {
     unit: u8,
@@ -26,7 +27,8 @@ pub struct Group {
     // By position, the top one first; the places behind the units stay as they are.
     digits: [u8; PLACES],
     entered: [u8; PLACES],
-    is_ring: bool,
+    // Whether a carry came in at the units, in the cycle that runs.
+    carry: bool,
     controls: Controls,
     latch: bool,
 }
@@ -45,16 +47,16 @@ impl Model for Group {
 
 impl Group {
     ghost use Rattle.std.specs.Prelude.{◌≡◌, ◌≤◌, reverse};
-    ghost use Rattle.counters.specs.Counters.{counter_at_start};
+    ghost use Rattle.counters.specs.Counters.{counter_at_start, wheels_in};
     ghost use Rattle.counters.specs.Numbers.{number};
+    ghost use Rattle.counters.specs.Wheels.{all_nines};
 
     /// The group that is a unit, 3 to 34, with all wheels at 0 and its latch reset: eight groups each of 3, 4, 6 and
-    /// 8 positions, in this order. Its wheels form a ring where the setup has the wire from its carry exit to its
-    /// carry entry.
-    pub fn new(unit: u8, setup: &Setup) -> Self
+    /// 8 positions, in this order.
+    pub fn new(unit: u8) -> Self
         requires from { 3 ≤ unit }
         requires to { unit ≤ 34 }
-        ensures { result ≡ counter_at_start setup.now unit }
+        ensures { result ≡ counter_at_start unit }
     {
         let name = group_of_unit(unit);
         Group {
@@ -62,7 +64,7 @@ impl Group {
             name,
             digits: [0; PLACES],
             entered: [0; PLACES],
-            is_ring: setup.has(Hub::CO(name), Hub::CI(name)),
+            carry: false,
             controls: Controls::none(),
             latch: false,
         }
@@ -80,6 +82,15 @@ impl Group {
         ensures { result ≡ reverse self.now.digits }
     {
         from_units(self.digits, self.name.width as usize)
+    }
+
+    /// Whether all its positions stand at 9: with the advance of the cycle that runs, by what was entered so far, and before any
+    /// carry. It answers the same before and after the closing point is sensed.
+    pub fn nines(&self) -> bool
+        ensures { result ≡ all_nines (wheels_in self.now) }
+    {
+        let width = self.name.width as usize;
+        all_nines(&self.digits[..width], &self.entered[..width], self.controls)
     }
 
     /// The balance latch.
@@ -123,14 +134,19 @@ impl Unit for Group {
     ghost number = { counter_number };
 
     fn emit(&self, _cycle: Cycle, point: Point, exits: &mut Picture) {
-        if let Point::Row(row) = point {
-            if self.controls.read_out {
-                show(
-                    &self.digits[..self.name.width as usize],
-                    self.name,
-                    row.number(),
-                    exits,
-                );
+        let width = self.name.width as usize;
+        match point {
+            Point::C => {}
+            Point::Row(row) => {
+                if self.controls.read_out {
+                    show(&self.digits[..width], self.name, row.number(), exits);
+                }
+            }
+            Point::K => {
+                let carry = carry_of(&self.digits[..width], &self.entered[..width], self.controls);
+                if carry {
+                    exits.insert(Hub::CO(self.name));
+                }
             }
         }
     }
@@ -146,23 +162,24 @@ impl Unit for Group {
                     take_row(&mut self.entered[..width], row, impulsed);
                 }
             }
-            Point::K => {}
+            Point::K => self.carry = picture.has(Hub::CI(self.name)),
         }
     }
 
     fn end_cycle(&mut self, _cycle: Cycle) {
         let width = self.name.width as usize;
         let controls = self.controls;
-        let is_ring = self.is_ring;
+        let carry = self.carry;
         let entered = self.entered;
-        turn_round(
+        turn_wheels(
             &mut self.digits[..width],
             &entered[..width],
             controls,
-            is_ring,
+            carry,
         );
         self.latch = latch_after(&self.digits[..width], controls, self.latch);
         self.entered = [0; PLACES];
+        self.carry = false;
         self.controls = Controls::none();
     }
 

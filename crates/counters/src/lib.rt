@@ -13,5 +13,6 @@ pub use digits::Digits;
 pub use group::Group;
 pub use laws::{
     carries_follow_the_rule, cycles_are_sums, earliest_rows_are_entered,
-    groups_keep_to_their_own_hubs, groups_stay_groups, turning_is_adding,
+    groups_keep_to_their_own_hubs, groups_stay_groups, pairs_are_counters, turning_is_adding,
+    wired_groups_are_rings, wired_pairs_are_coupled,
 };

@@ -1,26 +1,50 @@
-//! The end of a cycle of a counter group: its wheels turn, with their carries.
+//! The carries of a counter group at the closing point, and the end of its cycle: its wheels turn.
 
-ghost use Rattle.std.specs.Prelude.{◌≡◌, All, length, if◌then◌else◌};
+ghost use Rattle.std.specs.Prelude.{◌≡◌, All, false, length, if◌then◌else◌};
 ghost use Rattle.counters.specs.Counters.{top_is_nine, wheels_of};
 ghost use Rattle.counters.specs.Laws.{IsDigit};
-ghost use Rattle.counters.specs.Wheels.{carries_out, turned, turned_round};
+ghost use Rattle.counters.specs.Wheels.{all_nines, carries_out, turned};
 
 use crate::controls::Controls;
-use crate::wheel::{step, wheel_of};
+use crate::wheel::{stands_at_nine, step, wheel_of};
 
-// Turns the wheels of a group at the end of a cycle. In a ring the carry that leaves the top comes in at the units.
-// Where the group neither enters nor reads out nothing turns.
-pub(crate) fn turn_round(digits: &mut [u8], entered: &[u8], controls: Controls, is_ring: bool)
+// The carry that leaves the top of the wheels by themselves. Where the group neither enters nor reads out there is none.
+pub(crate) fn carry_of(digits: &[u8], entered: &[u8], controls: Controls) -> bool
+    requires as_many { length digits.now ≡ length entered.now }
+    requires digits { All IsDigit digits.now }
+    requires entered { All IsDigit entered.now }
+    ensures { result ≡ carries_out (wheels_of controls digits.now entered.now) false }
+{
+    !controls.rest() && carries_out(digits, entered, controls)
+}
+
+// Whether all wheels stand at 9 before any carry.
+pub(crate) fn all_nines(digits: &[u8], entered: &[u8], controls: Controls) -> bool
+    requires as_many { length digits.now ≡ length entered.now }
+    requires digits { All IsDigit digits.now }
+    requires entered { All IsDigit entered.now }
+    ensures { result ≡ all_nines (wheels_of controls digits.now entered.now) }
+{
+    for i in 0..digits.len() {
+        if !stands_at_nine(wheel_of(controls, digits[i], entered[i])) {
+            return false;
+        }
+    }
+    true
+}
+
+// Turns the wheels of a group at the end of a cycle. A carry that came in comes to the units. Where none did, and the group
+// neither enters nor reads out, nothing turns.
+pub(crate) fn turn_wheels(digits: &mut [u8], entered: &[u8], controls: Controls, carry: bool)
     requires as_many { length digits.old ≡ length entered.now }
     requires digits { All IsDigit digits.old }
     requires entered { All IsDigit entered.now }
-    ensures turned { digits.new ≡ turned_round is_ring (wheels_of controls digits.old entered.now) }
+    ensures turned { digits.new ≡ turned (wheels_of controls digits.old entered.now) carry }
     ensures digits { All IsDigit digits.new }
 {
-    if controls.rest() {
+    if controls.rest() && !carry {
         return;
     }
-    let carry = is_ring && carries_out(digits, entered, controls, false);
     turn(digits, entered, controls, carry);
 }
 
@@ -35,14 +59,14 @@ pub(crate) fn latch_after(digits: &[u8], controls: Controls, latch: bool) -> boo
     }
 }
 
-// Whether a carry leaves the top of the wheels, where one comes in at the lowest or not.
-fn carries_out(digits: &[u8], entered: &[u8], controls: Controls, carry: bool) -> bool
+// Whether a carry leaves the top of the wheels, where none comes in at the lowest.
+fn carries_out(digits: &[u8], entered: &[u8], controls: Controls) -> bool
     requires as_many { length digits.now ≡ length entered.now }
     requires digits { All IsDigit digits.now }
     requires entered { All IsDigit entered.now }
-    ensures { result ≡ carries_out (wheels_of controls digits.now entered.now) carry }
+    ensures { result ≡ carries_out (wheels_of controls digits.now entered.now) false }
 {
-    let mut out = carry;
+    let mut out = false;
     for i in (0..digits.len()).rev() {
         let (_, next) = step(wheel_of(controls, digits[i], entered[i]), out);
         out = next;

@@ -35,6 +35,14 @@ pub(crate) fn wheel_of(controls: Controls, digit: u8, entered: u8) -> Wheel
     }
 }
 
+// Whether a wheel stands at 9 after its own advance.
+pub(crate) fn stands_at_nine(wheel: Wheel) -> bool
+    requires { IsWheel wheel }
+    ensures { result ≡ (stands wheel == 9) }
+{
+    (wheel.base + wheel.advance) % 10 == 9
+}
+
 // Turns a wheel: its digit in the end, and whether it carries a step to the wheel above.
 pub(crate) fn step(wheel: Wheel, carry: bool) -> (u8, bool)
     requires { IsWheel wheel }

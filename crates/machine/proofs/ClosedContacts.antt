@@ -2,29 +2,31 @@
 use Rattle.std.proofs.Common.{◌≡◌, ℕ, zero, suc, ◌-◌, ◌<◌, ◌≤◌, ◌==◌, Bool, true, false, not, ◌&&◌, ◌||◌, nat_le, List, [], ◌∷◌, Option, Some, None, map, length, get_or, refl, sym, ap, ◌∙◌, arith, if◌then◌else◌}
 use Rattle.std.proofs.lemmas.Bool.Decides.{nat_tests}
 use Rattle.std.specs.List.{list_any}
-use Rattle.std.proofs.Math.Bool.{or-false}
+use Rattle.std.proofs.Math.Bool.{or-false, or-true}
 use Rattle.card_code.specs.declared.row.Row.{Row as CardRow}
 use Rattle.card_code.specs.declared.row.Row.TheVariants as rows
-use Rattle.counters.specs.Counters.{Counter, counter_number, counter_closes, counter_sensed}
+use Rattle.counters.specs.Counters.{Counter, counter_number, counter_closes, counter_sensed, wheels_in}
+use Rattle.counters.specs.Wheels.{all_nines}
 use Rattle.hub_table.specs.Places.{width_place, up_to, part_place}
 use Rattle.hub_table.specs.Ranges.{is_within}
 use Rattle.hub_table.proofs.PlaceLemmas.{width_place-range}
 use Rattle.hubs.specs.declared.hub.Group.{Group}
 use Rattle.hubs.specs.declared.hub.Hub.{Hub}
-use Rattle.hubs.specs.declared.hub.Hub.TheVariants.{BAN, BAT, PIN, PIT, CSD, CSZ}
+use Rattle.hubs.specs.declared.hub.Hub.TheVariants.{BAN, BAT, CO, PIN, PIT, CSD, CSZ}
+use Rattle.net.specs.Cycles.{is_closing}
 use Rattle.net.specs.Panel.{unit_of, unit_behind}
 use Rattle.net.specs.declared.cycle.Cycle.{Cycle}
 use Rattle.net.specs.HubSets.{GainsHubs, has_hub}
 use Rattle.net.specs.declared.cycle.Point.{Point}
 use Rattle.net.specs.declared.cycle.Point.TheVariants.{C, Row, K}
-use Rattle.selectors.specs.Contacts.{balance_closes, closed_contacts, steady_closes}
+use Rattle.selectors.specs.Contacts.{balance_closes, carry_closes, closed_contacts, is_nines, steady_closes}
 use Rattle.selectors.specs.Indicate.{indicate_closes}
 use Rattle.selectors.specs.Pilots.{PilotStates, pilots_closes, pilots_sensed}
 use Rattle.selectors.specs.Splits.{is_digit_row, split_closes}
 use Rattle.storage_units.specs.Storage.{storage_sensed}
 use Rattle.machine.specs.Fields.{AreInUnitOrder}
 use Rattle.machine.specs.Machine.{MachineState, closes, sensed, group_units}
-use Rattle.machine.specs.Steady.{latches_of, closed_at, AreSteady}
+use Rattle.machine.specs.Steady.{latches_of, nines_of, closed_at, AreSteady}
 use Rattle.machine.specs.declared.closed.Closed.{Closed}
 
 -- the numbers count up from k
@@ -89,12 +91,12 @@ latch-here u k within test latch latches = by (u == k) (nat_le (suc k) u) refl r
         rw reached refl
 
 -- of groups that are the units from k on, that of unit u alone answers for it
-any-at : (u k : ℕ) (within : Bool) (test : Bool → Bool) (groups : List Counter) → AreFrom k groups
-    → list_any (λ group. (u == counter_number group) && within && test group.latch) groups
-    ≡ (nat_le k u && within && tells_at test (latches_of groups) (u - k))
-any-at u k within test [] from = grind (arith, nat_tests)
-any-at u k within test (group ∷ groups) (is, from) =
-    rw (is, any-at u (suc k) within test groups from) (latch-here u k within test group.latch (latches_of groups))
+any-at : (told : Counter → Bool) (u k : ℕ) (within : Bool) (test : Bool → Bool) (groups : List Counter) → AreFrom k groups
+    → list_any (λ group. (u == counter_number group) && within && test (told group)) groups
+    ≡ (nat_le k u && within && tells_at test (map told groups) (u - k))
+any-at told u k within test [] from = grind (arith, nat_tests)
+any-at told u k within test (group ∷ groups) (is, from) =
+    rw (is, any-at told u (suc k) within test groups from) (latch-here u k within test (told group) (map told groups))
 
 tells_at-in : (test : Bool → Bool) (latches : List Bool) (place : ℕ) → place < length latches
     → tells_at test latches place ≡ test (get_or latches place false)
@@ -118,52 +120,82 @@ pub unit_of-last : (group : Group) → unit_of group < 35
 unit_of-last group =
     unit_of-place (width_place group.width) (up_to 8 group.number) (width_place-range group.width) (up_to-last 8 group.number)
 
-length-latches : (groups : List Counter) → length (latches_of groups) ≡ length groups
-length-latches [] = refl
-length-latches (group ∷ groups) = ap suc (length-latches groups)
+length-told : (told : Counter → Bool) (groups : List Counter) → length (map told groups) ≡ length groups
+length-told told [] = refl
+length-told told (group ∷ groups) = ap suc (length-told told groups)
 
--- what the latch of a group's unit tells
-latch-of : (groups : List Counter) (group : Group) (within : Bool) (test : Bool → Bool) → AreInUnitOrder groups
-    → list_any (λ g. (unit_of group == counter_number g) && within && test g.latch) groups
-    ≡ (nat_le 3 (unit_of group) && within && test (get_or (latches_of groups) (unit_of group - 3) false))
-latch-of groups group within test ordered =
+-- what the group of a unit tells
+told-of : (told : Counter → Bool) (groups : List Counter) (group : Group) (within : Bool) (test : Bool → Bool) → AreInUnitOrder groups
+    → list_any (λ g. (unit_of group == counter_number g) && within && test (told g)) groups
+    ≡ (nat_le 3 (unit_of group) && within && test (get_or (map told groups) (unit_of group - 3) false))
+told-of told groups group within test ordered =
     let from = are_from 3 groups group_units ordered group_units-up in
-    let long : length (latches_of groups) ≡ 32 = length-latches groups ∙ length-from groups group_units ordered in
+    let long : length (map told groups) ≡ 32 = length-told told groups ∙ length-from groups group_units ordered in
     let last = unit_of-last group in
-    any-at (unit_of group) 3 within test groups from
+    any-at told (unit_of group) 3 within test groups from
     ∙ ap (λ (b : Bool). nat_le 3 (unit_of group) && within && b)
-    (tells_at-in test (latches_of groups) (unit_of group - 3) (omega (arith, long, last)))
+    (tells_at-in test (map told groups) (unit_of group - 3) (omega (arith, long, last)))
 
 pub none-of : {X : Type 0} → (xs : List X) → list_any (λ x. false) xs ≡ false
 none-of [] = refl
 none-of (x ∷ xs) = none-of xs
 
--- the contacts of the balance positions
+-- tests that are the same of each thing
+any-same : {X : Type 0} → (one other : X → Bool) (xs : List X) → ((x : X) → one x ≡ other x) → list_any one xs ≡ list_any other xs
+any-same one other [] same = refl
+any-same one other (x ∷ xs) same = ap (λ b. b || list_any one xs) (same x) ∙ ap (λ b. other x || b) (any-same one other xs same)
+
+with_true : (a b : Bool) → (a && b) ≡ (a && true && b)
+with_true true b = refl
+with_true false b = refl
+
+-- what the group of a unit tells, as it is
+told : (tells : Counter → Bool) (groups : List Counter) (group : Group) → AreInUnitOrder groups
+    → list_any (λ g. (unit_of group == counter_number g) && tells g) groups
+    ≡ (nat_le 3 (unit_of group) && get_or (map tells groups) (unit_of group - 3) false)
+told tells groups group ordered =
+    any-same (λ g. (unit_of group == counter_number g) && tells g) (λ g. (unit_of group == counter_number g) && true && tells g) groups
+    (λ g. with_true (unit_of group == counter_number g) (tells g))
+    ∙ told-of tells groups group true (λ b. b) ordered
+    ∙ sym (with_true (nat_le 3 (unit_of group)) (get_or (map tells groups) (unit_of group - 3) false))
+
+-- a test before that of each thing
+any-and : {X : Type 0} → (first : Bool) (test : X → Bool) (xs : List X) → list_any (λ x. first && test x) xs ≡ (first && list_any test xs)
+any-and true test xs = refl
+any-and false test xs = none-of xs
+
+-- the contacts of the groups: those of their balance positions, and those of their carries
 groups-close : (groups : List Counter) (cycle : Cycle) (point : Point) (hub : Hub) → AreInUnitOrder groups
-    → list_any (λ group. counter_closes group cycle point hub) groups ≡ balance_closes (latches_of groups) hub
+    → list_any (λ group. counter_closes group cycle point hub) groups
+    ≡ (carry_closes point (nines_of groups) hub || balance_closes (latches_of groups) hub)
 groups-close groups cycle point (BAN group position) ordered =
-    latch-of groups group (is_within position 4) not ordered
+    told-of (λ g. g.latch) groups group (is_within position 4) not ordered
 groups-close groups cycle point (BAT group position) ordered =
-    latch-of groups group (is_within position 4) (λ latch. latch) ordered
+    told-of (λ g. g.latch) groups group (is_within position 4) (λ latch. latch) ordered
+groups-close groups cycle point (CO group) ordered =
+    any-and (is_closing point) (λ g. (unit_of group == counter_number g) && all_nines (wheels_in g)) groups
+    ∙ ap (λ b. is_closing point && b) (told (λ g. all_nines (wheels_in g)) groups group ordered)
+    ∙ sym (or-false _)
 groups-close groups cycle point other ordered = none-of groups
 
-joined : (balance pilots indicate splits : Bool)
-    → (balance || false || pilots || indicate || splits || false || false || false || false)
-    ≡ (balance || (pilots || (indicate || splits)))
-joined true pilots indicate splits = refl
-joined false true indicate splits = refl
-joined false false true splits = refl
-joined false false false true = refl
-joined false false false false = refl
+joined : (carry balance pilots indicate splits : Bool)
+    → ((carry || balance) || false || pilots || indicate || splits || false || false || false || false)
+    ≡ (carry || (balance || (pilots || (indicate || splits))))
+joined true balance pilots indicate splits = refl
+joined false true pilots indicate splits = refl
+joined false false true indicate splits = refl
+joined false false false true splits = refl
+joined false false false false true = refl
+joined false false false false false = refl
 
 -- all closed contacts
 pub closes-joined : (machine : MachineState) (cycle : Cycle) (point : Point) (hub : Hub) → AreInUnitOrder machine.groups
     → closes machine cycle point hub
-    ≡ closed_contacts cycle point machine.pilots machine.indicate (latches_of machine.groups) hub
+    ≡ closed_contacts cycle point machine.pilots machine.indicate (latches_of machine.groups) (nines_of machine.groups) hub
 closes-joined machine cycle point hub ordered =
     rw (groups-close machine.groups cycle point hub ordered, none-of machine.storage)
-    (joined (balance_closes (latches_of machine.groups) hub) (pilots_closes machine.pilots cycle point hub)
-    (indicate_closes machine.indicate cycle point hub) (split_closes point hub))
+    (joined (carry_closes point (nines_of machine.groups) hub) (balance_closes (latches_of machine.groups) hub)
+    (pilots_closes machine.pilots cycle point hub) (indicate_closes machine.indicate cycle point hub) (split_closes point hub))
 
 split_last : (a b c d : Bool) → ((a || (b || c)) || d) ≡ (a || (b || (c || d)))
 split_last true b c d = refl
@@ -192,16 +224,11 @@ pub steady-closed : (cycle : Cycle) (closed : Closed) (machine : MachineState) (
     → GainsHubs (split_closes (Row rows.Nine)) closed.steady closed.digits
     → GainsHubs (split_closes (Row rows.Twelve)) closed.steady closed.zones
     → AreSteady cycle closed machine
-steady-closed cycle closed machine latches ordered same is digits zones point hub = by point ∙ whole
+steady-closed cycle closed machine latches ordered same is digits zones point hub =
+    by point
+    ∙ ap (λ (b : Bool). b || split_closes point hub)
+    (is point hub ∙ ap (λ (ls : List Bool). steady_closes cycle point machine.pilots machine.indicate ls hub) same)
   where
-    whole : (has_hub closed.steady hub || split_closes point hub) ≡ closes machine cycle point hub
-    whole =
-        ap (λ (b : Bool). b || split_closes point hub)
-        (is point hub ∙ ap (λ (ls : List Bool). steady_closes cycle point machine.pilots machine.indicate ls hub) same)
-        ∙ split_last (balance_closes (latches_of machine.groups) hub) (pilots_closes machine.pilots cycle point hub)
-        (indicate_closes machine.indicate cycle point hub) (split_closes point hub)
-        ∙ sym (closes-joined machine cycle point hub ordered)
-
     at_row : (row : CardRow) (digit : Bool) → is_digit_row row ≡ digit
         → has_hub (if digit then closed.digits else closed.zones) hub ≡ (has_hub closed.steady hub || split_closes (Row row) hub)
     at_row row true is_digit =
@@ -214,12 +241,60 @@ steady-closed cycle closed machine latches ordered same is digits zones point hu
     by (Row row) = at_row row (is_digit_row row) refl
     by K = or-none (has_hub closed.steady hub)
 
--- What a unit senses in a cycle changes none of its contacts in it.
-counter-steady : (group : Counter) (cycle : Cycle) (at point : Point) (picture : Hub → Bool) (hub : Hub)
+-- With those of the carries they are all closed contacts, and before the closing point they are all.
+steady-first : (o a b c d : Bool) → (((a || (b || c)) || d) || o) ≡ (o || (a || (b || (c || d))))
+steady-first true a b c d = or-true ((a || (b || c)) || d)
+steady-first false a b c d = or-false ((a || (b || c)) || d) ∙ split_last a b c d
+
+pub closes-all : (cycle : Cycle) (closed : Closed) (machine : MachineState) (point : Point) (hub : Hub)
+    → AreInUnitOrder machine.groups → AreSteady cycle closed machine
+    → (has_hub (closed_at closed point) hub || carry_closes point (nines_of machine.groups) hub) ≡ closes machine cycle point hub
+closes-all cycle closed machine point hub ordered steady =
+    ap (λ (b : Bool). b || carry_closes point (nines_of machine.groups) hub) (steady point hub)
+    ∙ steady-first (carry_closes point (nines_of machine.groups) hub) (balance_closes (latches_of machine.groups) hub)
+    (pilots_closes machine.pilots cycle point hub) (indicate_closes machine.indicate cycle point hub) (split_closes point hub)
+    ∙ sym (closes-joined machine cycle point hub ordered)
+
+no-carry : (point : Point) (nines : List Bool) (hub : Hub) → is_closing point ≡ false → carry_closes point nines hub ≡ false
+no-carry point nines (CO group) before = ap (λ b. b && (nat_le 3 (unit_of group) && is_nines nines group)) before
+no-carry point nines other before = refl
+
+pub closes-others : (cycle : Cycle) (closed : Closed) (machine : MachineState) (point : Point) (hub : Hub)
+    → AreInUnitOrder machine.groups → AreSteady cycle closed machine → is_closing point ≡ false
+    → has_hub (closed_at closed point) hub ≡ closes machine cycle point hub
+closes-others cycle closed machine point hub ordered steady before =
+    or-none _
+    ∙ ap (λ (b : Bool). has_hub (closed_at closed point) hub || b) (sym (no-carry point (nines_of machine.groups) hub before))
+    ∙ closes-all cycle closed machine point hub ordered steady
+
+-- What a unit senses before the closing point changes none of its contacts there.
+counter-steady : (group : Counter) (cycle : Cycle) (at point : Point) (picture : Hub → Bool) (hub : Hub) → is_closing point ≡ false
     → counter_closes (counter_sensed group cycle at picture) cycle point hub ≡ counter_closes group cycle point hub
-counter-steady group cycle C point picture (BAN name position) = refl
-counter-steady group cycle (Row row) point picture (BAN name position) = refl
-counter-steady group cycle other point picture hub = refl
+counter-steady group cycle at point picture (CO name) before =
+    carry-shut (counter_sensed group cycle at picture) ∙ sym (carry-shut group)
+  where
+    carry-shut : (g : Counter) → counter_closes g cycle point (CO name) ≡ false
+    carry-shut g = ap (λ b. b && ((unit_of name == counter_number g) && all_nines (wheels_in g))) before
+counter-steady group cycle C point picture (BAN name position) before = refl
+counter-steady group cycle (Row row) point picture (BAN name position) before = refl
+counter-steady group cycle K point picture (BAN name position) before = refl
+counter-steady group cycle C point picture (BAT name position) before = refl
+counter-steady group cycle (Row row) point picture (BAT name position) before = refl
+counter-steady group cycle K point picture (BAT name position) before = refl
+counter-steady group cycle at point picture hub before = refl
+
+latch-steady : (group : Counter) (cycle : Cycle) (at : Point) (picture : Hub → Bool)
+    → (counter_sensed group cycle at picture).latch ≡ group.latch
+latch-steady group cycle C picture = refl
+latch-steady group cycle (Row row) picture = refl
+latch-steady group cycle K picture = refl
+
+latches-steady : (groups : List Counter) (cycle : Cycle) (at : Point) (picture : Hub → Bool)
+    → latches_of (map (λ group. counter_sensed group cycle at picture) groups) ≡ latches_of groups
+latches-steady [] cycle at picture = refl
+latches-steady (group ∷ groups) cycle at picture =
+    ap (λ b. b ∷ latches_of (map (λ g. counter_sensed g cycle at picture) groups)) (latch-steady group cycle at picture)
+    ∙ ap (λ bs. group.latch ∷ bs) (latches-steady groups cycle at picture)
 
 pilots-steady : (pilots : PilotStates) (cycle : Cycle) (at point : Point) (picture : Hub → Bool) (hub : Hub)
     → pilots_closes (pilots_sensed pilots cycle at picture) cycle point hub ≡ pilots_closes pilots cycle point hub
@@ -227,19 +302,20 @@ pilots-steady pilots cycle at point picture (PIN pilot position) = refl
 pilots-steady pilots cycle at point picture (PIT pilot position) = refl
 pilots-steady pilots cycle at point picture other = refl
 
-groups-steady : (groups : List Counter) (cycle : Cycle) (at point : Point) (picture : Hub → Bool) (hub : Hub)
+groups-steady : (groups : List Counter) (cycle : Cycle) (at point : Point) (picture : Hub → Bool) (hub : Hub) → is_closing point ≡ false
     → list_any (λ group. counter_closes group cycle point hub) (map (λ group. counter_sensed group cycle at picture) groups)
     ≡ list_any (λ group. counter_closes group cycle point hub) groups
-groups-steady [] cycle at point picture hub = refl
-groups-steady (group ∷ groups) cycle at point picture hub =
-    rw (counter-steady group cycle at point picture hub, groups-steady groups cycle at point picture hub) refl
+groups-steady [] cycle at point picture hub before = refl
+groups-steady (group ∷ groups) cycle at point picture hub before =
+    rw (counter-steady group cycle at point picture hub before, groups-steady groups cycle at point picture hub before) refl
 
--- the contacts of all units stay as they are through the points of a cycle
+-- the contacts of all units stay as they are through the points before the closing point
 pub closes-steady : (machine : MachineState) (cycle : Cycle) (at point : Point) (picture : Hub → Bool) (hub : Hub)
+    → is_closing point ≡ false
     → closes (sensed machine cycle at picture) cycle point hub ≡ closes machine cycle point hub
-closes-steady machine cycle at point picture hub =
+closes-steady machine cycle at point picture hub before =
     rw (
-      groups-steady machine.groups cycle at point picture hub,
+      groups-steady machine.groups cycle at point picture hub before,
       none-of (map (λ storage. storage_sensed storage cycle at picture) machine.storage),
       none-of machine.storage,
       pilots-steady machine.pilots cycle at point picture hub,
@@ -249,4 +325,10 @@ closes-steady machine cycle at point picture hub =
 pub AreSteady-sensed : (cycle : Cycle) (closed : Closed) (machine : MachineState) (at : Point) (picture : Hub → Bool)
     → AreSteady cycle closed machine → AreSteady cycle closed (sensed machine cycle at picture)
 AreSteady-sensed cycle closed machine at picture steady point hub =
-    steady point hub ∙ sym (closes-steady machine cycle at point picture hub)
+    steady point hub
+    ∙ ap (λ (ls : List Bool). (balance_closes ls hub
+    || (pilots_closes machine.pilots cycle point hub || indicate_closes machine.indicate cycle point hub)) || split_closes point hub)
+    (sym (latches-steady machine.groups cycle at picture))
+    ∙ ap (λ (b : Bool). (balance_closes (latches_of (sensed machine cycle at picture).groups) hub
+    || (b || indicate_closes machine.indicate cycle point hub)) || split_closes point hub)
+    (sym (pilots-steady machine.pilots cycle at point picture hub))

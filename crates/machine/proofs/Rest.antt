@@ -10,33 +10,33 @@ use Rattle.counters.specs.Counters.{Counter, no_controls, controls_of, counter_e
 use Rattle.counters.specs.declared.controls.Controls.{Controls}
 use Rattle.hubs.specs.Hubs.{number_of}
 use Rattle.hub_table.specs.Places.{group_place}
-use Rattle.setups.specs.Wiring.{Wiring}
 use Rattle.hubs.specs.declared.hub.Group.{Group}
 use Rattle.hubs.specs.declared.hub.Hub.{Hub}
-use Rattle.hubs.specs.declared.hub.Hub.TheVariants.{GE, PL, MI, RO, BT}
+use Rattle.hubs.specs.declared.hub.Hub.TheVariants.{CI, GE, PL, MI, RO, BT}
 use Rattle.net.specs.HubSets.{HubSet, has_hub, is_bit, is_bit_from, is_in_reach, is_in_row, is_near}
+use Rattle.net.specs.Cycles.{is_closing}
 use Rattle.net.specs.Panel.{unit_behind}
 use Rattle.net.specs.declared.cycle.Cycle.{Cycle}
 use Rattle.net.specs.declared.cycle.Point.{Point}
 use Rattle.net.specs.declared.cycle.Point.TheVariants.{C, Row, K}
 use Rattle.machine.specs.Fields.{AreInUnitOrder}
 use Rattle.machine.specs.Machine.{group_units}
-use Rattle.machine.specs.Rest.{AreAtRest, AreSilent, AreAllSilent}
+use Rattle.machine.specs.Rest.{AreAtRest, AreSilent, AreAllSilent, ComeNoCarries, IsAtRest}
 use Rattle.machine.proofs.ClosedContacts.{AreFrom, are_from, group_units-up, unit_of-last}
 
--- a group at rest emits nothing
-rest-silent : (group : Counter) (cycle : Cycle) (point : Point) (exit : Hub) → group.controls ≡ no_controls
+-- a group at rest emits nothing before the closing point
+rest-silent : (group : Counter) (cycle : Cycle) (point : Point) (exit : Hub) → is_closing point ≡ false → group.controls ≡ no_controls
     → counter_emits group cycle point exit ≡ false
-rest-silent group cycle C exit rest = refl
-rest-silent group cycle (Row row) exit rest =
+rest-silent group cycle C exit before rest = refl
+rest-silent group cycle (Row row) exit before rest =
     ap (λ (c : Controls). c.read_out && shows group.name (row_number row) group.digits exit) rest
-rest-silent group cycle K exit rest = refl
+rest-silent group cycle K exit before rest = cc
 
-pub rest-emits : (groups : List Counter) (cycle : Cycle) (point : Point) (exit : Hub) → AreAtRest groups
+pub rest-emits : (groups : List Counter) (cycle : Cycle) (point : Point) (exit : Hub) → is_closing point ≡ false → AreAtRest groups
     → list_any (λ group. counter_emits group cycle point exit) groups ≡ false
-rest-emits [] cycle point exit rest = refl
-rest-emits (group ∷ groups) cycle point exit (here, others) =
-    rw (rest-silent group cycle point exit here, rest-emits groups cycle point exit others) refl
+rest-emits [] cycle point exit before rest = refl
+rest-emits (group ∷ groups) cycle point exit before (here, others) =
+    rw (rest-silent group cycle point exit before here.controls, rest-emits groups cycle point exit before others) refl
 
 silent-controls : (name : Group) (picture : Hub → Bool) → AreSilent picture name → controls_of name picture ≡ no_controls
 silent-controls name picture silent = λ i. record {
@@ -46,12 +46,13 @@ silent-controls name picture silent = λ i. record {
   test = silent.test i;
 }
 
--- a group at rest stays as it is where it is told nothing
-rest-stays : (group : Counter) (cycle : Cycle) (point : Point) (picture : Hub → Bool) → group.controls ≡ no_controls
-    → (point ≡ C → AreSilent picture group.name) → counter_sensed group cycle point picture ≡ group
-rest-stays group cycle C picture rest silent = λ i.
-    record group { controls = (silent-controls group.name picture (silent refl) ∙ sym rest) i }
-rest-stays group cycle (Row row) picture rest silent = λ i.
+-- a group at rest stays as it is where it is told nothing and no carry comes in
+rest-stays : (group : Counter) (cycle : Cycle) (point : Point) (picture : Hub → Bool) → IsAtRest group
+    → (point ≡ C → AreSilent picture group.name) → (point ≡ K → picture (CI group.name) ≡ false)
+    → counter_sensed group cycle point picture ≡ group
+rest-stays group cycle C picture rest silent none = λ i.
+    record group { controls = (silent-controls group.name picture (silent refl) ∙ sym rest.controls) i }
+rest-stays group cycle (Row row) picture rest silent none = λ i.
     record group {
       entered =
           ap
@@ -59,35 +60,36 @@ rest-stays group cycle (Row row) picture rest silent = λ i.
           if takes c (row_number row)
           then all_taken (row_number row) (λ position. picture (GE group.name position)) group.entered
           else group.entered)
-          rest
+          rest.controls
           i;
     }
-rest-stays group cycle K picture rest silent = refl
+rest-stays group cycle K picture rest silent none = λ i. record group { carry = (none refl ∙ sym rest.carry) i }
 
 rest-stay : (k : ℕ) (groups : List Counter) (cycle : Cycle) (point : Point) (picture : Hub → Bool)
-    → 3 ≤ k → AreFrom k groups → AreAtRest groups → (point ≡ C → AreAllSilent picture)
+    → 3 ≤ k → AreFrom k groups → AreAtRest groups → (point ≡ C → AreAllSilent picture) → (point ≡ K → ComeNoCarries picture)
     → map (λ group. counter_sensed group cycle point picture) groups ≡ groups
-rest-stay k [] cycle point picture low from rest silent = refl
-rest-stay k (group ∷ groups) cycle point picture low (is, from) (here, others) silent =
+rest-stay k [] cycle point picture low from rest silent none = refl
+rest-stay k (group ∷ groups) cycle point picture low (is, from) (here, others) silent none =
     ap (λ (g : Counter). g ∷ map (λ g. counter_sensed g cycle point picture) groups)
-    (rest-stays group cycle point picture here (λ at. silent at group.name (omega (arith, low, is))))
+    (rest-stays group cycle point picture here (λ at. silent at group.name (omega (arith, low, is)))
+    (λ at. none at group.name (omega (arith, low, is))))
     ∙ ap (λ (gs : List Counter). group ∷ gs)
-    (rest-stay (suc k) groups cycle point picture (omega (arith, low)) from others silent)
+    (rest-stay (suc k) groups cycle point picture (omega (arith, low)) from others silent none)
 
 pub rest-sensed : (groups : List Counter) (cycle : Cycle) (point : Point) (picture : Hub → Bool)
-    → AreInUnitOrder groups → AreAtRest groups → (point ≡ C → AreAllSilent picture)
+    → AreInUnitOrder groups → AreAtRest groups → (point ≡ C → AreAllSilent picture) → (point ≡ K → ComeNoCarries picture)
     → map (λ group. counter_sensed group cycle point picture) groups ≡ groups
-rest-sensed groups cycle point picture ordered rest silent =
-    rest-stay 3 groups cycle point picture (omega arith) (are_from 3 groups group_units ordered group_units-up) rest silent
+rest-sensed groups cycle point picture ordered rest silent none =
+    rest-stay 3 groups cycle point picture (omega arith) (are_from 3 groups group_units ordered group_units-up) rest silent none
 
 -- the controls end with the cycle
 pub ended-rest : (groups : List Counter) (cycle : Cycle) → AreAtRest (map (λ group. counter_ended group cycle) groups)
 ended-rest [] cycle = tt
-ended-rest (group ∷ groups) cycle = (refl, ended-rest groups cycle)
+ended-rest (group ∷ groups) cycle = (record { controls = refl; carry = refl }, ended-rest groups cycle)
 
-pub start-rest : (wiring : Wiring) (units : List ℕ) → AreAtRest (map (counter_at_start wiring) units)
-start-rest wiring [] = tt
-start-rest wiring (unit ∷ units) = (refl, start-rest wiring units)
+pub start-rest : (units : List ℕ) → AreAtRest (map counter_at_start units)
+start-rest [] = tt
+start-rest (unit ∷ units) = (record { controls = refl; carry = refl }, start-rest units)
 
 abbrev pub first_group : Group
 first_group = record { width = 3; number = 1 }
@@ -130,3 +132,16 @@ none-told set bits none row name from =
 
 pub no_bit : (bits : ℕ) → not (bits == 0) ≡ false → bits ≡ 0
 no_bit bits is = grind (arith, nat_tests)
+
+-- nor does a carry come in where no bit of the row from the first carry entry on is set
+near_carry : (place : Option ℕ) → 3 ≤ unit_behind 2 place → unit_behind 2 place < 35
+    → is_near (Some 1397) (option_map (λ p. 1396 + p) place) ≡ true
+near_carry None from to = absurd (omega (arith, from))
+near_carry (Some p) from to = grind (arith, nat_tests, from, to)
+
+pub none-comes : (set : HubSet) (bits : ℕ) → bits ≡ 0
+    → ((hub : Hub) → is_in_reach (CI first_group) hub ≡ true → is_in_row (CI first_group) bits hub ≡ has_hub set hub)
+    → ComeNoCarries (has_hub set)
+none-comes set bits none row name from =
+    silent-hub set bits (CI first_group) (CI name) none row
+    (near_carry (group_place name.width name.number) from (unit_of-last name))

@@ -1,15 +1,13 @@
 -- Setups with the same wires, jacks and tape have the same runs.
-use Rattle.std.proofs.Common.{◌≡◌, ℕ, zero, suc, ◌↔◌, inl, inr, Bool, true, false, IsTrue, List, [], ◌∷◌, None, map, replicate, refl, sym, subst}
+use Rattle.std.proofs.Common.{◌≡◌, ℕ, zero, suc, inl, inr, Bool, true, false, List, [], ◌∷◌, None, map, replicate, sym, subst}
 use Rattle.std.specs.List.{range_with_len}
 use Rattle.carriage.specs.Asked.{nothing_asked}
 use Rattle.placed_lines.specs.declared.placed_line.PlacedLine.{PlacedLine}
-use Rattle.counters.specs.Counters.{counter_of, group_of_unit}
+use Rattle.counters.specs.Counters.{counter_at_start}
 use Rattle.setups.proofs.SameTapes.{SameTape-same}
-use Rattle.setups.proofs.WiredLemmas.{HasWire-is_wired}
 use Rattle.setups.specs.Tapes.{IsForm, SameTape}
-use Rattle.setups.specs.Wiring.{Wiring, HasWire, SameWires, SameJacks, is_wired}
+use Rattle.setups.specs.Wiring.{Wiring, SameWires, SameJacks}
 use Rattle.hubs.specs.declared.hub.Hub.{Hub}
-use Rattle.hubs.specs.declared.hub.Hub.TheVariants.{CO, CI}
 use Rattle.hubs.specs.declared.jack.Jack.TheVariants as jack
 use Rattle.net.specs.Impulsed.{IsPicture, IsImpulsed, LeadsOn, emitting, led_on}
 use Rattle.net.specs.Printing.{printing_of}
@@ -88,22 +86,6 @@ RunsBy-also One Other also (cycle ∷ cycles) run lines (new, others, due, ran, 
   is,
 )
 
-same_not : IsTrue false → ⊥
-same_not is = cc
-
-same_test : (P Q : Type 0) (one other : Bool) → IsTrue one ↔ P → IsTrue other ↔ Q → P ↔ Q → one ≡ other
-same_test P Q true true first second both = refl
-same_test P Q true false first second both = absurd (same_not (second.1 (both.0 (first.0 refl))))
-same_test P Q false true first second both = absurd (same_not (first.1 (both.1 (second.0 refl))))
-same_test P Q false false first second both = refl
-
-wired-same : (one other : Wiring) → SameWires one other → (exit entry : Hub)
-    → is_wired one exit entry ≡ is_wired other exit entry
-wired-same one other wires exit entry =
-    same_test (HasWire one exit entry) (HasWire other exit entry) (is_wired one exit entry) (is_wired other exit entry)
-    (HasWire-is_wired one exit entry) (HasWire-is_wired other exit entry)
-    ((wires exit entry).1, (wires exit entry).0)
-
 printing-same : (one other : Wiring) → SameJacks one other → printing_of one ≡ printing_of other
 printing-same one other jacks = λ i. record {
   cards = sym (jacks jack.List) i;
@@ -130,15 +112,12 @@ wheels-same one other jacks = λ i. record {
   line = replicate 120 32;
 }
 
-start-same : (one other : Wiring) → SameWires one other → SameJacks one other → one.tape ≡ other.tape
+start-same : (one other : Wiring) → SameJacks one other → one.tape ≡ other.tape
     → machine_at_start one ≡ machine_at_start other
-start-same one other wires jacks tape = λ i. record {
+start-same one other jacks tape = λ i. record {
   stations = stations_at_start;
   comparing = comparing_at_start;
-  groups =
-      map
-      (λ unit. counter_of (group_of_unit unit) (wired-same one other wires (CO (group_of_unit unit)) (CI (group_of_unit unit)) i))
-      group_units;
+  groups = map counter_at_start group_units;
   storage = map storage_at_start storage_units;
   pilots = pilots_at_start;
   indicate = indicate_at_start;
@@ -164,6 +143,6 @@ MachineLines-same one other cards lines form also wires jacks tape (cycles, runs
     let same : one.tape ≡ other.tape = SameTape-same one.tape other.tape form also tape in (
       cycles,
       subst (λ (m : MachineState). RunsBy (CycleRun other) cycles (cards_moved m cards) lines)
-          (start-same one other wires jacks same)
+          (start-same one other jacks same)
           (RunsBy-also (CycleRun one) (CycleRun other) (CycleRun-same one other wires) cycles (run_at_start one cards) lines runs),
     )

@@ -14,7 +14,7 @@ use Rattle.machine.specs.Fields.{AreInUnitOrder}
 use Rattle.machine.specs.Feeds.{Fed, FedLines, FeedStep, LinesFrom}
 use Rattle.machine.specs.Machine.{MachineState, machine_at_start, closes, sensed, ended}
 use Rattle.machine.specs.Runs.{MachineLines, RunsBy, moved_on, run_at_start}
-use Rattle.machine.specs.Steady.{latches_of}
+use Rattle.machine.specs.Steady.{latches_of, nines_of}
 
 -- A run is what the feeds of its cards, and one for the end, do one after another: the lines are the same.
 abbrev pub FeedsCutRuns : Type 0
@@ -80,8 +80,8 @@ SameSetupsPrintAlike =
     → SameWires one other → SameJacks one other → SameTape one.tape other.tape
     → MachineLines one cards lines → MachineLines other cards lines
 
--- The contacts that the units close are the closed contacts of the panel, which pilots, group indication and the balance latches of
--- the groups tell, at every point of every cycle. So it is while the groups stand in the order of their units: they do at the start,
+-- The contacts that the units close are the closed contacts of the panel, which pilots, group indication, the balance latches of
+-- the groups and which of them stand at nines tell, at every point of every cycle. So it is while the groups stand in the order of their units: they do at the start,
 -- and stay so when cards move on, when a picture is sensed and when a cycle ends.
 pub record UnitsCloseThePanelsContacts : Type 0 where
   pub at_start : (wiring : Wiring) → AreInUnitOrder (machine_at_start wiring).groups
@@ -96,4 +96,4 @@ pub record UnitsCloseThePanelsContacts : Type 0 where
   pub closed :
       (machine : MachineState) (cycle : Cycle) (point : Point) (hub : Hub) → AreInUnitOrder machine.groups
       → closes machine cycle point hub
-      ≡ closed_contacts cycle point machine.pilots machine.indicate (latches_of machine.groups) hub
+      ≡ closed_contacts cycle point machine.pilots machine.indicate (latches_of machine.groups) (nines_of machine.groups) hub

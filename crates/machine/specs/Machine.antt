@@ -50,7 +50,7 @@ abbrev pub machine_at_start : Wiring → MachineState
 machine_at_start wiring = record {
   stations = stations_at_start;
   comparing = comparing_at_start;
-  groups = map (counter_at_start wiring) group_units;
+  groups = map counter_at_start group_units;
   storage = map storage_at_start storage_units;
   pilots = pilots_at_start;
   indicate = indicate_at_start;

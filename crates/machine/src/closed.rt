@@ -2,7 +2,8 @@
 
 use net::{Contacts, Point};
 
-// The closed contacts of a cycle: those of the splits are closed at the rows alone, for digits and for zones apart.
+// The closed contacts of a cycle but for those of the carries: those of the splits are closed at the rows alone, for digits and for
+// zones apart.
 #[derive(Clone, Copy)]
 pub(crate) struct Closed {
     pub(crate) steady: Contacts,

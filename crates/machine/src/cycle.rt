@@ -4,19 +4,22 @@ ghost use Rattle.std.specs.Prelude.{◌≡◌, map};
 ghost use Rattle.machine.specs.Steady.{latches_of};
 
 use crate::closed::Closed;
-use crate::groups::latches;
+use crate::groups::{latches, nines};
 use crate::units::Units;
 use card_code::Row;
 use net::{Cycle, Net, POINTS, Picture, Point};
 use placed_lines::PlacedLine;
-use selectors::{steady_contacts, with_splits};
+use selectors::{steady_contacts, with_carries, with_splits};
 
 impl Units {
     ghost use Rattle.std.specs.Prelude.{◌≡◌, option_to_list};
     ghost use Rattle.setups.specs.Wiring.{Wiring};
     ghost use Rattle.net.specs.Nets.{IsNetOf};
+    ghost use Rattle.net.specs.HubSets.{has_hub};
+    ghost use Rattle.net.specs.Impulsed.{IsPicture};
     ghost use Rattle.machine.specs.Cycles.{PointStep, CycleRun, line_of};
     ghost use Rattle.machine.specs.Ends.{SensesSome, EndsCycle};
+    ghost use Rattle.machine.specs.Machine.{closes};
     ghost use Rattle.machine.specs.Steady.{AreSteady};
 
     // A cycle: its points, and then its end.
@@ -31,7 +34,7 @@ impl Units {
         self.end_cycle(cycle);
     }
 
-    // The closed contacts of a cycle.
+    // The closed contacts of a cycle but for those of the carries.
     fn closed(&self, cycle: Cycle) -> Closed
         ensures { AreSteady cycle result self.now }
     {
@@ -52,8 +55,33 @@ impl Units {
         let mut exits = Picture::new();
         self.emit(cycle, point, &mut exits);
         let mut picture = Picture::new();
-        net.picture(&exits, closed.at(point), &mut picture);
+        self.impulse(net, closed, cycle, point, &exits, &mut picture);
         self.sense(cycle, point, &picture);
+    }
+
+    // Makes the picture of the exits that emit at a point: the contacts of the carries move with the rows, so at the closing point
+    // they are closed anew.
+    fn impulse(
+        &self,
+        net: &Net,
+        closed: &Closed,
+        cycle: Cycle,
+        point: Point,
+        exits: &Picture,
+        picture: &mut Picture,
+    )
+        requires { AreSteady cycle closed.now self.now }
+        ensures { (wiring : Wiring)
+            → IsNetOf wiring net.now
+            → IsPicture wiring (has_hub exits.now) (closes self.now cycle point) (has_hub picture.new) }
+    {
+        match point {
+            Point::C | Point::Row(_) => net.picture(exits, closed.at(point), picture),
+            Point::K => {
+                let contacts = with_carries(*closed.at(point), point, &nines(&self.groups));
+                net.picture(exits, &contacts, picture);
+            }
+        }
     }
 
     // The line that the cycle that ended last placed, if it placed one.

@@ -1,63 +1,70 @@
-//! The counter groups of a machine. In a cycle in which no group is told anything at the control point, none emits or senses.
+//! The counter groups of a machine. In a cycle in which no group is told anything at the control point, none emits or senses at
+//! the rows.
 
 ghost use Rattle.std.specs.Prelude.{◌≡◌, false, map};
 ghost use Rattle.std.specs.List.{list_any};
 ghost use Rattle.counters.specs.Counters.{counter_at_start, counter_emits, counter_sensed};
 ghost use Rattle.net.specs.HubSets.{GainsHubs, has_hub};
-ghost use Rattle.net.specs.declared.cycle.Point.TheVariants.{C};
+ghost use Rattle.net.specs.Cycles.{is_closing};
+ghost use Rattle.net.specs.declared.cycle.Point.TheVariants.{C, K};
 ghost use Rattle.machine.specs.Fields.{AreInUnitOrder};
 ghost use Rattle.machine.specs.Machine.{group_units};
-ghost use Rattle.machine.specs.Rest.{AreAtRest, AreAllSilent};
-ghost use Rattle.machine.specs.Steady.{latches_of};
+ghost use Rattle.machine.specs.Rest.{AreAtRest, AreAllSilent, ComeNoCarries};
+ghost use Rattle.machine.specs.Steady.{latches_of, nines_of};
 
 use crate::rows::{emit_all, sense_all};
 use counters::Group;
 use hubs::Hub;
 use net::{Cycle, Picture, Point};
 use selectors::GROUPS;
-use setups::Setup;
 
-// The counter groups of a setup in the order of their units.
-pub(crate) fn groups(setup: &Setup) -> [Group; GROUPS]
-    ensures { result ≡ map (counter_at_start setup.now) group_units }
+// The first of the groups.
+const FIRST: hubs::Group = hubs::Group {
+    width: 3,
+    number: 1,
+};
+
+// The counter groups in the order of their units, as they start.
+pub(crate) fn groups() -> [Group; GROUPS]
+    ensures { result ≡ map counter_at_start group_units }
 {
     [
-        Group::new(3, setup),
-        Group::new(4, setup),
-        Group::new(5, setup),
-        Group::new(6, setup),
-        Group::new(7, setup),
-        Group::new(8, setup),
-        Group::new(9, setup),
-        Group::new(10, setup),
-        Group::new(11, setup),
-        Group::new(12, setup),
-        Group::new(13, setup),
-        Group::new(14, setup),
-        Group::new(15, setup),
-        Group::new(16, setup),
-        Group::new(17, setup),
-        Group::new(18, setup),
-        Group::new(19, setup),
-        Group::new(20, setup),
-        Group::new(21, setup),
-        Group::new(22, setup),
-        Group::new(23, setup),
-        Group::new(24, setup),
-        Group::new(25, setup),
-        Group::new(26, setup),
-        Group::new(27, setup),
-        Group::new(28, setup),
-        Group::new(29, setup),
-        Group::new(30, setup),
-        Group::new(31, setup),
-        Group::new(32, setup),
-        Group::new(33, setup),
-        Group::new(34, setup),
+        Group::new(3),
+        Group::new(4),
+        Group::new(5),
+        Group::new(6),
+        Group::new(7),
+        Group::new(8),
+        Group::new(9),
+        Group::new(10),
+        Group::new(11),
+        Group::new(12),
+        Group::new(13),
+        Group::new(14),
+        Group::new(15),
+        Group::new(16),
+        Group::new(17),
+        Group::new(18),
+        Group::new(19),
+        Group::new(20),
+        Group::new(21),
+        Group::new(22),
+        Group::new(23),
+        Group::new(24),
+        Group::new(25),
+        Group::new(26),
+        Group::new(27),
+        Group::new(28),
+        Group::new(29),
+        Group::new(30),
+        Group::new(31),
+        Group::new(32),
+        Group::new(33),
+        Group::new(34),
     ]
 }
 
-// All groups emit. None does where none is busy.
+// All groups emit. Before the closing point none does where none is busy.
 pub(crate) fn emit_groups(
     groups: &[Group; GROUPS],
     is_busy: bool,
@@ -68,12 +75,13 @@ pub(crate) fn emit_groups(
     requires { is_busy ≡ false → AreAtRest groups.now }
     ensures { GainsHubs (λ exit. list_any (λ group. counter_emits group cycle point exit) groups.now) exits.old exits.new }
 {
-    if is_busy {
+    if is_busy | is_closing(point) {
         emit_all(groups, cycle, point, exits);
     }
 }
 
-// All groups sense the picture. Behind the control point none does where none is busy. Answers whether any may be busy then.
+// All groups sense the picture. At a row none does where none is busy, nor at the closing point where no carry comes in
+// either. Answers whether any may be busy then.
 pub(crate) fn sense_groups(
     groups: &mut [Group; GROUPS],
     is_busy: bool,
@@ -97,10 +105,12 @@ pub(crate) fn sense_groups(
 fn stays_busy(is_busy: bool, point: Point, picture: &Picture) -> bool
     ensures idle { result ≡ false → is_busy ≡ false }
     ensures silent { result ≡ false → point ≡ C → AreAllSilent (has_hub picture.now) }
+    ensures none { result ≡ false → point ≡ K → ComeNoCarries (has_hub picture.now) }
 {
     match point {
         Point::C => is_busy || is_any_told(picture),
-        Point::Row(_) | Point::K => is_busy,
+        Point::Row(_) => is_busy,
+        Point::K => is_busy || comes_any_carry(picture),
     }
 }
 
@@ -108,11 +118,24 @@ fn stays_busy(is_busy: bool, point: Point, picture: &Picture) -> bool
 fn is_any_told(picture: &Picture) -> bool
     ensures { result ≡ false → AreAllSilent (has_hub picture.now) }
 {
-    let first = hubs::Group {
-        width: 3,
-        number: 1,
-    };
-    picture.row(Hub::PL(first)) != 0
+    picture.row(Hub::PL(FIRST)) != 0
+}
+
+// Whether the carry entry of some group is impulsed, or one of the hubs that follow on them.
+fn comes_any_carry(picture: &Picture) -> bool
+    ensures { result ≡ false → ComeNoCarries (has_hub picture.now) }
+{
+    picture.row(Hub::CI(FIRST)) != 0
+}
+
+// Whether a point is the closing point.
+fn is_closing(point: Point) -> bool
+    ensures { result ≡ is_closing point }
+{
+    match point {
+        Point::C | Point::Row(_) => false,
+        Point::K => true,
+    }
 }
 
 // The balance latches of the counter groups.
@@ -124,4 +147,15 @@ pub(crate) fn latches(groups: &[Group; GROUPS]) -> [bool; GROUPS]
         latches[place] = groups[place].latch();
     }
     latches
+}
+
+// Which counter groups stand at nines.
+pub(crate) fn nines(groups: &[Group; GROUPS]) -> [bool; GROUPS]
+    ensures { result ≡ nines_of groups.now }
+{
+    let mut nines = [false; GROUPS];
+    for place in 0..GROUPS {
+        nines[place] = groups[place].nines();
+    }
+    nines
 }

@@ -32,7 +32,7 @@ pub(crate) struct Units {
     pub(crate) wheels: Wheels,
     pub(crate) carriage: Carriage,
     pub(crate) program: Program,
-    // Whether a counter group may be under a control.
+    // Whether a counter group may be under a control, or a carry may have come in.
     is_busy: bool,
 }
 
@@ -59,7 +59,7 @@ impl Units {
         Units {
             stations: Stations::new(),
             comparing: Comparing::new(),
-            groups: groups(setup),
+            groups: groups(),
             storage: [
                 Storage::new(35),
                 Storage::new(36),

@@ -8,7 +8,7 @@ use Rattle.setups.proofs.WiredLemmas.{HasWire-is_wired}
 use Rattle.hubs.specs.Hubs.{is_hub_in_range, number_of}
 use Rattle.setups.specs.Wiring.{Wiring, is_wired}
 use Rattle.hubs.specs.declared.hub.Hub.{Hub}
-use Rattle.hubs.specs.declared.hub.Hub.TheVariants.{BAN, BAT, PIN, PIT, IX, CSD, CSZ, BAC, PIC, IE, CSE, RS}
+use Rattle.hubs.specs.declared.hub.Hub.TheVariants.{CO, BAN, BAT, PIN, PIT, IX, CSD, CSZ, CI, BAC, PIC, IE, CSE, RS}
 use Rattle.bit_sets.specs.Contacts.{is_any_contact}
 use Rattle.net.specs.Impulsed.{IsImpulsed, IsPicture, LeadsOn}
 use Rattle.net.specs.Impulsed.IsImpulsed.{emitting, led_on}
@@ -81,6 +81,8 @@ same_common : (one other : Hub) (n : ℕ) → ◌≡◌ {A = Option Hub} (Some o
 same_common one other n same is = let hub : one ≡ other = cc in ap number_of hub ∙ is
 
 contact_in_range : (from to : Hub) (n : ℕ) → contact_of to ≡ Some from → number_of from ≡ Some n → is_hub_in_range to ≡ true
+contact_in_range from (CO group) n is numbered =
+    exit_numbered 358 1396 n _ (same_common (CI group) from n is numbered)
 contact_in_range from (BAN group position) n is numbered =
     exit_numbered 390 1428 n _ (same_common (BAC group position) from n is numbered)
 contact_in_range from (BAT group position) n is numbered =

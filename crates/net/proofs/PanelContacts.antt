@@ -7,7 +7,7 @@ use Rattle.std.proofs.lemmas.Bool.{or_right, or_left, or_cases}
 use Rattle.hubs.proofs.HubLemmas.{number_of-injective, number_of-kind}
 use Rattle.hubs.specs.Hubs.{number_of}
 use Rattle.hubs.specs.declared.hub.Hub.{Hub}
-use Rattle.hubs.specs.declared.hub.Hub.TheVariants.{BAN, BAT, PIN, PIT, IX, CSD, CSZ, BAC, PIC, IE, CSE}
+use Rattle.hubs.specs.declared.hub.Hub.TheVariants.{CO, BAN, BAT, PIN, PIT, IX, CSD, CSZ, CI, BAC, PIC, IE, CSE}
 use Rattle.bit_sets.specs.Contacts.{is_any_contact, is_contact}
 use Rattle.bit_sets.specs.declared.contacts.Run.{Run}
 use Rattle.net.specs.Panel.{contact_of}
@@ -56,7 +56,9 @@ of_runs (run ∷ runs) from to (inr there) = or_right (is_contact run from to) _
 -- a place is the exit of one contact at most
 common_at : ℕ → ℕ
 common_at to =
-    if nat_lt to 518
+    if nat_lt to 390
+    then 1396 + (to - 358)
+    else if nat_lt to 518
     then 1428 + (to - 390)
     else if nat_lt to 646
     then 1428 + (to - 518)
@@ -87,45 +89,51 @@ common_of before common count None given h numbered is low high = cc
 -- the common hub of a contact has the place that the runs say
 pub contact_numbered : (from to : Hub) (h : ℕ) → contact_of to ≡ Some from → number_of to ≡ Some (h + 1)
     → (g : ℕ) × (number_of from ≡ Some (g + 1)) × IsInRuns CONTACTS g h
+contact_numbered from (CO group) h is numbered =
+    let kind = number_of-kind (CO group) (h + 1) numbered in
+    let hub : CI group ≡ from = same_Some _ _ is in
+    let found = common_of 358 1396 32 _ (number_of from) h numbered (ap number_of hub) kind.0 kind.1 in
+    (found.0, found.1, inl found.2)
 contact_numbered from (BAN group position) h is numbered =
     let kind = number_of-kind (BAN group position) (h + 1) numbered in
     let hub : BAC group position ≡ from = same_Some _ _ is in
     let found = common_of 390 1428 128 _ (number_of from) h numbered (ap number_of hub) kind.0 kind.1 in
-    (found.0, found.1, inl found.2)
+    (found.0, found.1, inr (inl found.2))
 contact_numbered from (BAT group position) h is numbered =
     let kind = number_of-kind (BAT group position) (h + 1) numbered in
     let hub : BAC group position ≡ from = same_Some _ _ is in
     let found = common_of 518 1428 128 _ (number_of from) h numbered (ap number_of hub) kind.0 kind.1 in
-    (found.0, found.1, inr (inl found.2))
+    (found.0, found.1, inr (inr (inl found.2)))
 contact_numbered from (PIN pilot position) h is numbered =
     let kind = number_of-kind (PIN pilot position) (h + 1) numbered in
     let hub : PIC pilot position ≡ from = same_Some _ _ is in
     let found = common_of 646 1556 48 _ (number_of from) h numbered (ap number_of hub) kind.0 kind.1 in
-    (found.0, found.1, inr (inr (inl found.2)))
+    (found.0, found.1, inr (inr (inr (inl found.2))))
 contact_numbered from (PIT pilot position) h is numbered =
     let kind = number_of-kind (PIT pilot position) (h + 1) numbered in
     let hub : PIC pilot position ≡ from = same_Some _ _ is in
     let found = common_of 694 1556 48 _ (number_of from) h numbered (ap number_of hub) kind.0 kind.1 in
-    (found.0, found.1, inr (inr (inr (inl found.2))))
+    (found.0, found.1, inr (inr (inr (inr (inl found.2)))))
 contact_numbered from (IX level position) h is numbered =
     let kind = number_of-kind (IX level position) (h + 1) numbered in
     let hub : IE level position ≡ from = same_Some _ _ is in
     let found = common_of 806 1692 90 _ (number_of from) h numbered (ap number_of hub) kind.0 kind.1 in
-    (found.0, found.1, inr (inr (inr (inr (inl found.2)))))
+    (found.0, found.1, inr (inr (inr (inr (inr (inl found.2))))))
 contact_numbered from (CSD split) h is numbered =
     let kind = number_of-kind (CSD split) (h + 1) numbered in
     let hub : CSE split ≡ from = same_Some _ _ is in
     let found = common_of 896 1782 16 _ (number_of from) h numbered (ap number_of hub) kind.0 kind.1 in
-    (found.0, found.1, inr (inr (inr (inr (inr (inl found.2))))))
+    (found.0, found.1, inr (inr (inr (inr (inr (inr (inl found.2)))))))
 contact_numbered from (CSZ split) h is numbered =
     let kind = number_of-kind (CSZ split) (h + 1) numbered in
     let hub : CSE split ≡ from = same_Some _ _ is in
     let found = common_of 912 1782 16 _ (number_of from) h numbered (ap number_of hub) kind.0 kind.1 in
-    (found.0, found.1, inr (inr (inr (inr (inr (inr (inl found.2)))))))
+    (found.0, found.1, inr (inr (inr (inr (inr (inr (inr (inl found.2))))))))
 contact_numbered from other h is numbered = cc
 
 -- a hub that is no contact's exit has no place in the runs
 no_contact : (to : Hub) (g h : ℕ) → contact_of to ≡ None → number_of to ≡ Some (h + 1) → IsInRuns CONTACTS g h → ⊥
+no_contact (CO group) g h is numbered at = cc
 no_contact (BAN group position) g h is numbered at = cc
 no_contact (BAT group position) g h is numbered at = cc
 no_contact (PIN pilot position) g h is numbered at = cc

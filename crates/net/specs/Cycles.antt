@@ -1,5 +1,5 @@
 -- Cycles and points: the numbers of levels and of the three cycles of a kind, and the fourteen points in their order.
-use Rattle.std.specs.Prelude.{ℕ, List, [], ◌∷◌}
+use Rattle.std.specs.Prelude.{ℕ, Bool, true, false, List, [], ◌∷◌}
 use Rattle.card_code.specs.declared.row.Row.TheVariants as row
 use Rattle.net.specs.declared.cycle.Level.{Level}
 use Rattle.net.specs.declared.cycle.Level.TheVariants.{Minor, Intermediate, Major, Final}
@@ -20,6 +20,12 @@ abbrev pub ordinal_number : Ordinal → ℕ
 ordinal_number First = 1
 ordinal_number Second = 2
 ordinal_number Third = 3
+
+-- whether a point is the closing point, at which carries pass
+abbrev pub is_closing : Point → Bool
+is_closing C = false
+is_closing (Row row) = false
+is_closing K = true
 
 -- the fourteen points in their order
 abbrev pub points : List Point

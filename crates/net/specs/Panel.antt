@@ -6,8 +6,10 @@ use Rattle.hubs.specs.declared.hub.Hub.{Hub}
 use Rattle.hubs.specs.declared.hub.Hub.TheVariants.{FR, SR, CX, GX, CO, BAN, BAT, PIN, PIT, SX, IX, CSD, CSZ, EM, CC, PX, HX, CA, CB, GE, PL, MI, RO, BT, CI, PIX, SE, SI, SO, W, ST, SP, SK, RS}
 use Rattle.hubs.specs.declared.hub.Hub.TheVariants as hub
 
--- A contact is named by its exit: the common hub that it leads from. Other hubs are no contact's exit.
+-- A contact is named by its exit, and leads there from a common hub, or from the carry entry of a counter group to its carry
+-- exit. Other hubs are no contact's exit.
 abbrev pub contact_of : Hub → Option Hub
+contact_of (CO group) = Some (CI group)
 contact_of (BAN group position) = Some (hub.BAC group position)
 contact_of (BAT group position) = Some (hub.BAC group position)
 contact_of (PIN pilot position) = Some (hub.PIC pilot position)
@@ -26,7 +28,7 @@ unit_behind before None = 0
 abbrev pub unit_of : Group → ℕ
 unit_of group = unit_behind 2 (group_place group.width group.number)
 
--- The unit that owns an exit: it emits there, or the contact that leads to it is its own. 0 for an entry.
+-- The unit that owns an exit: it emits there, or the contact that leads to it is its own; at a carry exit both. 0 for an entry.
 abbrev pub owner_of : Hub → ℕ
 owner_of (FR column) = 1
 owner_of (SR column) = 1

@@ -3,7 +3,13 @@
 use bit_sets::Run;
 
 /// The contacts, by places: the hub with the number h is the place h - 1.
-pub(crate) const CONTACTS: [Run; 7] = [
+pub(crate) const CONTACTS: [Run; 8] = [
+    // CI to CO.
+    Run {
+        common: 1396,
+        exits: 358,
+        count: 32,
+    },
     // BAC to BAN.
     Run {
         common: 1428,

@@ -56,7 +56,7 @@ module _ (machine : MachineState) (between : IsBetween machine) where
   group-listed name is =
       let (low, high) = in_units name is in
       let m = many in
-      Contains-get_or machine.groups (unit_of name - 3) (counter_of name false) (omega (arith, low, high, m))
+      Contains-get_or machine.groups (unit_of name - 3) (counter_of name) (omega (arith, low, high, m))
 
   -- a group of the machine is that of its name
   pub group-own : (counter : Counter) → Contains machine.groups counter → counter ≡ group_at machine counter.name
@@ -66,8 +66,8 @@ module _ (machine : MachineState) (between : IsBetween machine) where
       = ap (λ c. counter_number c) (sym is) ∙ told_at counter_number machine.groups group_units k counter between.ordered within
       ∙ unit-at k (omega (arith, within, m)) in
       let place : unit_of counter.name - 3 ≡ k = omega (arith, unit) in
-      sym (ap (λ j. get_or machine.groups j (counter_of counter.name false)) place
-      ∙ same machine.groups k counter (counter_of counter.name false) within is)
+      sym (ap (λ j. get_or machine.groups j (counter_of counter.name)) place
+      ∙ same machine.groups k counter (counter_of counter.name) within is)
     where
       same : (list : List Counter) (k : ℕ) (x d : Counter) → k < length list → get_or list k x ≡ x → get_or list k d ≡ x
       same [] k x d within is = absurd (omega (arith, within))
@@ -87,7 +87,7 @@ module _ (machine : MachineState) (between : IsBetween machine) where
   latch-at name is =
       let (low, high) = in_units name is in
       let m = many in
-      get_or-map (λ c. c.latch) machine.groups (unit_of name - 3) (counter_of name false) false (omega (arith, low, high, m))
+      get_or-map (λ c. c.latch) machine.groups (unit_of name - 3) (counter_of name) false (omega (arith, low, high, m))
 
   many_units : length machine.storage ≡ 4
   many_units = as_many storage_number machine.storage storage_units between.numbered

@@ -56,11 +56,11 @@ zeros_spell zero = refl
 zeros_spell (suc count) = let rest = zeros_spell count in omega (arith, rest)
 
 -- groups at the start hold zero
-start_number : (wiring : Wiring) (units : List ℕ) (place : ℕ)
-    → slice_index_or (map (λ (c : Counter). number c.digits) (map (counter_at_start wiring) units)) place 0 ≡ 0
-start_number wiring [] place = refl
-start_number wiring (unit ∷ units) zero = zeros_spell _
-start_number wiring (unit ∷ units) (suc place) = start_number wiring units place
+start_number : (units : List ℕ) (place : ℕ)
+    → slice_index_or (map (λ (c : Counter). number c.digits) (map counter_at_start units)) place 0 ≡ 0
+start_number [] place = refl
+start_number (unit ∷ units) zero = zeros_spell _
+start_number (unit ∷ units) (suc place) = start_number units place
 
 -- before the first card all totals are zero
 pub start_zero : (chart : Chart) (plan : Lists) (wiring : Wiring) (name : List ℕ) (level : ℕ)
@@ -69,4 +69,4 @@ start_zero chart plan wiring name level = by (total_group chart.lines plan name 
   where
     by : (o : Option Group) → (held_in (machine_at_start wiring) o).number ≡ 0
     by None = refl
-    by (Some group) = start_number wiring group_units (unit_of group - 3)
+    by (Some group) = start_number group_units (unit_of group - 3)

@@ -13,14 +13,17 @@ use Rattle.charts.specs.declared.level.Level.TheVariants as chart_level
 use Rattle.charts.specs.declared.statement.Field.{Field}
 use Rattle.counters.specs.Counters.{Counter}
 use Rattle.counters.specs.Numbers.{number}
-use Rattle.counters.specs.WholeCycles.{after_cycle}
-use Rattle.setups.specs.Wiring.{Wiring, is_wired}
+use Rattle.counters.specs.Rings.{IsFedAlone}
+use Rattle.counters.specs.WholeCycles.{ComesRound, after_cycle}
+use Rattle.setups.specs.Wiring.{LeadsToEntries, Wiring, is_wired}
 use Rattle.hubs.specs.declared.hub.Group.{Group}
 use Rattle.hubs.specs.declared.hub.Hub.TheVariants.{CO, CI}
 use Rattle.panel_cycles.proofs.AmountFacts.{group_is, has_from}
 use Rattle.panel_cycles.proofs.CounterAsks.{asks_card, asks_heading, asks_run_in, asks_step}
 use Rattle.panel_cycles.proofs.AmountsLawful.{lawful_amount}
 use Rattle.panel_cycles.proofs.Rings.{ring_is}
+use Rattle.panel_cycles.proofs.WheelRowsUnits.{group-own}
+use Rattle.wired_panels.proofs.Ways.{fed_alone, leads}
 use Rattle.wired_panels.proofs.CounterUnits.{at_unit, counter_there, planned_unit}
 use Rattle.wired_panels.proofs.BehindCycles.{cycle-of}
 use Rattle.wired_panels.specs.Groups.{IsGroupOf}
@@ -36,8 +39,10 @@ use Rattle.net.specs.declared.cycle.Cycle.{Cycle}
 use Rattle.net.specs.declared.cycle.Cycle.TheVariants.{RunIn, Card, Prog, Head}
 use Rattle.totals.proofs.Passing.{have_room}
 use Rattle.totals.specs.Amounts.{IsSmall, act_of, state_after, total_act}
+use Rattle.whole_cycles.proofs.Carries.{carries-come}
 use Rattle.whole_cycles.proofs.Ready.{machines-ready}
 use Rattle.whole_cycles.specs.Between.{IsBetween, IsIdle, IsReady}
+use Rattle.whole_cycles.specs.Units.{group_at}
 use Rattle.whole_cycles.specs.WholeCycles.{WholeCycle}
 use Rattle.wiring_table.specs.Figures.{IsAmount}
 use Rattle.wiring_table.specs.Parts.{group_for}
@@ -60,24 +65,29 @@ group_done :
     → IsReady wiring old → IsReady wiring new → (all : WholeCycle wiring cycle old new) → 3 ≤ unit_of group
     → is_wired wiring (CO group) (CI group) ≡ signed → IsWithinGroup group.width act
     → Asks act (held_in old (Some group)).number group all.pictures
+    → LeadsToEntries wiring → ((name : Group) → IsFedAlone wiring name name)
     → held_in new (Some group) ≡ held_after signed group.width act (held_in old (Some group))
-group_done wiring cycle old new group act signed is is_new all there ring fits asks =
+group_done wiring cycle old new group act signed is is_new all there ring fits asks leading fed =
     let (counter, listed, named) = counter_there old.groups group is.between.ordered there in
     let idle = All-contains IsIdle old.groups counter is.between.groups listed in
-    let rings = All-contains (λ (c : Counter). c.is_ring ≡ is_wired wiring (CO c.name) (CI c.name)) old.groups counter is.set_up.rings listed in
+    let by_wire : ComesRound (is_wired wiring (CO counter.name) (CI counter.name)) (group_at old counter.name) cycle all.pictures
+    = carries-come.single wiring cycle old new counter.name all is.between leading
+    (record { width = idle.lawful.width; number = idle.lawful.named }) (fed counter.name) in
+    let round : ComesRound signed counter cycle all.pictures
+    = subst (λ (b : Bool). ComesRound b counter cycle all.pictures) (ap (λ (g : Group). is_wired wiring (CO g) (CI g)) named ∙ ring)
+    (subst (λ (c : Counter). ComesRound (is_wired wiring (CO counter.name) (CI counter.name)) c cycle all.pictures)
+    (sym (group-own old is.between counter listed)) by_wire) in
     let holds = held_there old counter group is.between listed named in
     let asked : Asks act (number counter.digits) counter.name all.pictures
     = subst (λ (g : Group). Asks act (number counter.digits) g all.pictures) (sym named)
     (subst (λ (h : Held). Asks act h.number group all.pictures) holds asks) in
     let room : IsWithinGroup counter.name.width act = subst (λ (g : Group). IsWithinGroup g.width act) (sym named) fits in
-    let done = acts-done act counter cycle all.pictures (record { is_counter = idle.lawful; entered = idle.entered }) room asked in
+    let done = acts-done signed act counter cycle all.pictures (record { is_counter = idle.lawful; entered = idle.entered }) room asked round in
     let behind = after_cycle cycle all.pictures counter in
     let listed_new : Contains new.groups behind
     = subst (λ (gs : List Counter). Contains gs behind) (sym all.groups) (listed-map (after_cycle cycle all.pictures) old.groups counter listed) in
     held_there new behind group is_new.between listed_new (done.name ∙ named)
     ∙ done.held
-    ∙ ap (λ (b : Bool). held_after b counter.name.width act (held_by counter))
-    (rings ∙ ap (λ (g : Group). is_wired wiring (CO g) (CI g)) named ∙ ring)
     ∙ ap (λ (g : Group). held_after signed g.width act (held_by counter)) named
     ∙ ap (λ (h : Held). held_after signed group.width act h) (sym holds)
 
@@ -128,7 +138,8 @@ module _ (chart : Chart) (plan : Lists) (wiring : Wiring) (panel : IsPanel chart
         ap (held_in new) is_group
         ∙ group_done wiring cycle old new group act its.is_signed is is_new all
         (planned_unit chart.lines plan own.number group panel.planned own.served)
-        (ring_is chart plan wiring name level group panel rise own) fits asked
+        (ring_is chart plan wiring name level group panel rise own) fits asked (leads chart plan wiring panel)
+        (fed_alone chart plan wiring panel)
         ∙ (λ i. held_after its.is_signed (sym width i) act (held_in old (sym is_group i)))
       where
         from_one : IsGroupOf chart.lines plan name level group → 1 ≤ level

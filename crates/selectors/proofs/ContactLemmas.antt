@@ -1,8 +1,9 @@
 -- Rows of contacts against the definitions of which of them are closed.
-use Rattle.std.proofs.Common.{◌≡◌, ◌≤◌, ◌<◌, ◌+◌, ◌-◌, ◌*◌, ◌∙◌, ap, refl, sym, arith, ℕ, suc, Bool, true, false, not, ◌==◌, ◌&&◌, ◌||◌, nat_le, List, [], ◌∷◌, length, slice_index_or, Option, Some, None, if◌then◌else◌}
+use Rattle.std.proofs.Common.{◌≡◌, ◌≤◌, ◌<◌, ◌+◌, ◌-◌, ◌*◌, ◌∙◌, ap, refl, sym, arith, ℕ, suc, Bool, true, false, not, ◌==◌, ◌&&◌, ◌||◌, nat_le, List, [], ◌∷◌, length, slice_index_or, ◌⊎◌, inl, inr, Option, Some, None, if◌then◌else◌}
 use Rattle.std.specs.Prelude.{option_map}
 use Rattle.std.proofs.lemmas.Bool.Decides.{nat_tests}
 use Rattle.std.proofs.lemmas.Nat.Bits.{bit_at_ones}
+use Rattle.std.proofs.lemmas.Option.{same_Some}
 use Rattle.hub_table.proofs.PlaceLemmas.{place-range}
 use Rattle.card_code.specs.declared.row.Row.{Row as CardRow}
 use Rattle.hub_table.specs.HubTable.{row_of}
@@ -11,18 +12,19 @@ use Rattle.hub_table.specs.Places.{up_to, part_place, group_place, count_of}
 use Rattle.hub_table.specs.Ranges.{is_within}
 use Rattle.hubs.specs.declared.hub.Group.{Group}
 use Rattle.hubs.specs.declared.hub.Hub.{Hub}
-use Rattle.hubs.specs.declared.hub.Hub.TheVariants.{BAN, BAT, PIN, PIT, IX, CSD, CSZ}
+use Rattle.hubs.specs.declared.hub.Hub.TheVariants.{CO, BAN, BAT, PIN, PIT, IX, CSD, CSZ}
 use Rattle.hub_table.specs.declared.letters.Letters.{Letters}
 use Rattle.hub_table.specs.declared.letters.Letters.TheVariants as kind
 use Rattle.hub_table.specs.declared.shape.Numbers.TheVariants.{Two}
 use Rattle.hub_table.specs.declared.shape.Shape.TheVariants.{Groups}
 use Rattle.net.specs.HubSets.{is_bit, is_bit_from, is_in_row}
-use Rattle.net.specs.Panel.{unit_behind}
+use Rattle.net.specs.Cycles.{is_closing}
+use Rattle.net.specs.Panel.{unit_behind, unit_of}
 use Rattle.net.specs.declared.cycle.Cycle.{Cycle}
 use Rattle.net.specs.declared.cycle.Cycle.TheVariants.{Card}
 use Rattle.net.specs.declared.cycle.Point.{Point}
-use Rattle.net.specs.declared.cycle.Point.TheVariants.{Row}
-use Rattle.selectors.specs.Contacts.{balance_closes, has_balance, is_balance_set}
+use Rattle.net.specs.declared.cycle.Point.TheVariants.{C, K, Row}
+use Rattle.selectors.specs.Contacts.{balance_closes, carry_closes, has_balance, is_balance_set, is_nines}
 use Rattle.selectors.specs.Indicate.{Latches, indicate_closes}
 use Rattle.selectors.specs.Pilots.{PilotStates, pilots_closes}
 use Rattle.selectors.specs.Splits.{split_closes, is_digit_row}
@@ -157,6 +159,49 @@ balance_rows latches (BAT group position) long = other_row _ _ _
 balance_rows latches other long = one_row _ _ _
     (no_spread kind.BAN false 4 latches other (λ same. cc) (rw long refl))
     (no_spread kind.BAT true 4 latches other (λ same. cc) (rw long refl))
+
+-- the row of the carries' contacts, which has one of each group
+pub carry_row : (nines : List Bool) (hub : Hub) → length nines ≡ 32
+    → is_in_row (CO (record { width = 3; number = 1 })) (spread true 1 nines) hub ≡ carry_closes K nines hub
+carry_row nines (CO group) long =
+    by (group_place group.width group.number) (λ t e. place-range Groups (Two group.width group.number) t e)
+  where
+    by : (found : Option ℕ) → ((t : ℕ) → found ≡ Some t → (1 ≤ t) × (t ≤ 32))
+        → is_bit_from (Some 359) (spread true 1 nines) (option_map (λ place. 358 + place) found)
+        ≡ (nat_le 3 (unit_behind 2 found) && slice_index_or nines (unit_behind 2 found - 3) false)
+    by None range = refl
+    by (Some t) range =
+        let within = range t refl in
+        let one : 358 + t ≡ 358 + ((t - 1) * 1 + 1) = omega (arith, within.0) in
+        let there : nat_le 3 (2 + t) ≡ true = let from = within.0 in grind (arith, nat_tests, from) in
+        let place : 2 + t - 3 ≡ t - 1 = omega arith in
+        ap (λ n. is_bit_from (Some 359) (spread true 1 nines) (Some n)) one
+        ∙ spread_row true 1 358 nines (Some t) (Some 1) (λ s e. rw long (range s e)) (λ p e. only p e)
+        ∙ ap (λ b. b && slice_index_or nines (t - 1) false) (sym there)
+        ∙ ap (λ k. nat_le 3 (2 + t) && slice_index_or nines k false) (sym place)
+      where
+        only : (p : ℕ) → ◌≡◌ {A = Option ℕ} (Some 1) (Some p) → (1 ≤ p) × (p ≤ 1)
+        only p e = let same : 1 ≡ p = same_Some _ _ e in (omega (arith, same), omega (arith, same))
+carry_row nines other long = no_spread kind.CO true 1 nines other (λ same. cc) (rw long refl)
+
+-- before the closing point no carry's contact is closed
+pub no_carry_before : (point : Point) (nines : List Bool) (hub : Hub) → (point ≡ C) ⊎ ((row : CardRow) × (point ≡ Row row))
+    → carry_closes point nines hub ≡ false
+no_carry_before point nines (CO group) at = ap (λ b. b && (nat_le 3 (unit_of group) && is_nines nines group)) (before at)
+  where
+    before : (point ≡ C) ⊎ ((row : CardRow) × (point ≡ Row row)) → is_closing point ≡ false
+    before (inl is) = ap is_closing is
+    before (inr is) = ap is_closing is.1
+no_carry_before point nines other at = refl
+
+-- a set that gains nothing, two sets of contacts joined
+pub gains_none : (old test : Bool) → test ≡ false → old ≡ (old || test)
+gains_none true test none = refl
+gains_none false test none = sym none
+
+pub gains_carries : (steady splits new a b c d o : Bool) → steady ≡ (a || (b || c)) → splits ≡ (steady || d) → new ≡ (splits || o)
+    → new ≡ (o || (a || (b || (c || d))))
+gains_carries steady splits new a b c d o is next last = grind (arith, is, next, last)
 
 -- the latch of a level by its number
 latch_of_level : (a b c : Bool) (level : ℕ)

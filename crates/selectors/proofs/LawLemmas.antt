@@ -7,14 +7,14 @@ use Rattle.card_code.specs.declared.row.Row.TheVariants.{Eleven}
 use Rattle.hub_table.specs.Ranges.{is_within}
 use Rattle.hubs.specs.declared.hub.Group.{Group}
 use Rattle.hubs.specs.declared.hub.Hub.{Hub}
-use Rattle.hubs.specs.declared.hub.Hub.TheVariants.{BAN, BAT, PIN, PIT, PIX, IX, CSD, CSZ}
+use Rattle.hubs.specs.declared.hub.Hub.TheVariants.{CO, BAN, BAT, PIN, PIT, PIX, IX, CSD, CSZ}
 use Rattle.net.specs.Panel.{contact_of}
 use Rattle.net.specs.WholeCycles.{after_points}
 use Rattle.net.specs.declared.cycle.Cycle.{Cycle}
 use Rattle.net.specs.declared.cycle.Cycle.TheVariants.{RunIn, Card}
 use Rattle.net.specs.declared.cycle.Point.{Point}
 use Rattle.net.specs.declared.cycle.Point.TheVariants.{C, Row, K}
-use Rattle.selectors.specs.Contacts.{balance_closes, has_balance, is_balance_set, closed_contacts}
+use Rattle.selectors.specs.Contacts.{balance_closes, carry_closes, has_balance, is_balance_set, closed_contacts}
 use Rattle.selectors.specs.Indicate.{Latches, indicate_closes}
 use Rattle.selectors.specs.Numbered.{tests_to}
 use Rattle.selectors.specs.Pilots.{PilotStates, is_transferred, moves_pilots, no_pilots, pilots_closes, pilots_sensed, pickups}
@@ -110,14 +110,19 @@ split_other (Row row) (CSD split) none = cc
 split_other (Row row) (CSZ split) none = cc
 split_other point hub none = refl
 
-pub are_contacts : (cycle : Cycle) (point : Point) (pilots : PilotStates) (indicate : Latches) (latches : List Bool) (hub : Hub)
-    → closed_contacts cycle point pilots indicate latches hub ≡ true → is_some (contact_of hub) ≡ true
-are_contacts cycle point pilots indicate latches hub closed = by (is_some (contact_of hub)) refl
+carry_other : (point : Point) (nines : List Bool) (hub : Hub) → is_some (contact_of hub) ≡ false → carry_closes point nines hub ≡ false
+carry_other point nines (CO group) none = cc
+carry_other point nines hub none = refl
+
+pub are_contacts : (cycle : Cycle) (point : Point) (pilots : PilotStates) (indicate : Latches) (latches nines : List Bool) (hub : Hub)
+    → closed_contacts cycle point pilots indicate latches nines hub ≡ true → is_some (contact_of hub) ≡ true
+are_contacts cycle point pilots indicate latches nines hub closed = by (is_some (contact_of hub)) refl
   where
     by : (is : Bool) → is_some (contact_of hub) ≡ is → is ≡ true
     by true none = refl
-    by false none = sym (all_false _ _ _ _ (balance_other latches hub none) (pilots_other pilots cycle point hub none)
+    by false none = sym (all_false _ _ _ _ _ (carry_other point nines hub none) (balance_other latches hub none) (pilots_other pilots cycle point hub none)
         (indicate_other indicate cycle point hub none) (split_other point hub none)) ∙ closed
       where
-        all_false : (a b c d : Bool) → a ≡ false → b ≡ false → c ≡ false → d ≡ false → (a || (b || (c || d))) ≡ false
-        all_false a b c d e f g h = grind (arith, e, f, g, h)
+        all_false : (o a b c d : Bool) → o ≡ false → a ≡ false → b ≡ false → c ≡ false → d ≡ false
+            → (o || (a || (b || (c || d)))) ≡ false
+        all_false o a b c d n e f g h = grind (arith, n, e, f, g, h)

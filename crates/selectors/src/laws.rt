@@ -52,9 +52,9 @@ pub fn selectors_lead_to_one_side()
     ensures none_at_closing { (hub : Hub) → split_closes K hub ≡ false }
 {}
 
-/// What is closed is a contact: its exit is one that a common hub leads to.
+/// What is closed is a contact: its exit is one that a common hub leads to, or the carry entry of its group.
 pub fn closed_contacts_are_contacts()
-    ensures { (cycle : Cycle) (point : Point) (pilots : PilotStates) (indicate : Latches) (latches : List Bool) (hub : Hub)
-        → closed_contacts cycle point pilots indicate latches hub ≡ true
+    ensures { (cycle : Cycle) (point : Point) (pilots : PilotStates) (indicate : Latches) (latches nines : List Bool) (hub : Hub)
+        → closed_contacts cycle point pilots indicate latches nines hub ≡ true
         → is_some (contact_of hub) ≡ true }
 {}

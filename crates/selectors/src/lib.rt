@@ -8,7 +8,7 @@ mod pilots;
 mod splits;
 mod spread;
 
-pub use closed::{GROUPS, close_balances, contacts, steady_contacts, with_splits};
+pub use closed::{GROUPS, close_balances, contacts, steady_contacts, with_carries, with_splits};
 pub use indicate::Indicate;
 pub use laws::{
     closed_contacts_are_contacts, pilots_follow_their_pickups, pilots_stand_through_a_cycle,

@@ -4,19 +4,21 @@ use Rattle.std.proofs.lemmas.Bool.{false≢true}
 use Rattle.hubs.specs.Hubs.{is_hub_in_range}
 use Rattle.setups.specs.Wiring.{HasWire, Wiring}
 use Rattle.hubs.specs.declared.hub.Hub.{Hub}
-use Rattle.hubs.specs.declared.hub.Hub.TheVariants.{BAN, BAC, PIC, IE, CSE}
+use Rattle.hubs.specs.declared.hub.Hub.TheVariants.{BAN, BAC, CO, PIC, IE, CSE}
 use Rattle.net.specs.Impulsed.{IsImpulsed}
 use Rattle.net.specs.Impulsed.IsImpulsed.{emitting, led_on}
 use Rattle.net.specs.Panel.{contact_of}
 use Rattle.net.proofs.ImpulsedLaws.{no_exit_is_entry}
 use Rattle.whole_cycles.specs.Laws.{ContactsAreOneDeep}
-use Rattle.whole_cycles.specs.OneContactDeep.{is_common, IsOneContactDeep, IsWithinOneContact, NoCommonEmits}
+use Rattle.whole_cycles.specs.OneContactDeep.{is_common, AreCarriesOpen, IsOneContactDeep, IsWithinOneContact, NoCommonEmits}
 use Rattle.whole_cycles.specs.OneContactDeep.IsWithinOneContact.{emits, wired, through, behind}
 
--- a contact leads from a common hub
-common_of : (hub common : Hub) → contact_of hub ≡ Some common → is_common common ≡ true
-common_of (BAN group position) common is = cc
-common_of other common is = cc
+-- a contact that is closed leads from a common hub, where no carry passes
+common_of : (closed : Hub → Bool) → AreCarriesOpen closed → (hub common : Hub) → contact_of hub ≡ Some common → closed hub ≡ true
+    → is_common common ≡ true
+common_of closed open_all (CO group) common is shut = absurd (false≢true (sym (open_all group) ∙ shut))
+common_of closed open_all (BAN group position) common is shut = cc
+common_of closed open_all other common is shut = cc
 
 -- a contact's exit is no common hub
 not_common : (hub common : Hub) → contact_of hub ≡ Some common → is_common hub ≡ false
@@ -35,28 +37,28 @@ in_range : (wiring : Wiring) (exit entry : Hub) → HasWire wiring exit entry �
 in_range wiring exit entry wire = ap is_some wire.numbered
 
 -- an impulse goes one of the four ways
-within : (wiring : Wiring) (exits closed : Hub → Bool) → IsOneContactDeep wiring → NoCommonEmits exits → {hub : Hub}
+within : (wiring : Wiring) (exits closed : Hub → Bool) → IsOneContactDeep wiring → NoCommonEmits exits → AreCarriesOpen closed → {hub : Hub}
     → IsImpulsed wiring exits closed hub → IsWithinOneContact wiring exits closed hub
-within wiring exits closed deep silent (emitting hub there at) = emits hub there at
-within wiring exits closed deep silent (led_on from to at (inl wire)) =
-    along wire (within wiring exits closed deep silent at)
+within wiring exits closed deep silent open_all (emitting hub there at) = emits hub there at
+within wiring exits closed deep silent open_all (led_on from to at (inl wire)) =
+    along wire (within wiring exits closed deep silent open_all at)
   where
     along : {x y : Hub} → HasWire wiring x y → IsWithinOneContact wiring exits closed x → IsWithinOneContact wiring exits closed y
     along {x} {y} wire (emits hub there on) = wired x y on wire
     along {x} {y} wire (wired exit hub on first) = absurd (ends wiring exit x y deep first wire)
     along {x} {y} wire (through exit common hub on first leads shut) = behind exit common x y on first leads shut wire
     along {x} {y} wire (behind exit common contact hub on first leads shut last) = absurd (ends wiring contact x y deep last wire)
-within wiring exits closed deep silent (led_on from to at (inr contact)) =
-    across contact (within wiring exits closed deep silent at)
+within wiring exits closed deep silent open_all (led_on from to at (inr contact)) =
+    across contact (within wiring exits closed deep silent open_all at)
   where
     across : {x y : Hub} → (contact_of y ≡ Some x) × (closed y ≡ true) → IsWithinOneContact wiring exits closed x
         → IsWithinOneContact wiring exits closed y
-    across {x} {y} contact (emits hub there on) = absurd (false≢true (sym (silent x (common_of y x contact.0)) ∙ on))
+    across {x} {y} contact (emits hub there on) = absurd (false≢true (sym (silent x (common_of closed open_all y x contact.0 contact.1)) ∙ on))
     across {x} {y} contact (wired exit hub on first) = through exit x y on first contact.0 contact.1
     across {x} {y} contact (through exit common hub on first leads shut) =
-        absurd (false≢true (sym (not_common x common leads) ∙ common_of y x contact.0))
+        absurd (false≢true (sym (not_common x common leads) ∙ common_of closed open_all y x contact.0 contact.1))
     across {x} {y} contact (behind exit common last hub on first leads shut wire) =
-        absurd (deep.shallow last x wire (ap is_some leads) (common_of y x contact.0))
+        absurd (deep.shallow last x wire (ap is_some leads) (common_of closed open_all y x contact.0 contact.1))
 
 -- what an emitting exit is wired to is impulsed
 fed : (wiring : Wiring) (exits closed : Hub → Bool) (exit hub : Hub) → exits exit ≡ true → HasWire wiring exit hub
@@ -75,5 +77,5 @@ impulsed wiring exits closed (behind exit common contact hub on wire leads shut 
     led_on contact hub (led_on common contact (fed wiring exits closed exit common on wire) (inr (leads, shut))) (inl last)
 
 pub contacts-one_deep : ContactsAreOneDeep
-contacts-one_deep wiring exits closed hub deep silent =
-    (λ at. within wiring exits closed deep silent at, λ way. impulsed wiring exits closed way)
+contacts-one_deep wiring exits closed hub deep silent open_all =
+    (λ at. within wiring exits closed deep silent open_all at, λ way. impulsed wiring exits closed way)

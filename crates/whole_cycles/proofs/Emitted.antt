@@ -1,24 +1,29 @@
 -- What is emitted, and which contacts are closed, at each point of a cycle, by the state before the cycle.
-use Rattle.std.proofs.Common.{◌≡◌, ◌∙◌, ap, refl, Bool, true, false, ◌||◌, List, [], ◌∷◌, map}
+use Rattle.std.proofs.Common.{◌≡◌, ◌∙◌, ap, sym, refl, Bool, true, false, ◌||◌, List, [], ◌∷◌, map}
 use Rattle.std.specs.List.{list_any}
 use Rattle.card_code.specs.Rows.{rows}
 use Rattle.card_code.specs.declared.row.Row.{Row as CardRow}
-use Rattle.counters.specs.Counters.{Counter, counter_emits, counter_sensed}
+use Rattle.counters.specs.Counters.{Counter, counter_closes, counter_emits, counter_sensed}
 use Rattle.hubs.specs.declared.hub.Hub.{Hub}
 use Rattle.hubs.specs.declared.hub.Hub.TheVariants.{CX, SX}
+use Rattle.net.specs.Cycles.{is_closing}
 use Rattle.net.specs.declared.cycle.Cycle.{Cycle}
 use Rattle.net.specs.declared.cycle.Cycle.TheVariants.{RunIn, Card}
 use Rattle.net.specs.declared.cycle.Point.{Point}
 use Rattle.net.specs.declared.cycle.Point.TheVariants.{C, Row, K}
 use Rattle.print_unit.specs.Emitters.{emitters_emit}
 use Rattle.program_unit.specs.Program.{tells}
+use Rattle.selectors.proofs.LawLemmas.{pilots_stand}
+use Rattle.selectors.specs.Indicate.{indicate_closes}
+use Rattle.selectors.specs.Pilots.{PilotStates, pilots_closes}
+use Rattle.selectors.specs.Splits.{splits_closes}
 use Rattle.stations.proofs.Own.{tells_differences}
 use Rattle.stations.specs.Comparing.{Compared, comparing_at_start, comparing_emits}
 use Rattle.stations.specs.Stations.{StationCards, stations_emits}
 use Rattle.storage_units.specs.Storage.{StorageState, storage_emits, storage_sensed}
 use Rattle.machine.specs.Machine.{MachineState, emits, closes, sensed}
 use Rattle.machine.proofs.ClosedContacts.{closes-steady, none-of}
-use Rattle.whole_cycles.specs.WholeCycles.{control_emits, row_emits, closing_emits, group_reads_out, storage_reads_out}
+use Rattle.whole_cycles.specs.WholeCycles.{all_closing_emits, before_closing, carry_emits, closing_closes, control_emits, row_emits, closing_emits, group_reads_out, storage_reads_out}
 use Rattle.whole_cycles.proofs.Parts.{parts, after-kept, machine_after, group_after, unit_after, compared_after}
 
 -- comparing emits at no row and not at the control point
@@ -40,7 +45,7 @@ stations-closing cards RunIn hub = refl
 stations-closing cards other hub = refl
 
 -- tests that tell of changed things what others tell of the things
-any-changed : {X Y : Type 0} (test : Y → Bool) (other : X → Bool) (change : X → Y) → ((x : X) → test (change x) ≡ other x)
+pub any-changed : {X Y : Type 0} (test : Y → Bool) (other : X → Bool) (change : X → Y) → ((x : X) → test (change x) ≡ other x)
     → (xs : List X) → list_any test (map change xs) ≡ list_any other xs
 any-changed test other change same [] = refl
 any-changed test other change same (x ∷ xs) =
@@ -133,15 +138,16 @@ comparing-closing : (cycle : Cycle) (pictures : Point → Hub → Bool) (hub : H
 comparing-closing Card pictures (CX p) = tells_differences (λ row. pictures (Row row)) p
 comparing-closing other pictures hub = refl
 
-one : (comparing : Bool)
-    → (false || comparing || false || false || false || false || false || false || false || false || false) ≡ comparing
-one true = refl
-one false = refl
+two : (comparing groups : Bool)
+    → (false || comparing || groups || false || false || false || false || false || false || false || false) ≡ (comparing || groups)
+two true groups = refl
+two false true = refl
+two false false = refl
 
 -- what is emitted at the closing point
 pub emits-closing : (old : MachineState) (cycle : Cycle) (pictures : Point → Hub → Bool) (hub : Hub)
     → old.comparing ≡ comparing_at_start
-    → emits (machine_after cycle pictures (C ∷ map Row rows) old) cycle K hub ≡ closing_emits pictures cycle hub
+    → emits (machine_after cycle pictures (C ∷ map Row rows) old) cycle K hub ≡ all_closing_emits old pictures cycle hub
 emits-closing old cycle pictures hub start =
     let now = machine_after cycle pictures (C ∷ map Row rows) old in
     let part = parts cycle pictures (C ∷ map Row rows) old in
@@ -150,14 +156,32 @@ emits-closing old cycle pictures hub start =
     ap (λ (c : Compared). comparing_emits c cycle K hub)
     (part.comparing ∙ ap (compared_after cycle pictures (C ∷ map Row rows)) start)
     ∙ comparing-closing cycle pictures hub in
-    let groups = none-of now.groups in
+    let groups =
+    ap (λ (gs : List Counter). list_any (λ group. counter_emits group cycle K hub) gs) part.groups
+    ∙ any-changed (λ (group : Counter). counter_emits group cycle K hub)
+    (λ (group : Counter). counter_emits (before_closing cycle pictures group) cycle K hub)
+    (group_after cycle pictures (C ∷ map Row rows)) (λ group. refl) old.groups in
     let storage = none-of now.storage in
     (λ i. stations i || comparing i || groups i || storage i || false || false || false || false || false || false || false)
-    ∙ one (closing_emits pictures cycle hub)
+    ∙ two (closing_emits pictures cycle hub) (carry_emits old pictures cycle hub)
 
--- the contacts that are closed at a point are those of the state before the cycle
+-- the contacts that are closed at a point before the closing point are those of the state before the cycle
 pub closes-before : (old : MachineState) (cycle : Cycle) (pictures : Point → Hub → Bool) (before : List Point) (point : Point) (hub : Hub)
-    → closes (machine_after cycle pictures before old) cycle point hub ≡ closes old cycle point hub
-closes-before old cycle pictures before point hub =
+    → is_closing point ≡ false → closes (machine_after cycle pictures before old) cycle point hub ≡ closes old cycle point hub
+closes-before old cycle pictures before point hub early =
     after-kept (λ machine at picture. sensed machine cycle at picture) (λ machine. closes machine cycle point hub)
-    (λ machine at picture. closes-steady machine cycle at point picture hub) pictures before old
+    (λ machine at picture. closes-steady machine cycle at point picture hub early) pictures before old
+
+-- those of the closing point hang on what was entered
+pub closes-closing : (old : MachineState) (cycle : Cycle) (pictures : Point → Hub → Bool) (hub : Hub)
+    → closes (machine_after cycle pictures (C ∷ map Row rows) old) cycle K hub ≡ closing_closes old pictures cycle hub
+closes-closing old cycle pictures hub =
+    let now = machine_after cycle pictures (C ∷ map Row rows) old in
+    let part = parts cycle pictures (C ∷ map Row rows) old in
+    let groups = ap (λ (gs : List Counter). list_any (λ group. counter_closes group cycle K hub) gs) part.groups in
+    let storage = none-of now.storage ∙ sym (none-of old.storage) in
+    let pilots =
+    ap (λ (p : PilotStates). pilots_closes p cycle K hub) part.pilots
+    ∙ pilots_stand old.pilots cycle pictures (C ∷ map Row rows) K hub in
+    λ i. false || false || groups i || storage i || pilots i || indicate_closes (part.indicate i) cycle K hub
+    || splits_closes (part.splits i) cycle K hub || false || false || false || false

@@ -9,4 +9,5 @@ pub mod Staying
 pub mod Ready
 pub mod Places
 pub mod Alone
+pub mod Carries
 pub mod Units

@@ -42,7 +42,7 @@ pub as_many : {X : Type 0} (tell : X → ℕ) (xs : List X) (told : List ℕ) �
 as_many tell xs told is = sym (length-map xs tell) ∙ ap (λ (ns : List ℕ). length ns) is
 
 -- a group of the panel has a place
-has_place : (name : Group) → IsGroup name → is_some (group_place name.width name.number) ≡ true
+pub has_place : (name : Group) → IsGroup name → is_some (group_place name.width name.number) ≡ true
 has_place name is = by name.width name.number is.width is.number
   where
     by : (w n : ℕ) → is_width w ≡ true → is_within n 8 ≡ true → is_some (group_place w n) ≡ true

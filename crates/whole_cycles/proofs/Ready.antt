@@ -18,7 +18,7 @@ use Rattle.machine.specs.Cycles.{CycleRun}
 use Rattle.machine.specs.Feeds.{Fed, FeedRuns, FeedStep, begun, taken}
 use Rattle.machine.specs.Machine.{MachineState, group_units, machine_at_start}
 use Rattle.machine.specs.Runs.{moved_on}
-use Rattle.whole_cycles.specs.Between.{IsReady, IsRingAsWired, IsSetUp}
+use Rattle.whole_cycles.specs.Between.{IsReady, IsSetUp}
 use Rattle.whole_cycles.specs.Laws.{MachinesStayReady}
 use Rattle.whole_cycles.specs.WholeCycles.{WholeCycle}
 use Rattle.whole_cycles.proofs.Parts.{map-both}
@@ -29,7 +29,6 @@ ready-start : (wiring : Wiring) → IsReady wiring (machine_at_start wiring)
 ready-start wiring = record {
   between = starts wiring;
   set_up = record {
-    rings = all-made (IsRingAsWired wiring) (counter_at_start wiring) group_units (λ unit. refl);
     wheels = refl;
     form = refl;
     carriage_prints = refl;
@@ -47,9 +46,6 @@ program-prints program other picture = refl
 set_up-kept : (wiring : Wiring) (cycle : Cycle) (old new : MachineState)
     → IsSetUp wiring old → WholeCycle wiring cycle old new → IsSetUp wiring new
 set_up-kept wiring cycle old new is whole = record {
-  rings =
-      All-same (IsRingAsWired wiring) new.groups _ whole.groups
-      (all-kept (IsRingAsWired wiring) (counters.after_cycle cycle whole.pictures) (λ group is. is) old.groups is.rings);
   wheels =
       whole.wheels ∙ ap (map emptied) is.wheels ∙ map-both (wheel_at_start wiring) emptied (range_with_len 1 120);
   form = ap (λ (c : CarriageState). c.form) whole.carriage ∙ is.form;
@@ -84,7 +80,6 @@ ready-moved wiring next machine ready = record {
     wheels = ready.between.wheels;
   };
   set_up = record {
-    rings = ready.set_up.rings;
     wheels = ready.set_up.wheels;
     form = ready.set_up.form;
     carriage_prints = ready.set_up.carriage_prints;

@@ -50,22 +50,20 @@ all-kept P change keeps xs all = All-map P change xs (λ k d less. keeps (get_or
 unit_at : (k : ℕ) → k < 32 → get_or group_units k 0 ≡ 3 + k
 unit_at k less = get_or-range_with_len 3 32 k 0 less
 
-group-start : (wiring : Wiring) (unit : ℕ) → 3 ≤ unit → unit ≤ 34 → IsIdle (counter_at_start wiring unit)
-group-start wiring unit from to =
-    record { lawful = counters-stay.start wiring unit from to; entered = refl; controls = refl }
+group-start : (unit : ℕ) → 3 ≤ unit → unit ≤ 34 → IsIdle (counter_at_start unit)
+group-start unit from to = record { lawful = counters-stay.start unit from to; entered = refl; carry = refl; controls = refl }
 
-groups-start : (wiring : Wiring) → All IsIdle (map (counter_at_start wiring) group_units)
-groups-start wiring =
-    All-map IsIdle (counter_at_start wiring) group_units
-    (All-from_get_or (λ unit. IsIdle (counter_at_start wiring unit)) group_units 0
-    (λ k less. let is = unit_at k less in
-    group-start wiring (get_or group_units k 0) (omega (arith, is)) (omega (arith, is, less))))
+groups-start : All IsIdle (map counter_at_start group_units)
+groups-start =
+    All-map IsIdle counter_at_start group_units
+    (All-from_get_or (λ unit. IsIdle (counter_at_start unit)) group_units 0
+    (λ k less. let is = unit_at k less in group-start (get_or group_units k 0) (omega (arith, is)) (omega (arith, is, less))))
 
 pub starts : (wiring : Wiring) → IsBetween (machine_at_start wiring)
 starts wiring = record {
   comparing = refl;
   ordered = refl;
-  groups = groups-start wiring;
+  groups = groups-start;
   numbered = refl;
   storage = all-made HasAllRows storage_at_start storage_units (λ unit. record { held = refl; received = refl });
   transferred = refl;
@@ -82,6 +80,7 @@ group-kept cycle pictures group is = record {
       counters-stay.ended (after_points counter_sensed cycle pictures points group) cycle
       (points-stay cycle pictures points group is.lawful);
   entered = refl;
+  carry = refl;
   controls = refl;
 }
 

@@ -21,8 +21,8 @@ use Rattle.machine.specs.Cycles.{Reached}
 use Rattle.machine.specs.Machine.{MachineState, emits, closes, sensed, ended}
 use Rattle.machine.proofs.Pictures.{IsPicture-same}
 use Rattle.whole_cycles.specs.Laws.{CyclesAreWhole}
-use Rattle.whole_cycles.specs.WholeCycles.{control_emits, row_emits, closing_emits}
-use Rattle.whole_cycles.proofs.Emitted.{emits-control, emits-row, emits-closing, closes-before}
+use Rattle.whole_cycles.specs.WholeCycles.{all_closing_emits, closing_closes, control_emits, row_emits}
+use Rattle.whole_cycles.proofs.Emitted.{emits-control, emits-row, emits-closing, closes-before, closes-closing}
 use Rattle.whole_cycles.proofs.Parts.{Parts, parts, map-both, machine_after, group_after, unit_after, program_after}
 use Rattle.whole_cycles.proofs.Walks.{IsWalked, Walk, rows_before, walked}
 use Rattle.whole_cycles.proofs.Wheels.{wheels-collected, wheels-emptied}
@@ -69,12 +69,12 @@ cycles-whole wiring cycle old new between run =
           let before = machine_after cycle pictures (C ∷ map Row (rows_before row)) old in
           IsPicture-same wiring (emits before cycle (Row row)) (row_emits old pictures cycle row) (closes before cycle (Row row))
           (closes old cycle (Row row)) (pictures (Row row)) (emits-row old cycle pictures (rows_before row) row)
-          (closes-before old cycle pictures (C ∷ map Row (rows_before row)) (Row row)) (is.at_rows row);
+          (λ hub. closes-before old cycle pictures (C ∷ map Row (rows_before row)) (Row row) hub refl) (is.at_rows row);
       closing =
           let before = machine_after cycle pictures (C ∷ map Row rows) old in
-          IsPicture-same wiring (emits before cycle K) (closing_emits pictures cycle) (closes before cycle K) (closes old cycle K)
-          (pictures K) (λ hub. emits-closing old cycle pictures hub between.comparing)
-          (closes-before old cycle pictures (C ∷ map Row rows) K) is.closing;
+          IsPicture-same wiring (emits before cycle K) (all_closing_emits old pictures cycle) (closes before cycle K)
+          (closing_closes old pictures cycle) (pictures K) (λ hub. emits-closing old cycle pictures hub between.comparing)
+          (closes-closing old cycle pictures) is.closing;
       stations = ap (λ (m : MachineState). m.stations) end ∙ part.stations;
       comparing = ap (λ (m : MachineState). m.comparing) end;
       groups =

@@ -5,8 +5,7 @@ use Rattle.std.specs.Prelude.{◌≡◌, false, All, length, replicate, map}
 use Rattle.std.specs.List.{range_with_len}
 use Rattle.counters.specs.Counters.{Counter, no_controls}
 use Rattle.counters.specs.Laws.{IsCounter}
-use Rattle.setups.specs.Wiring.{Wiring, is_wired}
-use Rattle.hubs.specs.declared.hub.Hub.TheVariants.{CO, CI}
+use Rattle.setups.specs.Wiring.{Wiring}
 use Rattle.net.specs.Printing.{printing_of}
 use Rattle.print_unit.specs.Wheels.{wheel_at_start}
 use Rattle.print_unit.specs.ZeroControl.{Wheel}
@@ -16,10 +15,11 @@ use Rattle.storage_units.specs.Storage.{StorageState, storage_number}
 use Rattle.machine.specs.Fields.{AreInUnitOrder}
 use Rattle.machine.specs.Machine.{MachineState, storage_units}
 
--- A counter group between cycles: nothing is entered, and it is under no control.
+-- A counter group between cycles: nothing is entered, no carry came in, and it is under no control.
 pub record IsIdle (group : Counter) : Type 0 where
   pub lawful : IsCounter group
   pub entered : group.entered ≡ replicate group.name.width 0
+  pub carry : group.carry ≡ false
   pub controls : group.controls ≡ no_controls
 
 -- a word of columns for each row, of what a storage unit holds and of what it received
@@ -44,14 +44,8 @@ pub record IsBetween (machine : MachineState) : Type 0 where
   pub many_wheels : length machine.wheels.wheels ≡ 120
   pub wheels : All IsEmpty machine.wheels.wheels
 
--- the wheels of a group form a ring where its carry exit is wired to its carry entry
-abbrev pub IsRingAsWired : Wiring → Counter → Type 0
-IsRingAsWired wiring group = group.is_ring ≡ is_wired wiring (CO group.name) (CI group.name)
-
--- What a setup fixes in its machine between cycles: which groups are rings, the jacks of the wheels, the tape, and which cycles
--- print.
+-- What a setup fixes in its machine between cycles: the jacks of the wheels, the tape, and which cycles print.
 pub record IsSetUp (wiring : Wiring) (machine : MachineState) : Type 0 where
-  pub rings : All (IsRingAsWired wiring) machine.groups
   pub wheels : machine.wheels.wheels ≡ map (wheel_at_start wiring) (range_with_len 1 120)
   pub form : machine.carriage.form ≡ wiring.tape
   pub carriage_prints : machine.carriage.printing ≡ printing_of wiring

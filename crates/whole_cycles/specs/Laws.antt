@@ -13,7 +13,7 @@ use Rattle.machine.specs.Cycles.{CycleRun}
 use Rattle.machine.specs.Feeds.{Feeds}
 use Rattle.machine.specs.Machine.{MachineState, machine_at_start}
 use Rattle.whole_cycles.specs.Between.{IsBetween, IsReady, IsSetUp}
-use Rattle.whole_cycles.specs.OneContactDeep.{IsOneContactDeep, IsWithinOneContact, NoCommonEmits, SourcesAloneEmit}
+use Rattle.whole_cycles.specs.OneContactDeep.{AreCarriesOpen, IsOneContactDeep, IsWithinOneContact, NoCommonEmits, SourcesAloneEmit}
 use Rattle.whole_cycles.specs.Units.{AreAlone, IsGroup, IsGroupByName, IsStorageByNumber, UnitsStart}
 use Rattle.whole_cycles.specs.WholeCycles.{WholeCycle, control_emits, row_emits, closing_emits, wheel_received, wheels_behind}
 
@@ -47,11 +47,11 @@ WheelsHaveTheirJacks =
     → IsSetUp wiring machine
     → wheels_behind pictures machine.wheels.wheels ≡ map (wheel_received wiring pictures) (range_with_len 1 120)
 
--- Where no impulse passes two contacts and no common hub emits, the impulsed hubs are those within one contact.
+-- Where no impulse passes two contacts, no common hub emits and no carry passes, the impulsed hubs are those within one contact.
 abbrev pub ContactsAreOneDeep : Type 0
 ContactsAreOneDeep =
     (wiring : Wiring) (exits closed : Hub → Bool) (hub : Hub)
-    → IsOneContactDeep wiring → NoCommonEmits exits
+    → IsOneContactDeep wiring → NoCommonEmits exits → AreCarriesOpen closed
     → IsImpulsed wiring exits closed hub ↔ IsWithinOneContact wiring exits closed hub
 
 -- In each cycle units emit at exits of theirs alone, and at no common hub.

@@ -1,5 +1,6 @@
 pub mod WholeCycles
 pub mod Between
+pub mod Carries
 pub mod OneContactDeep
 pub mod Units
 pub mod Laws

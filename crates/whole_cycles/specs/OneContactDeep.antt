@@ -1,10 +1,11 @@
 -- Setups in which no impulse passes two contacts: no wire leads from a contact's exit to the common hub of a contact. There
--- every way of an impulse is one of four.
+-- every way of an impulse is one of four, at the points at which no carry passes.
 use Rattle.std.specs.Prelude.{◌≡◌, Bool, true, false, Some, is_some}
 use Rattle.hubs.specs.Hubs.{is_hub_in_range}
 use Rattle.setups.specs.Wiring.{Wiring, HasWire, LeadsToEntries}
+use Rattle.hubs.specs.declared.hub.Group.{Group}
 use Rattle.hubs.specs.declared.hub.Hub.{Hub}
-use Rattle.hubs.specs.declared.hub.Hub.TheVariants.{FR, SR, CX, GX, SX, EM, CC, PX, HX, BAC, PIC, IE, CSE}
+use Rattle.hubs.specs.declared.hub.Hub.TheVariants.{CO, FR, SR, CX, GX, SX, EM, CC, PX, HX, BAC, PIC, IE, CSE}
 use Rattle.net.specs.Panel.{contact_of}
 
 -- whether a hub is the common hub of contacts
@@ -15,7 +16,7 @@ is_common (IE level position) = true
 is_common (CSE split) = true
 is_common other = false
 
--- whether a hub is an exit at which units emit
+-- whether a hub is an exit at which units emit, but for carries
 abbrev pub is_source : Hub → Bool
 is_source (FR column) = true
 is_source (SR column) = true
@@ -32,6 +33,10 @@ is_source other = false
 pub record IsOneContactDeep (wiring : Wiring) : Type 0 where
   pub leads : LeadsToEntries wiring
   pub shallow : (x y : Hub) → HasWire wiring x y → is_some (contact_of x) ≡ true → is_common y ≡ true → ⊥
+
+-- the contacts of the carries are open
+abbrev pub AreCarriesOpen : (Hub → Bool) → Type 0
+AreCarriesOpen closed = (group : Group) → closed (CO group) ≡ false
 
 -- no hub emits but the exits at which units do
 abbrev pub SourcesAloneEmit : (Hub → Bool) → Type 0

@@ -3,14 +3,15 @@
 use Rattle.std.specs.Prelude.{◌≡◌, ℕ, ◌+◌, ◌-◌, ◌≤◌, ◌&&◌, not, Bool, true, false, slice_index_or}
 use Rattle.card_code.specs.Rows.{row_number}
 use Rattle.card_code.specs.declared.row.Row.{Row as CardRow}
-use Rattle.counters.specs.Counters.{Counter, counter_of, shows}
+use Rattle.counters.specs.Counters.{Counter, counter_of, shows, wheels_in}
+use Rattle.counters.specs.Rings.{CarriesBy}
 use Rattle.counters.specs.WholeCycles as counters
 use Rattle.hub_table.specs.Places.{is_width}
 use Rattle.hub_table.specs.Ranges.{is_within}
-use Rattle.setups.specs.Wiring.{Wiring, is_wired}
+use Rattle.setups.specs.Wiring.{Wiring}
 use Rattle.hubs.specs.declared.hub.Group.{Group}
 use Rattle.hubs.specs.declared.hub.Hub.{Hub}
-use Rattle.hubs.specs.declared.hub.Hub.TheVariants.{FR, SR, GX, CO, BAN, BAT, PIN, PIT, SX, IX, CSD, CSZ, EM, RO, CI, SO}
+use Rattle.hubs.specs.declared.hub.Hub.TheVariants.{FR, SR, GX, BAN, BAT, PIN, PIT, SX, IX, CSD, CSZ, EM, RO, SO}
 use Rattle.net.specs.Panel.{unit_of}
 use Rattle.net.specs.declared.cycle.Cycle.{Cycle}
 use Rattle.net.specs.declared.cycle.Point.{Point}
@@ -24,7 +25,7 @@ use Rattle.storage_units.specs.Storage.{StorageState, holds, storage_at_start}
 use Rattle.storage_units.specs.WholeCycles as columns
 use Rattle.machine.specs.Machine.{MachineState, closes, machine_at_start}
 use Rattle.whole_cycles.specs.Between.{HasAllRows, IsIdle}
-use Rattle.whole_cycles.specs.WholeCycles.{WholeCycle, row_emits}
+use Rattle.whole_cycles.specs.WholeCycles.{WholeCycle, all_closing_emits, before_closing, closing_closes, row_emits}
 
 -- the panel has the counter group
 pub record IsGroup (name : Group) : Type 0 where
@@ -33,13 +34,14 @@ pub record IsGroup (name : Group) : Type 0 where
 
 -- the counter group of a name
 abbrev pub group_at : MachineState → Group → Counter
-group_at machine name = slice_index_or machine.groups (unit_of name - 3) (counter_of name false)
+group_at machine name = slice_index_or machine.groups (unit_of name - 3) (counter_of name)
 
 -- the storage unit of a number, 1 to 4
 abbrev pub storage_at : MachineState → ℕ → StorageState
 storage_at machine number = slice_index_or machine.storage (number - 1) (storage_at_start (34 + number))
 
--- A counter group alone emits at its exits and closes its contacts, and goes through a cycle by itself.
+-- A counter group alone emits at its exits and closes its contacts, those of its carry among them, and goes through a cycle by
+-- itself.
 pub record IsGroupByName (machine : MachineState) (name : Group) : Type 0 where
   pub named : (group_at machine name).name ≡ name
   pub idle : IsIdle (group_at machine name)
@@ -53,6 +55,10 @@ pub record IsGroupByName (machine : MachineState) (name : Group) : Type 0 where
   pub transferred :
       (cycle : Cycle) (point : Point) (position : ℕ)
       → closes machine cycle point (BAT name position) ≡ (is_within position 4 && (group_at machine name).latch)
+  pub carries :
+      (pictures : Point → Hub → Bool) (cycle : Cycle)
+      → CarriesBy (all_closing_emits machine pictures cycle) (closing_closes machine pictures cycle) name
+      (wheels_in (before_closing cycle pictures (group_at machine name)))
   pub behind :
       (wiring : Wiring) (cycle : Cycle) (new : MachineState) (whole : WholeCycle wiring cycle machine new)
       → group_at new name ≡ counters.after_cycle cycle whole.pictures (group_at machine name)
@@ -96,11 +102,11 @@ pub record AreAlone (machine : MachineState) : Type 0 where
       (cycle : Cycle) (point : Point) (split : ℕ)
       → closes machine cycle point (CSZ split) ≡ split_closes point (CSZ split)
 
--- At the start a group stands at 0, and is a ring where its carry exit is wired to its carry entry; a storage unit is blank.
+-- At the start a group stands at 0, and a storage unit is blank.
 pub record UnitsStart (wiring : Wiring) : Type 0 where
   pub groups :
       (name : Group) → IsGroup name
-      → group_at (machine_at_start wiring) name ≡ counter_of name (is_wired wiring (CO name) (CI name))
+      → group_at (machine_at_start wiring) name ≡ counter_of name
   pub storage :
       (number : ℕ) → 1 ≤ number → number ≤ 4
       → storage_at (machine_at_start wiring) number ≡ storage_at_start (34 + number)

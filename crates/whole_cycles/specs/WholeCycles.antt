@@ -1,20 +1,20 @@
 -- A cycle of the machine as a whole: one picture for each of its fourteen points, and what each unit is behind it.
 -- What the exits emit at the rows hangs on the state before the cycle and on the picture of the control point alone, and
--- no contact moves before the end but those of the splits. So a cycle is its control point, its twelve rows side by side,
--- and its closing point.
-use Rattle.std.specs.Prelude.{◌≡◌, ℕ, ◌-◌, ◌==◌, ◌&&◌, ◌||◌, Bool, false, List, map}
+-- no contact moves before the closing point but those of the splits; there the carries have theirs, by what was entered at the
+-- rows. So a cycle is its control point, its twelve rows side by side, and its closing point.
+use Rattle.std.specs.Prelude.{◌≡◌, ℕ, ◌-◌, ◌==◌, ◌&&◌, ◌||◌, Bool, false, List, ◌∷◌, map}
 use Rattle.std.specs.List.{list_any, range_with_len}
 use Rattle.card_code.specs.Rows.{rows, row_number}
 use Rattle.card_code.specs.declared.row.Row.{Row as CardRow}
 use Rattle.carriage.specs.Carriage.{carriage_sensed, carriage_ended}
-use Rattle.counters.specs.Counters.{Counter, shows}
+use Rattle.counters.specs.Counters.{Counter, counter_emits, counter_sensed, shows}
 use Rattle.counters.specs.WholeCycles as counters
 use Rattle.hub_table.specs.Ranges.{is_within}
 use Rattle.setups.specs.Wiring.{Wiring}
 use Rattle.hubs.specs.declared.hub.Hub.{Hub}
 use Rattle.hubs.specs.declared.hub.Hub.TheVariants.{CX, SX, CA, CB, RO, SO, W}
 use Rattle.net.specs.Impulsed.{IsPicture}
-use Rattle.net.specs.WholeCycles.{after_cycle}
+use Rattle.net.specs.WholeCycles.{after_points}
 use Rattle.net.specs.declared.cycle.Cycle.{Cycle}
 use Rattle.net.specs.declared.cycle.Cycle.TheVariants.{Card}
 use Rattle.net.specs.declared.cycle.Point.{Point}
@@ -59,10 +59,31 @@ row_emits old pictures cycle row hub =
 abbrev pub compares_unlike : (Point → Hub → Bool) → ℕ → Bool
 compares_unlike pictures p = list_any (λ row. are_unlike (pictures (Row row) (CA p)) (pictures (Row row) (CB p))) rows
 
--- At the closing point of a card cycle the comparing positions emit whose entries differ, and nothing else does.
+-- At the closing point of a card cycle the comparing positions emit whose entries differ; besides, carries leave counter groups.
 abbrev pub closing_emits : (Point → Hub → Bool) → Cycle → Hub → Bool
 closing_emits pictures Card (CX p) = is_within p 30 && compares_unlike pictures p
 closing_emits pictures cycle hub = false
+
+-- a counter group as the closing point finds it: with the controls of the cycle, and with what was entered at the rows
+abbrev pub before_closing : Cycle → (Point → Hub → Bool) → Counter → Counter
+before_closing cycle pictures group = after_points counter_sensed cycle pictures (C ∷ map Row rows) group
+
+-- the carry exits that emit at the closing point: those of the groups that a carry leaves
+abbrev pub carry_emits : MachineState → (Point → Hub → Bool) → Cycle → Hub → Bool
+carry_emits old pictures cycle hub = list_any (λ group. counter_emits (before_closing cycle pictures group) cycle K hub) old.groups
+
+-- what is emitted at the closing point
+abbrev pub all_closing_emits : MachineState → (Point → Hub → Bool) → Cycle → Hub → Bool
+all_closing_emits old pictures cycle hub = closing_emits pictures cycle hub || carry_emits old pictures cycle hub
+
+-- the contacts that are closed at the closing point: those of the carries by what was entered, the others as before the cycle
+abbrev pub closing_closes : MachineState → (Point → Hub → Bool) → Cycle → Hub → Bool
+closing_closes old pictures cycle = closes (record old { groups = map (before_closing cycle pictures) old.groups }) cycle K
+
+-- the picture of the closing point
+abbrev pub IsClosingPicture : Wiring → MachineState → (Point → Hub → Bool) → Cycle → Type 0
+IsClosingPicture wiring old pictures cycle =
+    IsPicture wiring (all_closing_emits old pictures cycle) (closing_closes old pictures cycle) (pictures K)
 
 -- the rows at whose points a wheel's hub is impulsed, in the order of the points
 abbrev pub rows_received : (Point → Hub → Bool) → ℕ → List Bool
@@ -87,7 +108,7 @@ pub record WholeCycle (wiring : Wiring) (cycle : Cycle) (old new : MachineState)
   pub control : IsPicture wiring (control_emits cycle) (closes old cycle C) (pictures C)
   pub rows :
       (row : CardRow) → IsPicture wiring (row_emits old pictures cycle row) (closes old cycle (Row row)) (pictures (Row row))
-  pub closing : IsPicture wiring (closing_emits pictures cycle) (closes old cycle K) (pictures K)
+  pub closing : IsClosingPicture wiring old pictures cycle
   pub stations : new.stations ≡ old.stations
   pub comparing : new.comparing ≡ comparing_at_start
   pub groups : new.groups ≡ map (counters.after_cycle cycle pictures) old.groups

@@ -1,5 +1,6 @@
 //! Laws of cycles as a whole. Each is a function that does nothing: its contract is the law.
 
+ghost use Rattle.whole_cycles.specs.Carries.{CarriesComeByWires, CarriesKeepApart, CarriesWaitForTheClosingPoint};
 ghost use Rattle.whole_cycles.specs.Laws.{ContactsAreOneDeep, CyclesAreWhole, CyclesEmitAtSources, MachinesStayBetween, MachinesStayReady, UnitsAreByName, WheelsHaveTheirJacks};
 
 /// A cycle of a machine between cycles is its control point, its twelve rows side by side and its closing point, and leaves each
@@ -23,7 +24,8 @@ pub fn wheels_have_their_jacks()
     ensures { WheelsHaveTheirJacks }
 {}
 
-/// Where no wire leads from a contact's exit to a common hub, an impulse passes one contact at most, and goes one of four ways.
+/// Where no wire leads from a contact's exit to a common hub, an impulse passes one contact at most, and goes one of four ways, at
+/// the points at which no carry passes.
 pub fn contacts_are_one_deep()
     ensures { ContactsAreOneDeep }
 {}
@@ -37,4 +39,17 @@ pub fn cycles_emit_at_sources()
 /// cycle by itself.
 pub fn units_are_by_name()
     ensures { UnitsAreByName }
+{}
+
+/// Carries pass at the closing point alone, and where wires from carries lead to carries alone, all other hubs are impulsed there as
+/// if none passed.
+pub fn carries_keep_apart()
+    ensures apart { CarriesKeepApart }
+    ensures wait { CarriesWaitForTheClosingPoint }
+{}
+
+/// Groups get their carries by their wires: as in a ring where a group is wired to itself, and through both where two groups are
+/// wired to one another.
+pub fn carries_come_by_wires()
+    ensures { CarriesComeByWires }
 {}

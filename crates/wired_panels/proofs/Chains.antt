@@ -1,15 +1,18 @@
 -- What holds of each wire of a chart: it leads from an exit to an entry, and no second contact stands behind a contact.
-use Rattle.std.proofs.Common.{◌≡◌, refl, ℕ, ◌&&◌, ◌||◌, not, Bool, true, false, List, Option, Some, None, ap, is_some}
+use Rattle.std.proofs.Common.{◌≡◌, ◌∙◌, sym, refl, ℕ, ◌&&◌, ◌||◌, not, Bool, true, false, List, Option, Some, None, ap, is_some}
+use Rattle.std.proofs.lemmas.Option.{same_Some}
 use Rattle.plans.specs.Plans.{Lists}
 use Rattle.charts.specs.declared.chart.Line.{Line}
 use Rattle.charts.specs.declared.statement.BodyLine.TheVariants as body
 use Rattle.charts.specs.declared.statement.SignRule.TheVariants as sign
 use Rattle.charts.specs.declared.statement.Statement.{Statement}
 use Rattle.hub_table.specs.HubTable.{row_of}
-use Rattle.hubs.specs.Hubs.{letters_of}
+use Rattle.hubs.specs.Hubs.{carry_into, carry_out_of, letters_of}
+use Rattle.hubs.specs.declared.hub.Group.{Group}
 use Rattle.hubs.specs.declared.hub.Hub.{Hub}
-use Rattle.hubs.specs.declared.hub.Hub.TheVariants.{CA, CB, PIX, SE, SI, SO, ST, SP, SK, RS}
+use Rattle.hubs.specs.declared.hub.Hub.TheVariants.{CA, CB, CI, CO, PIX, SE, SI, SO, ST, SP, SK, RS}
 use Rattle.net.specs.Panel.{contact_of}
+use Rattle.whole_cycles.specs.Carries.{is_carry}
 use Rattle.whole_cycles.specs.OneContactDeep.{is_common}
 use Rattle.wiring_table.specs.Wires.{LineWire}
 use Rattle.wiring_table.specs.Wires.LineWire.{detail_text, indicated_text_in, indicated_text_out, literal, point, detail_digit, split_digit_in, split_digit_out, detail_mark_in, detail_mark_out, pickup, entry, entry_adds, entry_sign, entry_plus, entry_minus, read_out, total_digit, ring, balance_test, conversion, conversion_read_out, conversion_minus, feedback, total_mark_in, total_mark_out, transfer, transfer_adds, transfer_sign, transfer_plus, transfer_minus, total_text_in, total_text_taken, total_text_given, total_text_out, compared_first, compared_second, level_called, double_space, triple_space, page, skip}
@@ -113,3 +116,85 @@ wire_orderly lines plan number {x = x} {e = e} wire =
     by true false (Some k) false true p q r s u on = cc
     by true true o c d p q r s u on = cc
     by false b o c d p q r s u on = cc
+
+-- A carry exit leads to the carry entry of its own group alone, and nothing else leads there.
+pub carry_kept :
+    (lines : List Line) (plan : Lists) (number : ℕ) {statement : Statement} {x e : Hub} → LineWire lines plan number statement x e
+    → carry_out_of x ≡ carry_into e
+carry_kept lines plan number (detail_text wheel name field j p0 p1) = refl
+carry_kept lines plan number (indicated_text_in wheel name level field j x p0 p1 p2) = refl
+carry_kept lines plan number (indicated_text_out wheel name level field j x p0 p1 p2) = refl
+carry_kept lines plan number (literal statement_ emitter wheel text j row p0 p1) = refl
+carry_kept lines plan number (point statement_ emitter wheel figure row p0 p1 p2) = refl
+carry_kept lines plan number (detail_digit wheel name how field position p0 p1 p2 p3) = refl
+carry_kept lines plan number (split_digit_in wheel name how field position split p0 p1 p2 p3 p4) = refl
+carry_kept lines plan number (split_digit_out wheel name how field position split p0 p1 p2 p3 p4) = refl
+carry_kept lines plan number (detail_mark_in wheel name mark rule pilot k row p0 p1 p2) = refl
+carry_kept lines plan number (detail_mark_out wheel name mark (sign.X c) field pilot k row p0 p1 p2 p3) = refl
+carry_kept lines plan number (detail_mark_out wheel name mark (sign.NX c) field pilot k row p0 p1 p2 p3) = refl
+carry_kept lines plan number (pickup field rule pilot p0 p1) = refl
+carry_kept lines plan number (entry level wheel name digits mark field group position p0 p1 p2 p3 p4) = refl
+carry_kept lines plan number (entry_adds level wheel name digits mark group p0 p1 p2) = refl
+carry_kept lines plan number (entry_sign level wheel name digits mark rule pilot p0 p1 p2) = refl
+carry_kept lines plan number (entry_plus level wheel name digits mark (sign.X c) pilot group p0 p1 p2 p3) = refl
+carry_kept lines plan number (entry_plus level wheel name digits mark (sign.NX c) pilot group p0 p1 p2 p3) = refl
+carry_kept lines plan number (entry_minus level wheel name digits mark (sign.X c) pilot group p0 p1 p2 p3) = refl
+carry_kept lines plan number (entry_minus level wheel name digits mark (sign.NX c) pilot group p0 p1 p2 p3) = refl
+carry_kept lines plan number (read_out level wheel name digits mark group p0) = refl
+carry_kept lines plan number (total_digit level wheel name digits mark field group position p0 p1 p2 p3) = refl
+carry_kept lines plan number (ring level wheel name digits mark rule group p0 p1) = refl
+carry_kept lines plan number (balance_test level wheel name digits mark rule group p0 p1) = refl
+carry_kept lines plan number (conversion level wheel name digits mark rule group p0 p1) = refl
+carry_kept lines plan number (conversion_read_out level wheel name digits mark rule group p0 p1) = refl
+carry_kept lines plan number (conversion_minus level wheel name digits mark rule group p0 p1) = refl
+carry_kept lines plan number (feedback level wheel name digits mark rule group position p0 p1 p2 p3) = refl
+carry_kept lines plan number (total_mark_in level wheel name digits mark rule group k row p0 p1 p2) = refl
+carry_kept lines plan number (total_mark_out level wheel name digits mark rule field group k row p0 p1 p2 p3) = refl
+carry_kept lines plan number (transfer level wheel name digits mark group upper other position p0 p1 p2 p3 p4) = refl
+carry_kept lines plan number (transfer_adds level wheel name digits mark upper other p0 p1 p2) = refl
+carry_kept lines plan number (transfer_sign level wheel name digits mark rule group other p0 p1 p2) = refl
+carry_kept lines plan number (transfer_plus level wheel name digits mark rule group upper other p0 p1 p2 p3) = refl
+carry_kept lines plan number (transfer_minus level wheel name digits mark rule group upper other p0 p1 p2 p3) = refl
+carry_kept lines plan number (total_text_in level wheel name field unit j p0 p1 p2) = refl
+carry_kept lines plan number (total_text_taken level wheel name unit p0) = refl
+carry_kept lines plan number (total_text_given level wheel name unit p0) = refl
+carry_kept lines plan number (total_text_out level wheel name field unit j p0 p1 p2) = refl
+carry_kept lines plan number (compared_first level name field j position p0 p1 p2) = refl
+carry_kept lines plan number (compared_second level name field j position p0 p1 p2) = refl
+carry_kept lines plan number (level_called level name field j position p0 p1 p2) = refl
+carry_kept lines plan number (double_space body.Detail) = refl
+carry_kept lines plan number (double_space (body.Total level)) = refl
+carry_kept lines plan number (triple_space body.Detail) = refl
+carry_kept lines plan number (triple_space (body.Total level)) = refl
+carry_kept lines plan number (page body.Detail) = refl
+carry_kept lines plan number (page (body.Total level)) = refl
+carry_kept lines plan number (skip body.Detail channel) = refl
+carry_kept lines plan number (skip (body.Total level) channel) = refl
+
+-- the hub of a carry, by its group
+carry_out : (hub : Hub) (group : Group) → carry_out_of hub ≡ Some group → hub ≡ CO group
+carry_out (CO name) group is = let same : name ≡ group = same_Some name group is in ap CO same
+carry_out other group is = cc
+
+carry_in : (hub : Hub) (group : Group) → carry_into hub ≡ Some group → hub ≡ CI group
+carry_in (CI name) group is = let same : name ≡ group = same_Some name group is in ap CI same
+carry_in other group is = cc
+
+-- so wires from carry hubs lead to carry hubs
+pub carry_on :
+    (lines : List Line) (plan : Lists) (number : ℕ) {statement : Statement} {x e : Hub} → LineWire lines plan number statement x e
+    → is_carry x ≡ true → is_carry e ≡ true
+carry_on lines plan number {x = x} {e = e} wire =
+    by x (wire_orderly lines plan number wire).from (carry_kept lines plan number wire)
+  where
+    by : (hub : Hub) → is_exit_kind hub ≡ true → carry_out_of hub ≡ carry_into e → is_carry hub ≡ true → is_carry e ≡ true
+    by (CO name) from kept is = ap is_carry (carry_in e name (sym kept))
+    by (CI name) from kept is = cc
+    by other from kept is = cc
+
+-- and a carry entry is fed by the carry exit of its own group
+pub fed_by_itself :
+    (lines : List Line) (plan : Lists) (number : ℕ) {statement : Statement} {x e : Hub} → LineWire lines plan number statement x e
+    → (group : Group) → e ≡ CI group → x ≡ CO group
+fed_by_itself lines plan number {x = x} {e = e} wire group is =
+    carry_out x group (carry_kept lines plan number wire ∙ ap carry_into is)

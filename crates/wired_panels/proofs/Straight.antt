@@ -1,5 +1,5 @@
 -- What arrives at the entries of a panel at the points of a cycle. At a plain entry an impulse arrives straight from an exit that emits.
-use Rattle.std.proofs.Common.{◌≡◌, Bool, true, false, List, None, ◌↔◌}
+use Rattle.std.proofs.Common.{◌≡◌, refl, Bool, true, false, List, None, ◌↔◌}
 use Rattle.plans.specs.Plans.{Lists}
 use Rattle.card_code.specs.declared.row.Row.{Row as CardRow}
 use Rattle.charts.specs.Chart.{Chart}
@@ -7,19 +7,20 @@ use Rattle.charts.specs.declared.chart.Line.{Line}
 use Rattle.setups.specs.Wiring.{Wiring}
 use Rattle.hubs.specs.declared.hub.Hub.{Hub}
 use Rattle.machine.specs.Machine.{MachineState, closes}
-use Rattle.net.specs.Impulsed.{IsPicture}
 use Rattle.net.specs.Panel.{contact_of}
 use Rattle.net.specs.declared.cycle.Cycle.{Cycle}
 use Rattle.net.specs.declared.cycle.Point.{Point}
 use Rattle.net.specs.declared.cycle.Point.TheVariants.{C, Row, K}
 use Rattle.whole_cycles.proofs.Sources.{emit_at_sources}
+use Rattle.whole_cycles.proofs.Carries.{carries-apart, carries-wait}
+use Rattle.whole_cycles.specs.Carries.{but_carries, is_carry}
 use Rattle.whole_cycles.specs.OneContactDeep.{is_source}
-use Rattle.whole_cycles.specs.WholeCycles.{control_emits, row_emits, closing_emits}
+use Rattle.whole_cycles.specs.WholeCycles.{IsClosingPicture, control_emits, row_emits, closing_emits}
 use Rattle.wiring_table.specs.Wires.{ChartWire}
 use Rattle.wired_panels.proofs.Chains.{is_plain, wire_orderly}
 use Rattle.wired_panels.proofs.Sending.{telling, sending}
 use Rattle.wired_panels.proofs.Sources.{told, sent}
-use Rattle.wired_panels.proofs.Ways.{arrives}
+use Rattle.wired_panels.proofs.Ways.{arrives, carries-lead}
 use Rattle.wired_panels.specs.Panel.{Arrives}
 use Rattle.wired_panels.specs.Panel.Arrives.{straight, through}
 use Rattle.wired_panels.specs.PanelCycles.{IsPanelCycle, ArrivesAtControl, ArrivesAtRow, ArrivesAtClosing}
@@ -37,14 +38,14 @@ module _ (chart : Chart) (plan : Lists) (wiring : Wiring) (old : MachineState) (
   pub control_arrives : (entry : Hub) → contact_of entry ≡ None → is_source entry ≡ false
       → (pictures C entry ≡ true) ↔ Arrives chart.lines plan (control_emits cycle) (closes old cycle C) entry
   control_arrives entry no_contact no_source =
-      arrives chart plan wiring (control_emits cycle) (closes old cycle C) (pictures C) entry it.panel (emit_at_sources.control cycle) it.control
-      no_contact no_source
+      arrives chart plan wiring (control_emits cycle) (closes old cycle C) (pictures C) entry it.panel (emit_at_sources.control cycle)
+      (carries-wait old cycle C refl) (it.control entry) no_contact no_source
 
   pub row_arrives : (row : CardRow) (entry : Hub) → contact_of entry ≡ None → is_source entry ≡ false
       → (pictures (Row row) entry ≡ true) ↔ Arrives chart.lines plan (row_emits old pictures cycle row) (closes old cycle (Row row)) entry
   row_arrives row entry no_contact no_source =
       arrives chart plan wiring (row_emits old pictures cycle row) (closes old cycle (Row row)) (pictures (Row row)) entry it.panel
-      (emit_at_sources.rows old pictures cycle row) (it.rows row) no_contact no_source
+      (emit_at_sources.rows old pictures cycle row) (carries-wait old cycle (Row row) refl) (it.rows row entry) no_contact no_source
 
   -- an exit of a wire that emits by what units do emits on the panel
   pub emits_at_control : {exit entry : Hub} → ChartWire chart.lines plan exit entry → EmitsAtControl cycle exit
@@ -76,13 +77,14 @@ module _ (chart : Chart) (plan : Lists) (wiring : Wiring) (old : MachineState) (
         λ come. ways.1 (straight come.exit entry (emits_at_row row come.wire come.emits) come.wire),
       )
 
-  pub at_closing : IsPicture wiring (closing_emits pictures cycle) (closes old cycle K) (pictures K)
-      → (entry : Hub) → contact_of entry ≡ None → is_source entry ≡ false → is_plain entry ≡ true
+  pub at_closing : IsClosingPicture wiring old pictures cycle
+      → (entry : Hub) → contact_of entry ≡ None → is_source entry ≡ false → is_carry entry ≡ false → is_plain entry ≡ true
       → (pictures K entry ≡ true) ↔ ArrivesAtClosing chart.lines plan pictures cycle entry
-  at_closing closing entry no_contact no_source plain =
-      let ways = arrives chart plan wiring (closing_emits pictures cycle) (closes old cycle K) (pictures K) entry it.panel
-      (emit_at_sources.closing pictures cycle) closing no_contact no_source in (
-        λ on. let (exit, emits, wire) = wired chart.lines plan (closing_emits pictures cycle) (closes old cycle K) plain (ways.0 on) in
+  at_closing closing entry no_contact no_source no_carry plain =
+      let ways = arrives chart plan wiring (closing_emits pictures cycle) (but_carries (closes old cycle K)) (pictures K) entry it.panel
+      (emit_at_sources.closing pictures cycle) (λ group. refl)
+      (carries-apart wiring old pictures cycle (carries-lead chart plan wiring it.panel) closing entry no_carry) no_contact no_source in (
+        λ on. let (exit, emits, wire) = wired chart.lines plan (closing_emits pictures cycle) (but_carries (closes old cycle K)) plain (ways.0 on) in
             record { exit = exit; emits = emits; wire = wire },
         λ come. ways.1 (straight come.exit entry come.emits come.wire),
       )

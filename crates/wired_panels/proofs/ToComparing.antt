@@ -32,7 +32,7 @@ use Rattle.program_unit.specs.Program.{called_for}
 use Rattle.report.specs.Breaks.{highest}
 use Rattle.report.specs.Groups.{is_same_at}
 use Rattle.stations.specs.Comparing.{are_unlike}
-use Rattle.whole_cycles.specs.WholeCycles.{closing_emits, compares_unlike}
+use Rattle.whole_cycles.specs.WholeCycles.{IsClosingPicture, closing_emits, compares_unlike}
 use Rattle.wiring_table.specs.Parts.{comparing_for}
 use Rattle.wiring_table.specs.Wires.{LineWire, ChartWire}
 use Rattle.wiring_table.specs.Wires.LineWire.{compared_first, compared_second, level_called}
@@ -65,7 +65,7 @@ unlike-self false false same is = let e : false ≡ true = is in cc
 
 module _ (chart : Chart) (plan : Lists) (wiring : Wiring) (old : MachineState) (pictures : Point → Hub → Bool)
     (it : IsPanelCycle chart plan wiring old Card pictures)
-    (closing : IsPicture wiring (closing_emits pictures Card) (closes old Card K) (pictures K)) where
+    (closing : IsClosingPicture wiring old pictures Card) where
   at_first : (row : CardRow) (n : ℕ) → (pictures (Row row) (CA n) ≡ true) ↔ ArrivesAtRow chart.lines plan old pictures Card row (CA n)
   at_first row n = at_row chart plan wiring old Card pictures it row (CA n) refl refl refl
 
@@ -73,7 +73,7 @@ module _ (chart : Chart) (plan : Lists) (wiring : Wiring) (old : MachineState) (
   at_second row n = at_row chart plan wiring old Card pictures it row (CB n) refl refl refl
 
   at_call : (n : ℕ) → (pictures K (ST n) ≡ true) ↔ ArrivesAtClosing chart.lines plan pictures Card (ST n)
-  at_call n = at_closing chart plan wiring old Card pictures it closing (ST n) refl refl refl
+  at_call n = at_closing chart plan wiring old Card pictures it closing (ST n) refl refl refl refl
 
   -- with a card at each station
   module _ (card next : List ℕ) (stands : old.stations.second ≡ Some card) (waits : old.stations.first ≡ Some next) where

@@ -4,16 +4,20 @@ use Rattle.plans.specs.Plans.{Lists}
 use Rattle.charts.specs.Chart.{Chart}
 use Rattle.hubs.specs.Hubs.{is_hub_in_range, number_of}
 use Rattle.setups.specs.Wiring.{Wiring, LeadsToEntries}
+use Rattle.hubs.specs.declared.hub.Group.{Group}
 use Rattle.hubs.specs.declared.hub.Hub.{Hub}
-use Rattle.net.specs.Impulsed.{IsPicture}
+use Rattle.hubs.specs.declared.hub.Hub.TheVariants.{CI}
+use Rattle.counters.specs.Rings.{IsFedAlone}
+use Rattle.whole_cycles.specs.Carries.{CarriesLeadToCarries}
+use Rattle.net.specs.Impulsed.{IsImpulsed}
 use Rattle.net.specs.Panel.{contact_of}
 use Rattle.whole_cycles.proofs.Contacts.{contacts-one_deep}
 use Rattle.whole_cycles.proofs.Sources.{emit_at_sources}
-use Rattle.whole_cycles.specs.OneContactDeep.{IsOneContactDeep, IsWithinOneContact, SourcesAloneEmit, is_source}
+use Rattle.whole_cycles.specs.OneContactDeep.{AreCarriesOpen, IsOneContactDeep, IsWithinOneContact, SourcesAloneEmit, is_source}
 use Rattle.whole_cycles.specs.OneContactDeep.IsWithinOneContact.{emits, wired, through as passed, behind}
 use Rattle.wired_panels.specs.Panel.{IsPanel, Arrives}
 use Rattle.wired_panels.specs.Panel.Arrives.{straight, through}
-use Rattle.wired_panels.proofs.Chains.{wire_orderly}
+use Rattle.wired_panels.proofs.Chains.{carry_on, fed_by_itself, wire_orderly}
 
 -- tests that hold together are the same
 pub same_tests : (a b : Bool) → (a ≡ true → b ≡ true) → (b ≡ true → a ≡ true) → a ≡ b
@@ -44,14 +48,26 @@ one_deep chart plan wiring panel = record {
       (wire_orderly chart.lines plan given.line.number given.wire).shallow out to;
 }
 
--- An entry is impulsed exactly where an impulse arrives: at a point whose exits are those of units.
+-- wires from carries lead to carries
+pub carries-lead : (chart : Chart) (plan : Lists) (wiring : Wiring) → IsPanel chart plan wiring → CarriesLeadToCarries wiring
+carries-lead chart plan wiring panel exit entry wire =
+    let given = (panel.wired.wires exit entry).0 wire in carry_on chart.lines plan given.line.number given.wire
+
+-- the carry entry of a group is fed by its own carry exit alone
+pub fed_alone : (chart : Chart) (plan : Lists) (wiring : Wiring) → IsPanel chart plan wiring → (group : Group) → IsFedAlone wiring group group
+fed_alone chart plan wiring panel group exit wire =
+    let given = (panel.wired.wires exit (CI group)).0 wire in
+    fed_by_itself chart.lines plan given.line.number given.wire group refl
+
+-- An entry is impulsed exactly where an impulse arrives: at a point whose exits are those of units, and where no carry passes.
 pub arrives :
     (chart : Chart) (plan : Lists) (wiring : Wiring) (exits closed picture : Hub → Bool) (entry : Hub)
-    → IsPanel chart plan wiring → SourcesAloneEmit exits → IsPicture wiring exits closed picture
+    → IsPanel chart plan wiring → SourcesAloneEmit exits → AreCarriesOpen closed
+    → (picture entry ≡ true) ↔ IsImpulsed wiring exits closed entry
     → contact_of entry ≡ None → is_source entry ≡ false → (picture entry ≡ true) ↔ Arrives chart.lines plan exits closed entry
-arrives chart plan wiring exits closed picture entry panel alone is_picture no_contact no_source =
-    let ways = contacts-one_deep wiring exits closed entry (one_deep chart plan wiring panel) (emit_at_sources.no_common exits alone) in
-    (λ on. by (ways.0 ((is_picture entry).0 on)) no_contact (alone entry no_source), λ come. (is_picture entry).1 (ways.1 (back come)))
+arrives chart plan wiring exits closed picture entry panel alone open_all is_picture no_contact no_source =
+    let ways = contacts-one_deep wiring exits closed entry (one_deep chart plan wiring panel) (emit_at_sources.no_common exits alone) open_all in
+    (λ on. by (ways.0 (is_picture.0 on)) no_contact (alone entry no_source), λ come. is_picture.1 (ways.1 (back come)))
   where
     by : {hub : Hub} → IsWithinOneContact wiring exits closed hub → contact_of hub ≡ None → exits hub ≡ false
         → Arrives chart.lines plan exits closed hub

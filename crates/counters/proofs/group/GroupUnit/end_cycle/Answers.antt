@@ -15,7 +15,7 @@ invariant_of-self c =
       width = c.self.invariant.width;
       named = c.self.invariant.named;
       digits =
-          All-append IsDigit c.turn_round.new.digits (post_of 0 width digits) c.turn_round.ensures.digits
+          All-append IsDigit c.turn_wheels.new.digits (post_of 0 width digits) c.turn_wheels.ensures.digits
           (All-drop IsDigit width (drop 0 digits) (All-drop IsDigit 0 digits c.self.invariant.digits));
       entered = All-replicate IsDigit 8 0 (lit≤ tt);
     }

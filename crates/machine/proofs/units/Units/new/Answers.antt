@@ -8,5 +8,5 @@ use Rattle.machine.proofs.units.Units.new.Goals as goal
 pub invariant_of-result : goal.invariant_of-result
 invariant_of-result c = record {
   ordered = ap (λ (gs : List Counter). map counter_number gs) c.groups.ensures ∙ refl;
-  rest = λ is. subst AreAtRest (sym c.groups.ensures) (start-rest c.args.setup.now group_units);
+  rest = λ is. subst AreAtRest (sym c.groups.ensures) (start-rest group_units);
 }
