@@ -4,7 +4,6 @@ use Rattle.std.proofs.lemmas.Bool.{cases_order}
 use Rattle.std.proofs.lemmas.Option.{none-some, same_Some}
 use Rattle.setups.specs.Tapes.{IsFormed}
 use Rattle.setups.specs.declared.fault.SetupFault.{SetupFault}
-use Rattle.wiring_text.specs.Statements.{statement_fault}
 use Rattle.tokens.specs.Frame.{line_at, LacksEnd}
 use Rattle.wiring_text.specs.WiringFaults.{CannotHave, IsMisplaced, IsRepeated, IsUnfitLine, IsUnfit, IsAtFault, misplaced, repeated, unfit, AreGoodBefore}
 use Rattle.wiring_text.specs.declared.statement.FormNumbers.{FormNumbers}
