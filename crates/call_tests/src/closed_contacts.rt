@@ -13,15 +13,22 @@ fn count_of(contacts: &Contacts) -> usize {
         .count()
 }
 
-// How many contacts are closed at a point of a run's first cycle of a kind, with all balance latches reset.
-fn closed_at(cycle: Cycle, point: Point) -> usize {
+// How many contacts are closed at a point of a run's first cycle of a kind, with all balance latches reset, where these groups stand
+// at nines.
+fn closed_with(cycle: Cycle, point: Point, nines: &[bool; GROUPS]) -> usize {
     count_of(&contacts(
         cycle,
         point,
         &Pilots::new(),
         &Indicate::new(),
         &[false; GROUPS],
+        nines,
     ))
+}
+
+// The same where no group stands at nines.
+fn closed_at(cycle: Cycle, point: Point) -> usize {
+    closed_with(cycle, point, &[false; GROUPS])
 }
 
 /// Cycles and points with their closed contacts: a side of each of 128 balance positions and of 48 of pilots, in card cycles
@@ -41,4 +48,23 @@ fn a_side_of_each_selector_is_closed(rt: HostRuntime) {
     for (cycle, point, closed) in CLOSED {
         assert_eq!(rt; closed_at(cycle, point), closed);
     }
+}
+
+#[test]
+fn carries_pass_at_the_closing_point(rt: HostRuntime) {
+    let mut nines = [false; GROUPS];
+    nines[0] = true;
+    nines[31] = true;
+    assert_eq!(rt;
+        closed_with(Cycle::Head(Ordinal::Second), Point::K, &nines),
+        176 + 2
+    );
+    assert_eq!(rt;
+        closed_with(Cycle::Head(Ordinal::Second), Point::C, &nines),
+        176
+    );
+    assert_eq!(rt;
+        closed_with(Cycle::Head(Ordinal::Second), Point::Row(Row::Nine), &nines),
+        192
+    );
 }

@@ -81,10 +81,27 @@ fn wires_are_refused(rt: HostRuntime) -> Result<(), Fail> {
             Err(SetupFault::NotEntry),
         ),
         (
-            Hub::CO(group(8, 1)),
+            Hub::CO(group(6, 1)),
             Hub::CI(group(8, 2)),
             Err(SetupFault::CarryRing),
         ),
+        (Hub::CO(group(8, 1)), Hub::CI(group(8, 2)), Ok(true)),
+        (
+            Hub::CO(group(8, 2)),
+            Hub::CI(group(8, 3)),
+            Err(SetupFault::CarryRing),
+        ),
+        (
+            Hub::CO(group(8, 3)),
+            Hub::CI(group(8, 2)),
+            Err(SetupFault::CarryRing),
+        ),
+        (
+            Hub::CO(group(8, 1)),
+            Hub::CI(group(8, 1)),
+            Err(SetupFault::CarryRing),
+        ),
+        (Hub::CO(group(8, 2)), Hub::CI(group(8, 1)), Ok(true)),
         (Hub::CO(group(8, 1)), Hub::W(1), Err(SetupFault::CarryRing)),
         (Hub::SR(1), Hub::CI(group(8, 1)), Err(SetupFault::CarryRing)),
         (Hub::CO(group(6, 1)), Hub::CI(group(6, 1)), Ok(true)),

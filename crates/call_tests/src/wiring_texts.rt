@@ -111,11 +111,12 @@ fn wiring_charts_are_read_and_written(rt: HostRuntime) -> Result<(), Fail> {
 
 /// Lines put in the place of one line of a wiring chart, and the fault that it has then.
 #[rattlefmt::skip]
-static FAULTS: [(usize, &str, WiringFault); 10] = [
+static FAULTS: [(usize, &str, WiringFault); 11] = [
     (17, "WIRE CC PL.4.1\nWIRE CC PL.4.1", WiringFault::LineTwice { line: 18 }),
     (10, "WIRE W.1 SR.1", WiringFault::Unfit { line: 10, fault: SetupFault::NotExit }),
     (10, "WIRE SR.1 W.0", WiringFault::Unfit { line: 10, fault: SetupFault::NotEntry }),
     (10, "WIRE CO.4.1 CI.4.2", WiringFault::Unfit { line: 10, fault: SetupFault::CarryRing }),
+    (10, "WIRE CO.8.1 CI.8.2\nWIRE CO.8.2 CI.8.3", WiringFault::Unfit { line: 11, fault: SetupFault::CarryRing }),
     (2, "FORM 2 1 1\nWIRE", WiringFault::Unfit { line: 2, fault: SetupFault::TapeFault }),
     (3, "STOP 2 13", WiringFault::Unfit { line: 3, fault: SetupFault::TapeFault }),
     (5, "JACK LINK 121", WiringFault::NotALine { line: 5 }),

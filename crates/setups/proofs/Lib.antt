@@ -1,3 +1,5 @@
+pub mod CarryJoins
+pub mod CarryWires
 pub mod RowLemmas
 pub mod SameTapes
 pub mod StopLemmas

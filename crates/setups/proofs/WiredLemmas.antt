@@ -1,5 +1,5 @@
 -- The test for a wire against the wires.
-use Rattle.std.proofs.Common.{refl, arith, ◌≡◌, ◌↔◌, ap, sym, ◌∙◌, ℕ, true, Option, Some, None, IsTrue}
+use Rattle.std.proofs.Common.{refl, Bool, false, arith, ◌≡◌, ◌↔◌, ap, sym, ◌∙◌, ℕ, true, Option, Some, None, IsTrue}
 use Rattle.std.proofs.Common.{List, Contains, nat_eq}
 use Rattle.std.proofs.lemmas.Bool.{eq-eqb, eqb-true, false≢true}
 use Rattle.std.proofs.lemmas.Bool.Decides.{nat_tests}
@@ -27,3 +27,13 @@ HasWire-test wiring exit entry None (Some to) numbered entry_numbered =
 
 pub HasWire-is_wired : (wiring : Wiring) (exit entry : Hub) → IsTrue (is_wired wiring exit entry) ↔ HasWire wiring exit entry
 HasWire-is_wired wiring exit entry = HasWire-test wiring exit entry _ _ refl refl
+
+-- a test that tells of a wire is the one for it
+pub wired-test : (wiring : Wiring) (exit entry : Hub) (test : Bool) → IsTrue test ↔ HasWire wiring exit entry
+    → test ≡ is_wired wiring exit entry
+wired-test wiring exit entry test is = by test (is_wired wiring exit entry) is (HasWire-is_wired wiring exit entry)
+  where
+    by : (one other : Bool) → IsTrue one ↔ HasWire wiring exit entry → IsTrue other ↔ HasWire wiring exit entry → one ≡ other
+    by true other e f = sym (f.1 (e.0 refl))
+    by false true e f = e.1 (f.0 refl)
+    by false false e f = refl

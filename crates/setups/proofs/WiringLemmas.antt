@@ -5,8 +5,10 @@ use Rattle.std.proofs.lemmas.Bool.{and_right, cases_eq}
 use Rattle.std.proofs.lemmas.Option.{same_Some}
 use Rattle.std.proofs.lemmas.List.Elements.{All-push, Contains-append_left, Contains-push, Contains-push_cases}
 use Rattle.hubs.proofs.HubLemmas.{number_of-injective}
-use Rattle.hubs.specs.Hubs.{number_of, is_exit_hub, is_entry_hub, keeps_ring}
-use Rattle.setups.specs.Wiring.{Wiring, HasWire, AddsWire, SameWires, IsEntryNumber, ListsEntries, IsLawfulSetup}
+use Rattle.hubs.specs.Carries.{do_wires_agree}
+use Rattle.hubs.specs.Hubs.{number_of, is_exit_hub, is_entry_hub}
+use Rattle.setups.proofs.CarryWires.{agree-own, agree-turned}
+use Rattle.setups.specs.Wiring.{CanJoin, Wiring, HasWire, AddsWire, SameWires, IsEntryNumber, ListsEntries, IsLawfulSetup}
 use Rattle.hubs.specs.declared.hub.Hub.{Hub}
 
 -- a hub without a number is no entry
@@ -38,7 +40,11 @@ IsLawfulSetup-same old new same setup =
     record {
       lawful = record {
         leads = λ exit entry wire. setup.lawful.leads exit entry (HasWire-same same wire);
-        rings = λ exit entry wire. setup.lawful.rings exit entry (HasWire-same same wire);
+        carries = record {
+          alone = λ exit entry wire. setup.lawful.carries.alone exit entry (HasWire-same same wire);
+          together = λ exit entry other next wire also.
+              setup.lawful.carries.together exit entry other next (HasWire-same same wire) (HasWire-same same also);
+        };
       };
       listed = λ n. rw (same n) (setup.listed n);
     }
@@ -120,7 +126,7 @@ module _ (old new : Wiring) (exit entry : Hub) (number to : ℕ) (numbered : num
 
   -- keeps a setup lawful where the wire is
   pub IsLawfulSetup-adds : IsLawfulSetup old → is_exit_hub exit ≡ true → is_entry_hub entry ≡ true
-      → keeps_ring exit entry ≡ true → IsEntryNumber to → IsLawfulSetup new
+      → CanJoin old exit entry → IsEntryNumber to → IsLawfulSetup new
   IsLawfulSetup-adds setup is_exit is_entry keeps is_number =
       record {
         lawful = record {
@@ -129,14 +135,25 @@ module _ (old new : Wiring) (exit entry : Hub) (number to : ℕ) (numbered : num
               (λ before. setup.lawful.leads one other before)
               (λ is. (ap is_exit_hub is.0 ∙ is_exit, ap is_entry_hub is.1 ∙ is_entry))
               ((AddsWire-by_number one other).0 wire);
-          rings = λ one other wire.
-              ⊎_elim
-              (λ before. setup.lawful.rings one other before)
-              (λ is. rw (is.0, is.1) keeps)
-              ((AddsWire-by_number one other).0 wire);
+          carries = record {
+            alone = λ one other wire.
+                ⊎_elim
+                (λ before. setup.lawful.carries.alone one other before)
+                (λ is. rw (is.0, is.1) keeps.alone)
+                ((AddsWire-by_number one other).0 wire);
+            together = λ one other from next wire also.
+                by one other from next ((AddsWire-by_number one other).0 wire) ((AddsWire-by_number from next).0 also);
+          };
         };
         listed = listed;
       } where
+        by : (one other from next : Hub) → HasWire old one other ⊎ ((one ≡ exit) × (other ≡ entry))
+            → HasWire old from next ⊎ ((from ≡ exit) × (next ≡ entry)) → do_wires_agree one other from next ≡ true
+        by one other from next (inl before) (inl and_before) = setup.lawful.carries.together one other from next before and_before
+        by one other from next (inl before) (inr is) = rw (is.0, is.1) (agree-turned exit entry one other (keeps.together one other before))
+        by one other from next (inr is) (inl before) = rw (is.0, is.1) (keeps.together from next before)
+        by one other from next (inr is) (inr and_is) = rw (is.0, is.1, and_is.0, and_is.1) (agree-own exit entry)
+
         listed : ListsEntries new
         listed n =
             ⊎_elim

@@ -1,3 +1,4 @@
+pub mod CarryWires
 pub mod Fields
 pub mod Rows
 pub mod SetupFaults

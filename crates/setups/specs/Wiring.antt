@@ -1,7 +1,8 @@
 -- A setup of the panel: a set of wires, a set of jacks and a carriage tape.
 use Rattle.std.specs.Prelude.{◌≡◌, ℕ, ◌≤◌, List, [], All, Contains, Bool, true, false, Option, Some, None, ◌⊎◌, ◌↔◌, ◌&&◌, ◌||◌, slice_index_or, nat_eq}
 use Rattle.std.specs.List.{list_any}
-use Rattle.hubs.specs.Hubs.{number_of, is_exit_hub, is_entry_hub, keeps_ring}
+use Rattle.hubs.specs.Carries.{do_wires_agree, keeps_carry}
+use Rattle.hubs.specs.Hubs.{number_of, is_exit_hub, is_entry_hub}
 use Rattle.hubs.specs.Jacks.{jack_place, is_jack_in_range, is_same_jack}
 use Rattle.setups.specs.Tapes.{Form}
 use Rattle.hubs.specs.declared.hub.Hub.{Hub}
@@ -48,14 +49,22 @@ abbrev pub LeadsToEntries : Wiring → Type 0
 LeadsToEntries wiring =
     (exit entry : Hub) → HasWire wiring exit entry → (is_exit_hub exit ≡ true) × (is_entry_hub entry ≡ true)
 
--- every wire from or to a carry hub closes the ring of one counter group
-abbrev pub KeepsRings : Wiring → Type 0
-KeepsRings wiring = (exit entry : Hub) → HasWire wiring exit entry → keeps_ring exit entry ≡ true
+-- every wire may be there as far as its own carry goes, and each two can be there together
+pub record KeepsCarries (wiring : Wiring) : Type 0 where
+  pub alone : (exit entry : Hub) → HasWire wiring exit entry → keeps_carry exit entry ≡ true
+  pub together :
+      (exit entry other next : Hub) → HasWire wiring exit entry → HasWire wiring other next
+      → do_wires_agree exit entry other next ≡ true
+
+-- a wire may be there as far as its own carry goes, and together with each that is there
+pub record CanJoin (wiring : Wiring) (exit entry : Hub) : Type 0 where
+  pub alone : keeps_carry exit entry ≡ true
+  pub together : (other next : Hub) → HasWire wiring other next → do_wires_agree exit entry other next ≡ true
 
 -- a set of wires that the panel can have
 pub record IsLawfulWiring (wiring : Wiring) : Type 0 where
   pub leads : LeadsToEntries wiring
-  pub rings : KeepsRings wiring
+  pub carries : KeepsCarries wiring
 
 -- the numbers of the entries are 1041 to 1936
 abbrev pub IsEntryNumber : ℕ → Type 0

@@ -16,9 +16,10 @@ pub enum SetupFault {
     /// A wire's second hub is no entry in range, and its first is an exit: fault 52.
     #[error("the second hub of the wire is no entry")]
     NotEntry,
-    /// A wire of a carry: a carry exit leads to the carry entry of its own group alone, and a carry entry is fed by the
-    /// carry exit of its own group alone, and the hubs are an exit and an entry: fault 53.
-    #[error("a carry leads to its own counter group alone")]
+    /// A wire of a carry that can't go that way, and the hubs are an exit and an entry: fault 53. A carry exit leads to one carry
+    /// entry at most and to nothing else, and a carry entry is fed by one carry exit at most and by nothing else; both are of one
+    /// counter group, or of two groups of 8 positions, and three groups are never joined.
+    #[error("no carry can go that way")]
     CarryRing,
     /// A carriage tape with a number out of range, or with a stop twice: fault 54.
     #[error("no carriage tape has these lines and stops")]

@@ -1,8 +1,9 @@
 //! Setups of the panel.
 
-ghost use Rattle.std.specs.Prelude.{◌≡◌, ◌<◌, OnOk, OnErr, vec_len};
+ghost use Rattle.std.specs.Prelude.{◌≡◌, ◌<◌, OnOk, OnErr, Some, vec_len};
 ghost use Rattle.setups.specs.Rows.{SameRows, RowGains};
-ghost use Rattle.hubs.specs.Hubs.{carry_into, carry_out_of, keeps_ring};
+ghost use Rattle.hubs.specs.Carries.{are_alike, do_carries_agree, is_one_group, may_carry};
+ghost use Rattle.hubs.specs.Hubs.{carry_into, carry_out_of};
 
 use crate::fault::SetupFault;
 use crate::tape::Tape;
@@ -14,7 +15,8 @@ use std::marker::Model;
 /// A setup of the panel: its wires, its plugged jacks and its carriage tape.
 ///
 /// A wire leads from an exit to an entry, both in range. Any number of wires may start or end at a hub, but for carries: a
-/// carry exit leads to the carry entry of its own counter group alone, and nothing else leads there.
+/// carry exit leads to one carry entry at most and to nothing else, and a carry entry is fed by one carry exit at most and by
+/// nothing else. Both are of one counter group, or of two groups of 8 positions; three groups are never joined.
 #[derive(Drop)]
 pub struct Setup {
     tape: Tape,
@@ -38,10 +40,14 @@ impl Model for Setup {
 impl Setup {
     ghost use Rattle.std.specs.Prelude.{◌≡◌, ◌≢◌, ◌≤◌, ◌↔◌, ℕ, true, false, not, All, Some, Contains, IsTrue};
     ghost use Rattle.std.specs.Prelude.{Ok, IsOk, IsErrOf, IfErr, IsOkUnless, OnOk, OnErr};
-    ghost use Rattle.hubs.specs.Hubs.{number_of, is_exit_hub, is_entry_hub, keeps_ring};
+    ghost use Rattle.hubs.specs.Carries.{do_carries_agree};
+    ghost use Rattle.hubs.specs.Hubs.{number_of, is_exit_hub, is_entry_hub, is_hub_in_range};
+    ghost use Rattle.hubs.specs.declared.hub.Group.{Group};
+    ghost use Rattle.hubs.specs.declared.hub.Hub.TheVariants.{CO};
+    ghost use Rattle.setups.specs.CarryWires.{stands_beside, stands_with};
     ghost use Rattle.hubs.specs.Jacks.{is_jack_in_range};
     ghost use Rattle.setups.specs.Tapes.{has_stop, IsStop, AddsStop, IsForm};
-    ghost use Rattle.setups.specs.Wiring.{HasWire, is_plugged, IsEntryNumber, IsLawfulWiring, SameWires, SameJacks, AddsWire, AddsJack};
+    ghost use Rattle.setups.specs.Wiring.{CanJoin, HasWire, is_plugged, IsEntryNumber, IsLawfulWiring, SameWires, SameJacks, AddsWire, AddsJack};
     ghost use Rattle.hubs.specs.declared.hub.Hub.{Hub};
     ghost use Rattle.hubs.specs.declared.jack.Jack.{Jack};
 
@@ -61,8 +67,9 @@ impl Setup {
     /// Adds the wire from an exit to an entry, and answers false where it was there.
     ///
     /// Refused with `NotExit` where the first hub is no exit in range, else with `NotEntry` where the second is no
-    /// entry in range, else with `CarryRing` where one of them is a carry hub and the other not that of the same group,
-    /// else with `Memory` where no memory is left. A refusal leaves the setup as it was, wires, jacks and tape.
+    /// entry in range, else with `CarryRing` where a carry can't go that way: where one of them is a carry hub and the other
+    /// none, where they are of two groups that don't both have 8 positions, or where a carry wire that is there doesn't agree
+    /// with it; else with `Memory` where no memory is left. A refusal leaves the setup as it was, wires, jacks and tape.
     pub fn add(&mut self, exit: Hub, entry: Hub) -> Result<bool, SetupFault>
         ensures wires { OnOk result (AddsWire self.old self.new exit entry) }
         ensures was_there { (result ≡ Ok false) ↔ HasWire self.old exit entry }
@@ -73,8 +80,8 @@ impl Setup {
         ensures not_entry { IsErrOf result SetupFault.NotEntry
             ↔ ((is_exit_hub exit ≡ true) × (is_entry_hub entry ≡ false)) }
         ensures carry { IsErrOf result SetupFault.CarryRing
-            ↔ ((is_exit_hub exit ≡ true) × (is_entry_hub entry ≡ true) × (keeps_ring exit entry ≡ false)) }
-        ensures memory { is_exit_hub exit ≡ true → is_entry_hub entry ≡ true → keeps_ring exit entry ≡ true
+            ↔ ((is_exit_hub exit ≡ true) × (is_entry_hub entry ≡ true) × ¬ CanJoin self.old exit entry) }
+        ensures memory { is_exit_hub exit ≡ true → is_entry_hub entry ≡ true → CanJoin self.old exit entry
             → IsOkUnless result SetupFault.Memory }
         ensures refused { IfErr result (λ fault. fault ≢ SetupFault.Memory → self.new ≡ self.old) }
         ensures same_wires { OnErr result (SameWires self.old self.new) }
@@ -94,7 +101,7 @@ impl Setup {
         if !entry.is_entry() {
             return Err(SetupFault::NotEntry);
         }
-        if !keeps_ring(exit, entry) {
+        if !self.can_join(exit, entry) {
             return Err(SetupFault::CarryRing);
         }
         push_entry(&mut self.wires, number as usize, to as u16)?;
@@ -173,6 +180,63 @@ impl Setup {
         self
     }
 
+    // Whether a wire may be added as far as carries go.
+    fn can_join(&self, exit: Hub, entry: Hub) -> bool
+        ensures joins { result ≡ true → CanJoin self.now exit entry }
+        ensures refused { result ≡ false → ¬ CanJoin self.now exit entry }
+    {
+        match (carry_out_of(exit), carry_into(entry)) {
+            (Some(from), Some(to)) => may_carry(from, to) && self.stands_with_all(from, to),
+            (None, None) => true,
+            (None, Some(_)) | (Some(_), None) => false,
+        }
+    }
+
+    // Whether a carry wire between two groups agrees with all carry wires that are there.
+    fn stands_with_all(&self, from: Group, to: Group) -> bool
+        ensures agrees { result ≡ true → (group : Group) → is_hub_in_range (CO group) ≡ true → stands_beside self.now from to group ≡ true }
+        ensures found { result ≡ false → (group : Group) × (stands_beside self.now from to group ≡ false) }
+    {
+        // The numbers of the carry exits.
+        for number in 359..391 {
+            if !self.stands_at(from, to, number) {
+                return false;
+            }
+        }
+        true
+    }
+
+    // Whether it agrees with all that lead between one of its two groups and the group whose carry exit has this number.
+    fn stands_at(&self, from: Group, to: Group, number: u32) -> bool
+        ensures agrees { result ≡ true → (group : Group) → number_of (CO group) ≡ Some number → stands_beside self.now from to group ≡ true }
+        ensures found { result ≡ false → (group : Group) × (stands_beside self.now from to group ≡ false) }
+    {
+        let Some(exit) = Hub::of_number(number) else {
+            return true;
+        };
+        match carry_out_of(exit) {
+            Some(group) => self.stands_beside(from, to, group),
+            None => true,
+        }
+    }
+
+    // Whether it agrees with all that lead between one of its two groups and a further one.
+    fn stands_beside(&self, from: Group, to: Group, group: Group) -> bool
+        ensures { result ≡ stands_beside self.now from to group }
+    {
+        self.stands_with(from, to, from, group)
+            && self.stands_with(from, to, group, to)
+            && self.stands_with(from, to, to, group)
+            && self.stands_with(from, to, group, from)
+    }
+
+    // Whether it agrees with another one, or that is not there.
+    fn stands_with(&self, from: Group, to: Group, other: Group, next: Group) -> bool
+        ensures { result ≡ stands_with self.now from to other next }
+    {
+        !self.has(Hub::CO(other), Hub::CI(next)) || do_carries_agree(from, to, other, next)
+    }
+
     /// The carriage tape.
     pub fn tape(&self) -> &Tape
         ensures value { result.now ≡ self.now.tape }
@@ -182,11 +246,27 @@ impl Setup {
     }
 }
 
-// Whether a wire may lead from the exit to the entry as far as carries go.
-fn keeps_ring(exit: Hub, entry: Hub) -> bool
-    ensures { result ≡ keeps_ring exit entry }
+// Whether two carry wires agree: they leave one group exactly if they enter one, and the second leaves the group that the first
+// enters exactly if it enters the one that the first leaves.
+fn do_carries_agree(from: Group, to: Group, other: Group, next: Group) -> bool
+    ensures { result ≡ do_carries_agree from to other next }
 {
-    carry_out_of(exit) == carry_into(entry)
+    (is_one_group(from, other) == is_one_group(to, next))
+        && (is_one_group(to, other) == is_one_group(from, next))
+}
+
+// Whether a carry may leave one group and enter another, as far as these two go.
+fn may_carry(from: Group, to: Group) -> bool
+    ensures { result ≡ may_carry (Some from) (Some to) }
+{
+    is_one_group(from, to) || (from.width == 8 && to.width == 8)
+}
+
+// Whether two groups are one.
+fn is_one_group(one: Group, other: Group) -> bool
+    ensures { result ≡ is_one_group one other }
+{
+    one.width == other.width && one.number == other.number
 }
 
 // The counter group whose carry leaves here.

@@ -1,9 +1,9 @@
 -- What is written of a setup reads as that setup.
-use Rattle.std.proofs.Common.{◌≡◌, ◌≢◌, ◌⊎◌, inl, inr, ℕ, List, [], ◌++◌, true, None, refl, sym, ap, ◌∙◌, subst, codes}
+use Rattle.std.proofs.Common.{arith, slice_index_or, ◌≡◌, ◌≢◌, ◌⊎◌, inl, inr, ℕ, List, [], ◌++◌, true, None, refl, sym, ap, ◌∙◌, subst, codes}
 use Rattle.std.specs.Prelude.{map}
 use Rattle.std.specs.List.{All, AllPairs, Contains}
 use Rattle.std.proofs.lemmas.Option.{same_Some}
-use Rattle.std.proofs.lemmas.List.Elements.{All-append, All-nil, Contains-append_left, Contains-append_right, Contains-append_cases}
+use Rattle.std.proofs.lemmas.List.Elements.{All-append, All-nil, Contains-get_or, Contains-append_left, Contains-append_right, Contains-append_cases}
 use Rattle.setups.specs.Tapes.{IsStop, has_stop}
 use Rattle.setups.specs.Wiring.{Wiring, HasWire, HasJack}
 use Rattle.hubs.specs.declared.hub.Hub.{Hub}
@@ -11,7 +11,8 @@ use Rattle.hubs.specs.declared.jack.Jack.{Jack}
 use Rattle.hubs.proofs.HubLemmas.{hub_named-own}
 use Rattle.wiring_text.specs.HubNames.{name_of, hub_of}
 use Rattle.wire_chart.specs.Laws.{IsSetup}
-use Rattle.wiring_text.specs.Statements.{statement_fault}
+use Rattle.hubs.specs.Carries.{do_wires_agree}
+use Rattle.wiring_text.specs.Statements.{do_hubs_agree, do_statements_agree, statement_fault}
 use Rattle.wiring_text.specs.WiringText.{IsSetupOf, ReadsAs}
 use Rattle.wire_chart.specs.WrittenText.{IsWritten, form_line, IsStopBefore, IsJackBefore, IsWireBefore}
 use Rattle.wiring_text.specs.declared.statement.Statement.{Statement}
@@ -158,8 +159,45 @@ all_fit wiring text is =
     (all_mapped (λ statement. statement_fault wiring.tape.lines statement ≡ None) wire_statement w.wires (λ wire has.
     let there : HasWire wiring wire.0 wire.1 = each_wire wiring text is wire has in
     let lawful = is.setup.wires.leads wire.0 wire.1 there in
-    wire_fits wiring.tape.lines wire.0 wire.1 lawful.0 lawful.1 (is.setup.wires.rings wire.0 wire.1 there)))
+    wire_fits wiring.tape.lines wire.0 wire.1 lawful.0 lawful.1 (is.setup.wires.carries.alone wire.0 wire.1 there)))
     (All-nil (λ statement. statement_fault wiring.tape.lines statement ≡ None))))
+
+-- each two statements agree
+all_together : (wiring : Wiring) (text : List ℕ) → (is : IsText wiring text)
+    → AllPairs (λ one other. do_statements_agree one other ≡ true)
+    (statements_of is.written.stops is.written.jacks is.written.wires)
+all_together wiring text is =
+    λ i j d before within.
+    agree (slice_index_or said i d) (slice_index_or said j d)
+    (as_one w.stops w.jacks w.wires (slice_index_or said i d) (Contains-get_or said i d (omega (arith, before, within))))
+    (as_one w.stops w.jacks w.wires (slice_index_or said j d) (Contains-get_or said j d within))
+  where
+    w : IsWritten wiring text
+    w = is.written
+
+    said : List Statement
+    said = statements_of is.written.stops is.written.jacks is.written.wires
+
+    named : (exit entry other next : Hub) → do_wires_agree exit entry other next ≡ true
+        → do_statements_agree (wire_statement (exit, entry)) (wire_statement (other, next)) ≡ true
+    named exit entry other next agrees =
+        (λ i. do_hubs_agree (hub_named-own exit i) (hub_named-own entry i) (hub_named-own other i) (hub_named-own next i)) ∙ agrees
+
+    agree : (one other : Statement)
+        → IsStopStatement is.written.stops one ⊎ (IsPlugStatement is.written.jacks one ⊎ IsWireStatement is.written.wires one)
+        → IsStopStatement is.written.stops other ⊎ (IsPlugStatement is.written.jacks other ⊎ IsWireStatement is.written.wires other)
+        → do_statements_agree one other ≡ true
+    agree one other (inl stop) its = ap (λ s. do_statements_agree s other) stop.said
+    agree one other (inr (inl plug)) its = ap (λ s. do_statements_agree s other) plug.said
+    agree one other (inr (inr wire)) (inl stop) =
+        (λ i. do_statements_agree (wire.said i) (stop.said i))
+    agree one other (inr (inr wire)) (inr (inl plug)) =
+        (λ i. do_statements_agree (wire.said i) (plug.said i))
+    agree one other (inr (inr wire)) (inr (inr next)) =
+        (λ i. do_statements_agree (wire.said i) (next.said i))
+        ∙ named wire.wire.0 wire.wire.1 next.wire.0 next.wire.1
+        (is.setup.wires.carries.together wire.wire.0 wire.wire.1 next.wire.0 next.wire.1
+        (each_wire wiring text is wire.wire wire.there) (each_wire wiring text is next.wire next.there))
 
 -- what is said is the setup
 setup_is : (wiring : Wiring) (text : List ℕ) → (is : IsText wiring text)
@@ -246,6 +284,7 @@ read_back wiring text setup written =
         formed = setup.form.formed;
         once = said_once wiring text is;
         fit = all_fit wiring text is;
+        together = all_together wiring text is;
       };
       setup = setup_is wiring text is;
     }

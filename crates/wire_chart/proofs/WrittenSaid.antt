@@ -2,7 +2,8 @@
 use Rattle.std.proofs.Common.{◌≡◌, ℕ, ◌<◌, ◌≤◌, List, [], ◌∷◌, ◌++◌, length, true, Option, Some, None, refl, sym, ap, ◌∙◌, subst, arith, leb, append-nil, append_assoc, codes}
 use Rattle.std.specs.List.{list_all, AllByRecursion}
 use Rattle.std.proofs.lemmas.Bool.{and_parts, leb-true, le-leb, and_from}
-use Rattle.hubs.specs.Hubs.{number_of, is_exit_hub, is_entry_hub, keeps_ring}
+use Rattle.hubs.specs.Hubs.{number_of, is_exit_hub, is_entry_hub}
+use Rattle.hubs.specs.Carries.{keeps_carry}
 use Rattle.hubs.specs.Jacks.{is_jack_in_range}
 use Rattle.hub_table.specs.Ranges.{is_within}
 use Rattle.hubs.specs.declared.hub.Hub.{Hub}
@@ -119,7 +120,7 @@ stop_fits lines channel line from to =
     rw there refl
 
 pub wire_fits : (lines : ℕ) (exit entry : Hub) → is_exit_hub exit ≡ true → is_entry_hub entry ≡ true
-    → keeps_ring exit entry ≡ true → statement_fault lines (Wire (name_of exit) (name_of entry)) ≡ None
+    → keeps_carry exit entry ≡ true → statement_fault lines (Wire (name_of exit) (name_of entry)) ≡ None
 wire_fits lines exit entry h k l =
     ap (λ (o : Option Hub). wire_fault o (hub_of (name_of entry))) (hub_named-own exit)
     ∙ ap (λ (o : Option Hub). wire_fault (Some exit) o) (hub_named-own entry)

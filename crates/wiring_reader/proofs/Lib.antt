@@ -1,3 +1,4 @@
+pub mod Agreeing
 mod LetterReading
 mod NamePieces
 mod NameGrammar

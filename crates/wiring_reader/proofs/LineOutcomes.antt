@@ -4,9 +4,12 @@ use Rattle.setups.specs.Tapes.{IsFormed}
 use Rattle.setups.specs.declared.fault.SetupFault.{SetupFault}
 use Rattle.wiring_reader.specs.Reading.{is_said}
 use Rattle.wiring_text.specs.Statements.{statement_fault}
-use Rattle.wiring_reader.specs.TextReading.{Content, content_of, go_on, lines_from, new_said, step, start}
+use Rattle.std.proofs.lemmas.Bool.{false≢true}
+use Rattle.std.proofs.lemmas.Option.{none-some}
+use Rattle.wiring_reader.proofs.Agreeing.{agrees-each, apart-from, fault-none, fault-some}
+use Rattle.wiring_reader.specs.TextReading.{Content, agrees_with, content_of, fault_said, go_on, lines_from, new_said, step, start}
 use Rattle.tokens.specs.Frame.{line_at, IsBehindEnd, LacksEnd}
-use Rattle.wiring_text.specs.WiringFaults.{IsMisplaced, SaysAt, IsRepeated, IsUnfit, IsAtFault, misplaced, repeated, unfit, AreGoodBefore}
+use Rattle.wiring_text.specs.WiringFaults.{CannotHave, IsMisplaced, SaysAt, IsRepeated, IsUnfit, IsAtFault, misplaced, repeated, unfit, AreGoodBefore}
 use Rattle.wiring_text.specs.WiringText.{IsEndLine}
 use Rattle.wiring_text.specs.declared.statement.FormNumbers.{FormNumbers}
 use Rattle.wiring_text.specs.declared.fault.WiringFault.{WiringFault}
@@ -107,10 +110,30 @@ not_repeated all number s said here new below is =
     let same = same_said all number s is.statement here is.said.said in
     none_contained said s new (below.found s is.earlier is.before (subst (SaysAt all is.earlier) same is.said_before))
 
+cannot_have : (all : List (List ℕ)) (form : FormNumbers) (number : ℕ) (said : List Statement) (s : Statement) (f : SetupFault)
+    → SaidBelow all number said → fault_said form.lines said s ≡ Some f → CannotHave all form number s f
+cannot_have all form number said s f below fault = elim (fault-some form.lines said s f fault) [
+  | inl alone ↦ inl alone
+  | inr apart ↦
+      let found = apart-from said s apart.2 in
+      let earlier = below.listed found.0 found.1 in
+      inr (
+        apart.0,
+        apart.1,
+        record {
+          earlier = earlier.0;
+          before = earlier.1;
+          other = found.0;
+          said_before = earlier.2;
+          apart = found.2;
+        },
+      )
+]
+
 said_by : (all : List (List ℕ)) (form : FormNumbers) (number : ℕ) (said : List Statement) (line : List ℕ) (rest : List (List ℕ))
     (s : Statement) (test : Bool) (faults : Option SetupFault) → Stands all number (line ∷ rest) → AreGoodBefore all form number
     → NoEndBelow all number → SaidBelow all number said → content_of (line_at all number) ≡ Says s → SaysAt all number s
-    → is_said said s ≡ test → statement_fault form.lines s ≡ faults
+    → is_said said s ≡ test → fault_said form.lines said s ≡ faults
     → (Stands all (suc number) rest → AreGoodBefore all form (suc number) → NoEndBelow all (suc number)
     → SaidBelow all (suc number) (said ++ s ∷ [])
     → Outcome all form (lines_from form.lines (suc number) (before_end (said ++ s ∷ [])) rest))
@@ -124,7 +147,7 @@ said_by all form number said line rest s false (Some f) stands good no_end below
     statement = s;
     said = at;
     new = not_repeated all number s said here test below;
-    unfit = fault;
+    unfit = cannot_have all form number said s f below fault;
   }),
   good,
 )
@@ -132,12 +155,16 @@ said_by all form number said line rest s false None stands good no_end below her
     others (next_stands all number line rest stands)
     (good_more all form number good (not_at_fault all form number stands.from at.placed
     (not_repeated all number s said here test below)
-    (λ f is. clash f (ap (statement_fault form.lines) (sym (same_said all number s is.statement here is.said.said)) ∙ is.unfit))))
+    (λ f is. clash f (subst (λ (t : Statement). CannotHave all form number t f) (same_said all number s is.statement here is.said.said) is.unfit))))
     (no_end_more all number no_end (no_end_here all number (Says s) here (unsaid_end s)))
     (said_more all number s said here at below)
   where
-    clash : (f : SetupFault) → statement_fault form.lines s ≡ Some f → ⊥
-    clash f e = cc
+    none : (statement_fault form.lines s ≡ None) × (agrees_with said s ≡ true)
+    none = fault-none form.lines said s fault
+
+    clash : (f : SetupFault) → CannotHave all form number s f → ⊥
+    clash f (inl e) = none-some f (sym none.0 ∙ e)
+    clash f (inr e) = false≢true (sym e.2.apart ∙ agrees-each said s e.2.other none.1 (below.found e.2.other e.2.earlier e.2.before e.2.said_before))
 
 started_by : (all : List (List ℕ)) (form : FormNumbers) (number : ℕ) (said : List Statement) (line : List ℕ) (rest : List (List ℕ))
     (content : Content) → Stands all number (line ∷ rest) → AreGoodBefore all form number → NoEndBelow all number
@@ -162,7 +189,7 @@ started_by all form number said line rest End stands good no_end below here othe
     (before_end_placed all number no_end (λ none. none.not_end is_end))))
     behind
 started_by all form number said line rest (Says s) stands good no_end below here others =
-    said_by all form number said line rest s (is_said said s) (statement_fault form.lines s) stands good no_end below here
+    said_by all form number said line rest s (is_said said s) (fault_said form.lines said s) stands good no_end below here
     (says_at all number line rest s stands no_end here) refl refl (others (said ++ s ∷ []))
 started_by all form number said line rest NoLine stands good no_end below here others = (
   record {

@@ -9,7 +9,8 @@ use Rattle.std.specs.List.{AllByRecursion}
 use Rattle.setups.specs.declared.fault.SetupFault.{SetupFault}
 use Rattle.wiring_reader.specs.Reading.{is_said}
 use Rattle.wiring_text.specs.Statements.{statement_fault}
-use Rattle.wiring_reader.specs.TextReading.{Content, SoFar, content_of, go_on, lines_from, new_said, say, step}
+use Rattle.wiring_reader.proofs.Agreeing.{AreTogether, agrees-before, fault-none, none-fault, together-more}
+use Rattle.wiring_reader.specs.TextReading.{Content, SoFar, content_of, fault_said, go_on, lines_from, new_said, say, step}
 use Rattle.wiring_text.specs.WiringText.{IsEmptyLine, SaysLines, empty_line, said_line, end_line}
 use Rattle.wiring_text.specs.declared.fault.WiringFault.{WiringFault}
 use Rattle.wiring_text.specs.declared.fault.WiringFault.TheVariants.{LineTwice}
@@ -58,22 +59,23 @@ first_once said more s once has =
 
 -- what lines say is read
 pub lines_read : {rest : List (List ℕ)} {more : List Statement} → SaysLines rest more
-    → (lines number : ℕ) (said : List Statement) → AreOnce (said ++ more) → AreFit lines more
+    → (lines number : ℕ) (said : List Statement) → AreOnce (said ++ more) → AreTogether (said ++ more) → AreFit lines more
     → lines_from lines number (before_end said) rest ≡ Ok (said ++ more)
-lines_read (empty_line {line} {lines = rest} {said = more} is says) lines number said once fit =
+lines_read (empty_line {line} {lines = rest} {said = more} is says) lines number said once together fit =
     lines_from-cons lines number (before_end said) line rest Empty (empty_read line is)
-    ∙ lines_read says lines (suc number) said once fit
-lines_read (said_line {line} {lines = rest} {statement = s} {said = more} is says) lines number said once fit =
+    ∙ lines_read says lines (suc number) said once together fit
+lines_read (said_line {line} {lines = rest} {statement = s} {said = more} is says) lines number said once together fit =
     let new : is_said said s ≡ false = not_said said s (first_once said more s once) in
     let fits : statement_fault lines s ≡ None = All-head (λ x. statement_fault lines x ≡ None) s more fit in
-    let stepped : say lines number said s ≡ Ok (before_end (said ++ s ∷ [])) = rw (new, fits) refl in
+    let fault : fault_said lines said s ≡ None = none-fault lines said s fits (agrees-before said more s together) in
+    let stepped : say lines number said s ≡ Ok (before_end (said ++ s ∷ [])) = rw (new, fault) refl in
     let one_list : (said ++ s ∷ []) ++ more ≡ said ++ s ∷ more = append_assoc said (s ∷ []) more in
     lines_from-cons lines number (before_end said) line rest (Says s) (said_read line s is)
     ∙ ap (λ r. go_on r (λ next. lines_from lines (suc number) next rest)) stepped
-    ∙ lines_read says lines (suc number) (said ++ s ∷ []) (subst AreOnce (sym one_list) once)
+    ∙ lines_read says lines (suc number) (said ++ s ∷ []) (subst AreOnce (sym one_list) once) (subst AreTogether (sym one_list) together)
     (All-tail (λ x. statement_fault lines x ≡ None) s more fit)
     ∙ ap Ok one_list
-lines_read (end_line {line} {lines = rest} is all) lines number said once fit =
+lines_read (end_line {line} {lines = rest} is all) lines number said once together fit =
     lines_from-cons lines number (before_end said) line rest End (end_read line is)
     ∙ empties_read rest lines (suc number) said all
     ∙ ap Ok (sym (append-nil said))
@@ -115,10 +117,11 @@ pub record AreSaid (lines : ℕ) (rest : List (List ℕ)) (said all : List State
   pub says : SaysLines rest more
   pub once : AreOnce said → AreOnce all
   pub fit : AreFit lines said → AreFit lines all
+  pub together : AreTogether said → AreTogether all
 
 -- a statement more
 pushed : (lines : ℕ) (line : List ℕ) (rest : List (List ℕ)) (said all : List Statement) (s : Statement)
-    → content_of line ≡ Says s → is_said said s ≡ false → statement_fault lines s ≡ None
+    → content_of line ≡ Says s → is_said said s ≡ false → fault_said lines said s ≡ None
     → AreSaid lines rest (said ++ s ∷ []) all → AreSaid lines (line ∷ rest) said all
 pushed lines line rest said all s is new fits others = record {
   more = s ∷ others.more;
@@ -127,7 +130,8 @@ pushed lines line rest said all s is new fits others = record {
   once = λ once. others.once (all_pairs_push (λ one other. one ≢ other) said s once
       (λ k d within e. none_contained said s new
       (k, within, subst (λ (x : Statement). get_or said k x ≡ s) e (other_default k d within e))));
-  fit = λ fit. others.fit (All-push (λ x. statement_fault lines x ≡ None) said s fit fits);
+  fit = λ fit. others.fit (All-push (λ x. statement_fault lines x ≡ None) said s fit (fault-none lines said s fits).0);
+  together = λ together. others.together (together-more said s together (fault-none lines said s fits).1);
 }
   where
     other_default : (k : ℕ) (d : Statement) → k < length said → (e : get_or said k d ≡ s)
@@ -136,7 +140,7 @@ pushed lines line rest said all s is new fits others = record {
 
 said_by : (faults : Option SetupFault) (test : Bool) (line : List ℕ) (rest : List (List ℕ)) (lines number : ℕ)
     (said all : List Statement) (s : Statement) → content_of line ≡ Says s → is_said said s ≡ test
-    → statement_fault lines s ≡ faults
+    → fault_said lines said s ≡ faults
     → (lines_from lines (suc number) (before_end (said ++ s ∷ [])) rest ≡ Ok all → AreSaid lines rest (said ++ s ∷ []) all)
     → go_on (cond test (Err (LineTwice number)) (new_said number said s faults))
     (λ next. lines_from lines (suc number) next rest) ≡ Ok all
@@ -153,7 +157,7 @@ reads_by : (content : Content) (line : List ℕ) (rest : List (List ℕ)) (lines
     → AreSaid lines (line ∷ rest) said all
 reads_by Empty line rest lines number said all is others read =
     let r = others said read in
-    record { more = r.more; is = r.is; says = empty_line (is_content line Empty is) r.says; once = r.once; fit = r.fit }
+    record { more = r.more; is = r.is; says = empty_line (is_content line Empty is) r.says; once = r.once; fit = r.fit; together = r.together }
 reads_by End line rest lines number said all is others read =
     let r = ends rest lines (suc number) said all read in
     record {
@@ -162,9 +166,10 @@ reads_by End line rest lines number said all is others read =
       says = end_line (is_content line End is) r.empty;
       once = subst AreOnce (sym r.nothing);
       fit = subst (AreFit lines) (sym r.nothing);
+      together = subst AreTogether (sym r.nothing);
     }
 reads_by (Says s) line rest lines number said all is others read =
-    said_by (statement_fault lines s) (is_said said s) line rest lines number said all s is refl refl
+    said_by (fault_said lines said s) (is_said said s) line rest lines number said all s is refl refl
     (others (said ++ s ∷ [])) read
 reads_by NoLine line rest lines number said all is others read = cc
 

@@ -1,12 +1,11 @@
 -- The lowest line at fault is the one that is read, with its cause.
 use Rattle.std.proofs.Common.{◌≡◌, ◌⊎◌, ℕ, ◌<◌, List, Result, Ok, Err, refl, ap, sym, ◌∙◌, subst, inl, inr}
 use Rattle.std.proofs.lemmas.Bool.{cases_order}
-use Rattle.std.proofs.lemmas.Option.{same_Some}
+use Rattle.std.proofs.lemmas.Option.{none-some, same_Some}
 use Rattle.setups.specs.Tapes.{IsFormed}
 use Rattle.setups.specs.declared.fault.SetupFault.{SetupFault}
-use Rattle.wiring_text.specs.Statements.{statement_fault}
 use Rattle.tokens.specs.Frame.{line_at, LacksEnd}
-use Rattle.wiring_text.specs.WiringFaults.{IsMisplaced, IsRepeated, IsUnfitLine, IsUnfit, IsAtFault, misplaced, repeated, unfit, AreGoodBefore}
+use Rattle.wiring_text.specs.WiringFaults.{CannotHave, IsMisplaced, IsRepeated, IsUnfitLine, IsUnfit, IsAtFault, misplaced, repeated, unfit, AreGoodBefore}
 use Rattle.wiring_text.specs.declared.statement.FormNumbers.{FormNumbers}
 use Rattle.wiring_text.specs.declared.fault.WiringFault.{WiringFault}
 use Rattle.wiring_text.specs.declared.fault.WiringFault.TheVariants.{TooLarge, NoFirstLine, NotALine, LineTwice, Unfit, NoEnd, Memory}
@@ -79,7 +78,13 @@ same_cause : (lines : List (List ℕ)) (form : FormNumbers) (n : ℕ) (f g : Set
 same_cause lines form n f g is also =
     let same = same_said lines n is.statement also.statement
     (said_read (line_at lines n) is.statement is.said.said) also.said.said in
-    same_Some f g (sym is.unfit ∙ ap (statement_fault form.lines) (sym same) ∙ also.unfit)
+    by is.unfit (subst (λ (s : Statement). CannotHave lines form n s g) same also.unfit)
+  where
+    by : CannotHave lines form n is.statement f → CannotHave lines form n is.statement g → f ≡ g
+    by (inl e) (inl h) = same_Some f g (sym e ∙ h)
+    by (inl e) (inr h) = absurd (none-some f (sym h.0 ∙ e))
+    by (inr e) (inl h) = absurd (none-some g (sym e.0 ∙ h))
+    by (inr e) (inr h) = e.1 ∙ sym h.1
 
 pub unfit_read : (lines : List (List ℕ)) (form : FormNumbers) (n : ℕ) (fault : SetupFault) (read : Result (List Statement) WiringFault)
     → IsFormed form.lines form.first form.overflow → IsUnfitLine lines form n fault → AreGoodBefore lines form n

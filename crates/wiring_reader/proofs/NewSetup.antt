@@ -60,4 +60,5 @@ holds_nothing form tape wiring made formed stops same wires jacks = record {
     wires = λ exit entry. (λ h. absurd (wires exit entry h), λ has. absurd (none_said _ has));
   };
   fit = λ k d within. absurd (omega (arith, within));
+  together = λ i j d before within. absurd (omega (arith, within));
 }

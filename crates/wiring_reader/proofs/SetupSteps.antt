@@ -1,15 +1,16 @@
 -- A setup that says a statement more.
 use Rattle.std.proofs.Common.{◌≡◌, ◌⊎◌, ◌↔◌, ℕ, ◌≤◌, ◌<◌, ◌||◌, ◌&&◌, not, Bool, true, false, cond, leb, List, [], ◌∷◌, ◌++◌, Contains, Option, Some, None, Result, Ok, Err, IsOk, IfErr, refl, ap, sym, ◌∙◌, inl, inr, subst, arith, nat_eq}
-use Rattle.std.proofs.lemmas.Bool.{and_parts, and_from, or_cases, eqb-true, eq-eqb, leb-true, le-leb}
+use Rattle.std.proofs.lemmas.Bool.{and_parts, and_from, or_cases, eqb-true, eq-eqb, false≢true, leb-true, le-leb}
 use Rattle.std.proofs.lemmas.Option.{same_Some}
 use Rattle.std.proofs.lemmas.List.Elements.{All-push, All-contains}
 use Rattle.std.specs.Prelude.{IsErrOf, IsOkUnless, OnOk}
 use Rattle.hubs.proofs.HubLemmas.{hub_named-own, hub_named-parts}
-use Rattle.hubs.specs.Hubs.{letters_of, is_exit_hub, is_entry_hub, is_hub_in_range, keeps_ring}
+use Rattle.hubs.specs.Hubs.{letters_of, is_exit_hub, is_entry_hub, is_hub_in_range}
+use Rattle.hubs.specs.Carries.{do_wires_agree, keeps_carry}
 use Rattle.hubs.specs.Jacks.{is_same_jack}
 use Rattle.hub_table.specs.Ranges.{is_within}
 use Rattle.setups.specs.Tapes.{has_stop, IsStop, AddsStop}
-use Rattle.setups.specs.Wiring.{Wiring, HasWire, is_plugged, SameWires, SameJacks, AddsWire, AddsJack}
+use Rattle.setups.specs.Wiring.{CanJoin, Wiring, HasWire, is_plugged, SameWires, SameJacks, AddsWire, AddsJack}
 use Rattle.setups.specs.declared.fault.SetupFault.{SetupFault}
 use Rattle.setups.specs.declared.fault.SetupFault.TheVariants.{NotExit, NotEntry, CarryRing, TapeFault, Memory}
 use Rattle.hubs.specs.declared.hub.Hub.{Hub}
@@ -17,8 +18,10 @@ use Rattle.hubs.specs.declared.jack.Jack.{Jack}
 use Rattle.hubs.proofs.JackLemmas.{same_jack, own_jack}
 use Rattle.wiring_text.specs.HubNames.{name_of, hub_of}
 use Rattle.wiring_reader.specs.Reading.{is_said}
-use Rattle.wiring_text.specs.Statements.{statement_fault, wire_fault, fault_between}
-use Rattle.wiring_reader.specs.TextReading.{Holds, IsPut, Puts}
+use Rattle.wiring_text.specs.Statements.{do_hubs_agree, do_statements_agree, statement_fault, wire_fault, fault_between}
+use Rattle.wiring_reader.specs.TextReading.{Holds, IsPut, Puts, agrees_with, fault_said, fault_with}
+use Rattle.wiring_reader.proofs.Agreeing.{agrees-each, agrees-from, apart-from, fault-none, none-fault, some-fault, together-more}
+use Rattle.setups.proofs.CarryWires.{agree-turned}
 use Rattle.wiring_text.specs.WiringText.{IsSetupOf}
 use Rattle.wiring_text.specs.declared.statement.FormNumbers.{FormNumbers}
 use Rattle.wiring_text.specs.declared.statement.HubName.{HubName}
@@ -158,12 +161,28 @@ unfit_not_said form said wiring s fault holds unfit = not_said said s (λ has. c
     clash fits = cc
 
 holds_more : (form : FormNumbers) (said : List Statement) (old new : Wiring) (s : Statement) → Holds form said old
-    → IsSetupOf form (said ++ s ∷ []) new → statement_fault form.lines s ≡ None → Holds form (said ++ s ∷ []) new
+    → IsSetupOf form (said ++ s ∷ []) new → fault_said form.lines said s ≡ None → Holds form (said ++ s ∷ []) new
 holds_more form said old new s holds setup fits = record {
   formed = holds.formed;
   setup = setup;
-  fit = All-push (λ x. statement_fault form.lines x ≡ None) said s holds.fit fits;
+  fit = All-push (λ x. statement_fault form.lines x ≡ None) said s holds.fit (fault-none form.lines said s fits).0;
+  together = together-more said s holds.together (fault-none form.lines said s fits).1;
 }
+
+-- stops and jacks agree with all statements
+stop-agrees : (said : List Statement) (channel line : ℕ) → agrees_with said (Stop channel line) ≡ true
+stop-agrees said channel line = agrees-from said (Stop channel line) (λ other has. by other)
+  where
+    by : (other : Statement) → do_statements_agree other (Stop channel line) ≡ true
+    by (Wire exit entry) = refl
+    by other = refl
+
+jack-agrees : (said : List Statement) (j : Jack) → agrees_with said (Plug j) ≡ true
+jack-agrees said j = agrees-from said (Plug j) (λ other has. by other)
+  where
+    by : (other : Statement) → do_statements_agree other (Plug j) ≡ true
+    by (Wire exit entry) = refl
+    by other = refl
 
 -- what putting answers
 abbrev answered : Bool → Result Bool SetupFault
@@ -193,7 +212,8 @@ pub stop_put : (old new : Wiring) (channel line : ℕ) (answer : Result Bool Set
     → SameWires old new → SameJacks old new → Puts (Stop channel line) old answer new
 stop_put old new channel line (Ok true) from to adds there tape good wires jacks form said holds =
     let is = good.0 refl in
-    let fits = stop_fits line form.lines is.line_from (subst (λ n. line ≤ n) holds.setup.lines is.line_to) in (
+    let fits = none-fault form.lines said (Stop channel line)
+    (stop_fits line form.lines is.line_from (subst (λ n. line ≤ n) holds.setup.lines is.line_to)) (stop-agrees said channel line) in (
       not_said said (Stop channel line) (λ has. no (there.1 ((holds.setup.stops channel line).1 has))),
       fits,
       holds_more form said old new (Stop channel line) holds
@@ -211,7 +231,10 @@ stop_put old new channel line (Err fault) from to adds there tape good wires jac
       line_from = low;
       line_to = subst (λ n. line ≤ n) (sym holds.setup.lines) high;
     }))) in
-    inr (unfit_not_said form said old (Stop channel line) TapeFault holds unfit, unfit ∙ ap Some (sym tape))
+    inr (
+      unfit_not_said form said old (Stop channel line) TapeFault holds unfit,
+      some-fault form.lines said (Stop channel line) TapeFault unfit ∙ ap Some (sym tape),
+    )
   where
     no : IsOk (refused fault) → ⊥
     no e = cc
@@ -220,15 +243,19 @@ stop_put old new channel line (Err fault) from to adds there tape good wires jac
 pub high_stop_put : (old : Wiring) (channel line : ℕ) → 255 < line → Puts (Stop channel line) old (Err TapeFault) old
 high_stop_put old channel line high form said holds =
     let unfit = stop_unfit line form.lines (λ low within. omega (arith, high, within, holds.formed.lines_to)) in
-    inr (unfit_not_said form said old (Stop channel line) TapeFault holds unfit, unfit)
+    inr (
+      unfit_not_said form said old (Stop channel line) TapeFault holds unfit,
+      some-fault form.lines said (Stop channel line) TapeFault unfit,
+    )
 
 -- what putting a jack answers
 pub jack_put : (old new : Wiring) (j : Jack) (answer : Bool) → AddsJack old new j → answer ≡ not (is_plugged old j)
     → SameWires old new → new.tape ≡ old.tape → Puts (Plug j) old (Ok answer) new
 jack_put old new j true adds there wires tape form said holds = (
   not_said said (Plug j) (λ has. clash ((holds.setup.jacks j).1 has)),
-  refl,
-  holds_more form said old new (Plug j) holds (jack_setup form said old new j holds.setup adds wires tape) refl,
+  none-fault form.lines said (Plug j) refl (jack-agrees said j),
+  holds_more form said old new (Plug j) holds (jack_setup form said old new j holds.setup adds wires tape)
+      (none-fault form.lines said (Plug j) refl (jack-agrees said j)),
 )
   where
     clash : is_plugged old j ≡ true → ⊥
@@ -246,7 +273,10 @@ jack_put old new j false adds there wires tape form said holds =
 pub no_exit_put : (old : Wiring) (exit entry : HubName) (fault : SetupFault) → wire_fault (hub_of exit) (hub_of entry) ≡ Some fault
     → Puts (Wire exit entry) old (Err fault) old
 no_exit_put old exit entry fault unfit form said holds =
-    inr (unfit_not_said form said old (Wire exit entry) fault holds unfit, unfit)
+    inr (
+      unfit_not_said form said old (Wire exit entry) fault holds unfit,
+      some-fault form.lines said (Wire exit entry) fault unfit,
+    )
 
 -- a name of which no hub is answered is that of no hub of the panel
 pub none_named : (name : HubName) (answer : Option Hub) → answer ≡ None
@@ -295,56 +325,113 @@ none_is_no_entry exit entry hub e is none = rw e (by_hub (hub_of entry) refl)
     by_hub (Some other) f = rw (is, out other f) refl
 
 -- a wire between two hubs
-pub lawful_fits : (exit entry : Hub) → is_exit_hub exit ≡ true → is_entry_hub entry ≡ true → keeps_ring exit entry ≡ true
+pub lawful_fits : (exit entry : Hub) → is_exit_hub exit ≡ true → is_entry_hub entry ≡ true → keeps_carry exit entry ≡ true
     → fault_between exit entry ≡ None
-lawful_fits exit entry is also rings = rw (is, also, rings) refl
+lawful_fits exit entry is also keeps = rw (is, also, keeps) refl
 
 -- when `add` refuses
-pub record Refusals (answer : Result Bool SetupFault) (exit entry : Hub) : Type 0 where
+pub record Refusals (answer : Result Bool SetupFault) (old : Wiring) (exit entry : Hub) : Type 0 where
   pub not_exit : IsErrOf answer NotExit ↔ (is_exit_hub exit ≡ false)
   pub not_entry : IsErrOf answer NotEntry ↔ ((is_exit_hub exit ≡ true) × (is_entry_hub entry ≡ false))
   pub carry : IsErrOf answer CarryRing
-      ↔ ((is_exit_hub exit ≡ true) × (is_entry_hub entry ≡ true) × (keeps_ring exit entry ≡ false))
-  pub memory : is_exit_hub exit ≡ true → is_entry_hub entry ≡ true → keeps_ring exit entry ≡ true → IsOkUnless answer Memory
+      ↔ ((is_exit_hub exit ≡ true) × (is_entry_hub entry ≡ true) × ¬ CanJoin old exit entry)
+  pub memory : is_exit_hub exit ≡ true → is_entry_hub entry ≡ true → CanJoin old exit entry → IsOkUnless answer Memory
 
--- what an answer says of a wire
-abbrev Says : Result Bool SetupFault → Hub → Hub → Type 0
-Says (Ok new) exit entry = fault_between exit entry ≡ None
-Says (Err fault) exit entry = (fault ≡ Memory) ⊎ (fault_between exit entry ≡ Some fault)
+-- what is wrong with a wire between named hubs by itself
+between_named : (exit entry : Hub) → wire_fault (hub_of (name_of exit)) (hub_of (name_of entry)) ≡ fault_between exit entry
+between_named exit entry = rw (hub_named-own exit, hub_named-own entry) refl
 
-says_fault : (answer : Result Bool SetupFault) (exit entry : Hub) (fault : SetupFault) → IsErrOf answer fault
-    → fault_between exit entry ≡ Some fault → Says answer exit entry
-says_fault (Ok new) exit entry fault is told = cc
-says_fault (Err other) exit entry fault is told = inr (told ∙ ap Some (same other is))
+-- whether two wires between named hubs agree
+agree_named : (exit entry other next : Hub)
+    → do_statements_agree (Wire (name_of exit) (name_of entry)) (Wire (name_of other) (name_of next)) ≡ do_wires_agree exit entry other next
+agree_named exit entry other next =
+    λ i. do_hubs_agree (hub_named-own exit i) (hub_named-own entry i) (hub_named-own other i) (hub_named-own next i)
+
+-- what an answer says of a wire, where these are said
+abbrev Tells : Result Bool SetupFault → ℕ → List Statement → Statement → Type 0
+Tells (Ok new) lines said s = fault_said lines said s ≡ None
+Tells (Err fault) lines said s = (fault ≡ Memory) ⊎ (fault_said lines said s ≡ Some fault)
+
+tells_fault : (answer : Result Bool SetupFault) (lines : ℕ) (said : List Statement) (s : Statement) (fault : SetupFault)
+    → IsErrOf answer fault → fault_said lines said s ≡ Some fault → Tells answer lines said s
+tells_fault (Ok new) lines said s fault is told = cc
+tells_fault (Err other) lines said s fault is told = inr (told ∙ ap Some (same other is))
   where
     same : (other : SetupFault) → refused other ≡ refused fault → fault ≡ other
     same other e = cc
 
-says_none : (answer : Result Bool SetupFault) (exit entry : Hub) → IsOkUnless answer Memory → fault_between exit entry ≡ None
-    → Says answer exit entry
-says_none (Ok new) exit entry is told = told
-says_none (Err fault) exit entry is told = inl is
+tells_none : (answer : Result Bool SetupFault) (lines : ℕ) (said : List Statement) (s : Statement) → IsOkUnless answer Memory
+    → fault_said lines said s ≡ None → Tells answer lines said s
+tells_none (Ok new) lines said s is told = told
+tells_none (Err fault) lines said s is told = inl is
 
-says : (answer : Result Bool SetupFault) (exit entry : Hub) → Refusals answer exit entry → Says answer exit entry
-says answer exit entry is = by_tests (is_exit_hub exit) (is_entry_hub entry) (keeps_ring exit entry) refl refl refl
-  where
-    by_tests : (b c d : Bool) → is_exit_hub exit ≡ b → is_entry_hub entry ≡ c → keeps_ring exit entry ≡ d
-        → Says answer exit entry
-    by_tests false c d e f g = says_fault answer exit entry NotExit (is.not_exit.1 e) (rw e refl)
-    by_tests true false d e f g = says_fault answer exit entry NotEntry (is.not_entry.1 (e, f)) (rw (e, f) refl)
-    by_tests true true false e f g = says_fault answer exit entry CarryRing (is.carry.1 (e, f, g)) (rw (e, f, g) refl)
-    by_tests true true true e f g = says_none answer exit entry (is.memory e f g) (lawful_fits exit entry e f g)
+module _ (answer : Result Bool SetupFault) (old : Wiring) (exit entry : Hub) (is : Refusals answer old exit entry) (form : FormNumbers)
+    (said : List Statement) (holds : Holds form said old) where
+  wire_says : Statement
+  wire_says = Wire (name_of exit) (name_of entry)
 
--- what is wrong with a wire between named hubs
-between_named : (exit entry : Hub) → wire_fault (hub_of (name_of exit)) (hub_of (name_of entry)) ≡ fault_between exit entry
-between_named exit entry = rw (hub_named-own exit, hub_named-own entry) refl
+  -- a statement that is said is that of a wire that is there, where it doesn't agree with this one
+  hub_apart : (other : Statement) → Contains said other → do_statements_agree other (Wire (name_of exit) (name_of entry)) ≡ false
+      → ¬ CanJoin old exit entry
+  hub_apart (Wire from to) has apart join =
+      by (hub_of from) (hub_of to) refl refl
+    where
+      by : (o p : Option Hub) → hub_of from ≡ o → hub_of to ≡ p → ⊥
+      by (Some f) (Some t) e g =
+          let listed : Contains said (Wire (name_of f) (name_of t)) =
+          subst (λ (x : HubName). Contains said (Wire (name_of f) x)) (named to t g)
+          (subst (λ (x : HubName). Contains said (Wire x to)) (named from f e) has) in
+          let wire = (holds.setup.wires f t).1 listed in
+          false≢true (sym apart ∙ (λ i. do_hubs_agree (e i) (g i) (hub_named-own exit i) (hub_named-own entry i))
+          ∙ agree-turned exit entry f t (join.together f t wire))
+      by None p e g = false≢true (sym apart ∙ (λ i. do_hubs_agree (e i) (hub_of to) (hub_of (name_of exit)) (hub_of (name_of entry))))
+      by (Some f) None e g = false≢true (sym apart ∙ (λ i. do_hubs_agree (e i) (g i) (hub_of (name_of exit)) (hub_of (name_of entry))))
+  hub_apart other has apart join = false≢true (sym apart)
+
+  -- a wire that can join agrees with all that are said, and the other way round
+  joins_all : keeps_carry exit entry ≡ true → agrees_with said (Wire (name_of exit) (name_of entry)) ≡ true → CanJoin old exit entry
+  joins_all keeps agrees = record {
+    alone = keeps;
+    together = λ other next wire.
+        agree-turned other next exit entry
+        (sym (agree_named other next exit entry)
+        ∙ agrees-each said (Wire (name_of exit) (name_of entry)) (Wire (name_of other) (name_of next)) agrees
+        ((holds.setup.wires other next).0 wire));
+  }
+
+  tells : Tells answer form.lines said (Wire (name_of exit) (name_of entry))
+  tells =
+      by_tests (is_exit_hub exit) (is_entry_hub entry) (keeps_carry exit entry)
+      (agrees_with said (Wire (name_of exit) (name_of entry))) refl refl refl refl
+    where
+      alone : (fault : SetupFault) → fault_between exit entry ≡ Some fault
+          → fault_said form.lines said (Wire (name_of exit) (name_of entry)) ≡ Some fault
+      alone fault e = some-fault form.lines said (Wire (name_of exit) (name_of entry)) fault (between_named exit entry ∙ e)
+
+      by_tests : (b c d a : Bool) → is_exit_hub exit ≡ b → is_entry_hub entry ≡ c → keeps_carry exit entry ≡ d
+          → agrees_with said (Wire (name_of exit) (name_of entry)) ≡ a
+          → Tells answer form.lines said (Wire (name_of exit) (name_of entry))
+      by_tests false c d a e f g h =
+          tells_fault answer form.lines said _ NotExit (is.not_exit.1 e) (alone NotExit (rw e refl))
+      by_tests true false d a e f g h =
+          tells_fault answer form.lines said _ NotEntry (is.not_entry.1 (e, f)) (alone NotEntry (rw (e, f) refl))
+      by_tests true true false a e f g h =
+          tells_fault answer form.lines said _ CarryRing (is.carry.1 (e, f, λ join. false≢true (sym g ∙ join.alone)))
+          (alone CarryRing (rw (e, f, g) refl))
+      by_tests true true true false e f g h =
+          let found = apart-from said (Wire (name_of exit) (name_of entry)) h in
+          tells_fault answer form.lines said _ CarryRing (is.carry.1 (e, f, hub_apart found.0 found.1 found.2))
+          (λ i. fault_with (h i) ((between_named exit entry ∙ lawful_fits exit entry e f g) i))
+      by_tests true true true true e f g h =
+          tells_none answer form.lines said _ (is.memory e f (joins_all g h))
+          (none-fault form.lines said _ (between_named exit entry ∙ lawful_fits exit entry e f g) h)
 
 -- what putting a wire between hubs answers
 hubs_put : (old new : Wiring) (exit entry : Hub) (answer : Result Bool SetupFault) → OnOk answer (AddsWire old new exit entry)
-    → ((answer ≡ Ok false) ↔ HasWire old exit entry) → SameJacks old new → new.tape ≡ old.tape → Says answer exit entry
+    → ((answer ≡ Ok false) ↔ HasWire old exit entry) → SameJacks old new → new.tape ≡ old.tape → Refusals answer old exit entry
     → Puts (Wire (name_of exit) (name_of entry)) old answer new
-hubs_put old new exit entry (Ok true) adds there jacks tape told form said holds =
-    let fits = between_named exit entry ∙ told in (
+hubs_put old new exit entry (Ok true) adds there jacks tape refusals form said holds =
+    let fits = tells (Ok true) old exit entry refusals form said holds in (
       not_said said (Wire (name_of exit) (name_of entry)) (λ has. no (there.1 ((holds.setup.wires exit entry).1 has))),
       fits,
       holds_more form said old new (Wire (name_of exit) (name_of entry)) holds
@@ -353,23 +440,26 @@ hubs_put old new exit entry (Ok true) adds there jacks tape told form said holds
   where
     no : answered true ≡ answered false → ⊥
     no e = cc
-hubs_put old new exit entry (Ok false) adds there jacks tape told form said holds =
+hubs_put old new exit entry (Ok false) adds there jacks tape refusals form said holds =
     said_contained said (Wire (name_of exit) (name_of entry)) ((holds.setup.wires exit entry).0 (there.0 refl))
-hubs_put old new exit entry (Err fault) adds there jacks tape told form said holds = by_cause told
+hubs_put old new exit entry (Err fault) adds there jacks tape refusals form said holds =
+    by_cause (tells (Err fault) old exit entry refusals form said holds)
   where
-    by_cause : (fault ≡ Memory) ⊎ (fault_between exit entry ≡ Some fault)
+    no : refused fault ≡ answered false → ⊥
+    no e = cc
+
+    by_cause : (fault ≡ Memory) ⊎ (fault_said form.lines said (Wire (name_of exit) (name_of entry)) ≡ Some fault)
         → IsPut form said (Wire (name_of exit) (name_of entry)) (Err fault) new
     by_cause (inl e) = inl e
     by_cause (inr e) =
-        let unfit = between_named exit entry ∙ e in
-        inr (unfit_not_said form said old (Wire (name_of exit) (name_of entry)) fault holds unfit, unfit)
+        inr (not_said said (Wire (name_of exit) (name_of entry)) (λ has. no (there.1 ((holds.setup.wires exit entry).1 has))), e)
 
 -- what putting a wire between named hubs answers
 pub wire_put : (old new : Wiring) (from to : HubName) (exit entry : Hub) (answer : Result Bool SetupFault)
     → hub_of from ≡ Some exit → hub_of to ≡ Some entry → OnOk answer (AddsWire old new exit entry)
     → ((answer ≡ Ok false) ↔ HasWire old exit entry) → SameJacks old new → new.tape ≡ old.tape
-    → Refusals answer exit entry → Puts (Wire from to) old answer new
+    → Refusals answer old exit entry → Puts (Wire from to) old answer new
 wire_put old new from to exit entry answer is also adds there jacks tape refusals =
     subst (λ (x : HubName). Puts (Wire x to) old answer new) (sym (named from exit is))
     (subst (λ (x : HubName). Puts (Wire (name_of exit) x) old answer new) (sym (named to entry also))
-    (hubs_put old new exit entry answer adds there jacks tape (says answer exit entry refusals)))
+    (hubs_put old new exit entry answer adds there jacks tape refusals))

@@ -291,6 +291,7 @@ formed_chart bytes first second others form what true lines size begun formed te
       formed = formed_is form test;
       once = said.once (λ i j d below within. absurd (omega (arith, within)));
       fit = said.fit (λ k d within. absurd (omega (arith, within)));
+      together = said.together (λ i j d before within. absurd (omega (arith, within)));
     })
 formed_chart bytes first second others form what false lines size begun formed test read = cc
 
@@ -332,4 +333,4 @@ chart_read bytes form statements is =
     ∙ ap (λ f. headed_lines true f r.others) (form_read r.second form r.formed)
     ∙ ap (λ t. cond t (with_form form (lines_from form.lines 3 start r.others)) (Err (Unfit 2 TapeFault)))
     (formed_read form is.formed)
-    ∙ ap (with_form form) (lines_read r.said form.lines 3 [] is.once is.fit)
+    ∙ ap (with_form form) (lines_read r.said form.lines 3 [] is.once is.together is.fit)

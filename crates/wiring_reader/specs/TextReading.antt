@@ -1,6 +1,7 @@
 -- What the reader of a whole text answers, as a function of its lines.
 -- This is a step between the code and the grammar: read_setup promises the relations of WiringText and WiringFaults, in wiring_text.
-use Rattle.std.specs.Prelude.{◌≡◌, ◌⊎◌, ℕ, ◌≤◌, ◌&&◌, Bool, true, false, List, [], ◌∷◌, ◌++◌, All, Option, Some, None, Result, Ok, Err, suc, nat_le, if◌then◌else◌, codes}
+use Rattle.std.specs.Prelude.{◌≡◌, ◌⊎◌, ℕ, ◌≤◌, ◌&&◌, Bool, true, false, List, [], ◌∷◌, ◌++◌, All, AllPairs, Option, Some, None, Result, Ok, Err, suc, nat_le, if◌then◌else◌, codes}
+use Rattle.std.specs.List.{list_all}
 use Rattle.card_code.specs.Lines.{lines_of}
 use Rattle.hubs.specs.Jacks.{is_jack_in_range}
 use Rattle.hub_table.specs.Ranges.{is_within}
@@ -14,7 +15,7 @@ use Rattle.tokens.specs.HelperLines.{divided_content}
 use Rattle.tokens.specs.declared.frame.Content as frame
 use Rattle.tokens.specs.declared.frame.Content.TheVariants.{Empty, End, Says, NoLine}
 use Rattle.wiring_reader.specs.Reading.{statement_of, form_of, is_said}
-use Rattle.wiring_text.specs.Statements.{statement_fault}
+use Rattle.wiring_text.specs.Statements.{do_statements_agree, statement_fault}
 use Rattle.wiring_text.specs.WiringText.{IsSetupOf}
 use Rattle.wiring_text.specs.declared.statement.FormNumbers.{FormNumbers}
 use Rattle.wiring_text.specs.declared.fault.WiringFault.{WiringFault}
@@ -56,6 +57,19 @@ pub record SoFar : Type 0 where
 abbrev pub start : SoFar
 start = record { said = []; ended = false }
 
+-- whether the panel can have a statement together with each that is said
+unfoldable pub agrees_with : List Statement → Statement → Bool
+agrees_with said statement = list_all (λ other. do_statements_agree other statement) said
+
+-- what is wrong with a statement: by itself, else together with others, where it doesn't agree with them
+abbrev pub fault_with : Bool → Option SetupFault → Option SetupFault
+fault_with agrees (Some fault) = Some fault
+fault_with agrees None = if agrees then None else Some panel.CarryRing
+
+-- what is wrong with a statement, where these are said
+abbrev pub fault_said : ℕ → List Statement → Statement → Option SetupFault
+fault_said lines said statement = fault_with (agrees_with said statement) (statement_fault lines statement)
+
 -- a statement that is new, with what is wrong with it
 abbrev pub new_said : ℕ → List Statement → Statement → Option SetupFault → Result SoFar WiringFault
 new_said number said statement None = Ok (record { said = said ++ statement ∷ []; ended = false })
@@ -65,7 +79,7 @@ new_said number said statement (Some fault) = Err (Unfit number fault)
 abbrev pub say : ℕ → ℕ → List Statement → Statement → Result SoFar WiringFault
 say lines number said statement =
     if is_said said statement then Err (LineTwice number)
-    else new_said number said statement (statement_fault lines statement)
+    else new_said number said statement (fault_said lines said statement)
 
 -- a line more
 abbrev pub step : ℕ → ℕ → SoFar → Content → Result SoFar WiringFault
@@ -140,20 +154,21 @@ HasSayable content = Unit {0}
 abbrev pub numbers_of_tape : Form → FormNumbers
 numbers_of_tape tape = record { lines = tape.lines; first = tape.first; overflow = tape.overflow }
 
--- the setup is that of these statements, all of which the panel can have
+-- the setup is that of these statements, all of which the panel can have, and each two together
 pub record Holds (form : FormNumbers) (said : List Statement) (wiring : Wiring) : Type 0 where
   pub formed : IsFormed form.lines form.first form.overflow
   pub setup : IsSetupOf form said wiring
   pub fit : All (λ statement. statement_fault form.lines statement ≡ None) said
+  pub together : AllPairs (λ one other. do_statements_agree one other ≡ true) said
 
 -- what putting a statement to a setup answers, where these are said: whether it is new, or what is wrong with it
 abbrev pub IsPut : FormNumbers → List Statement → Statement → Result Bool SetupFault → Wiring → Type 0
 IsPut form said statement (Ok true) wiring =
-    (is_said said statement ≡ false) × (statement_fault form.lines statement ≡ None)
+    (is_said said statement ≡ false) × (fault_said form.lines said statement ≡ None)
     × Holds form (said ++ statement ∷ []) wiring
 IsPut form said statement (Ok false) wiring = is_said said statement ≡ true
 IsPut form said statement (Err fault) wiring =
-    (fault ≡ panel.Memory) ⊎ ((is_said said statement ≡ false) × (statement_fault form.lines statement ≡ Some fault))
+    (fault ≡ panel.Memory) ⊎ ((is_said said statement ≡ false) × (fault_said form.lines said statement ≡ Some fault))
 
 -- whatever was said, the setup says it still and the statement too, or tells why not
 abbrev pub Puts : Statement → Wiring → Result Bool SetupFault → Wiring → Type 0

@@ -1,6 +1,7 @@
 -- The lines of a wiring chart: what the tokens of a line between FORM and END say, and what is wrong with what they say.
-use Rattle.std.specs.Prelude.{ℕ, ◌≤◌, List, [], ◌∷◌, not, Option, Some, None, codes, if◌then◌else◌}
-use Rattle.hubs.specs.Hubs.{is_exit_hub, is_entry_hub, keeps_ring}
+use Rattle.std.specs.Prelude.{ℕ, ◌≤◌, List, [], ◌∷◌, not, Bool, true, Option, Some, None, codes, if◌then◌else◌}
+use Rattle.hubs.specs.Carries.{do_wires_agree, keeps_carry}
+use Rattle.hubs.specs.Hubs.{is_exit_hub, is_entry_hub}
 use Rattle.hub_table.specs.Ranges.{is_within}
 use Rattle.setups.specs.declared.fault.SetupFault.{SetupFault}
 use Rattle.setups.specs.declared.fault.SetupFault.TheVariants.{NotExit, NotEntry, CarryRing, TapeFault}
@@ -31,12 +32,12 @@ pub data Says : List (List ℕ) → Statement → Type 0 where
   wire : {from to : List ℕ} {exit entry : HubName} → IsHubName from exit → IsHubName to entry
       → Says (codes "WIRE" ∷ from ∷ to ∷ []) (Wire exit entry)
 
--- what is wrong with a wire between two hubs, asked in this order: no exit, no entry, a carry that leaves its group
+-- what is wrong with a wire between two hubs by itself, asked in this order: no exit, no entry, a carry that can't go that way
 abbrev pub fault_between : Hub → Hub → Option SetupFault
 fault_between exit entry =
     if not (is_exit_hub exit) then Some NotExit
     else if not (is_entry_hub entry) then Some NotEntry
-    else if not (keeps_ring exit entry) then Some CarryRing
+    else if not (keeps_carry exit entry) then Some CarryRing
     else None
 
 -- what is wrong with a wire between two named hubs: a name of no hub is that of no exit and of no entry
@@ -45,8 +46,18 @@ wire_fault None entry = Some NotExit
 wire_fault (Some exit) None = if is_exit_hub exit then Some NotEntry else Some NotExit
 wire_fault (Some exit) (Some entry) = fault_between exit entry
 
--- what is wrong with what a line says, on a form of so many lines
+-- what is wrong with what a line says by itself, on a form of so many lines
 abbrev pub statement_fault : ℕ → Statement → Option SetupFault
 statement_fault lines (Stop channel line) = if is_within line lines then None else Some TapeFault
 statement_fault lines (Plug j) = None
 statement_fault lines (Wire exit entry) = wire_fault (hub_of exit) (hub_of entry)
+
+-- whether two wires between named hubs can be there together
+abbrev pub do_hubs_agree : Option Hub → Option Hub → Option Hub → Option Hub → Bool
+do_hubs_agree (Some exit) (Some entry) (Some other) (Some next) = do_wires_agree exit entry other next
+do_hubs_agree exit entry other next = true
+
+-- whether the panel can have what two lines say together: their carries agree
+abbrev pub do_statements_agree : Statement → Statement → Bool
+do_statements_agree (Wire exit entry) (Wire other next) = do_hubs_agree (hub_of exit) (hub_of entry) (hub_of other) (hub_of next)
+do_statements_agree one other = true

@@ -1,15 +1,15 @@
 -- What is wrong with a text that is no wiring chart, in the order in which it is asked: its size, its first two lines, the
 -- lowest of its other lines at fault, its END. On one line it is asked whether it is a line of a wiring chart, whether it stood
 -- before, and whether the panel can have what it says.
-use Rattle.std.specs.Prelude.{◌≡◌, ℕ, ◌<◌, ◌≤◌, List, length, ◌⊎◌, Some}
+use Rattle.std.specs.Prelude.{◌≡◌, ℕ, ◌<◌, ◌≤◌, false, List, length, ◌⊎◌, Some, None}
 use Rattle.card_code.specs.Lines.{lines_of}
 use Rattle.setups.specs.Tapes.{IsFormed}
 use Rattle.setups.specs.declared.fault.SetupFault.{SetupFault}
-use Rattle.setups.specs.declared.fault.SetupFault.TheVariants.{TapeFault}
+use Rattle.setups.specs.declared.fault.SetupFault.TheVariants.{CarryRing, TapeFault}
 use Rattle.tokens.specs.Frame as frame
 pub use Rattle.tokens.specs.Frame.{line_at}
 use Rattle.tokens.specs.Frame.{IsLineFrom, LacksEnd}
-use Rattle.wiring_text.specs.Statements.{statement_fault}
+use Rattle.wiring_text.specs.Statements.{do_statements_agree, statement_fault}
 use Rattle.wiring_text.specs.WiringText.{IsFirstLine, IsFormLine, SaysLine, IsTooLarge}
 use Rattle.wiring_text.specs.declared.statement.FormNumbers.{FormNumbers}
 use Rattle.wiring_text.specs.declared.fault.WiringFault.{WiringFault}
@@ -44,12 +44,27 @@ pub record IsRepeated (lines : List (List ℕ)) (number : ℕ) : Type 0 where
   pub before : earlier < number
   pub said_before : SaysAt lines earlier statement
 
+-- a line before that of a number says a wire that the panel can't have together with this statement
+pub record IsApart (lines : List (List ℕ)) (number : ℕ) (statement : Statement) : Type 0 where
+  pub earlier : ℕ
+  pub before : earlier < number
+  pub other : Statement
+  pub said_before : SaysAt lines earlier other
+  pub apart : do_statements_agree other statement ≡ false
+
+-- The panel can't have a statement on the line of a number: by itself, or, where nothing else is wrong with it, together with a
+-- line before it, which is a fault of carries.
+abbrev pub CannotHave : List (List ℕ) → FormNumbers → ℕ → Statement → SetupFault → Type 0
+CannotHave lines form number statement fault =
+    (statement_fault form.lines statement ≡ Some fault)
+    ⊎ ((statement_fault form.lines statement ≡ None) × (fault ≡ CarryRing) × IsApart lines number statement)
+
 -- the line of a number says what no line before it said, and the panel can't have it
 pub record IsUnfitLine (lines : List (List ℕ)) (form : FormNumbers) (number : ℕ) (fault : SetupFault) : Type 0 where
   pub statement : Statement
   pub said : SaysAt lines number statement
   pub new : ¬ IsRepeated lines number
-  pub unfit : statement_fault form.lines statement ≡ Some fault
+  pub unfit : CannotHave lines form number statement fault
 
 -- the form, on line 2, is none that a tape can have
 pub record IsUnfitForm (form : FormNumbers) (number : ℕ) (fault : SetupFault) : Type 0 where

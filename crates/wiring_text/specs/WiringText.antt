@@ -13,7 +13,7 @@ use Rattle.tokens.specs.Frame.{IsLarger, IsTitleLine}
 use Rattle.tokens.specs.Number.{IsNumber}
 use Rattle.tokens.specs.Tokens.{HasTokens}
 use Rattle.wiring_text.specs.HubNames.{name_of}
-use Rattle.wiring_text.specs.Statements.{Says, statement_fault}
+use Rattle.wiring_text.specs.Statements.{Says, do_statements_agree, statement_fault}
 use Rattle.wiring_text.specs.declared.statement.FormNumbers.{FormNumbers}
 use Rattle.wiring_text.specs.declared.statement.Statement.{Statement}
 use Rattle.wiring_text.specs.declared.statement.Statement.TheVariants.{Stop, Plug, Wire}
@@ -63,12 +63,13 @@ pub record Reads (bytes : List ℕ) (form : FormNumbers) (statements : List Stat
   pub said : SaysLines others statements
 
 -- The text is a wiring chart: its form is one that a tape can have, nothing stands in it twice, and the panel can have each
--- stop and each wire.
+-- stop and each wire, and each two together.
 pub record IsWiringChart (bytes : List ℕ) (form : FormNumbers) (statements : List Statement) : Type 0 where
   pub reads : Reads bytes form statements
   pub formed : IsFormed form.lines form.first form.overflow
   pub once : AllPairs (λ one other. one ≢ other) statements
   pub fit : All (λ statement. statement_fault form.lines statement ≡ None) statements
+  pub together : AllPairs (λ one other. do_statements_agree one other ≡ true) statements
 
 -- the setup has this form, and exactly these stops, jacks and wires
 pub record IsSetupOf (form : FormNumbers) (statements : List Statement) (wiring : Wiring) : Type 0 where

@@ -4,6 +4,7 @@ use Rattle.std.proofs.lemmas.Result.{err_from_is_err_and}
 use Rattle.hubs.proofs.HubLemmas.{is_entry-number, number_of-range}
 use Rattle.setups.proofs.WiringLemmas.{unnumbered_entry, IsLawfulSetup-same, IsLawfulSetup-adds, AddsWire-by_number, SameWires-by_number}
 use Rattle.hubs.specs.Hubs.{is_entry_hub}
+use Rattle.setups.proofs.CarryJoins.{there-joins}
 use Rattle.setups.proofs.setup.Setup.add.Goals as goal
 
 pub returns-then-not-is_exit-clause-was_there : goal.returns-then-not-is_exit-clause-was_there
@@ -19,9 +20,14 @@ pub returns-then-not-is_entry-clause-was_there : goal.returns-then-not-is_entry-
 returns-then-not-is_entry-clause-was_there c =
     (λ answer. cc, λ wire. absurd (false≢true (c.if-not-is_entry.ensures ∙ (c.has.ensures.lawful.leads _ _ wire).1)))
 
-pub returns-then-not-keeps_ring-clause-was_there : goal.returns-then-not-keeps_ring-clause-was_there
-returns-then-not-keeps_ring-clause-was_there c =
-    (λ answer. cc, λ wire. absurd (false≢true (c.if-not-keeps_ring.ensures ∙ c.has.ensures.lawful.rings _ _ wire)))
+pub returns-then-not-can_join-clause-was_there : goal.returns-then-not-can_join-clause-was_there
+returns-then-not-can_join-clause-was_there c =
+    (λ answer. cc, λ wire. absurd (c.can_join.ensures.refused c.if-not-can_join.true (there-joins _ _ _ c.has.ensures.lawful.carries wire)))
+
+pub returns-then-has-clause-carry : goal.returns-then-has-clause-carry
+returns-then-has-clause-carry c =
+    let wire = c.has.ensures.value.0 c.if-has.true in
+    (λ answer. cc, λ refused. absurd (refused.2 (there-joins _ _ _ c.has.ensures.lawful.carries wire)))
 
 pub invariant_of-self : goal.invariant_of-self
 invariant_of-self c = IsLawfulSetup-same _ _ c.in_err-push_entry.ensures.refused c.self.invariant
@@ -37,7 +43,7 @@ invariant_of-self-2 c =
     let to = sym c.in-Some-number.ensures.value in
     let is_entry : is_entry_hub c.args.entry ≡ true = sym c.if-not-is_entry.ensures in
     IsLawfulSetup-adds _ _ c.args.exit c.args.entry c.in-Some.number c.in-Some-number.to (sym c.in-Some.ensures.value) to
-    gained.here gained.others c.self.invariant (sym c.if-not-is_exit.ensures) is_entry (sym c.if-not-keeps_ring.ensures) (
+    gained.here gained.others c.self.invariant (sym c.if-not-is_exit.ensures) is_entry (rw c.self.view_is (c.can_join.ensures.joins c.if-not-can_join.false)) (
       (is_entry-number c.args.entry c.in-Some-number.to to).0 is_entry,
       (number_of-range c.args.entry c.in-Some-number.to to).1,
     )
