@@ -18,45 +18,31 @@ use Rattle.print_rules.specs.Printing.{breaks_print_kind, lacks_print}
 use Rattle.print_rules.specs.Forms.{breaks_form, lacks_form}
 use Rattle.print_rules.specs.Tapes.{breaks_tape}
 
--- the number of a rule
-abbrev pub rule_number : Rule → ℕ
-rule_number rule.NameTwice = 21
-rule_number rule.Columns = 22
-rule_number rule.AmountSize = 23
-rule_number rule.UnknownName = 24
-rule_number rule.WrongKind = 25
-rule_number rule.LineTwice = 26
-rule_number rule.NoControl = 27
-rule_number rule.TotalTextNotControl = 28
-rule_number rule.DigitsRange = 29
-rule_number rule.DigitsShrink = 30
-rule_number rule.MarkMismatch = 31
-rule_number rule.WheelRange = 32
-rule_number rule.WheelOverlap = 33
-rule_number rule.WheelClash = 34
-rule_number rule.PrintKind = 35
-rule_number rule.Form = 36
-rule_number rule.Tape = 37
+-- The number of a rule, and whether a line breaks it, by all lines of the chart, the lines before this one, and what it says.
+abbrev pub row_of : Rule → ℕ × (List Line → List Line → Statement → Bool)
+row_of rule.NameTwice = (21, λ lines earlier statement. breaks_name_twice (fields_of earlier) statement)
+row_of rule.Columns = (22, λ lines earlier statement. breaks_columns statement)
+row_of rule.AmountSize = (23, λ lines earlier statement. breaks_amount_size statement)
+row_of rule.UnknownName = (24, λ lines earlier statement. breaks_unknown_name (fields_of lines) statement)
+row_of rule.WrongKind = (25, λ lines earlier statement. breaks_wrong_kind (fields_of lines) statement)
+row_of rule.LineTwice = (26, λ lines earlier statement. breaks_line_twice earlier statement)
+row_of rule.NoControl = (27, λ lines earlier statement. breaks_no_control lines statement)
+row_of rule.TotalTextNotControl = (28, λ lines earlier statement. breaks_total_text_not_control lines statement)
+row_of rule.DigitsRange = (29, λ lines earlier statement. breaks_digits_range (fields_of lines) statement)
+row_of rule.DigitsShrink = (30, λ lines earlier statement. breaks_digits_shrink lines statement)
+row_of rule.MarkMismatch = (31, λ lines earlier statement. breaks_mark_mismatch (fields_of lines) statement)
+row_of rule.WheelRange = (32, λ lines earlier statement. breaks_wheel_range (fields_of lines) statement)
+row_of rule.WheelOverlap = (33, λ lines earlier statement. breaks_wheel_overlap (fields_of lines) earlier statement)
+row_of rule.WheelClash = (34, λ lines earlier statement. breaks_wheel_clash (fields_of lines) earlier statement)
+row_of rule.PrintKind = (35, λ lines earlier statement. breaks_print_kind lines statement)
+row_of rule.Form = (36, λ lines earlier statement. breaks_form lines statement)
+row_of rule.Tape = (37, λ lines earlier statement. breaks_tape lines statement)
 
--- whether a line breaks a rule, by all lines of the chart, the lines before this one, and what it says
+abbrev pub rule_number : Rule → ℕ
+rule_number rule = (row_of rule).0
+
 abbrev pub breaks : Rule → List Line → List Line → Statement → Bool
-breaks rule.NameTwice lines earlier statement = breaks_name_twice (fields_of earlier) statement
-breaks rule.Columns lines earlier statement = breaks_columns statement
-breaks rule.AmountSize lines earlier statement = breaks_amount_size statement
-breaks rule.UnknownName lines earlier statement = breaks_unknown_name (fields_of lines) statement
-breaks rule.WrongKind lines earlier statement = breaks_wrong_kind (fields_of lines) statement
-breaks rule.LineTwice lines earlier statement = breaks_line_twice earlier statement
-breaks rule.NoControl lines earlier statement = breaks_no_control lines statement
-breaks rule.TotalTextNotControl lines earlier statement = breaks_total_text_not_control lines statement
-breaks rule.DigitsRange lines earlier statement = breaks_digits_range (fields_of lines) statement
-breaks rule.DigitsShrink lines earlier statement = breaks_digits_shrink lines statement
-breaks rule.MarkMismatch lines earlier statement = breaks_mark_mismatch (fields_of lines) statement
-breaks rule.WheelRange lines earlier statement = breaks_wheel_range (fields_of lines) statement
-breaks rule.WheelOverlap lines earlier statement = breaks_wheel_overlap (fields_of lines) earlier statement
-breaks rule.WheelClash lines earlier statement = breaks_wheel_clash (fields_of lines) earlier statement
-breaks rule.PrintKind lines earlier statement = breaks_print_kind lines statement
-breaks rule.Form lines earlier statement = breaks_form lines statement
-breaks rule.Tape lines earlier statement = breaks_tape lines statement
+breaks rule = (row_of rule).1
 
 -- whether a chart lacks a line that a rule demands: PRINT or FORM
 abbrev pub lacks : Rule → List Line → Bool

@@ -1,5 +1,5 @@
 -- Decks of blank cards can be run.
-use Rattle.std.proofs.Common.{◌≡◌, ◌∙◌, refl, sym, ap, subst, ℕ, zero, suc, ◌+◌, ◌-◌, ◌<◌, ◌^◌, pos, ◌+ℤ◌, Bool, true, false, inl, List, [], ◌∷◌, Option, None, map, replicate, slice_index, arith}
+use Rattle.std.proofs.Common.{◌≡◌, ◌∙◌, refl, sym, ap, subst, ℕ, zero, suc, ◌+◌, ◌-◌, ◌<◌, ◌^◌, pos, ◌+ℤ◌, Bool, true, false, inl, List, [], ◌∷◌, Option, None, map, replicate, slice_index, arith, unsigned_abs}
 use Rattle.std.specs.List.{All}
 use Rattle.std.proofs.lemmas.List.{length-replicate}
 use Rattle.std.proofs.lemmas.List.Elements.{All-nil, All-cons, All-head, All-replicate, All-tail, All-weaker}
@@ -16,7 +16,6 @@ use Rattle.chart_rules.specs.HelperOnCard.{IsOnCard}
 use Rattle.chart_rules.specs.Rules.{IsLawful}
 use Rattle.chart_rules.specs.ValidCard.{IsValidCard, IsValidKind, column_of, digit_count, digit_rows, has_good_zone, is_printed}
 use Rattle.report.specs.Amounts.{columns_in, digit_in, is_negated, number_in, signed, value_of}
-use Rattle.report.specs.Edits.{size}
 use Rattle.report.specs.Groups.{cards_of, groups_of}
 use Rattle.report.specs.Totals.{Fits, GroupFits, total_of}
 use Rattle.report.proofs.FittingGroups.{All-parts}
@@ -102,7 +101,7 @@ power_some (suc digits) = let less = power_some digits in omega (arith, less)
 
 blank_fits : (lines : List Line) (level : ℕ) (group : List (List ℕ)) → All IsBlank group → GroupFits lines level group
 blank_fits lines level group blank line its_level wheel name digits mark field stands says_so same named =
-    subst (λ total. size total < 10 ^ digits) (sym (blank_total field group blank)) (power_some digits)
+    subst (λ total. unsigned_abs total < 10 ^ digits) (sym (blank_total field group blank)) (power_some digits)
 
 -- a fact of all cards of some groups is one of all cards of each
 each_group : (P : List ℕ → Type 0) (groups : List (List (List ℕ))) → All P (cards_of groups) → All (All P) groups

@@ -11,87 +11,52 @@ use Rattle.hub_table.specs.declared.letters.Letters.TheVariants as kind
 use Rattle.hub_table.specs.declared.shape.Numbers.{Numbers}
 use Rattle.hub_table.specs.declared.shape.Numbers.TheVariants.{Bare, One, Two, Three}
 
--- the letters of a hub
-abbrev pub letters_of : Hub → Letters
-letters_of (FR column) = kind.FR
-letters_of (SR column) = kind.SR
-letters_of (CX position) = kind.CX
-letters_of (GX group position) = kind.GX
-letters_of (CO group) = kind.CO
-letters_of (BAN group position) = kind.BAN
-letters_of (BAT group position) = kind.BAT
-letters_of (PIN pilot position) = kind.PIN
-letters_of (PIT pilot position) = kind.PIT
-letters_of (SX unit column) = kind.SX
-letters_of (IX level position) = kind.IX
-letters_of (CSD split) = kind.CSD
-letters_of (CSZ split) = kind.CSZ
-letters_of (EM emitter row) = kind.EM
-letters_of CC = kind.CC
-letters_of (PX level cycle) = kind.PX
-letters_of (HX heading) = kind.HX
-letters_of (CA position) = kind.CA
-letters_of (CB position) = kind.CB
-letters_of (GE group position) = kind.GE
-letters_of (PL group) = kind.PL
-letters_of (MI group) = kind.MI
-letters_of (RO group) = kind.RO
-letters_of (BT group) = kind.BT
-letters_of (CI group) = kind.CI
-letters_of (BAC group position) = kind.BAC
-letters_of (PIC pilot position) = kind.PIC
-letters_of (PIX pilot) = kind.PIX
-letters_of (SE unit column) = kind.SE
-letters_of (SI unit) = kind.SI
-letters_of (SO unit) = kind.SO
-letters_of (IE level position) = kind.IE
-letters_of (CSE split) = kind.CSE
-letters_of (W wheel) = kind.W
-letters_of (ST level) = kind.ST
-letters_of (SP lines) = kind.SP
-letters_of (SK channel) = kind.SK
-letters_of RS = kind.RS
+-- the letters of a hub, and its numbers in the order in which they are written
+abbrev pub name_of_hub : Hub → Letters × Numbers
+name_of_hub (FR column) = (kind.FR, One column)
+name_of_hub (SR column) = (kind.SR, One column)
+name_of_hub (CX position) = (kind.CX, One position)
+name_of_hub (GX group position) = (kind.GX, Three group.width group.number position)
+name_of_hub (CO group) = (kind.CO, Two group.width group.number)
+name_of_hub (BAN group position) = (kind.BAN, Three group.width group.number position)
+name_of_hub (BAT group position) = (kind.BAT, Three group.width group.number position)
+name_of_hub (PIN pilot position) = (kind.PIN, Two pilot position)
+name_of_hub (PIT pilot position) = (kind.PIT, Two pilot position)
+name_of_hub (SX unit column) = (kind.SX, Two unit column)
+name_of_hub (IX level position) = (kind.IX, Two level position)
+name_of_hub (CSD split) = (kind.CSD, One split)
+name_of_hub (CSZ split) = (kind.CSZ, One split)
+name_of_hub (EM emitter row) = (kind.EM, Two emitter row)
+name_of_hub CC = (kind.CC, Bare)
+name_of_hub (PX level cycle) = (kind.PX, Two level cycle)
+name_of_hub (HX heading) = (kind.HX, One heading)
+name_of_hub (CA position) = (kind.CA, One position)
+name_of_hub (CB position) = (kind.CB, One position)
+name_of_hub (GE group position) = (kind.GE, Three group.width group.number position)
+name_of_hub (PL group) = (kind.PL, Two group.width group.number)
+name_of_hub (MI group) = (kind.MI, Two group.width group.number)
+name_of_hub (RO group) = (kind.RO, Two group.width group.number)
+name_of_hub (BT group) = (kind.BT, Two group.width group.number)
+name_of_hub (CI group) = (kind.CI, Two group.width group.number)
+name_of_hub (BAC group position) = (kind.BAC, Three group.width group.number position)
+name_of_hub (PIC pilot position) = (kind.PIC, Two pilot position)
+name_of_hub (PIX pilot) = (kind.PIX, One pilot)
+name_of_hub (SE unit column) = (kind.SE, Two unit column)
+name_of_hub (SI unit) = (kind.SI, One unit)
+name_of_hub (SO unit) = (kind.SO, One unit)
+name_of_hub (IE level position) = (kind.IE, Two level position)
+name_of_hub (CSE split) = (kind.CSE, One split)
+name_of_hub (W wheel) = (kind.W, One wheel)
+name_of_hub (ST level) = (kind.ST, One level)
+name_of_hub (SP lines) = (kind.SP, One lines)
+name_of_hub (SK channel) = (kind.SK, One channel)
+name_of_hub RS = (kind.RS, Bare)
 
--- the numbers of a hub, in the order in which they are written
+abbrev pub letters_of : Hub → Letters
+letters_of hub = (name_of_hub hub).0
+
 abbrev pub numbers_of : Hub → Numbers
-numbers_of (FR column) = One column
-numbers_of (SR column) = One column
-numbers_of (CX position) = One position
-numbers_of (GX group position) = Three group.width group.number position
-numbers_of (CO group) = Two group.width group.number
-numbers_of (BAN group position) = Three group.width group.number position
-numbers_of (BAT group position) = Three group.width group.number position
-numbers_of (PIN pilot position) = Two pilot position
-numbers_of (PIT pilot position) = Two pilot position
-numbers_of (SX unit column) = Two unit column
-numbers_of (IX level position) = Two level position
-numbers_of (CSD split) = One split
-numbers_of (CSZ split) = One split
-numbers_of (EM emitter row) = Two emitter row
-numbers_of CC = Bare
-numbers_of (PX level cycle) = Two level cycle
-numbers_of (HX heading) = One heading
-numbers_of (CA position) = One position
-numbers_of (CB position) = One position
-numbers_of (GE group position) = Three group.width group.number position
-numbers_of (PL group) = Two group.width group.number
-numbers_of (MI group) = Two group.width group.number
-numbers_of (RO group) = Two group.width group.number
-numbers_of (BT group) = Two group.width group.number
-numbers_of (CI group) = Two group.width group.number
-numbers_of (BAC group position) = Three group.width group.number position
-numbers_of (PIC pilot position) = Two pilot position
-numbers_of (PIX pilot) = One pilot
-numbers_of (SE unit column) = Two unit column
-numbers_of (SI unit) = One unit
-numbers_of (SO unit) = One unit
-numbers_of (IE level position) = Two level position
-numbers_of (CSE split) = One split
-numbers_of (W wheel) = One wheel
-numbers_of (ST level) = One level
-numbers_of (SP lines) = One lines
-numbers_of (SK channel) = One channel
-numbers_of RS = Bare
+numbers_of hub = (name_of_hub hub).1
 
 -- a counter group
 abbrev pub group_of : ℕ → ℕ → Group

@@ -1,10 +1,9 @@
 //! Open totals: what is kept of a total between two cards.
 
-ghost use Rattle.std.specs.Prelude.{◌≡◌, ◌+◌, ◌*◌, ◌<◌, ◌≤◌, ◌^◌, ℕ, List, length, map, option_map};
+ghost use Rattle.std.specs.Prelude.{◌≡◌, ◌+◌, ◌*◌, ◌<◌, ◌≤◌, ◌^◌, ℕ, List, length, map, option_map, unsigned_abs};
 ghost use Rattle.std.specs.List.{All, filter_map};
 ghost use Rattle.card_code.specs.MostCards.{most_cards};
 ghost use Rattle.charts.specs.Levels.{level_number};
-ghost use Rattle.report.specs.Edits.{size};
 ghost use Rattle.report.specs.Misfits.{first_of, fits_in};
 ghost use Rattle.misfits.specs.HelperAmounts.{IsGoodAmount};
 ghost use Rattle.misfits.specs.HelperTotals.{IsKept, IsWithin, most_digits, misfits_among};

@@ -1,12 +1,11 @@
 //! The values of amounts on cards.
 
-ghost use Rattle.std.specs.Prelude.{◌≡◌, ◌+◌, ◌-◌, ◌<◌, ◌≤◌, ◌^◌, length};
+ghost use Rattle.std.specs.Prelude.{◌≡◌, ◌+◌, ◌-◌, ◌<◌, ◌≤◌, ◌^◌, length, unsigned_abs};
 ghost use Rattle.std.specs.Option.{unwrap_or};
 ghost use Rattle.card_code.specs.CardCode.{has_row};
 ghost use Rattle.charts.specs.Field.{sign_column};
 ghost use Rattle.chart_rules.specs.ValidCard.{column_of};
 ghost use Rattle.report.specs.Amounts.{digit_in, digits_on, is_negated, is_negative_by, number_in, value_of};
-ghost use Rattle.report.specs.Edits.{size};
 ghost use Rattle.misfits.specs.HelperAmounts.{IsColumn, IsGoodAmount, IsGoodSign};
 
 use card_code::{Card, Column, Row};
@@ -88,7 +87,7 @@ fn is_negated(kind: FieldKind, card: &Card) -> bool
 pub(crate) fn value_of(field: &Field, card: &Card) -> i64
     requires { IsGoodAmount field.now }
     ensures value { result ≡ value_of field.now card.now }
-    ensures small { size result < 10 ^ 8 }
+    ensures small { unsigned_abs result < 10 ^ 8 }
 {
     let negated = is_negated(field.kind, card);
     let number = i64::from(number_on(field, card));

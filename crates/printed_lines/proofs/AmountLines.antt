@@ -1,5 +1,5 @@
 -- Amounts on cards and on total lines spell what the report edits.
-use Rattle.std.proofs.Common.{◌≡◌, ◌∙◌, refl, sym, ap, ap₂, ℕ, zero, suc, ℤ, pos, negsuc, ◌/◌, ◌^◌, ◌<◌, ◌==◌, ◌&&◌, not, if◌then◌else◌, Bool, true, false, List, [], ◌∷◌, length, map, drop, Option, Some, None, arith}
+use Rattle.std.proofs.Common.{◌≡◌, ◌∙◌, refl, sym, ap, ap₂, ℕ, zero, suc, ℤ, pos, negsuc, ◌/◌, ◌^◌, ◌<◌, ◌==◌, ◌&&◌, not, if◌then◌else◌, Bool, true, false, List, [], ◌∷◌, length, map, drop, Option, Some, None, arith, unsigned_abs}
 use Rattle.std.proofs.Math.Nat.{mod-lt}
 use Rattle.std.proofs.lemmas.Bool.Decides.{nat_tests}
 use Rattle.charts.specs.Field.{columns_of, decimals_of}
@@ -8,7 +8,7 @@ use Rattle.charts.specs.declared.statement.Mark.{Mark}
 use Rattle.chart_rules.specs.ValidCard.{IsValidAmount}
 use Rattle.report.specs.Amounts.{number_in, digits_on, is_blank_on, is_negated, signed, value_of}
 use Rattle.report.specs.BodyLines.{amount_on}
-use Rattle.report.specs.Edits.{last_digits, free_digits, marked, size, is_below_zero, edited, edited_blank, edited_digits}
+use Rattle.report.specs.Edits.{last_digits, free_digits, marked, is_below_zero, edited, edited_blank, edited_digits}
 use Rattle.print_unit.specs.ZeroControl.{printed_from}
 use Rattle.printed_lines.specs.Held.{HoldsTotal}
 use Rattle.printed_lines.specs.Shown.{Amount, Printed}
@@ -71,7 +71,7 @@ card-amount field card wheel mark good valid = by (OnCard-valid field card good 
         own : map value digits ≡ last_digits (length digits) number
         own = sym (last_digits-columns digits (AreSmall-numeral digits is))
 
-        spelled : map value digits ≡ last_digits (columns_of field) (size (value_of field card))
+        spelled : map value digits ≡ last_digits (columns_of field) (unsigned_abs (value_of field card))
         spelled = own ∙ ap₂ last_digits (digits-length field card) (sym (signed-size negated number))
 
         sign : (any_above_zero (map value digits) && negated) ≡ is_below_zero (value_of field card)
@@ -109,8 +109,8 @@ total-sign digits (Some mark) total held holds =
     ∙ ap (marked (Some mark)) (by total (holds.below refl) (holds.above refl))
   where
     by : (total : ℤ) → (is_below_zero total ≡ true → held.latch ≡ true)
-        → (is_below_zero total ≡ false → 0 < size total → held.latch ≡ false)
-        → (not (size total == 0) && held.latch) ≡ is_below_zero total
+        → (is_below_zero total ≡ false → 0 < unsigned_abs total → held.latch ≡ false)
+        → (not (unsigned_abs total == 0) && held.latch) ≡ is_below_zero total
     by (pos zero) below above = refl
     by (pos (suc number)) below above =
         let latch = above refl (omega arith) in

@@ -1,5 +1,5 @@
 -- What a total line rests on: what the totals and the storage units hold when a group ends.
-use Rattle.std.specs.Prelude.{◌≡◌, ℕ, ℤ, ◌<◌, ◌^◌, true, false, List, Contains, Option, Some, is_some}
+use Rattle.std.specs.Prelude.{◌≡◌, ℕ, ℤ, ◌<◌, ◌^◌, true, false, List, Contains, Option, Some, is_some, unsigned_abs}
 use Rattle.charts.specs.Levels.{level_number}
 use Rattle.charts.specs.declared.chart.Line.{Line}
 use Rattle.charts.specs.declared.level.Level.{Level}
@@ -9,17 +9,17 @@ use Rattle.charts.specs.declared.statement.Statement.TheVariants as says
 use Rattle.field_rules.specs.Fields.{field_named}
 use Rattle.chart_rules.specs.ValidCard.{EachColumn, IsText, column_of}
 use Rattle.report.specs.BodyLines.{a_card_of}
-use Rattle.report.specs.Edits.{size, is_below_zero}
+use Rattle.report.specs.Edits.{is_below_zero}
 use Rattle.report.specs.Totals.{total_of}
 use Rattle.printed_lines.specs.Shown.{Printed}
 
 -- What is held of a total prints it in so many digits: the total fits, the figure is its size, and where it has a mark the balance
 -- latch is set for a total below 0 and not set for one above 0.
 pub record HoldsTotal (digits : ℕ) (mark : Option Mark) (total : ℤ) (held : Printed) : Type 0 where
-  pub fits : size total < 10 ^ digits
-  pub figure : held.figure ≡ size total
+  pub fits : unsigned_abs total < 10 ^ digits
+  pub figure : held.figure ≡ unsigned_abs total
   pub below : is_some mark ≡ true → is_below_zero total ≡ true → held.latch ≡ true
-  pub above : is_some mark ≡ true → is_below_zero total ≡ false → 0 < size total → held.latch ≡ false
+  pub above : is_some mark ≡ true → is_below_zero total ≡ false → 0 < unsigned_abs total → held.latch ≡ false
 
 -- What is held of a text field are the columns of another card, on which it is a text.
 pub record HoldsText (field : Field) (held original : List ℕ) : Type 0 where

@@ -1,5 +1,5 @@
 -- What is known of the cycles of a machine that is wired for a chart, cycle by cycle.
-use Rattle.std.proofs.Common.{◌≡◌, ℕ, ◌≤◌, ◌<◌, ◌^◌, true, false, List}
+use Rattle.std.proofs.Common.{◌≡◌, ℕ, ◌≤◌, ◌<◌, ◌^◌, true, false, List, unsigned_abs}
 use Rattle.counter_cycles.specs.Acts.{Held}
 use Rattle.plans.specs.Plans.{Lists}
 use Rattle.charts.specs.Chart.{Chart}
@@ -11,7 +11,7 @@ use Rattle.machine.specs.Machine.{MachineState}
 use Rattle.net.specs.declared.cycle.Cycle.{Cycle}
 use Rattle.net.specs.declared.cycle.Cycle.TheVariants.{RunIn, Card, Prog, Head}
 use Rattle.line_places.specs.CarriageCycles.{carriage_behind}
-use Rattle.report.specs.Edits.{size, is_below_zero}
+use Rattle.report.specs.Edits.{is_below_zero}
 use Rattle.report.specs.Totals.{GroupFits, total_of}
 use Rattle.selectors.specs.Indicate.{indicate_ended}
 use Rattle.whole_cycles.specs.Between.{IsReady}
@@ -35,9 +35,9 @@ IsRead chart plan (Head heading) card old = Unit {0}
 -- A total is held so that it prints as the total of a group.
 pub record ShowsTotal (chart : Chart) (plan : Lists) (level : ℕ) (group : List (List ℕ)) (name : List ℕ) (field : Field)
     (holds : Held) : Type 0 where
-  pub figure : holds.number ≡ size (total_of field group)
+  pub figure : holds.number ≡ unsigned_abs (total_of field group)
   pub below : is_below_zero (total_of field group) ≡ true → holds.latch ≡ true
   pub above : (amount_of chart.lines plan name).is_signed ≡ true → is_below_zero (total_of field group) ≡ false
-      → 1 ≤ size (total_of field group) → holds.latch ≡ false
-  pub fits : size (total_of field group) < 10 ^ (amount_of chart.lines plan name).digits level
+      → 1 ≤ unsigned_abs (total_of field group) → holds.latch ≡ false
+  pub fits : unsigned_abs (total_of field group) < 10 ^ (amount_of chart.lines plan name).digits level
   pub unsigned : (amount_of chart.lines plan name).is_signed ≡ false → is_below_zero (total_of field group) ≡ false

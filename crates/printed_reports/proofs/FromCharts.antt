@@ -1,5 +1,5 @@
 -- What the rules of a chart say of its amounts, and what the totals hold before the first card.
-use Rattle.std.proofs.Common.{◌≡◌, ◌∙◌, refl, sym, ap, subst, ℕ, zero, suc, ◌-◌, ◌<◌, ◌^◌, true, false, List, [], ◌∷◌, Option, Some, None, map, replicate, slice_index_or, is_some, arith}
+use Rattle.std.proofs.Common.{◌≡◌, ◌∙◌, refl, sym, ap, subst, ℕ, zero, suc, ◌-◌, ◌<◌, ◌^◌, true, false, List, [], ◌∷◌, Option, Some, None, map, replicate, slice_index_or, is_some, arith, unsigned_abs}
 use Rattle.wanted.specs.ChartTotals.{names_signed}
 use Rattle.plans.specs.Plans.{Lists}
 use Rattle.field_rules.proofs.Places.{is_same_name-equal}
@@ -20,7 +20,6 @@ use Rattle.panel_cycles.specs.CounterStates.{held_in}
 use Rattle.machine.specs.Machine.{group_units, machine_at_start}
 use Rattle.net.specs.Panel.{unit_of}
 use Rattle.report.specs.Amounts.{is_negated}
-use Rattle.report.specs.Edits.{size}
 use Rattle.report.specs.Totals.{GroupFits, total_of}
 use Rattle.wiring_table.specs.Figures.{IsAmount}
 use Rattle.printed_reports.specs.Content.{held}
@@ -40,7 +39,7 @@ never_negated chart plan name field amount none card = by field.kind (sym (ap (�
 pub fits :
     (chart : Chart) (plan : Lists) → IsLawful chart → (name : List ℕ) (field : Field) (k : ℕ) (group : List (List ℕ))
     → IsAmount chart.lines name field → (amount_of chart.lines plan name).has (suc k) ≡ true → GroupFits chart.lines (suc k) group
-    → size (total_of field group) < 10 ^ (amount_of chart.lines plan name).digits (suc k)
+    → unsigned_abs (total_of field group) < 10 ^ (amount_of chart.lines plan name).digits (suc k)
 fits chart plan lawful name field k group amount has fit =
     let (n, total) = has_from chart.lines plan name (suc k) has in
     let same = is_same_name-equal total.its_name name total.same_name in
@@ -48,7 +47,7 @@ fits chart plan lawful name field k group amount has fit =
     let room = fit total.line total.its_level total.wheel total.its_name total.digits total.mark field total.listed total.says_total
     total.same_level named in
     let digits = digits_are chart plan name (suc k) n lawful total in
-    subst (λ d. size (total_of field group) < 10 ^ d) (sym digits) room
+    subst (λ d. unsigned_abs (total_of field group) < 10 ^ d) (sym digits) room
 
 -- zeros spell zero
 zeros_spell : (count : ℕ) → number (replicate count 0) ≡ 0

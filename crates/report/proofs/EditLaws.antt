@@ -1,11 +1,11 @@
 -- Edited amounts: how many wheels they take.
-use Rattle.std.proofs.Common.{◌≡◌, ◌∙◌, refl, ap, ℕ, zero, suc, ◌+◌, ◌-◌, ◌≤◌, ◌==◌, Bool, true, false, nat_lt, min, List, [], ◌∷◌, ◌++◌, Option, Some, None, length, map, take, drop, replicate, if◌then◌else◌, arith}
+use Rattle.std.proofs.Common.{◌≡◌, ◌∙◌, refl, ap, ℕ, zero, suc, ◌+◌, ◌-◌, ◌≤◌, ◌==◌, Bool, true, false, nat_lt, min, List, [], ◌∷◌, ◌++◌, Option, Some, None, length, map, take, drop, replicate, if◌then◌else◌, arith, unsigned_abs}
 use Rattle.std.proofs.lemmas.Bool.Decides.{nat_tests}
 use Rattle.std.proofs.lemmas.List.{length-map, length-append, length-drop, length-replicate, length-take}
 use Rattle.charts.specs.declared.statement.Mark.{Mark}
 use Rattle.charts.specs.declared.statement.Mark.TheVariants as mark
 use Rattle.print_rules.specs.Items.{figure_width, mark_width}
-use Rattle.report.specs.Edits.{last_digits, figure, without_leading_zeros, free_digits, point, marked, size, is_below_zero, edited_digits, edited_blank}
+use Rattle.report.specs.Edits.{last_digits, figure, without_leading_zeros, free_digits, point, marked, is_below_zero, edited_digits, edited_blank}
 use Rattle.report.specs.Laws.{EditsFillTheirItems}
 
 -- so many digits are so many
@@ -89,7 +89,7 @@ blank_fill width decimals mark =
 
 pub edits_fill : EditsFillTheirItems
 edits_fill number figure some few = (
-  digits_fill (last_digits figure.digits (size number)) figure.digits figure.decimals figure.mark (is_below_zero number)
-      (last_digits-length figure.digits (size number)) some few,
+  digits_fill (last_digits figure.digits (unsigned_abs number)) figure.digits figure.decimals figure.mark (is_below_zero number)
+      (last_digits-length figure.digits (unsigned_abs number)) some few,
   blank_fill figure.digits figure.decimals figure.mark,
 )

@@ -1,5 +1,5 @@
 -- A group fits exactly where it has no misfit.
-use Rattle.std.proofs.Common.{◌≡◌, ◌∙◌, refl, sym, ap, ℕ, suc, ◌<◌, ◌^◌, ◌==◌, nat_lt, Bool, true, false, List, [], ◌∷◌, Option, Some, None, option_and_then, if◌then◌else◌, arith}
+use Rattle.std.proofs.Common.{◌≡◌, ◌∙◌, refl, sym, ap, ℕ, suc, ◌<◌, ◌^◌, ◌==◌, nat_lt, Bool, true, false, List, [], ◌∷◌, Option, Some, None, option_and_then, if◌then◌else◌, arith, unsigned_abs}
 use Rattle.std.specs.List.{All, Contains, cons_option, filter_map}
 use Rattle.std.proofs.lemmas.Bool.Decides.{nat_tests}
 use Rattle.std.proofs.lemmas.List.Elements.{All-nil, All-cons, All-contains}
@@ -10,7 +10,6 @@ use Rattle.charts.specs.declared.statement.Field.{Field}
 use Rattle.charts.specs.declared.statement.Statement.{Statement}
 use Rattle.charts.specs.declared.statement.Statement.TheVariants as says
 use Rattle.field_rules.specs.Fields.{field_named}
-use Rattle.report.specs.Edits.{size}
 use Rattle.report.specs.Misfits.{Misfit, fits_in, misfit_of, misfit_on, misfits_in}
 use Rattle.report.specs.Totals.{GroupFits, total_of}
 
@@ -38,10 +37,10 @@ not_given false x none = absurd cc
 
 -- a total that is no misfit has room
 has_room : (level : Level) (name : List ℕ) (digits card : ℕ) (group : List (List ℕ)) (field : Field)
-    → misfit_of level name digits card group field ≡ None → size (total_of field group) < 10 ^ digits
+    → misfit_of level name digits card group field ≡ None → unsigned_abs (total_of field group) < 10 ^ digits
 has_room level name digits card group field none =
     let misfit : Misfit = record { level = level; name = name; card = card } in
-    less (size (total_of field group)) (10 ^ digits) (not_given (fits_in digits (total_of field group)) misfit none)
+    less (unsigned_abs (total_of field group)) (10 ^ digits) (not_given (fits_in digits (total_of field group)) misfit none)
   where
     less : (a b : ℕ) → nat_lt a b ≡ true → a < b
     less a b is = grind (arith, nat_tests, is)
@@ -79,7 +78,7 @@ no_misfit_in lines level card group fits =
             let misfit : Misfit = record { level = its_level; name = name; card = card } in
             let same_level : level_number its_level ≡ level = grind (arith, nat_tests, same) in
             let room = fits line its_level wheel name digits mark field stands says_so same_level named in
-            ap (λ b. if b then None else Some misfit) (within (size (total_of field group)) (10 ^ digits) room)
+            ap (λ b. if b then None else Some misfit) (within (unsigned_abs (total_of field group)) (10 ^ digits) room)
     of line stands other says_so = refl
 
 -- what is kept has a fact that all that is given has

@@ -1,5 +1,5 @@
 -- Edited amounts read back, and the signs of values.
-use Rattle.std.proofs.Common.{◌≡◌, ◌∙◌, ◌↔◌, refl, sym, ap, subst, ℕ, zero, suc, ℤ, pos, negsuc, ◌+◌, ◌-◌, ◌*◌, ◌/◌, ◌%◌, ◌^◌, ◌<◌, ◌==◌, ◌||◌, Bool, true, false, not, List, [], ◌∷◌, ◌++◌, Option, Some, None, is_some, length, map, take, drop, if◌then◌else◌, arith}
+use Rattle.std.proofs.Common.{◌≡◌, ◌∙◌, ◌↔◌, refl, sym, ap, subst, ℕ, zero, suc, ℤ, pos, negsuc, ◌+◌, ◌-◌, ◌*◌, ◌/◌, ◌%◌, ◌^◌, ◌<◌, ◌==◌, ◌||◌, Bool, true, false, not, List, [], ◌∷◌, ◌++◌, Option, Some, None, is_some, length, map, take, drop, if◌then◌else◌, arith, unsigned_abs}
 use Rattle.std.specs.List.{list_any}
 use Rattle.std.proofs.Math.Nat.{pow-suc, div-one, div-eq_of_lt, div-div-eq-div-mul}
 use Rattle.std.proofs.lemmas.Nat.{div-add-mod'}
@@ -12,7 +12,7 @@ use Rattle.charts.specs.declared.statement.Mark.TheVariants as mark
 use Rattle.chart_rules.specs.ValidCard.{column_of}
 use Rattle.report.specs.AmountLaws.{is_digit, spelled_behind, is_of_mark, EditsReadBack, SignByPunch, SignByAbsence, SizesAreOfDigits}
 use Rattle.report.specs.Amounts.{digits_on, number_in, is_negated, signed}
-use Rattle.report.specs.Edits.{last_digits, figure, without_leading_zeros, free_digits, point, marked, size, is_below_zero, edited, edited_digits}
+use Rattle.report.specs.Edits.{last_digits, figure, without_leading_zeros, free_digits, point, marked, is_below_zero, edited, edited_digits}
 
 -- all digits are below 10
 abbrev AreSmall : List ℕ → Type 0
@@ -184,18 +184,18 @@ edit-marked digits decimals mark negative small some =
     ∙ mark-marked mark negative some
 
 -- sign and size make the number
-sign_and_size : (number : ℤ) → signed (is_below_zero number) (size number) ≡ number
+sign_and_size : (number : ℤ) → signed (is_below_zero number) (unsigned_abs number) ≡ number
 sign_and_size (pos number) = refl
 sign_and_size (negsuc number) = refl
 
 pub edits_read : EditsReadBack
 edits_read number digits decimals mark some few room shown =
-    let small = last_digits-small digits (size number) in
+    let small = last_digits-small digits (unsigned_abs number) in
     ap (λ b. signed b (spelled_behind 0 (edited number digits decimals mark)))
-    (edit-marked (last_digits digits (size number)) decimals mark (is_below_zero number) small shown)
+    (edit-marked (last_digits digits (unsigned_abs number)) decimals mark (is_below_zero number) small shown)
     ∙ ap (signed (is_below_zero number))
-    (spelled-edit (last_digits digits (size number)) decimals mark (is_below_zero number) small
-    ∙ joined-whole digits (size number) room)
+    (spelled-edit (last_digits digits (unsigned_abs number)) decimals mark (is_below_zero number) small
+    ∙ joined-whole digits (unsigned_abs number) room)
     ∙ sign_and_size number
 
 -- a negated number is below 0 where it is not 0
@@ -205,7 +205,7 @@ below true zero = (λ h. cc, λ h. absurd (omega (arith, h.1)))
 below true (suc number) = (λ h. (refl, omega arith), λ h. refl)
 below false number = (λ h. cc, λ h. let no : false ≡ true = h.0 in cc)
 
-pub signed-size : (negated : Bool) (number : ℕ) → size (signed negated number) ≡ number
+pub signed-size : (negated : Bool) (number : ℕ) → unsigned_abs (signed negated number) ≡ number
 signed-size true zero = refl
 signed-size true (suc number) = refl
 signed-size false number = refl

@@ -1,5 +1,5 @@
 -- Laws of amounts: what is printed can be read again, and where a value is below 0.
-use Rattle.std.specs.Prelude.{◌≡◌, ◌↔◌, ℕ, ℤ, ◌+◌, ◌-◌, ◌*◌, ◌^◌, ◌<◌, ◌≤◌, ◌==◌, ◌&&◌, ◌||◌, Bool, true, false, nat_le, List, [], ◌∷◌, Option, Some, is_some, if◌then◌else◌}
+use Rattle.std.specs.Prelude.{◌≡◌, ◌↔◌, ℕ, ℤ, ◌+◌, ◌-◌, ◌*◌, ◌^◌, ◌<◌, ◌≤◌, ◌==◌, ◌&&◌, ◌||◌, Bool, true, false, nat_le, List, [], ◌∷◌, Option, Some, is_some, if◌then◌else◌, unsigned_abs}
 use Rattle.std.specs.List.{list_any}
 use Rattle.card_code.specs.CardCode.{has_row}
 use Rattle.charts.specs.declared.statement.Field.{Field}
@@ -8,7 +8,7 @@ use Rattle.charts.specs.declared.statement.Mark.{Mark}
 use Rattle.charts.specs.declared.statement.SignRule.TheVariants as sign
 use Rattle.chart_rules.specs.ValidCard.{column_of}
 use Rattle.report.specs.Amounts.{digits_on, number_in, signed, value_of}
-use Rattle.report.specs.Edits.{edited, is_below_zero, size}
+use Rattle.report.specs.Edits.{edited, is_below_zero}
 
 -- whether a character is a digit
 abbrev pub is_digit : ℕ → Bool
@@ -35,7 +35,7 @@ read_amount text = signed (list_any is_of_mark text) (spelled_behind 0 text)
 abbrev pub EditsReadBack : Type 0
 EditsReadBack =
     (number : ℤ) (digits decimals : ℕ) (mark : Option Mark)
-    → 1 ≤ digits → decimals ≤ digits → size number < 10 ^ digits → (is_below_zero number ≡ true → is_some mark ≡ true)
+    → 1 ≤ digits → decimals ≤ digits → unsigned_abs number < 10 ^ digits → (is_below_zero number ≡ true → is_some mark ≡ true)
     → read_amount (edited number digits decimals mark) ≡ number
 
 -- The value of an amount by the rule X is below 0 exactly where its sign column has row 11 and its digits are not all zeros.
@@ -54,4 +54,4 @@ SignByAbsence =
 
 -- The size of a value is the number of its digits.
 abbrev pub SizesAreOfDigits : Type 0
-SizesAreOfDigits = (field : Field) (card : List ℕ) → size (value_of field card) ≡ number_in (digits_on field card)
+SizesAreOfDigits = (field : Field) (card : List ℕ) → unsigned_abs (value_of field card) ≡ number_in (digits_on field card)

@@ -1,15 +1,10 @@
 -- The edited amount. Its digits stand with leading zeros blank, left of the point, or left of the units where there are no
 -- decimals; the point and the decimals always stand; the mark stands behind them exactly where the number is below 0.
-use Rattle.std.specs.Prelude.{ℕ, ◌+◌, ◌-◌, ◌^◌, ◌/◌, ◌%◌, ◌==◌, zero, suc, max, Bool, List, [], ◌∷◌, ◌++◌, Option, Some, None, length, map, take, drop, replicate, codes, if◌then◌else◌}
+use Rattle.std.specs.Prelude.{ℕ, ◌+◌, ◌-◌, ◌^◌, ◌/◌, ◌%◌, ◌==◌, zero, suc, max, Bool, List, [], ◌∷◌, ◌++◌, Option, Some, None, length, map, take, drop, replicate, codes, if◌then◌else◌, unsigned_abs}
 use Rattle.std.specs.Prelude.{ℤ, pos, negsuc, true, false}
 use Rattle.charts.specs.declared.statement.Mark.{Mark}
 use Rattle.charts.specs.declared.statement.Mark.TheVariants as mark
 use Rattle.print_rules.specs.Items.{mark_width}
-
--- the size of a number, without its sign
-abbrev pub size : ℤ → ℕ
-size (pos number) = number
-size (negsuc number) = suc number
 
 -- whether a number is below 0
 abbrev pub is_below_zero : ℤ → Bool
@@ -60,7 +55,7 @@ edited_digits digits decimals mark negative =
 -- a number in so many digits
 abbrev pub edited : ℤ → (digits decimals : ℕ) → Option Mark → List ℕ
 edited number digits decimals mark =
-    edited_digits (last_digits digits (size number)) decimals mark (is_below_zero number)
+    edited_digits (last_digits digits (unsigned_abs number)) decimals mark (is_below_zero number)
 
 -- a blank amount: the point alone
 abbrev pub edited_blank : (digits decimals : ℕ) → Option Mark → List ℕ

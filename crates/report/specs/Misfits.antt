@@ -1,5 +1,5 @@
 -- Misfits: what is told of the totals of a deck that don't fit.
-use Rattle.std.specs.Prelude.{ℕ, ℤ, ◌+◌, ◌^◌, ◌==◌, nat_lt, Bool, List, [], ◌∷◌, ◌++◌, Option, Some, None, option_and_then, if◌then◌else◌}
+use Rattle.std.specs.Prelude.{ℕ, ℤ, ◌+◌, ◌^◌, ◌==◌, nat_lt, Bool, List, [], ◌∷◌, ◌++◌, Option, Some, None, option_and_then, if◌then◌else◌, unsigned_abs}
 use Rattle.std.specs.List.{filter_map}
 use Rattle.charts.specs.Levels.{level_number}
 use Rattle.charts.specs.declared.chart.Line.{Line}
@@ -8,13 +8,12 @@ use Rattle.charts.specs.declared.statement.Field.{Field}
 use Rattle.charts.specs.declared.statement.Statement.{Statement}
 use Rattle.charts.specs.declared.statement.Statement.TheVariants as says
 use Rattle.field_rules.specs.Fields.{field_named}
-use Rattle.report.specs.Edits.{size}
 use Rattle.report.specs.Outline.{OutlineLine, Detail, Total, outline_of}
 use Rattle.report.specs.Totals.{total_of}
 
 -- whether a total has at most so many digits
 abbrev pub fits_in : ℕ → ℤ → Bool
-fits_in digits total = nat_lt (size total) (10 ^ digits)
+fits_in digits total = nat_lt (unsigned_abs total) (10 ^ digits)
 
 -- What is told of a total that does not fit: its level, the name of its amount, and the number of its group's last card, from 1.
 pub record Misfit : Type 0 where

@@ -1,6 +1,6 @@
 -- Totals, and the decks that fit. The total of an amount over a group is the sum of its values on the group's cards. A deck fits where
 -- each total that a total line shows has no more digits than the line gives it, for each group of the line's level.
-use Rattle.std.specs.Prelude.{◌≡◌, ℕ, ℤ, pos, ◌+ℤ◌, ◌^◌, ◌<◌, List, [], ◌∷◌, Option, Some}
+use Rattle.std.specs.Prelude.{◌≡◌, ℕ, ℤ, pos, ◌+ℤ◌, ◌^◌, ◌<◌, List, [], ◌∷◌, Option, Some, unsigned_abs}
 use Rattle.std.specs.List.{All, Contains}
 use Rattle.charts.specs.Levels.{level_number}
 use Rattle.charts.specs.declared.chart.Line.{Line}
@@ -10,7 +10,6 @@ use Rattle.charts.specs.declared.statement.Mark.{Mark}
 use Rattle.charts.specs.declared.statement.Statement.TheVariants as says
 use Rattle.field_rules.specs.Fields.{field_named}
 use Rattle.report.specs.Amounts.{value_of}
-use Rattle.report.specs.Edits.{size}
 use Rattle.report.specs.Groups.{groups_of}
 
 -- the total of an amount over a group
@@ -24,7 +23,7 @@ abbrev pub GroupFits : List Line → ℕ → List (List ℕ) → Type 0
 GroupFits lines level group =
     (line : Line) (its_level : Level) (wheel : ℕ) (name : List ℕ) (digits : ℕ) (mark : Option Mark) (field : Field)
     → Contains lines line → line.statement ≡ says.TotalAmount its_level wheel name digits mark → level_number its_level ≡ level
-    → field_named lines name ≡ Some field → size (total_of field group) < 10 ^ digits
+    → field_named lines name ≡ Some field → unsigned_abs (total_of field group) < 10 ^ digits
 
 -- A deck fits where the totals of each of its groups fit, at each level.
 abbrev pub Fits : List Line → List (List ℕ) → Type 0

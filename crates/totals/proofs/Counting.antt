@@ -1,11 +1,10 @@
 -- A number that stands for a sum: what adding and subtracting make of it, and what it tells of a sum that fits.
-use Rattle.std.proofs.Common.{◌≡◌, ◌∙◌, refl, sym, ap, ℕ, zero, suc, ◌+◌, ◌-◌, ◌*◌, ◌%◌, ◌≤◌, ◌<◌, nat_le, ◌⊎◌, inl, inr, Bool, true, false, ℤ, ◌+ℤ◌, neg_ℤ, pos, negsuc, if◌then◌else◌, arith}
+use Rattle.std.proofs.Common.{◌≡◌, ◌∙◌, refl, sym, ap, ℕ, zero, suc, ◌+◌, ◌-◌, ◌*◌, ◌%◌, ◌≤◌, ◌<◌, nat_le, ◌⊎◌, inl, inr, Bool, true, false, ℤ, ◌+ℤ◌, neg_ℤ, pos, negsuc, if◌then◌else◌, arith, unsigned_abs}
 use Rattle.std.proofs.Math.Nat.{mod-eq-sub-mod, mod-eq_of_lt}
 use Rattle.std.proofs.lemmas.Bool.Decides.{nat_tests}
 use Rattle.std.proofs.lemmas.Int.{ints}
 use Rattle.counters.specs.Numbers.{left_number}
 use Rattle.totals.specs.Standing.{Stands, modulus}
-use Rattle.totals.specs.Sums.{size}
 
 -- a number that stands for a sum stands for an equal sum, and so does an equal number
 pub along : (is_ring : Bool) (power : ℕ) {sum other : ℤ} {number same : ℕ} → sum ≡ other → number ≡ same
@@ -97,7 +96,7 @@ stands_minus power number amount sum few stands =
     (stands_plus true power number (power - 1 - amount) sum (omega (arith, few)) stands)
 
 -- Two that differ by rounds and are both below the modulus are one, or a round apart.
-pub near : (m number up down : ℕ) (sum : ℤ) → number ≤ m → size sum < m → pos (number + up * m) ≡ sum +ℤ pos (down * m)
+pub near : (m number up down : ℕ) (sum : ℤ) → number ≤ m → unsigned_abs sum < m → pos (number + up * m) ≡ sum +ℤ pos (down * m)
     → (pos number ≡ sum) ⊎ (pos number ≡ sum +ℤ pos m)
 near m number zero zero sum few small same = inl (omega (arith, ints, same))
 near m number (suc up) (suc down) sum few small same = near m number up down sum few small (omega (arith, ints, same))

@@ -1,5 +1,5 @@
 -- What a test and a turn make of a total whose sum fits, and what its sign and size are worth.
-use Rattle.std.proofs.Common.{◌≡◌, ◌∙◌, refl, sym, ap, ℕ, zero, suc, ◌+◌, ◌-◌, ◌*◌, ◌≤◌, ◌<◌, ◌==◌, nat_le, ◌⊎◌, inl, inr, Bool, true, false, ◌&&◌, ℤ, ◌+ℤ◌, pos, negsuc, if◌then◌else◌, arith}
+use Rattle.std.proofs.Common.{◌≡◌, ◌∙◌, refl, sym, ap, ℕ, zero, suc, ◌+◌, ◌-◌, ◌*◌, ◌≤◌, ◌<◌, ◌==◌, nat_le, ◌⊎◌, inl, inr, Bool, true, false, ◌&&◌, ℤ, ◌+ℤ◌, pos, negsuc, if◌then◌else◌, arith, unsigned_abs}
 use Rattle.std.proofs.lemmas.Bool.{false≢true}
 use Rattle.std.proofs.lemmas.Bool.Decides.{nat_tests}
 use Rattle.std.proofs.lemmas.Int.{ints}
@@ -7,15 +7,15 @@ use Rattle.counter_cycles.specs.Acts.{number_after}
 use Rattle.counters.specs.Numbers.{left_number}
 use Rattle.totals.specs.Amounts.{posted}
 use Rattle.totals.specs.Standing.{Stands}
-use Rattle.totals.specs.Sums.{size, is_below_zero, signed}
+use Rattle.totals.specs.Sums.{is_below_zero, signed}
 use Rattle.totals.proofs.Counting.{near, stands_plus, stands_minus}
 
 -- The sign and the figure of a number that stands for a sum.
 pub record IsFigured (power number : ℕ) (sum : ℤ) (is_negative : Bool) : Type 0 where
-  pub figure : (if is_negative then left_number true power (power - 1 - number) else number) ≡ size sum
+  pub figure : (if is_negative then left_number true power (power - 1 - number) else number) ≡ unsigned_abs sum
   pub below : is_below_zero sum ≡ true → is_negative ≡ true
-  pub above : is_below_zero sum ≡ false → 1 ≤ size sum → is_negative ≡ false
-  pub zero : size sum ≡ 0 → is_negative ≡ (number + 1 == power)
+  pub above : is_below_zero sum ≡ false → 1 ≤ unsigned_abs sum → is_negative ≡ false
+  pub zero : unsigned_abs sum ≡ 0 → is_negative ≡ (number + 1 == power)
 
 -- nothing is carried where a number is turned
 turned : (power number : ℕ) → number < power → left_number true power (power - 1 - number) ≡ power - 1 - number
@@ -24,7 +24,7 @@ turned power number small =
     ap (λ b. if b then power - 1 - number - (power - 1) else power - 1 - number) is
 
 figured_by : (test : Bool) (tenth power number : ℕ) (sum : ℤ) → nat_le (9 * power) (10 * number) ≡ test → power ≡ tenth * 10
-    → size sum < tenth → number < power → (pos number ≡ sum) ⊎ (pos number ≡ sum +ℤ pos (power - 1))
+    → unsigned_abs sum < tenth → number < power → (pos number ≡ sum) ⊎ (pos number ≡ sum +ℤ pos (power - 1))
     → IsFigured power number sum test
 figured_by true tenth power number (pos n) is ten few small (inl same) =
     let high : 9 * power ≤ 10 * number = grind (arith, nat_tests, is) in absurd (omega (arith, ints, same, few, ten, high))
@@ -64,7 +64,7 @@ figured_by false tenth power number (negsuc n) is ten few small (inr same) =
     let low : 10 * number < 9 * power = grind (arith, nat_tests, is) in absurd (omega (arith, ints, same, few, ten, low))
 
 -- The test of a balance tells the sign of a sum that is below a tenth of the power, and the turn its size.
-pub figured : (tenth power number : ℕ) (sum : ℤ) → power ≡ tenth * 10 → size sum < tenth → Stands true power sum number
+pub figured : (tenth power number : ℕ) (sum : ℤ) → power ≡ tenth * 10 → unsigned_abs sum < tenth → Stands true power sum number
     → IsFigured power number sum (nat_le (9 * power) (10 * number))
 figured tenth power number sum ten few stands =
     let small = stands.small in
@@ -72,8 +72,8 @@ figured tenth power number sum ten few stands =
     (near (power - 1) number stands.up stands.down sum (omega (arith, small)) (omega (arith, ten, few)) stands.same)
 
 -- without a ring the number is the sum
-pub plain_figure : (power number : ℕ) (sum : ℤ) → is_below_zero sum ≡ false → size sum < power → Stands false power sum number
-    → number ≡ size sum
+pub plain_figure : (power number : ℕ) (sum : ℤ) → is_below_zero sum ≡ false → unsigned_abs sum < power → Stands false power sum number
+    → number ≡ unsigned_abs sum
 plain_figure power number (negsuc n) positive few stands = absurd (false≢true (sym positive))
 plain_figure power number (pos n) positive few stands =
     let small = stands.small in
@@ -85,7 +85,7 @@ plain_figure power number (pos n) positive few stands =
 
 -- a sum is its size with its sign; a sum of 0 is 0 with either
 pub signed-size : (is_negative : Bool) (sum : ℤ) → (is_below_zero sum ≡ true → is_negative ≡ true)
-    → (is_below_zero sum ≡ false → 1 ≤ size sum → is_negative ≡ false) → signed is_negative (size sum) ≡ sum
+    → (is_below_zero sum ≡ false → 1 ≤ unsigned_abs sum → is_negative ≡ false) → signed is_negative (unsigned_abs sum) ≡ sum
 signed-size true (pos zero) below above = refl
 signed-size false (pos zero) below above = refl
 signed-size is_negative (pos (suc n)) below above = ap (λ b. signed b (suc n)) (above refl (omega arith))

@@ -1,5 +1,5 @@
 -- The end of a group: its total shows and clears, and the next higher total takes what it showed.
-use Rattle.std.proofs.Common.{◌≡◌, ◌∙◌, refl, sym, ap, ℕ, zero, suc, ◌^◌, ◌≤◌, ◌<◌, ◌==◌, Bool, true, false, ◌&&◌, ℤ, ◌+ℤ◌, ◌-ℤ◌, pos, if◌then◌else◌, arith}
+use Rattle.std.proofs.Common.{◌≡◌, ◌∙◌, refl, sym, ap, ℕ, zero, suc, ◌^◌, ◌≤◌, ◌<◌, ◌==◌, Bool, true, false, ◌&&◌, ℤ, ◌+ℤ◌, ◌-ℤ◌, pos, if◌then◌else◌, arith, unsigned_abs}
 use Rattle.std.proofs.lemmas.Bool.Decides.{nat_tests}
 use Rattle.std.proofs.lemmas.Int.{ints}
 use Rattle.counter_cycles.specs.Acts.{Held, number_after}
@@ -10,7 +10,7 @@ use Rattle.totals.specs.Amounts.{Amount, IsLawful, lower, posted, act_of, total_
 use Rattle.totals.specs.Amounts.Kind.{Prog}
 use Rattle.totals.specs.Laws.{ready, IsGroupEnd, TotalIsShown, EmptyLevelEnds}
 use Rattle.totals.specs.Standing.{Stands, StandsAll}
-use Rattle.totals.specs.Sums.{size, is_below_zero, signed, sum_at, open_sum, cleared}
+use Rattle.totals.specs.Sums.{is_below_zero, signed, sum_at, open_sum, cleared}
 use Rattle.totals.proofs.Counting.{along, zero_stands}
 use Rattle.totals.proofs.Figures.{signed_ring, stands_posted, signed-size}
 use Rattle.totals.proofs.Levels.{lower_le, lower_less, lower_has, cleared_low, sum_at-cleared, cleared_other, sum_at-other}
@@ -62,8 +62,8 @@ sum_at-level sum (suc level) some = refl
 
 -- what goes up is the sum
 value_up : (is_signed latch : Bool) (sum : ℤ) → (is_signed ≡ false → is_below_zero sum ≡ false)
-    → (is_below_zero sum ≡ true → latch ≡ true) → (is_signed ≡ true → is_below_zero sum ≡ false → 1 ≤ size sum → latch ≡ false)
-    → signed (is_signed && latch) (size sum) ≡ sum
+    → (is_below_zero sum ≡ true → latch ≡ true) → (is_signed ≡ true → is_below_zero sum ≡ false → 1 ≤ unsigned_abs sum → latch ≡ false)
+    → signed (is_signed && latch) (unsigned_abs sum) ≡ sum
 value_up true latch sum plain below above = signed-size latch sum below (above refl)
 value_up false latch sum plain below above =
     signed-size false sum (λ negative. sym (plain refl) ∙ negative) (λ positive some. refl)
@@ -105,7 +105,7 @@ goes_up amount ended sum state ending level some here apart next =
     not_above : lower amount.has level ≡ ended → lower amount.has level ≤ ended
     not_above next = omega (arith, next)
 
-    shown_few : (ready amount ended state ended).number ≡ size (sum ended) → size (sum ended) < 10 ^ amount.digits ended
+    shown_few : (ready amount ended state ended).number ≡ unsigned_abs (sum ended) → unsigned_abs (sum ended) < 10 ^ amount.digits ended
         → (ready amount ended state ended).number < 10 ^ amount.digits ended
     shown_few number fits = omega (arith, number, fits)
 

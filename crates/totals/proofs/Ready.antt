@@ -1,5 +1,5 @@
 -- The first two program cycles of a level: its own total is made ready, and the others stand still.
-use Rattle.std.proofs.Common.{◌≡◌, ◌∙◌, refl, sym, ap, ℕ, ◌+◌, ◌-◌, ◌*◌, ◌^◌, ◌≤◌, ◌<◌, ◌==◌, nat_le, Bool, true, false, ◌&&◌, ℤ, if◌then◌else◌, arith}
+use Rattle.std.proofs.Common.{◌≡◌, ◌∙◌, refl, sym, ap, ℕ, ◌+◌, ◌-◌, ◌*◌, ◌^◌, ◌≤◌, ◌<◌, ◌==◌, nat_le, Bool, true, false, ◌&&◌, ℤ, if◌then◌else◌, arith, unsigned_abs}
 use Rattle.std.proofs.lemmas.Bool.{false≢true}
 use Rattle.std.proofs.lemmas.Bool.Decides.{nat_tests}
 use Rattle.counter_cycles.specs.Acts.{Held, held_after}
@@ -8,7 +8,7 @@ use Rattle.counters.specs.Numbers.{left_number}
 use Rattle.totals.specs.Amounts.{Amount, sign_positions}
 use Rattle.totals.specs.Laws.{ready}
 use Rattle.totals.specs.Standing.{Stands}
-use Rattle.totals.specs.Sums.{size, is_below_zero}
+use Rattle.totals.specs.Sums.{is_below_zero}
 use Rattle.totals.proofs.Figures.{figured, plain_figure}
 use Rattle.totals.proofs.Rooms.{tenth_room, more_room}
 
@@ -47,10 +47,10 @@ ready_own amount ended state here =
 
 -- a total that is ready to be shown
 pub record IsReady (is_signed : Bool) (power : ℕ) (sum : ℤ) (before held : Held) : Type 0 where
-  pub number : held.number ≡ size sum
+  pub number : held.number ≡ unsigned_abs sum
   pub below : is_below_zero sum ≡ true → held.latch ≡ true
-  pub above : is_signed ≡ true → is_below_zero sum ≡ false → 1 ≤ size sum → held.latch ≡ false
-  pub zero : is_signed ≡ true → size sum ≡ 0 → held.latch ≡ (before.number + 1 == power)
+  pub above : is_signed ≡ true → is_below_zero sum ≡ false → 1 ≤ unsigned_abs sum → held.latch ≡ false
+  pub zero : is_signed ≡ true → unsigned_abs sum ≡ 0 → held.latch ≡ (before.number + 1 == power)
 
 -- a second cycle keeps the latch, and turns what has it set
 second-latch : (width : ℕ) (latch : Bool) (number : ℕ)
@@ -65,10 +65,10 @@ second-number width true number = refl
 second-number width false number = refl
 
 own_ready : (is_signed : Bool) (digits width : ℕ) (sum : ℤ) (held : Held) → digits + sign_positions is_signed ≤ width
-    → size sum < 10 ^ digits → (is_signed ≡ false → is_below_zero sum ≡ false) → Stands is_signed (10 ^ width) sum held.number
+    → unsigned_abs sum < 10 ^ digits → (is_signed ≡ false → is_below_zero sum ≡ false) → Stands is_signed (10 ^ width) sum held.number
     → IsReady is_signed (10 ^ width) sum held (ready_of true true is_signed width held)
 own_ready true digits width sum held more few plain stands =
-    let room = tenth_room digits width (size sum) more few in
+    let room = tenth_room digits width (unsigned_abs sum) more few in
     let told = figured room.0 (10 ^ width) held.number sum room.1 room.2 stands in
     let latch = second-latch width (nat_le (9 * 10 ^ width) (10 * held.number)) held.number in
     record {
@@ -79,14 +79,14 @@ own_ready true digits width sum held more few plain stands =
     }
 own_ready false digits width sum held more few plain stands = record {
   number = plain_figure (10 ^ width) held.number sum (plain refl)
-      (more_room digits width (size sum) (omega (arith, more)) few) stands;
+      (more_room digits width (unsigned_abs sum) (omega (arith, more)) few) stands;
   below = λ negative. absurd (false≢true (sym (plain refl) ∙ negative));
   above = λ signs positive some. absurd (false≢true signs);
   zero = λ signs none. absurd (false≢true signs);
 }
 
 pub is_ready : (amount : Amount) (ended : ℕ) (sum : ℤ) (state : ℕ → Held) → amount.has ended ≡ true
-    → amount.digits ended + sign_positions amount.is_signed ≤ amount.width ended → size sum < 10 ^ amount.digits ended
+    → amount.digits ended + sign_positions amount.is_signed ≤ amount.width ended → unsigned_abs sum < 10 ^ amount.digits ended
     → (amount.is_signed ≡ false → is_below_zero sum ≡ false)
     → Stands amount.is_signed (10 ^ amount.width ended) sum (state ended).number
     → IsReady amount.is_signed (10 ^ amount.width ended) sum (state ended) (ready amount ended state ended)

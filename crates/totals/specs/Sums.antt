@@ -2,11 +2,6 @@
 use Rattle.std.specs.Prelude.{ℕ, zero, suc, nat_le, ℤ, pos, negsuc, neg_ℤ, ◌+ℤ◌, ◌-ℤ◌, Bool, true, false, if◌then◌else◌}
 use Rattle.totals.specs.Amounts.{lower}
 
--- the size of a number, without its sign
-abbrev pub size : ℤ → ℕ
-size (pos number) = number
-size (negsuc number) = suc number
-
 -- whether a number is below 0
 abbrev pub is_below_zero : ℤ → Bool
 is_below_zero (pos number) = false
