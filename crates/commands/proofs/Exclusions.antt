@@ -1,17 +1,16 @@
 -- What a command answers it doesn't refuse.
-use Rattle.std.proofs.Common.{◌≡◌, ℕ, List, subst, ap}
+use Rattle.std.proofs.Common.{◌≡◌, ℕ, List, subst}
 use Rattle.card_code.proofs.Faults.{Deck-no_fault, Deck-same}
 use Rattle.charts.specs.Chart.{Chart}
 use Rattle.chart_text.proofs.ChartGrammar.{one_chart}
 use Rattle.compile407.proofs.Exclusions.{compiled_texts_have_no_fault, runnable_decks_have_no_fault}
 use Rattle.compile407.specs.RunFaults.{HasRunFault}
 use Rattle.wiring_reader.proofs.Answered.{no_fault}
-use Rattle.commands.specs.Answers.{Answers, ArePagesOf, AreReplayedPages, Compiles}
+use Rattle.commands.specs.Answers.{ArePagesOf, AreReplayedPages, Compiles}
 use Rattle.commands.specs.Laws.{AnsweredTextsAreNotRefused}
-use Rattle.commands.specs.Refusals.{Refuses, RefusesChart, RefusesReplay, RefusesRun, cards, chart, punches, wires}
-use Rattle.commands.specs.declared.command.Command.{Command}
+use Rattle.commands.specs.Refusals.{RefusesChart, RefusesReplay, RefusesRun, cards, chart, punches, wires}
 use Rattle.commands.specs.declared.command.Command.TheVariants as command
-use Rattle.commands.specs.declared.fault.Fault.{Fault}
+use Rattle.faults.specs.declared.fault.Fault.{Fault}
 
 no_chart_fault : (text : List ℕ) (told : Fault) → Compiles text → RefusesChart text told → ⊥
 no_chart_fault text told (compiled, compiles) refused =

@@ -8,13 +8,13 @@ use Rattle.wiring_text.specs.declared.fault.WiringFault.TheVariants as wiring
 use Rattle.commands.proofs.Refusing.{wiring_refused}
 use Rattle.commands.specs.Answers.{Answers, Compiles, IsWiringChartOf}
 use Rattle.commands.specs.Refusals.{Refuses}
-use Rattle.commands.specs.Told.{wiring_told}
+use Rattle.faults.specs.Told.{wiring_told}
 use Rattle.commands.specs.Served.{IsDone, IsRefused}
-use Rattle.commands.specs.Status.{status_of}
+use Rattle.faults.specs.Status.{status_of}
 use Rattle.commands.specs.declared.command.Command.{Command}
 use Rattle.commands.specs.declared.command.Command.TheVariants as command
-use Rattle.commands.specs.declared.fault.Fault.{Fault}
-use Rattle.commands.specs.declared.fault.Fault.TheVariants as fault
+use Rattle.faults.specs.declared.fault.Fault.{Fault}
+use Rattle.faults.specs.declared.fault.Fault.TheVariants as fault
 
 refusal_is_not_memory : (told : Fault) → status_of told ≡ 3 → told ≢ fault.Memory
 refusal_is_not_memory told three is =

@@ -7,20 +7,20 @@ use Rattle.card_code.specs.declared.deck.DeckFault.TheVariants as deck
 use Rattle.compile407.specs.ChartFaults.{HasChartFault}
 use Rattle.compile407.specs.Compilation.{Compilation}
 use Rattle.compile407.specs.RunFaults.{HasRunFault}
-use Rattle.compile407.specs.declared.fault.ChartFault.{ChartFault}
-use Rattle.compile407.specs.declared.fault.ChartFault.TheVariants as chart
-use Rattle.compile407.specs.declared.fault.RunFault.{RunFault}
-use Rattle.compile407.specs.declared.fault.RunFault.TheVariants as run
+use Rattle.faults.specs.declared.chart.ChartFault.{ChartFault}
+use Rattle.faults.specs.declared.chart.ChartFault.TheVariants as chart
+use Rattle.faults.specs.declared.deck.RunFault.{RunFault}
+use Rattle.faults.specs.declared.deck.RunFault.TheVariants as run
 use Rattle.wiring_text.specs.WiringFaults as wiring_faults
 use Rattle.wiring_text.specs.declared.fault.WiringFault.{WiringFault}
 use Rattle.wiring_text.specs.declared.fault.WiringFault.TheVariants as wiring
 use Rattle.setups.specs.Wiring.{Wiring}
 use Rattle.wiring_text.specs.WiringText.{ReadsAs}
-use Rattle.commands.specs.Answers.{ArePagesOn, AreReplayedPages, CompilesAs}
+use Rattle.commands.specs.Answers.{ArePagesOf, ArePagesOn, AreReplayedPages, CompilesAs}
 use Rattle.commands.specs.Refusals.{RefusesChart, RefusesDeck, RefusesReplay, RefusesRun, cards, punches, wires}
-use Rattle.commands.specs.Told.{chart_told, deck_told, run_told, wiring_told}
-use Rattle.commands.specs.declared.fault.Fault.{Fault}
-use Rattle.commands.specs.declared.fault.Fault.TheVariants as fault
+use Rattle.faults.specs.Told.{chart_told, deck_told, run_told, wiring_told}
+use Rattle.faults.specs.declared.fault.Fault.{Fault}
+use Rattle.faults.specs.declared.fault.Fault.TheVariants as fault
 
 pub chart_refused : (text : List ℕ) (cause : ChartFault) (told : Fault) → (cause ≢ chart.Memory → HasChartFault text cause)
     → told ≡ chart_told cause → told ≢ fault.Memory → RefusesChart text told
@@ -43,6 +43,19 @@ pub wiring_refused : (text punched : List ℕ) (cause : WiringFault) (told : Fau
     → RefusesReplay text punched told
 wiring_refused text punched cause told has named not_memory =
     wires cause (has (λ is. not_memory (named ∙ ap wiring_told is))) named
+
+-- what a compiled chart prints is its text's
+pub pages_reported : {X : Type 0} (result : Result X Fault) (items : X → List ℕ) (text deck : List ℕ) (compiled : Compilation)
+    → CompilesAs text compiled → IfOk result (λ pages. (other : List ℕ) → CompilesAs other compiled → ArePagesOf other deck (items pages))
+    → IfOk result (λ pages. ArePagesOf text deck (items pages))
+pages_reported (Ok pages) items text deck compiled compiles of_any = of_any text compiles
+pages_reported (Err _) items text deck compiled compiles of_any = tt
+
+pub run_refused : {X : Type 0} (result : Result X Fault) (text deck : List ℕ) (compiled : Compilation) → CompilesAs text compiled
+    → IfErr result (λ told. told ≢ fault.Memory → (other : List ℕ) → CompilesAs other compiled → RefusesRun other deck told)
+    → IfErr result (λ told. told ≢ fault.Memory → RefusesRun text deck told)
+run_refused (Ok _) text deck compiled compiles refuses = tt
+run_refused (Err _) text deck compiled compiles refuses = λ not_memory. refuses not_memory text compiles
 
 -- what a setup prints that a wiring chart reads as
 pub pages_replayed : {X : Type 0} (result : Result X Fault) (items : X → List ℕ) (text deck : List ℕ) (wiring : Wiring) → ReadsAs text wiring

@@ -3,7 +3,7 @@ use Rattle.std.specs.Prelude.{ℕ, List}
 use Rattle.commands.specs.Answers.{Answers}
 use Rattle.commands.specs.Refusals.{Refuses}
 use Rattle.commands.specs.declared.command.Command.{Command}
-use Rattle.commands.specs.declared.fault.Fault.{Fault}
+use Rattle.faults.specs.declared.fault.Fault.{Fault}
 
 -- What a command answers it doesn't refuse.
 abbrev pub AnsweredTextsAreNotRefused : Type 0

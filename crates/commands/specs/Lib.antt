@@ -4,5 +4,3 @@ pub mod Input
 pub mod Laws
 pub mod Refusals
 pub mod Served
-pub mod Status
-pub mod Told

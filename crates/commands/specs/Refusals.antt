@@ -6,17 +6,17 @@ use Rattle.card_code.specs.declared.deck.DeckFault.{DeckFault}
 use Rattle.compile407.specs.ChartFaults.{HasChartFault}
 use Rattle.compile407.specs.Compilation.{Compilation}
 use Rattle.compile407.specs.RunFaults.{HasRunFault}
-use Rattle.compile407.specs.declared.fault.ChartFault.{ChartFault}
-use Rattle.compile407.specs.declared.fault.RunFault.{RunFault}
+use Rattle.faults.specs.declared.chart.ChartFault.{ChartFault}
+use Rattle.faults.specs.declared.deck.RunFault.{RunFault}
 use Rattle.setups.specs.Wiring.{Wiring}
 use Rattle.wiring_text.specs.WiringFaults as wiring_faults
 use Rattle.wiring_text.specs.WiringText.{ReadsAs}
 use Rattle.wiring_text.specs.declared.fault.WiringFault.{WiringFault}
 use Rattle.commands.specs.Answers.{CompilesAs}
-use Rattle.commands.specs.Told.{chart_told, deck_told, run_told, wiring_told}
+use Rattle.faults.specs.Told.{chart_told, deck_told, run_told, wiring_told}
 use Rattle.commands.specs.declared.command.Command.{Command}
 use Rattle.commands.specs.declared.command.Command.TheVariants as command
-use Rattle.commands.specs.declared.fault.Fault.{Fault}
+use Rattle.faults.specs.declared.fault.Fault.{Fault}
 
 -- the fault of a chart's text is told
 pub record RefusesChart (text : List ℕ) (told : Fault) : Type 0 where

@@ -5,7 +5,7 @@ use Rattle.std.specs.Io.KnownBytes.{Appends}
 use Rattle.commands.specs.Answers.{Answers}
 use Rattle.commands.specs.Refusals.{Refuses}
 use Rattle.commands.specs.declared.command.Command.{Command}
-use Rattle.commands.specs.declared.fault.Fault.{Fault}
+use Rattle.faults.specs.declared.fault.Fault.{Fault}
 
 -- what the command answers on the text and the deck that was read is written behind what was there
 pub record IsDone (command : Command) (text : List ℕ) (deck old new : Option (List ℕ)) : Type 0 where

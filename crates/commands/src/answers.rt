@@ -1,17 +1,26 @@
 //! What each command answers, from the bytes of its texts.
 
-ghost use Rattle.std.specs.Prelude.{◌≢◌, IfOk, IfErr, OnOk, string_bytes};
-ghost use Rattle.commands.specs.Answers.{ArePagesOf, ArePagesOn, AreReplayedPages, Compiles, IsWiringChartOf};
+ghost use Rattle.std.specs.Prelude.{◌≡◌, ◌≢◌, ℕ, List, IfOk, IfErr, OnOk, string_bytes};
+ghost use Rattle.wire_chart.specs.WrittenText.{IsWritten};
+ghost use Rattle.commands.specs.Answers.{ArePagesOf, ArePagesOn, AreReplayedPages, Compiles, CompilesAs, IsWiringChartOf};
 ghost use Rattle.commands.specs.Refusals.{RefusesChart, RefusesDeck, RefusesReplay, RefusesRun};
 
-use crate::fault::Fault;
 use card_code::read_deck;
-use compile407::{compile, run};
+use compile407::{Compiled, compile, run};
+use faults::Fault;
 use machine::simulate;
 use page_text::page_bytes;
 use setups::Setup;
 use std::alloc::Global;
 use wire_chart::{read_setup, write_setup};
+
+// A planning chart with the setup that is wired for it.
+fn compilation<'a>(alloc: Global, chart: &[u8]) -> Result<Compiled, Fault<'a>>
+    ensures compiles { IfOk result (λ compiled. CompilesAs chart.now compiled) }
+    ensures refused { IfErr result (λ told. told ≢ Fault.Memory → RefusesChart chart.now told) }
+{
+    Ok(compile(alloc, chart)?)
+}
 
 /// Whether a planning chart compiles.
 ///
@@ -22,8 +31,16 @@ pub fn check<'a>(alloc: Global, chart: &[u8]) -> Result<(), Fault<'a>>
     ensures compiles { OnOk result (Compiles chart.now) }
     ensures refused { IfErr result (λ told. told ≢ Fault.Memory → RefusesChart chart.now told) }
 {
-    compile(alloc, chart)?;
+    compilation(alloc, chart)?;
     Ok(())
+}
+
+// The wiring chart of a setup.
+fn written<'a>(alloc: Global, setup: &Setup) -> Result<String, Fault<'a>>
+    ensures written { IfOk result (λ text. IsWritten setup.now (string_bytes text)) }
+    ensures memory { IfErr result (λ told. told ≡ Fault.Memory) }
+{
+    Ok(write_setup(alloc, setup)?)
 }
 
 /// The wiring chart of a planning chart.
@@ -35,8 +52,19 @@ pub fn wiring_chart<'a>(alloc: Global, chart: &[u8]) -> Result<String, Fault<'a>
     ensures written { IfOk result (λ text. IsWiringChartOf chart.now (string_bytes text)) }
     ensures refused { IfErr result (λ told. told ≢ Fault.Memory → RefusesChart chart.now told) }
 {
-    let compiled = compile(alloc, chart)?;
-    Ok(write_setup(alloc, compiled.setup())?)
+    let compiled = compilation(alloc, chart)?;
+    written(alloc, compiled.setup())
+}
+
+// The report of a deck for a compiled chart, whatever text compiles to it.
+fn reported<'a>(alloc: Global, compiled: &Compiled, deck: &[u8]) -> Result<Vec<u8>, Fault<'a>>
+    ensures pages { IfOk result (λ pages. (text : List ℕ) → CompilesAs text compiled.now
+        → ArePagesOf text deck.now pages.items) }
+    ensures refused { IfErr result (λ told. told ≢ Fault.Memory → (text : List ℕ) → CompilesAs text compiled.now
+        → RefusesRun text deck.now told) }
+{
+    let cards = read_deck(alloc, deck)?;
+    Ok(run(alloc, compiled, cards.as_slice())?)
 }
 
 /// The pages of a planning chart and a deck.
@@ -48,9 +76,8 @@ pub fn pages<'a>(alloc: Global, chart: &[u8], deck: &[u8]) -> Result<Vec<u8>, Fa
     ensures pages { IfOk result (λ pages. ArePagesOf chart.now deck.now pages.items) }
     ensures refused { IfErr result (λ told. told ≢ Fault.Memory → RefusesRun chart.now deck.now told) }
 {
-    let compiled = compile(alloc, chart)?;
-    let cards = read_deck(alloc, deck)?;
-    Ok(run(alloc, &compiled, cards.as_slice())?)
+    let compiled = compilation(alloc, chart)?;
+    reported(alloc, &compiled, deck)
 }
 
 // The pages that the machine prints of a deck, wired as this setup.

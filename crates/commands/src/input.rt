@@ -4,7 +4,7 @@ ghost use Rattle.std.specs.Prelude.{◌≡◌, ◌≢◌, ◌<◌, ◌↔◌, �
 ghost use Rattle.card_code.specs.Lines.{without_cr};
 ghost use Rattle.commands.specs.Input.{IsDivided, HasNoLineFeed, IsEndPiece};
 
-use crate::fault::Fault;
+use faults::Fault;
 use std::alloc::Global;
 use std::io::{ErrorKind, Read};
 use tokens::is_end_line;

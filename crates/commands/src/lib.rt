@@ -1,25 +1,21 @@
 //! The program's commands on texts, over any reader and writers, without a word of a command line.
 //!
 //! [`serve`] does one command: it checks a planning chart, wires it or runs a deck through it, or replays a deck through a wiring chart.
-//! [`chart_and_deck`] divides a text that has both, as standard input does. Why a command was not carried out is a [`Fault`],
-//! which [`tell`] writes on one line; its status is the program's. The crate stands on the compiler's calls, the machine
+//! [`chart_and_deck`] divides a text that has both, as standard input does. Why a command was not carried out is a [`Fault`] of the
+//! crate `faults`, whose [`tell`] writes it on one line; its status is the program's. The crate stands on the compiler's calls, the machine
 //! and wiring charts, and on `tokens` for what a line END is. The program above it reads the words and opens the files.
 #![tactic(auto)]
 
 mod answers;
 mod command;
-mod fault;
 mod input;
 mod laws;
 mod output;
 mod serving;
-mod telling;
 
 pub use answers::{check, pages, replayed, wiring_chart};
 pub use command::Command;
-pub use fault::Fault;
+pub use faults::{Fault, tell, unprinted, write_line};
 pub use input::{chart_and_deck, read_whole};
 pub use laws::answered_texts_are_not_refused;
-pub use output::unprinted;
 pub use serving::serve;
-pub use telling::{tell, write_line};

@@ -3,14 +3,13 @@
 ghost use Rattle.std.specs.Prelude.{◌≡◌, ℕ, List, Option, IfErr, OnOk};
 ghost use Rattle.commands.specs.Commands.{IsNoCommand, word_of};
 ghost use Rattle.commands.specs.Served.{IsDone, IsRefused};
-ghost use Rattle.commands.specs.Status.{status_of};
+ghost use Rattle.faults.specs.Status.{status_of};
 
 use crate::answers::{check, pages, replayed, wiring_chart};
 use crate::command::Command;
-use crate::fault::Fault;
 use crate::input::read_whole;
 use crate::output::put;
-use crate::telling::tell;
+use faults::{Fault, tell};
 use std::alloc::Global;
 use std::io::{Read, Write};
 use wire_chart::read_setup;

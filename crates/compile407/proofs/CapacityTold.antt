@@ -8,8 +8,9 @@ use Rattle.capacity.specs.Capacities.{standard}
 use Rattle.chart_rules.specs.Rules.{IsLawful}
 use Rattle.charts.specs.Chart.{Chart}
 use Rattle.chart_text.specs.ChartText.{Reads}
-use Rattle.compile407.specs.ChartFaults.{HasChartFault, of_capacity}
-use Rattle.compile407.specs.declared.fault.ChartFault.TheVariants as chart
+use Rattle.faults.specs.ChartCauses.{of_capacity}
+use Rattle.compile407.specs.ChartFaults.{HasChartFault}
+use Rattle.faults.specs.declared.chart.ChartFault.TheVariants as chart
 
 -- where a chart that is read and lawful exceeds a capacity, the fault of the capacity is the chart's
 pub capacity_told : (bytes : List ℕ) (read : Chart) (fault : CapacityFault) → Reads bytes read → IsLawful read →

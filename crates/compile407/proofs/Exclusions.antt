@@ -16,9 +16,9 @@ use Rattle.chart_rules.specs.ValidCard.{IsValidCard, IsFirstInvalid}
 use Rattle.chart_rules.specs.declared.card.CardFault.{CardFault}
 use Rattle.report.specs.Misfits.{first_of}
 use Rattle.report.proofs.Fitting.{fit_without_misfits}
-use Rattle.compile407.specs.declared.fault.ChartFault.TheVariants as chart
-use Rattle.compile407.specs.declared.fault.RunFault.{RunFault}
-use Rattle.compile407.specs.declared.fault.RunFault.TheVariants as deck
+use Rattle.faults.specs.declared.chart.ChartFault.TheVariants as chart
+use Rattle.faults.specs.declared.deck.RunFault.{RunFault}
+use Rattle.faults.specs.declared.deck.RunFault.TheVariants as deck
 use Rattle.compile407.specs.Outcomes.{CompiledTextsHaveNoFault, RunnableDecksHaveNoFault}
 use Rattle.compile407.specs.RunFaults.{IsInvalidDeck}
 

@@ -25,14 +25,15 @@ use Rattle.chart_rules.specs.ValidCard.{IsFirstInvalid, IsValidCard}
 use Rattle.chart_rules.specs.declared.fault.RuleFault.{RuleFault}
 use Rattle.chart_rules.specs.declared.fault.RuleFault.TheVariants as rule
 use Rattle.compile407.proofs.Exclusions.{none_told, none_invalid}
-use Rattle.compile407.specs.ChartFaults.{HasChartFault, of_text, of_rule}
+use Rattle.faults.specs.ChartCauses.{of_text, of_rule}
+use Rattle.compile407.specs.ChartFaults.{HasChartFault}
 use Rattle.printed_reports.specs.Promises.{IsDeck}
 use Rattle.compile407.specs.Outcomes.{ChartsHaveOneFault, DecksHaveOneFault}
 use Rattle.compile407.specs.RunFaults.{HasRunFault, IsInvalidDeck, IsMisfit, of_card}
-use Rattle.compile407.specs.declared.fault.ChartFault.{ChartFault}
-use Rattle.compile407.specs.declared.fault.ChartFault.TheVariants as chart
-use Rattle.compile407.specs.declared.fault.RunFault.{RunFault}
-use Rattle.compile407.specs.declared.fault.RunFault.TheVariants as deck
+use Rattle.faults.specs.declared.chart.ChartFault.{ChartFault}
+use Rattle.faults.specs.declared.chart.ChartFault.TheVariants as chart
+use Rattle.faults.specs.declared.deck.RunFault.{RunFault}
+use Rattle.faults.specs.declared.deck.RunFault.TheVariants as deck
 
 -- why a text has a fault: it is no chart, its chart breaks a rule, or its chart exceeds a capacity
 data Cause (bytes : List ℕ) (fault : ChartFault) : Type 0 where

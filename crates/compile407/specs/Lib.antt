@@ -4,4 +4,3 @@ pub mod Runnable
 pub mod ChartFaults
 pub mod RunFaults
 pub mod Outcomes
-pub mod FaultNumbers

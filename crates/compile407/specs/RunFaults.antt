@@ -7,8 +7,8 @@ use Rattle.chart_rules.specs.ValidCard.{IsValidCard, IsFirstInvalid}
 use Rattle.chart_rules.specs.declared.card.CardFault.{CardFault}
 use Rattle.chart_rules.specs.declared.card.CardFault.TheVariants as card
 use Rattle.report.specs.Misfits.{Misfit, first_of, misfits}
-use Rattle.compile407.specs.declared.fault.RunFault.{RunFault}
-use Rattle.compile407.specs.declared.fault.RunFault.TheVariants as deck
+use Rattle.faults.specs.declared.deck.RunFault.{RunFault}
+use Rattle.faults.specs.declared.deck.RunFault.TheVariants as deck
 use Rattle.printed_reports.specs.Promises.{IsDeck}
 
 -- the fault of a card with a number, as one of a deck

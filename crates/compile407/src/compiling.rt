@@ -4,15 +4,15 @@ ghost use Rattle.std.specs.Prelude.{◌≡◌, ◌≢◌, IfOk, IfErr};
 ghost use Rattle.chart_text.specs.ChartText.{Reads};
 ghost use Rattle.compile407.specs.Compilation.{IsCompiled};
 ghost use Rattle.compile407.specs.ChartFaults.{HasChartFault};
-ghost use Rattle.compile407.specs.declared.fault.ChartFault.TheVariants as chart;
+ghost use Rattle.faults.specs.declared.chart.ChartFault.TheVariants as chart;
 ghost use Rattle.printed_reports.specs.Promises.{BeginsReport, PrintsReport};
 
 use crate::compiled::Compiled;
-use crate::fault::ChartFault;
 use allocate::allocate;
 use capacity::Profile;
 use chart_rules::check;
 use chart_text::read_chart;
+use faults::ChartFault;
 use std::alloc::Global;
 use wire_gen::wire;
 

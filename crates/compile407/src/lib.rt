@@ -8,13 +8,12 @@
 
 mod compiled;
 mod compiling;
-mod fault;
 mod laws;
 mod running;
 
 pub use compiled::Compiled;
 pub use compiling::compile;
-pub use fault::{ChartFault, RunFault};
+pub use faults::{ChartFault, RunFault};
 pub use laws::{
     blank_decks_are_runnable, charts_have_one_fault, compiled_texts_have_no_fault,
     decks_have_one_fault, read_setups_print_alike, runnable_decks_have_no_fault,

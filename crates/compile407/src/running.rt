@@ -6,16 +6,16 @@ ghost use Rattle.misfits.specs.Told.{told};
 ghost use Rattle.report.specs.Misfits.{first_of, misfits};
 ghost use Rattle.report.specs.Totals.{Fits};
 ghost use Rattle.compile407.specs.RunFaults.{HasRunFault, IsInvalidDeck, IsMisfit, of_card};
-ghost use Rattle.compile407.specs.declared.fault.RunFault.TheVariants as deck;
+ghost use Rattle.faults.specs.declared.deck.RunFault.TheVariants as deck;
 ghost use Rattle.printed_reports.specs.Promises.{IsDeck};
 ghost use Rattle.report.specs.Report.{Report};
 ghost use Rattle.compile407.specs.Runnable.{IsRunnable};
 ghost use Rattle.chart_rules.specs.ValidCard.{IsValidCard};
 
 use crate::compiled::Compiled;
-use crate::fault::RunFault;
 use card_code::{Card, MOST_CARDS};
 use chart_rules::{CardFault, Chart, valid_card};
+use faults::RunFault;
 use machine::simulate;
 use misfits::Misfit;
 use page_text::page_bytes;

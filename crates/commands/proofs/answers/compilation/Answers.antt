@@ -1,7 +1,9 @@
-use Rattle.std.proofs.Common.{◌≢◌, subst, sym}
 use Rattle.std.proofs.lemmas.Result.{err_from_is_err_and}
 use Rattle.commands.proofs.Refusing.{chart_refused}
-use Rattle.commands.proofs.answers.check.Goals as goal
+use Rattle.commands.proofs.answers.compilation.Goals as goal
+
+pub returns-in_err-compile-clause-compiles : goal.returns-in_err-compile-clause-compiles
+returns-in_err-compile-clause-compiles c = rw (err_from_is_err_and c.from_residual.result c.from_residual.ensures.1).1 tt
 
 pub returns-in_err-compile-clause-refused : goal.returns-in_err-compile-clause-refused
 returns-in_err-compile-clause-refused c =
@@ -9,5 +11,4 @@ returns-in_err-compile-clause-refused c =
     rw exit.1 (chart_refused c.args.chart.now c.in_err-compile.field-0.0 exit.0 c.in_err-compile.ensures.refused exit.2)
 
 pub returns-clause-compiles : goal.returns-clause-compiles
-returns-clause-compiles c =
-    (c.in_ok-compile.field-0, record { read = c.in_ok-compile.ensures.read; wired = c.in_ok-compile.ensures.compiled })
+returns-clause-compiles c = record { read = c.in_ok-compile.ensures.read; wired = c.in_ok-compile.ensures.compiled }

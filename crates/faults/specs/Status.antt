@@ -1,7 +1,7 @@
 -- The program's status for a fault: 2 for a command that there isn't, 3 for refused input, 4 for a file or the output, 5 for memory.
 use Rattle.std.specs.Prelude.{ℕ}
-use Rattle.commands.specs.declared.fault.Fault.{Fault}
-use Rattle.commands.specs.declared.fault.Fault.TheVariants as fault
+use Rattle.faults.specs.declared.fault.Fault.{Fault}
+use Rattle.faults.specs.declared.fault.Fault.TheVariants as fault
 
 -- the status of a fault
 abbrev pub status_of : Fault → ℕ

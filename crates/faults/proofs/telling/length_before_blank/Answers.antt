@@ -4,7 +4,7 @@ use Rattle.std.proofs.lemmas.Iterator.{YieldsList-from_slice}
 use Rattle.std.proofs.lemmas.Iterator.Search.{position_from_yields_List}
 use Rattle.std.proofs.lemmas.List.Sums.{prefix_len-le-length}
 use Rattle.charts.proofs.Fronts.{first_place_or_length}
-use Rattle.commands.proofs.telling.length_before_blank.Goals as goal
+use Rattle.faults.proofs.telling.length_before_blank.Goals as goal
 
 pub returns-clause-value : goal.returns-clause-value
 returns-clause-value c =

@@ -3,7 +3,7 @@
 ghost use Rattle.std.specs.Prelude.{◌≡◌, ◌≤◌, ◌==◌, length};
 ghost use Rattle.std.specs.List.{position_or_len};
 ghost use Rattle.charts.specs.Name.{name_text};
-ghost use Rattle.commands.specs.Status.{status_of};
+ghost use Rattle.faults.specs.Status.{status_of};
 
 use crate::fault::Fault;
 use itoa::Buffer;

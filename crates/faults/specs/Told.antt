@@ -7,15 +7,15 @@ use Rattle.card_code.specs.declared.deck.DeckFault.{DeckFault}
 use Rattle.card_code.specs.declared.deck.DeckFault.TheVariants as deck
 use Rattle.chart_rules.specs.Rules.{rule_number}
 use Rattle.charts.specs.Levels.{level_number, control_number}
-use Rattle.compile407.specs.declared.fault.ChartFault.{ChartFault}
-use Rattle.compile407.specs.declared.fault.ChartFault.TheVariants as chart
-use Rattle.compile407.specs.declared.fault.RunFault.{RunFault}
-use Rattle.compile407.specs.declared.fault.RunFault.TheVariants as run
+use Rattle.faults.specs.declared.chart.ChartFault.{ChartFault}
+use Rattle.faults.specs.declared.chart.ChartFault.TheVariants as chart
+use Rattle.faults.specs.declared.deck.RunFault.{RunFault}
+use Rattle.faults.specs.declared.deck.RunFault.TheVariants as run
 use Rattle.setups.specs.SetupFaults.{setup_fault_number}
 use Rattle.wiring_text.specs.declared.fault.WiringFault.{WiringFault}
 use Rattle.wiring_text.specs.declared.fault.WiringFault.TheVariants as wiring
-use Rattle.commands.specs.declared.fault.Fault.{Fault}
-use Rattle.commands.specs.declared.fault.Fault.TheVariants.{Whole, Line, Cause, Card, Column, Counters, Capacity, Indicate, Total, Memory}
+use Rattle.faults.specs.declared.fault.Fault.{Fault}
+use Rattle.faults.specs.declared.fault.Fault.TheVariants.{Whole, Line, Cause, Card, Column, Counters, Capacity, Indicate, Total, Memory}
 
 -- of the text of a deck: the card, and its column
 abbrev pub deck_told : DeckFault → Fault

@@ -1,10 +1,16 @@
 //! What the program says on standard error, and the status that it ends with.
 
+ghost use Rattle.std.specs.Prelude.{◌≡◌, ◌≢◌, ◌⊎◌};
+ghost use Rattle.std.specs.IoError.{error_kind};
+
+use crate::chart::ChartFault;
+use crate::deck::RunFault;
 use allocate::CapacityFault;
 use card_code::DeckFault;
-use compile407::{ChartFault, RunFault};
 use std::alloc::AllocError;
-use wire_chart::WiringFault;
+use std::io;
+use std::io::ErrorKind;
+use wiring_text::WiringFault;
 
 /// Why a command was not carried out. Each is told on one line.
 #[derive(Clone, Copy, Debug, PartialEq, Eq)]
@@ -78,7 +84,7 @@ pub enum Fault<'a> {
 
 impl Fault<'_> {
     ghost use Rattle.std.specs.Prelude.{◌≡◌};
-    ghost use Rattle.commands.specs.Status.{status_of};
+    ghost use Rattle.faults.specs.Status.{status_of};
 
     /// The status of the program: 2 for a command that there isn't, 3 for refused input, 4 for a file, 5 for memory.
     pub fn status(&self) -> u8
@@ -103,7 +109,7 @@ impl Fault<'_> {
 
 impl From<ChartFault> for Fault<'_> {
     ghost use Rattle.std.specs.Prelude.{◌≡◌};
-    ghost use Rattle.commands.specs.Told.{chart_told};
+    ghost use Rattle.faults.specs.Told.{chart_told};
 
     ghost from_gives = { λ fault told. told ≡ chart_told fault };
 
@@ -127,7 +133,7 @@ impl From<ChartFault> for Fault<'_> {
 
 impl From<WiringFault> for Fault<'_> {
     ghost use Rattle.std.specs.Prelude.{◌≡◌};
-    ghost use Rattle.commands.specs.Told.{wiring_told};
+    ghost use Rattle.faults.specs.Told.{wiring_told};
 
     ghost from_gives = { λ fault told. told ≡ wiring_told fault };
 
@@ -149,7 +155,7 @@ impl From<WiringFault> for Fault<'_> {
 
 impl From<AllocError> for Fault<'_> {
     ghost use Rattle.std.specs.Prelude.{◌≡◌};
-    ghost use Rattle.commands.specs.declared.fault.Fault.TheVariants.{Memory};
+    ghost use Rattle.faults.specs.declared.fault.Fault.TheVariants.{Memory};
 
     ghost from_gives = { λ _ told. told ≡ Memory };
 
@@ -160,7 +166,7 @@ impl From<AllocError> for Fault<'_> {
 
 impl From<DeckFault> for Fault<'_> {
     ghost use Rattle.std.specs.Prelude.{◌≡◌};
-    ghost use Rattle.commands.specs.Told.{deck_told};
+    ghost use Rattle.faults.specs.Told.{deck_told};
 
     ghost from_gives = { λ fault told. told ≡ deck_told fault };
 
@@ -182,7 +188,7 @@ impl From<DeckFault> for Fault<'_> {
 
 impl From<RunFault> for Fault<'_> {
     ghost use Rattle.std.specs.Prelude.{◌≡◌};
-    ghost use Rattle.commands.specs.Told.{run_told};
+    ghost use Rattle.faults.specs.Told.{run_told};
 
     ghost from_gives = { λ fault told. told ≡ run_told fault };
 
@@ -211,7 +217,7 @@ impl From<RunFault> for Fault<'_> {
 
 impl From<CapacityFault> for Fault<'_> {
     ghost use Rattle.std.specs.Prelude.{◌≡◌};
-    ghost use Rattle.commands.specs.Told.{capacity_told};
+    ghost use Rattle.faults.specs.Told.{capacity_told};
 
     ghost from_gives = { λ fault told. told ≡ capacity_told fault };
 
@@ -254,5 +260,17 @@ impl From<CapacityFault> for Fault<'_> {
             },
             CapacityFault::Memory => Fault::Whole { number },
         }
+    }
+}
+
+/// What is told where something can't be printed.
+pub fn unprinted(error: &io::Error) -> Fault<'static>
+    ensures memory { error_kind error.now ≡ ErrorKind.OutOfMemory → result ≡ Fault.Memory }
+    ensures others { error_kind error.now ≢ ErrorKind.OutOfMemory → result ≡ Fault.Write }
+    ensures told { (result ≡ Fault.Memory) ⊎ (result ≡ Fault.Write) }
+{
+    match error.kind() {
+        ErrorKind::OutOfMemory => Fault::Memory,
+        _ => Fault::Write,
     }
 }

@@ -1,0 +1,4 @@
+pub mod ChartCauses
+pub mod FaultNumbers
+pub mod Status
+pub mod Told
