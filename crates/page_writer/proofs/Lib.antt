@@ -6,3 +6,4 @@ pub mod Lines
 pub mod Texts
 pub mod BytesTo
 pub mod Opens
+pub mod WholePages

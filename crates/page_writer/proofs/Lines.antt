@@ -9,9 +9,9 @@ use Rattle.placed_lines.specs.declared.placed_line.PlacedLine.{PlacedLine}
 use Rattle.placed_lines.specs.InOrder.{FollowInOrder}
 
 -- The first of some lines are taken up, and the rest follow them in order.
-pub record IsAdding {S : Type 0} (held : S → Option (List ℕ)) (borrow : S → ℕ) (lines rest : List PlacedLine) (old now : Writing S) : Type 0 where
+pub record IsAdding {S : Type 0} (held : S → Option (List ℕ)) (lines rest : List PlacedLine) (old now : Writing S) : Type 0 where
   pub bytes : List ℕ
-  pub takes : TakesUp held borrow bytes old.out now.out
+  pub takes : TakesUp held bytes old.out now.out
   pub parts : added_all old.form_lines old.page old.line lines ≡ bytes ++ added_all now.form_lines now.page now.line rest
   pub form : now.form_lines ≡ old.form_lines
   pub page : page_after old.page lines ≡ page_after now.page rest
@@ -25,8 +25,8 @@ first_of lines place none within =
     let next : suc place ≡ place + 1 = omega arith in
     drop-cons lines place none within ∙ ap (λ n. get_or lines place none ∷ drop n lines) next
 
-module _ {S : Type 0} {held : S → Option (List ℕ)} {borrow : S → ℕ} (lines : List PlacedLine) (place : ℕ) (none : PlacedLine)
-    (old now : Writing S) (within : place < length lines) (is : IsAdding held borrow lines (drop place lines) old now) where
+module _ {S : Type 0} {held : S → Option (List ℕ)} (lines : List PlacedLine) (place : ℕ) (none : PlacedLine)
+    (old now : Writing S) (within : place < length lines) (is : IsAdding held lines (drop place lines) old now) where
   abbrev placed : PlacedLine
   placed = get_or lines place none
 
@@ -39,9 +39,9 @@ module _ {S : Type 0} {held : S → Option (List ℕ)} {borrow : S → ℕ} (lin
       (added_all now.form_lines placed.page placed.line (drop (place + 1) lines)))
 
   -- a line more
-  pub adding_more : (new : Writing S) → TakesUp held borrow (added now.form_lines now.page now.line placed) now.out new.out
+  pub adding_more : (new : Writing S) → TakesUp held (added now.form_lines now.page now.line placed) now.out new.out
       → new.form_lines ≡ now.form_lines → new.page ≡ placed.page → new.line ≡ placed.line
-      → IsAdding held borrow lines (drop (place + 1) lines) old new
+      → IsAdding held lines (drop (place + 1) lines) old new
   adding_more new takes form page line =
       let order = subst (FollowInOrder now.form_lines now.page now.line) (first_of lines place none within) is.order in
       record {
@@ -64,8 +64,8 @@ module _ {S : Type 0} {held : S → Option (List ℕ)} {borrow : S → ℕ} (lin
 
   -- a failure while a line more is taken up
   pub adding_breaks : (has_failed : S → Bool) (new : Outgoing S)
-      → Breaks held has_failed borrow (added now.form_lines now.page now.line placed) now.out new
-      → Breaks held has_failed borrow (added_all old.form_lines old.page old.line lines) old.out new
+      → Breaks held has_failed (added now.form_lines now.page now.line placed) now.out new
+      → Breaks held has_failed (added_all old.form_lines old.page old.line lines) old.out new
   adding_breaks has_failed new breaks =
-      subst (λ (bytes : List ℕ). Breaks held has_failed borrow bytes old.out new) (sym parts_more)
+      subst (λ (bytes : List ℕ). Breaks held has_failed bytes old.out new) (sym parts_more)
       (breaks_before (added_all now.form_lines placed.page placed.line (drop (place + 1) lines)) (breaks_after is.takes breaks))

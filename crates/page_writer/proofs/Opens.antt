@@ -113,3 +113,10 @@ pages_begin long lines others order =
 pub order_goes_on : OrderGoesOn
 order_goes_on long lines others order =
     ((in_parts long 0 0 lines others order).0, (in_parts long 1 0 lines others (from_first long (lines ++ others) order)).1)
+
+-- the pages of lines are what they add after no line, and the end of the last page
+pub pages_of : (long : ℕ) (lines : List PlacedLine) → IsInOrder long lines
+    → added_all long 1 0 lines ++ last_end long (line_after 0 lines) ≡ Pages lines long
+unfolding bytes_to
+pages_of long lines order =
+    sym (pages_end long lines order ∙ ap (λ t. t ++ last_end long (line_after 0 lines)) (open_grows_by_all long [] lines order))

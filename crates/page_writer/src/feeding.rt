@@ -30,7 +30,8 @@ pub(crate) fn end_page<S: Sink + Drop>(
 ) -> Result<(), WriteFault>
     requires within { lines ≤ form_lines }
     requires fits { total out.old + length (page_end form_lines lines) < 2 ^ 64 }
-    ensures { Takes S.held S.has_failed S.borrow (page_end form_lines lines) result out.old out.new }
+    ensures bytes { Takes S.held S.has_failed (page_end form_lines lines) result out.old out.new }
+    ensures same { S.borrow out.new.sink ≡ S.borrow out.old.sink }
 {
     out.repeat(LINE_FEED, form_lines - lines)?;
     out.take(&[FORM_FEED])
@@ -43,7 +44,8 @@ fn feed_pages<S: Sink + Drop>(
     pages: u64,
 ) -> Result<(), WriteFault>
     requires { total out.old + length (blank_pages form_lines pages) < 2 ^ 64 }
-    ensures { Takes S.held S.has_failed S.borrow (blank_pages form_lines pages) result out.old out.new }
+    ensures bytes { Takes S.held S.has_failed (blank_pages form_lines pages) result out.old out.new }
+    ensures same { S.borrow out.new.sink ≡ S.borrow out.old.sink }
 {
     for _page in 0..pages {
         end_page(out, form_lines, 0)?;
@@ -61,7 +63,8 @@ fn feed<S: Sink + Drop>(
     requires within { from.lines ≤ form_lines }
     requires later { (from.page < to.page) ⊎ ((from.page ≡ to.page) × (from.lines ≤ to.lines)) }
     requires fits { total out.old + length (feeds form_lines from.page from.lines to.page to.lines) < 2 ^ 64 }
-    ensures { Takes S.held S.has_failed S.borrow (feeds form_lines from.page from.lines to.page to.lines) result out.old out.new }
+    ensures bytes { Takes S.held S.has_failed (feeds form_lines from.page from.lines to.page to.lines) result out.old out.new }
+    ensures same { S.borrow out.new.sink ≡ S.borrow out.old.sink }
 {
     if from.page == to.page {
         return out.repeat(LINE_FEED, to.lines - from.lines);
@@ -82,7 +85,8 @@ pub(crate) fn add_line<S: Sink + Drop>(
     requires after { IsAfter from.page from.lines placed.now.page placed.now.line }
     requires on_form { IsOnForm form_lines placed.now }
     requires fits { total out.old + length (added form_lines from.page from.lines placed.now) < 2 ^ 64 }
-    ensures { Takes S.held S.has_failed S.borrow (added form_lines from.page from.lines placed.now) result out.old out.new }
+    ensures bytes { Takes S.held S.has_failed (added form_lines from.page from.lines placed.now) result out.old out.new }
+    ensures same { S.borrow out.new.sink ≡ S.borrow out.old.sink }
 {
     let to = Place {
         page: placed.page,
@@ -101,7 +105,8 @@ fn end_begun_page<S: Sink + Drop>(
 ) -> Result<(), WriteFault>
     requires within { line ≤ form_lines }
     requires fits { total out.old + length (last_end form_lines line) < 2 ^ 64 }
-    ensures { Takes S.held S.has_failed S.borrow (last_end form_lines line) result out.old out.new }
+    ensures bytes { Takes S.held S.has_failed (last_end form_lines line) result out.old out.new }
+    ensures same { S.borrow out.new.sink ≡ S.borrow out.old.sink }
 {
     if line == 0 {
         return Ok(());
@@ -117,8 +122,9 @@ pub(crate) fn end_pages<S: Sink + Drop>(
 ) -> Result<(), WriteFault>
     requires within { line ≤ form_lines }
     requires fits { out.old.has_failed ≡ false → total out.old + length (last_end form_lines line) < 2 ^ 64 }
-    ensures bytes { Takes S.held S.has_failed S.borrow (last_end form_lines line) result out.old out.new }
+    ensures bytes { Takes S.held S.has_failed (last_end form_lines line) result out.old out.new }
     ensures all { OnOk result (out.new.waiting ≡ []) }
+    ensures same { S.borrow out.new.sink ≡ S.borrow out.old.sink }
     ensures again { out.old.has_failed ≡ true → IsErr result × (out.new ≡ out.old) }
 {
     out.check()?;

@@ -6,7 +6,7 @@
 //! ```text
 //! let mut pages = PageWriter::new(ToWrite::new(file), form_lines);
 //! for line in lines { pages.add(line)?; }
-//! let (sink, ended) = pages.finish();
+//! let Finished { sink, ended } = pages.finish();
 //! ```
 //!
 //! `specs/` has what is written so far of the pages of lines, what a line adds to it, and what goes out to a sink. The contracts of
@@ -17,7 +17,9 @@ mod fault;
 mod feeding;
 pub mod laws;
 mod outlet;
+#[cfg(test)]
+mod tests;
 mod writer;
 
 pub use fault::WriteFault;
-pub use writer::PageWriter;
+pub use writer::{Finished, PageWriter, write_pages};

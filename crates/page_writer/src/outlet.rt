@@ -60,7 +60,7 @@ impl<S: Sink + Drop> Outlet<S> {
     // Fails where a fault was told.
     pub(crate) fn check(&self) -> Result<(), WriteFault>
         ensures well { OnOk result (self.now.has_failed ≡ false) }
-        ensures bytes { Takes S.held S.has_failed S.borrow [] result self.now self.now }
+        ensures bytes { Takes S.held S.has_failed [] result self.now self.now }
     {
         if self.has_failed {
             return Err(self.fault());
@@ -72,7 +72,8 @@ impl<S: Sink + Drop> Outlet<S> {
     pub(crate) fn take(&mut self, bytes: &[u8]) -> Result<(), WriteFault>
         requires few { length bytes.now ≤ 8320 }
         requires fits { total self.old + length bytes.now < 2 ^ 64 }
-        ensures { Takes S.held S.has_failed S.borrow bytes.now result self.old self.new }
+        ensures bytes { Takes S.held S.has_failed bytes.now result self.old self.new }
+        ensures same { S.borrow self.new.sink ≡ S.borrow self.old.sink }
     {
         if self.waiting.try_extend_from_slice(bytes).is_err() {
             self.put_out()?;
@@ -85,7 +86,8 @@ impl<S: Sink + Drop> Outlet<S> {
     // Takes up a byte so many times.
     pub(crate) fn repeat(&mut self, byte: u8, count: u32) -> Result<(), WriteFault>
         requires { total self.old + count < 2 ^ 64 }
-        ensures { Takes S.held S.has_failed S.borrow (replicate count byte) result self.old self.new }
+        ensures bytes { Takes S.held S.has_failed (replicate count byte) result self.old self.new }
+        ensures same { S.borrow self.new.sink ≡ S.borrow self.old.sink }
     {
         for _time in 0..count {
             self.take(&[byte])?;
@@ -96,8 +98,9 @@ impl<S: Sink + Drop> Outlet<S> {
     // Writes all that waits.
     pub(crate) fn put_out(&mut self) -> Result<(), WriteFault>
         requires { total self.old < 2 ^ 64 }
-        ensures bytes { Takes S.held S.has_failed S.borrow [] result self.old self.new }
+        ensures bytes { Takes S.held S.has_failed [] result self.old self.new }
         ensures all { OnOk result (self.new.waiting ≡ []) }
+        ensures same { S.borrow self.new.sink ≡ S.borrow self.old.sink }
     {
         match write_all(&mut self.sink, self.waiting.as_slice()) {
             Ok(()) => {
@@ -115,8 +118,9 @@ impl<S: Sink + Drop> Outlet<S> {
 
     // Has the sink hand on all that it took.
     pub(crate) fn flush(&mut self) -> Result<(), WriteFault>
-        ensures bytes { Takes S.held S.has_failed S.borrow [] result self.old self.new }
+        ensures bytes { Takes S.held S.has_failed [] result self.old self.new }
         ensures waiting { self.new.waiting ≡ self.old.waiting }
+        ensures same { S.borrow self.new.sink ≡ S.borrow self.old.sink }
     {
         if self.sink.flush().is_err() {
             self.has_failed = true;

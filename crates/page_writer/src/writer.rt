@@ -1,10 +1,11 @@
 //! A writer of pages, line by line.
 
-ghost use Rattle.std.specs.Prelude.{◌≡◌, ◌+◌, ◌-◌, ◌*◌, ◌^◌, ◌<◌, ◌≤◌, [], ◌++◌, length, true, false, IsErr, OnErr, OnOk};
+ghost use Rattle.std.specs.Prelude.{◌≡◌, ◌+◌, ◌==◌, ◌≤◌, if◌then◌else◌, [], ◌++◌, length, take, true, false, IfErr, IsErr, IsErrAnd, OnErr, OnOk};
+ghost use Rattle.page_text.specs.Pages.{Pages};
 ghost use Rattle.page_writer.specs.Added.{added, added_all, last_end, line_after, page_after};
-ghost use Rattle.page_writer.specs.Outgoing.{HandsBack, Takes, total};
-ghost use Rattle.page_writer.specs.Writing.{Writing};
-ghost use Rattle.placed_lines.specs.InOrder.{FollowInOrder, IsAfter, IsOnForm};
+ghost use Rattle.page_writer.specs.Outgoing.{HandsBack, Takes, Writes};
+ghost use Rattle.page_writer.specs.Writing.{HasPlace, Writing};
+ghost use Rattle.placed_lines.specs.InOrder.{FollowInOrder, IsAfter, IsInOrder, IsOnForm};
 
 use crate::fault::WriteFault;
 use crate::feeding::{Place, add_line, end_pages};
@@ -28,6 +29,15 @@ pub struct PageWriter<S: Sink + Drop> {
     line: u32,
 }
 
+/// What is left of a writer of pages that has come to its end.
+#[derive(Drop)]
+pub struct Finished<S: Sink + Drop> {
+    /// The sink.
+    pub sink: S,
+    /// Whether all was written and flushed.
+    pub ended: Result<(), WriteFault>,
+}
+
 impl<S: Sink + Drop> Model for PageWriter<S> {
     ghost Value = { Writing S };
 
@@ -38,8 +48,7 @@ impl<S: Sink + Drop> Model for PageWriter<S> {
       line = writer.line;
     } };
 
-    ghost invariant = { λ writer. (writer.form_lines ≤ 144) × (1 ≤ writer.page) × (writer.page ≤ 2 ^ 32) × (writer.line ≤ writer.form_lines)
-        × (writer.out.has_failed ≡ false → total writer.out ≤ 20000 * writer.page + 130 * writer.line) };
+    ghost invariant = { λ writer. HasPlace writer.out writer.form_lines writer.page writer.line };
 }
 
 impl<S: Sink + Drop> PageWriter<S> {
@@ -69,6 +78,14 @@ impl<S: Sink + Drop> PageWriter<S> {
         self.out.written()
     }
 
+    /// The sink, as it stands. What waits is dropped.
+    pub fn into_sink(self) -> S
+        ensures { result ≡ self.out.sink }
+    {
+        let PageWriter { out, .. } = self;
+        out.into_sink()
+    }
+
     /// Takes a line up: all that comes before it on the pages, its text without the blanks at its end, and LF. What waits is written
     /// where it makes a block.
     ///
@@ -81,12 +98,13 @@ impl<S: Sink + Drop> PageWriter<S> {
     pub fn add(&mut self, placed: &PlacedLine) -> Result<(), WriteFault>
         requires after { IsAfter self.old.page self.old.line placed.now.page placed.now.line }
         requires on_form { IsOnForm self.old.form_lines placed.now }
-        ensures bytes { Takes S.held S.has_failed S.borrow (added self.old.form_lines self.old.page self.old.line placed.now) result
+        ensures bytes { Takes S.held S.has_failed (added self.old.form_lines self.old.page self.old.line placed.now) result
             self.old.out self.new.out }
         ensures page { OnOk result (self.new.page ≡ placed.now.page) }
         ensures line { OnOk result (self.new.line ≡ placed.now.line) }
         ensures stays { OnErr result ((self.new.page ≡ self.old.page) × (self.new.line ≡ self.old.line)) }
         ensures form { self.new.form_lines ≡ self.old.form_lines }
+        ensures same { S.borrow self.new.out.sink ≡ S.borrow self.old.out.sink }
         ensures again { self.old.out.has_failed ≡ true → IsErr result × (self.new ≡ self.old) }
     {
         self.out.check()?;
@@ -107,11 +125,12 @@ impl<S: Sink + Drop> PageWriter<S> {
     /// Where the sink fails, or has failed before, as `add`. The place is that of the last line taken up whole.
     pub fn add_all(&mut self, lines: &[PlacedLine]) -> Result<(), WriteFault>
         requires { FollowInOrder self.old.form_lines self.old.page self.old.line lines.now }
-        ensures bytes { Takes S.held S.has_failed S.borrow (added_all self.old.form_lines self.old.page self.old.line lines.now) result
+        ensures bytes { Takes S.held S.has_failed (added_all self.old.form_lines self.old.page self.old.line lines.now) result
             self.old.out self.new.out }
         ensures page { OnOk result (self.new.page ≡ page_after self.old.page lines.now) }
         ensures line { OnOk result (self.new.line ≡ line_after self.old.line lines.now) }
         ensures form { self.new.form_lines ≡ self.old.form_lines }
+        ensures same { S.borrow self.new.out.sink ≡ S.borrow self.old.out.sink }
         ensures again { self.old.out.has_failed ≡ true → IsErr result × (self.new ≡ self.old) }
     {
         self.out.check()?;
@@ -127,10 +146,11 @@ impl<S: Sink + Drop> PageWriter<S> {
     ///
     /// Where the sink fails, or has failed before: then it is not called. The fault tells how many bytes are written in all.
     pub fn put_out(&mut self) -> Result<(), WriteFault>
-        ensures bytes { Takes S.held S.has_failed S.borrow [] result self.old.out self.new.out }
+        ensures bytes { Takes S.held S.has_failed [] result self.old.out self.new.out }
         ensures all { OnOk result (self.new.out.waiting ≡ []) }
         ensures place { (self.new.page ≡ self.old.page) × (self.new.line ≡ self.old.line) }
         ensures form { self.new.form_lines ≡ self.old.form_lines }
+        ensures same { S.borrow self.new.out.sink ≡ S.borrow self.old.out.sink }
         ensures again { self.old.out.has_failed ≡ true → IsErr result × (self.new ≡ self.old) }
     {
         self.out.check()?;
@@ -145,35 +165,75 @@ impl<S: Sink + Drop> PageWriter<S> {
     pub fn put(&mut self, placed: &PlacedLine) -> Result<(), WriteFault>
         requires after { IsAfter self.old.page self.old.line placed.now.page placed.now.line }
         requires on_form { IsOnForm self.old.form_lines placed.now }
-        ensures bytes { Takes S.held S.has_failed S.borrow (added self.old.form_lines self.old.page self.old.line placed.now) result
+        ensures bytes { Takes S.held S.has_failed (added self.old.form_lines self.old.page self.old.line placed.now) result
             self.old.out self.new.out }
         ensures all { OnOk result (self.new.out.waiting ≡ []) }
         ensures page { OnOk result (self.new.page ≡ placed.now.page) }
         ensures line { OnOk result (self.new.line ≡ placed.now.line) }
         ensures form { self.new.form_lines ≡ self.old.form_lines }
+        ensures same { S.borrow self.new.out.sink ≡ S.borrow self.old.out.sink }
         ensures again { self.old.out.has_failed ≡ true → IsErr result × (self.new ≡ self.old) }
     {
         self.add(placed)?;
         self.put_out()
     }
 
-    /// Ends the last page, writes all that waits, flushes the sink and hands it back, also where it has failed. Where no line was taken up
-    /// there is no page.
+    /// Ends the last page, if a line of it was taken up, writes all that waits, and flushes the sink. The place is then the beginning of the
+    /// next page.
     ///
     /// # Errors
     ///
     /// Where the sink fails, or has failed before: then it is not called. The fault tells how many bytes are written in all.
-    pub fn finish(self) -> (S, Result<(), WriteFault>)
-        ensures bytes { HandsBack S.held S.has_failed S.borrow (last_end self.form_lines self.line) result.1 self.out result.0 }
-        ensures again { self.out.has_failed ≡ true → IsErr result.1 × (result.0 ≡ self.out.sink) }
+    pub fn end(&mut self) -> Result<(), WriteFault>
+        ensures bytes { Takes S.held S.has_failed (last_end self.old.form_lines self.old.line) result self.old.out self.new.out }
+        ensures all { OnOk result (self.new.out.waiting ≡ []) }
+        ensures page { OnOk result (self.new.page ≡ (if self.old.line == 0 then self.old.page else self.old.page + 1)) }
+        ensures line { OnOk result (self.new.line ≡ 0) }
+        ensures form { self.new.form_lines ≡ self.old.form_lines }
+        ensures same { S.borrow self.new.out.sink ≡ S.borrow self.old.out.sink }
+        ensures again { self.old.out.has_failed ≡ true → IsErr result × (self.new ≡ self.old) }
     {
-        let PageWriter {
-            mut out,
-            form_lines,
-            line,
-            ..
-        } = self;
-        let ended = end_pages(&mut out, form_lines, line);
-        (out.into_sink(), ended)
+        end_pages(&mut self.out, self.form_lines, self.line)?;
+        if self.line > 0 {
+            self.page += 1;
+            self.line = 0;
+        }
+        Ok(())
     }
+
+    /// Ends the pages as `end` does, and hands the sink back, also where it has failed.
+    pub fn finish(mut self) -> Finished<S>
+        ensures bytes { HandsBack S.held S.has_failed (last_end self.form_lines self.line) result.ended self.out result.sink }
+        ensures again { self.out.has_failed ≡ true → IsErrAnd result.ended (λ fault. fault.written ≡ self.out.written)
+            × (result.sink ≡ self.out.sink) }
+        ensures same { S.borrow result.sink ≡ S.borrow self.out.sink }
+    {
+        let ended = self.end();
+        Finished {
+            sink: self.into_sink(),
+            ended,
+        }
+    }
+}
+
+/// Writes the pages of lines in order to a sink, and flushes it.
+///
+/// # Errors
+///
+/// Where the sink fails. What it took is then the front of the pages, as long as the fault tells.
+pub fn write_pages<S: Sink>(
+    sink: &mut S,
+    lines: &[PlacedLine],
+    form_lines: u32,
+) -> Result<(), WriteFault>
+    requires few { form_lines ≤ 144 }
+    requires order { IsInOrder form_lines lines.now }
+    ensures { Writes (Pages lines.now form_lines) result (S.held sink.old) (S.held sink.new) (S.has_failed sink.new) }
+{
+    let mut pages = PageWriter::new(sink, form_lines);
+    // After a failure the end of the pages fails alike.
+    let _ = pages.add_all(lines);
+    let ended = pages.end();
+    let _sink = pages.into_sink();
+    ended
 }

@@ -14,27 +14,27 @@ take-requires-clause-fits g c =
     omega (
       arith,
       ap length c.without_trailing_blanks.ensures,
-      total_after c.in_ok-feed.ensures,
+      total_after c.in_ok-feed.ensures.bytes,
       line_long c.args.form_lines c.args.from.page c.args.from.lines c.args.placed.now,
       c.requires.fits,
     )
 
-pub returns-in_err-feed : goal.returns-in_err-feed
-returns-in_err-feed g c =
+pub returns-in_err-feed-clause-bytes : goal.returns-in_err-feed-clause-bytes
+returns-in_err-feed-clause-bytes g c =
     let placed = c.args.placed.now in
     let fed = feeds c.args.form_lines c.args.from.page c.args.from.lines placed.page (placed.line - 1) in
     let p = err_from_is_err_and c.from_residual.result c.from_residual.ensures.1 in
-    rw (p.1, p.2) (c.in_err-feed.ensures.0, breaks_before {one = fed} (without_trailing_blanks placed.text ++ 10 ∷ []) c.in_err-feed.ensures.1)
+    rw (p.1, p.2) (c.in_err-feed.ensures.bytes.0, breaks_before {one = fed} (without_trailing_blanks placed.text ++ 10 ∷ []) c.in_err-feed.ensures.bytes.1)
 
-pub returns-in_err-take : goal.returns-in_err-take
-returns-in_err-take g c =
+pub returns-in_err-take-clause-bytes : goal.returns-in_err-take-clause-bytes
+returns-in_err-take-clause-bytes g c =
     let placed = c.args.placed.now in
     let fed = feeds c.args.form_lines c.args.from.page c.args.from.lines placed.page (placed.line - 1) in
     let p = err_from_is_err_and c.from_residual-in_err-take.result c.from_residual-in_err-take.ensures.1 in
     rw (p.1, p.2) (
-      c.in_err-take.ensures.0,
-      breaks_after {one = fed} c.in_ok-feed.ensures
-          (breaks_in (10 ∷ []) (ap (λ t. t ++ 10 ∷ []) c.without_trailing_blanks.ensures) c.in_err-take.ensures.1),
+      c.in_err-take.ensures.bytes.0,
+      breaks_after {one = fed} c.in_ok-feed.ensures.bytes
+          (breaks_in (10 ∷ []) (ap (λ t. t ++ 10 ∷ []) c.without_trailing_blanks.ensures) c.in_err-take.ensures.bytes.1),
     )
 
 pub take-requires-2-clause-fits : goal.take-requires-2-clause-fits
@@ -42,16 +42,16 @@ take-requires-2-clause-fits g c =
     omega (
       arith,
       ap length c.without_trailing_blanks.ensures,
-      total_after c.in_ok-feed.ensures,
-      total_after c.in_ok-take.ensures,
+      total_after c.in_ok-feed.ensures.bytes,
+      total_after c.in_ok-take.ensures.bytes,
       line_long c.args.form_lines c.args.from.page c.args.from.lines c.args.placed.now,
       c.requires.fits,
     )
 
-pub returns : goal.returns
-returns g c =
-    takes_then g.S.Sink.held g.S.Sink.has_failed g.S.Sink.borrow
+pub returns-clause-bytes : goal.returns-clause-bytes
+returns-clause-bytes g c =
+    takes_then g.S.Sink.held g.S.Sink.has_failed
     (feeds c.args.form_lines c.args.from.page c.args.from.lines c.args.placed.now.page (c.args.placed.now.line - 1))
-    (without_trailing_blanks c.args.placed.now.text ++ 10 ∷ []) _ c.feed.new.out _ c.in_ok-feed.ensures c.take-2.result
-    (takes_then g.S.Sink.held g.S.Sink.has_failed g.S.Sink.borrow (without_trailing_blanks c.args.placed.now.text) (10 ∷ []) _ c.take.new.self _
-    (takes_as c.without_trailing_blanks.ensures c.in_ok-take.ensures) c.take-2.result c.take-2.ensures)
+    (without_trailing_blanks c.args.placed.now.text ++ 10 ∷ []) _ c.feed.new.out _ c.in_ok-feed.ensures.bytes c.take-2.result
+    (takes_then g.S.Sink.held g.S.Sink.has_failed (without_trailing_blanks c.args.placed.now.text) (10 ∷ []) _ c.take.new.self _
+    (takes_as c.without_trailing_blanks.ensures c.in_ok-take.ensures.bytes) c.take-2.result c.take-2.ensures.bytes)

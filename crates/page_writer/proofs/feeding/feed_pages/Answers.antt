@@ -20,22 +20,24 @@ end_page-requires-clause-fits g c =
     let form_lines = c.args.form_lines in
     omega (
       arith,
-      total_after c.loop-page.invariant,
+      total_after c.loop-page.invariant.bytes,
       ap length (parts form_lines page c.args.pages c.loop-page-test.true),
       length-append (blank_pages form_lines page ++ page_end form_lines 0) (blank_pages form_lines (c.args.pages - (page + 1))),
       length-append (blank_pages form_lines page) (page_end form_lines 0),
       c.requires,
     )
 
-pub returns-in_err-end_page : goal.returns-in_err-end_page
-returns-in_err-end_page g c =
+pub returns-in_err-end_page-clause-bytes : goal.returns-in_err-end_page-clause-bytes
+returns-in_err-end_page-clause-bytes g c =
     let p = err_from_is_err_and c.from_residual.result c.from_residual.ensures.1 in
     rw (p.1, p.2) (
-      c.in_err-end_page.ensures.0,
+      c.in_err-end_page.ensures.bytes.0,
       breaks_in _ (parts c.args.form_lines c.loop-page._page c.args.pages c.loop-page-test.true)
-          (breaks_after c.loop-page.invariant c.in_err-end_page.ensures.1),
+          (breaks_after c.loop-page.invariant.bytes c.in_err-end_page.ensures.bytes.1),
     )
 
 pub loop-page-preserved : goal.loop-page-preserved
-loop-page-preserved g c =
-    takes_as (blank_pages_more c.args.form_lines c.loop-page._page) (takes_after c.loop-page.invariant c.in_ok-end_page.ensures)
+loop-page-preserved g c = record {
+  bytes = takes_as (blank_pages_more c.args.form_lines c.loop-page._page) (takes_after c.loop-page.invariant.bytes c.in_ok-end_page.ensures.bytes);
+  same = c.in_ok-end_page.ensures.same ∙ c.loop-page.invariant.same;
+}

@@ -11,7 +11,7 @@ returns-in-Err-clause-bytes g c =
     let new : Outgoing g.row.S.Denot =
     record { sink = c.write_all.new.sink; waiting = of.waiting.items; written = of.written + c.in-Err.done; has_failed = true } in (
       c.fault.ensures,
-      subst (λ (old : Outgoing g.row.S.Denot). Breaks g.S.Sink.held g.S.Sink.has_failed g.S.Sink.borrow [] old new) c.self.view_is
-          (breaks_at g.S.Sink.held g.S.Sink.has_failed g.S.Sink.borrow old new c.as_slice.result.now c.in-Err.done c.as_slice.ensures.value
-          c.in-Err.ensures.written.0 c.in-Err.ensures.written.1 refl c.in-Err.ensures.same refl c.in-Err.ensures.failed),
+      subst (λ (old : Outgoing g.row.S.Denot). Breaks g.S.Sink.held g.S.Sink.has_failed [] old new) c.self.view_is
+          (breaks_at g.S.Sink.held g.S.Sink.has_failed old new c.as_slice.result.now c.in-Err.done c.as_slice.ensures.value
+          c.in-Err.ensures.written.0 c.in-Err.ensures.written.1 refl refl c.in-Err.ensures.failed),
     )

@@ -14,17 +14,19 @@ parts time count byte within =
 
 pub take-requires-clause-fits : goal.take-requires-clause-fits
 take-requires-clause-fits g c =
-    omega (arith, total_after c.loop-time.invariant, length-replicate c.loop-time._time c.args.byte, c.loop-time-test.true, c.requires)
+    omega (arith, total_after c.loop-time.invariant.bytes, length-replicate c.loop-time._time c.args.byte, c.loop-time-test.true, c.requires)
 
-pub returns-in_err-take : goal.returns-in_err-take
-returns-in_err-take g c =
+pub returns-in_err-take-clause-bytes : goal.returns-in_err-take-clause-bytes
+returns-in_err-take-clause-bytes g c =
     let p = err_from_is_err_and c.from_residual.result c.from_residual.ensures.1 in
     rw (p.1, p.2) (
-      c.in_err-take.ensures.0,
+      c.in_err-take.ensures.bytes.0,
       breaks_in _ (parts c.loop-time._time c.args.count c.args.byte c.loop-time-test.true)
-          (breaks_after c.loop-time.invariant c.in_err-take.ensures.1),
+          (breaks_after c.loop-time.invariant.bytes c.in_err-take.ensures.bytes.1),
     )
 
 pub loop-time-preserved : goal.loop-time-preserved
-loop-time-preserved g c =
-    takes_as (replicate_more c.loop-time._time c.args.byte) (takes_after c.loop-time.invariant c.in_ok-take.ensures)
+loop-time-preserved g c = record {
+  bytes = takes_as (replicate_more c.loop-time._time c.args.byte) (takes_after c.loop-time.invariant.bytes c.in_ok-take.ensures.bytes);
+  same = c.in_ok-take.ensures.same ∙ c.loop-time.invariant.same;
+}
