@@ -24,7 +24,7 @@ use Rattle.counter_cycles.proofs.EntryLemmas.{given-number}
 use Rattle.counter_cycles.proofs.TopLemmas.{tops}
 
 -- the controls that are impulsed for what is asked
-controls_of-act : (name : Group) (controls : Controls) (pictures : Point → Hub → Bool) → IsControlled name controls pictures
+pub controls_of-act : (name : Group) (controls : Controls) (pictures : Point → Hub → Bool) → IsControlled name controls pictures
     → controls_of name (pictures C) ≡ controls
 controls_of-act name controls pictures are =
     ap (λ b. controls_with b (pictures C (MI name)) (pictures C (RO name)) (controls_of name (pictures C)).test) are.plus
@@ -33,7 +33,7 @@ controls_of-act name controls pictures are =
     ∙ ap (λ b. controls_with controls.plus controls.minus controls.read_out b) are.test
 
 -- What is left where nothing is added.
-left-still : (is_ring : Bool) (power n : ℕ) → n < power → left_number is_ring power (n + 0) ≡ n
+pub left-still : (is_ring : Bool) (power n : ℕ) → n < power → left_number is_ring power (n + 0) ≡ n
 left-still true power n small =
     let over : nat_le power (n + 0) ≡ false = grind (arith, nat_tests, small) in
     let same : n + 0 ≡ n = omega arith in
@@ -43,11 +43,11 @@ left-still false power n small =
     ap (λ k. k % power) same ∙ mod-eq_of_lt small
 
 -- what is held, by number and latch
-abbrev held_with : ℕ → Bool → Held
+abbrev pub held_with : ℕ → Bool → Held
 held_with number latch = record { number = number; latch = latch }
 
 -- the latch behind what is asked, by the number behind it
-latch-behind : (act : Act) (is_ring : Bool) (power : ℕ) (held : Held)
+pub latch-behind : (act : Act) (is_ring : Bool) (power : ℕ) (held : Held)
     → (if (act_controls act).test then nat_le (9 * power) (10 * number_after is_ring power act held.number) else held.latch)
     ≡ latch_after power act held
 latch-behind Still is_ring power held = refl
@@ -85,7 +85,7 @@ done-by is_ring act counter cycle pictures ready controlled round becomes =
     }
 
 -- what is entered, as a sum behind nothing
-behind-nothing : (is_ring : Bool) (power n : ℕ) → left_number is_ring power (0 + n) ≡ left_number is_ring power n
+pub behind-nothing : (is_ring : Bool) (power n : ℕ) → left_number is_ring power (0 + n) ≡ left_number is_ring power n
 behind-nothing is_ring power n = let same : 0 + n ≡ n = omega arith in ap (left_number is_ring power) same
 
 pub acts-done : GroupsDoWhatIsAsked

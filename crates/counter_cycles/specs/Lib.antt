@@ -1,3 +1,4 @@
 pub mod Acts
 pub mod Digits
 pub mod Laws
+pub mod Pairs

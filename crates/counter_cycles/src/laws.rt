@@ -1,5 +1,6 @@
 //! Laws of counter groups in a cycle, in numbers. Each is a function that does nothing: its contract is the law.
 
+ghost use Rattle.counter_cycles.specs.Pairs.{PairsDoWhatIsAsked, PairsShowTheirDigits};
 ghost use Rattle.counter_cycles.specs.Laws.{DigitsAndNumbers, EverythingCanBeAsked, GroupsBeginEmpty, GroupsDoWhatIsAsked, GroupsShowTheirDigits, TopWheelsAtNine};
 
 /// Whatever is asked of a group in a cycle, to add or subtract only a number that has room in it, it then holds the number and
@@ -32,4 +33,16 @@ pub fn digits_and_numbers()
 /// The top wheel of a group stands at 9 exactly where ten times its number reaches nine times the power of its width.
 pub fn top_wheels_at_nine()
     ensures { TopWheelsAtNine }
+{}
+
+/// Whatever is asked of two groups through which one carry goes, they then hold what one group of as many positions as both would
+/// hold, with the latch of the upper one: on the line, and as a ring where the carry comes round.
+pub fn pairs_do_what_is_asked()
+    ensures { PairsDoWhatIsAsked }
+{}
+
+/// The digits of two groups are those of their number together: from the units of the lower one to its top, and then those of the
+/// upper one.
+pub fn pairs_show_their_digits()
+    ensures { PairsShowTheirDigits }
 {}

@@ -22,6 +22,7 @@ use Rattle.machine.specs.Machine.{MachineState, group_units, storage_units}
 use Rattle.net.specs.Panel.{unit_of}
 use Rattle.report.specs.Edits.{last_digits}
 use Rattle.storage_units.specs.Storage.{StorageState, storage_number, storage_at_start}
+use Rattle.whole_cycles.proofs.Rings.{group-own as own}
 use Rattle.whole_cycles.proofs.Places.{in_units, as_many, told_at}
 use Rattle.whole_cycles.proofs.Units.{units-by_name}
 use Rattle.whole_cycles.specs.Between.{IsBetween}
@@ -31,10 +32,7 @@ use Rattle.wired_panels.specs.Sources.{digit_at}
 use Rattle.wired_panels.proofs.Contacts.{is_set}
 use Rattle.wiring_table.proofs.Groups.{group-there}
 
--- the units of the counter groups and of the storage units, in order
-unit-at : (k : ℕ) → k < 32 → get_or group_units k 0 ≡ 3 + k
-unit-at k within = get_or-range_with_len 3 32 k 0 within
-
+-- the units of the storage units, in order
 storage-at : (k : ℕ) → k < 4 → get_or storage_units k 0 ≡ 35 + k
 storage-at k within = get_or-range_with_len 35 4 k 0 within
 
@@ -60,19 +58,7 @@ module _ (machine : MachineState) (between : IsBetween machine) where
 
   -- a group of the machine is that of its name
   pub group-own : (counter : Counter) → Contains machine.groups counter → counter ≡ group_at machine counter.name
-  group-own counter (k, within, is) =
-      let m = many in
-      let unit : unit_of counter.name ≡ 3 + k
-      = ap (λ c. counter_number c) (sym is) ∙ told_at counter_number machine.groups group_units k counter between.ordered within
-      ∙ unit-at k (omega (arith, within, m)) in
-      let place : unit_of counter.name - 3 ≡ k = omega (arith, unit) in
-      sym (ap (λ j. get_or machine.groups j (counter_of counter.name)) place
-      ∙ same machine.groups k counter (counter_of counter.name) within is)
-    where
-      same : (list : List Counter) (k : ℕ) (x d : Counter) → k < length list → get_or list k x ≡ x → get_or list k d ≡ x
-      same [] k x d within is = absurd (omega (arith, within))
-      same (y ∷ list) zero x d within is = is
-      same (y ∷ list) (suc k) x d within is = same list k x d (omega (arith, within)) is
+  group-own counter listed = own machine between counter listed
 
   pub counter-is : (name : Group) → IsGroup name → IsCounter (group_at machine name)
   counter-is name is = (units-by_name.groups machine name between is).idle.lawful

@@ -1,5 +1,5 @@
 -- The carries of a whole cycle keep apart from all other impulses, and come to groups by their wires.
-use Rattle.std.proofs.Common.{◌≡◌, ◌∙◌, ◌==◌, refl, sym, ap, inl, inr, ◌&&◌, ◌||◌, not, Bool, true, false, List, ◌∷◌, Some, map}
+use Rattle.std.proofs.Common.{◌≡◌, ◌∙◌, ◌==◌, refl, sym, ap, inl, inr, ◌&&◌, ◌||◌, not, Bool, true, false, Some}
 use Rattle.std.specs.List.{list_any}
 use Rattle.std.proofs.lemmas.Bool.{and_from, and_parts, and_right, false≢true, or_cases, or_left}
 use Rattle.counters.proofs.Rings.{groups-round, pairs-coupled}
@@ -9,9 +9,8 @@ use Rattle.setups.specs.Wiring.{HasWire, Wiring}
 use Rattle.hubs.specs.declared.hub.Group.{Group}
 use Rattle.hubs.specs.declared.hub.Hub.{Hub}
 use Rattle.hubs.specs.declared.hub.Hub.TheVariants.{BAN, BAT, CI, CO}
-use Rattle.net.specs.Cycles.{is_closing}
 use Rattle.net.specs.HubSets.{is_hub}
-use Rattle.net.specs.Impulsed.{IsImpulsed, LeadsOn}
+use Rattle.net.specs.Impulsed.{IsImpulsed}
 use Rattle.net.specs.Impulsed.IsImpulsed.{emitting, led_on}
 use Rattle.net.specs.Panel.{contact_of, unit_of}
 use Rattle.net.specs.declared.cycle.Cycle.{Cycle}
@@ -22,7 +21,7 @@ use Rattle.selectors.specs.Pilots.{pilots_closes}
 use Rattle.selectors.specs.Splits.{splits_closes}
 use Rattle.storage_units.specs.Storage.{StorageState}
 use Rattle.machine.specs.Machine.{MachineState, closes}
-use Rattle.whole_cycles.specs.Carries.{CarriesComeByWires, CarriesKeepApart, CarriesLeadToCarries, CarriesWaitForTheClosingPoint, but_carries, is_carry}
+use Rattle.whole_cycles.specs.Carries.{CarriesComeByWires, CarriesKeepApart, CarriesWaitForTheClosingPoint, but_carries, is_carry}
 use Rattle.whole_cycles.specs.WholeCycles.{all_closing_emits, before_closing, carry_emits, closing_closes, closing_emits}
 use Rattle.whole_cycles.proofs.Alone.{at_balances, differing}
 use Rattle.whole_cycles.proofs.Emitted.{any-changed}

@@ -11,3 +11,4 @@ pub mod Places
 pub mod Alone
 pub mod Carries
 pub mod Units
+pub mod Rings

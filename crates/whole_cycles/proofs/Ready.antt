@@ -1,11 +1,8 @@
 -- A machine starts ready, and stays so from cycle to cycle and from feed to feed.
 use Rattle.std.proofs.Common.{◌≡◌, ◌∙◌, sym, ap, refl, ℕ, Bool, true, false, List, [], ◌∷◌, Option, map, subst, if◌then◌else◌}
 use Rattle.std.specs.List.{range_with_len}
-use Rattle.std.proofs.lemmas.List.Elements.{All-same}
 use Rattle.carriage.specs.Carriage.{CarriageState}
 use Rattle.placed_lines.specs.declared.placed_line.PlacedLine.{PlacedLine}
-use Rattle.counters.specs.Counters.{counter_at_start}
-use Rattle.counters.specs.WholeCycles as counters
 use Rattle.setups.specs.Wiring.{Wiring}
 use Rattle.hubs.specs.declared.hub.Hub.{Hub}
 use Rattle.net.specs.declared.cycle.Cycle.{Cycle}
@@ -16,13 +13,13 @@ use Rattle.program_unit.specs.CycleOrder.{is_fresh}
 use Rattle.program_unit.specs.Program.{ProgramState, program_ended, program_sensed}
 use Rattle.machine.specs.Cycles.{CycleRun}
 use Rattle.machine.specs.Feeds.{Fed, FeedRuns, FeedStep, begun, taken}
-use Rattle.machine.specs.Machine.{MachineState, group_units, machine_at_start}
+use Rattle.machine.specs.Machine.{MachineState, machine_at_start}
 use Rattle.machine.specs.Runs.{moved_on}
 use Rattle.whole_cycles.specs.Between.{IsReady, IsSetUp}
 use Rattle.whole_cycles.specs.Laws.{MachinesStayReady}
 use Rattle.whole_cycles.specs.WholeCycles.{WholeCycle}
 use Rattle.whole_cycles.proofs.Parts.{map-both}
-use Rattle.whole_cycles.proofs.Staying.{all-kept, all-made, starts, stays}
+use Rattle.whole_cycles.proofs.Staying.{starts, stays}
 use Rattle.whole_cycles.proofs.Wholes.{cycles-whole}
 
 ready-start : (wiring : Wiring) → IsReady wiring (machine_at_start wiring)

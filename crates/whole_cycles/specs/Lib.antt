@@ -2,5 +2,6 @@ pub mod WholeCycles
 pub mod Between
 pub mod Carries
 pub mod OneContactDeep
+pub mod Rings
 pub mod Units
 pub mod Laws

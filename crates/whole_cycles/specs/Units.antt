@@ -1,6 +1,6 @@
 -- Units by the names of their hubs: a counter group by its width and number, a storage unit by its number. Each exit is emitted, and
 -- each contact closed, by the unit of its name alone.
-use Rattle.std.specs.Prelude.{◌≡◌, ℕ, ◌+◌, ◌-◌, ◌≤◌, ◌&&◌, not, Bool, true, false, slice_index_or}
+use Rattle.std.specs.Prelude.{◌≡◌, ℕ, ◌+◌, ◌-◌, ◌≤◌, ◌&&◌, not, Bool, true, slice_index_or}
 use Rattle.card_code.specs.Rows.{row_number}
 use Rattle.card_code.specs.declared.row.Row.{Row as CardRow}
 use Rattle.counters.specs.Counters.{Counter, counter_of, shows, wheels_in}

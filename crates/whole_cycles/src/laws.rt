@@ -1,6 +1,7 @@
 //! Laws of cycles as a whole. Each is a function that does nothing: its contract is the law.
 
 ghost use Rattle.whole_cycles.specs.Carries.{CarriesComeByWires, CarriesKeepApart, CarriesWaitForTheClosingPoint};
+ghost use Rattle.whole_cycles.specs.Rings.{RingsTurnByThemselves};
 ghost use Rattle.whole_cycles.specs.Laws.{ContactsAreOneDeep, CyclesAreWhole, CyclesEmitAtSources, MachinesStayBetween, MachinesStayReady, UnitsAreByName, WheelsHaveTheirJacks};
 
 /// A cycle of a machine between cycles is its control point, its twelve rows side by side and its closing point, and leaves each
@@ -52,4 +53,11 @@ pub fn carries_keep_apart()
 /// wired to one another.
 pub fn carries_come_by_wires()
     ensures { CarriesComeByWires }
+{}
+
+/// Where no two groups are joined, each group that is wired from its carry exit to its carry entry turns as a ring by itself, every
+/// other one on the line, and all hubs but those of carries are impulsed as if no carry passed: so such a setup prints the lines
+/// that it prints where carries are no impulses.
+pub fn rings_turn_by_themselves()
+    ensures { RingsTurnByThemselves }
 {}

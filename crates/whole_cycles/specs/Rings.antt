@@ -1,0 +1,49 @@
+-- Setups in which carries go round single groups alone. There each group that is wired to itself turns as a ring by itself, every
+-- other one on the line, and no carry is seen anywhere else.
+use Rattle.std.specs.Prelude.{◌≡◌, ◌↔◌, Bool, true, false, map, if◌then◌else◌}
+use Rattle.counters.specs.Counters.{Counter, counter_ended, top_is_nine, wheels_in}
+use Rattle.counters.specs.Wheels.{turned_round}
+use Rattle.setups.specs.Wiring.{HasWire, LeadsToEntries, Wiring, is_wired}
+use Rattle.hubs.specs.Hubs.{keeps_ring}
+use Rattle.hubs.specs.declared.hub.Hub.{Hub}
+use Rattle.hubs.specs.declared.hub.Hub.TheVariants.{CI, CO}
+use Rattle.net.specs.Impulsed.{IsImpulsed}
+use Rattle.net.specs.declared.cycle.Cycle.{Cycle}
+use Rattle.net.specs.declared.cycle.Point.{Point}
+use Rattle.net.specs.declared.cycle.Point.TheVariants.{K}
+use Rattle.machine.specs.Machine.{MachineState, closes}
+use Rattle.whole_cycles.specs.Between.{IsBetween}
+use Rattle.whole_cycles.specs.Carries.{but_carries, is_carry}
+use Rattle.whole_cycles.specs.WholeCycles.{WholeCycle, before_closing, closing_emits}
+
+-- every wire from or to a carry hub leads from the carry exit of a group to the carry entry of the same group
+abbrev pub JoinsNoGroups : Wiring → Type 0
+JoinsNoGroups wiring = (exit entry : Hub) → HasWire wiring exit entry → keeps_ring exit entry ≡ true
+
+-- a group after a cycle in which its wheels turn by themselves, as a ring or on the line
+abbrev pub after_turning : Bool → Cycle → (Point → Hub → Bool) → Counter → Counter
+after_turning is_ring cycle pictures group =
+    let before = before_closing cycle pictures group in
+    let digits = turned_round is_ring (wheels_in before) in
+    record (counter_ended before cycle) {
+      digits = digits;
+      latch = if before.controls.test then top_is_nine digits else before.latch;
+    }
+
+-- In a cycle groups turn by themselves, and all hubs but those of carries are impulsed at the closing point as if no carry passed.
+pub record TurnByThemselves (wiring : Wiring) (cycle : Cycle) (old new : MachineState) (pictures : Point → Hub → Bool) : Type 0 where
+  pub groups :
+      new.groups
+      ≡ map (λ group. after_turning (is_wired wiring (CO group.name) (CI group.name)) cycle pictures group) old.groups
+  pub others :
+      (hub : Hub) → is_carry hub ≡ false
+      → (pictures K hub ≡ true) ↔ IsImpulsed wiring (closing_emits pictures cycle) (but_carries (closes old cycle K)) hub
+
+-- Where no two groups are joined, each group that is wired to itself is a ring by itself.
+abbrev pub RingsTurnByThemselves : Type 0
+RingsTurnByThemselves =
+    (wiring : Wiring) (cycle : Cycle) (old new : MachineState) (whole : WholeCycle wiring cycle old new)
+    → LeadsToEntries wiring
+    → JoinsNoGroups wiring
+    → IsBetween old
+    → TurnByThemselves wiring cycle old new whole.pictures
