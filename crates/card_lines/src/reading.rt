@@ -89,6 +89,7 @@ impl<S: Source + Drop> CardLines<S> {
         ensures unread { IsSettled self.old.held → self.new.source ≡ self.old.source }
         ensures ended { self.old.at_end ≡ true → self.new.source ≡ self.old.source }
         ensures counted { S.reads self.new.source ≤ S.reads self.old.source + 82 }
+        ensures same { S.borrow self.new.source ≡ S.borrow self.old.source }
     {
         if self.has_failed {
             return Err(ReadFault::Failed);
@@ -116,6 +117,7 @@ impl<S: Source + Drop> CardLines<S> {
         ensures unread { IsSettled self.old.held → self.new.source ≡ self.old.source }
         ensures ended { self.old.at_end ≡ true → self.new.source ≡ self.old.source }
         ensures counted { S.reads self.new.source ≤ S.reads self.old.source + 82 }
+        ensures same { S.borrow self.new.source ≡ S.borrow self.old.source }
     {
         let Ok(front) = self.fill() else {
             return Err(ReadFault::Read {
@@ -144,6 +146,7 @@ impl<S: Source + Drop> CardLines<S> {
         ensures unread { IsSettled self.old.held → self.new.source ≡ self.old.source }
         ensures ended { self.old.at_end ≡ true → self.new.source ≡ self.old.source }
         ensures counted { S.reads self.new.source ≤ S.reads self.old.source + 82 }
+        ensures same { S.borrow self.new.source ≡ S.borrow self.old.source }
     {
         loop {
             let front = look_at(self.held.bytes());
