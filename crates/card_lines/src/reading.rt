@@ -74,6 +74,7 @@ impl<S: Source + Drop> CardLines<S> {
         ensures card { IfOk result (λ found. IfSome found (λ card. (text : List ℕ) → still_to_come S.left self.old ≡ Some text →
             GivesCard self.old.given text card (still_to_come S.left self.new))) }
         ensures one_more { IfOk result (λ found. IfSome found (λ _. self.new.given ≡ self.old.given + 1)) }
+        ensures few { self.new.given ≤ 999999 }
         ensures none { IfOk result (λ found. IfNone found ((text : List ℕ) → still_to_come S.left self.old ≡ Some text →
             lines_of text ≡ [])) }
         ensures all { IfOk result (λ found. IfNone found (IsAtEnd (S.left self.new.source))) }
