@@ -5,7 +5,7 @@ use Rattle.card_lines.specs.Front.{IsPart}
 use Rattle.card_lines.specs.Reading.{Reading, still_to_come, IsSettled}
 
 -- How a reading goes on while it is filled: the text stays, each read but the last brings a byte, and nothing is read where a line was held.
-pub record IsFilling {S : Type 0} (left : S → Option (List ℕ)) (reads : S → ℕ) (old now : Reading S) : Type 0 where
+pub record IsFilling {S : Type 0} (left : S → Option (List ℕ)) (reads borrow : S → ℕ) (old now : Reading S) : Type 0 where
   pub text : Keeps (still_to_come left old) (still_to_come left now)
   pub given : now.given ≡ old.given
   pub has_failed : now.has_failed ≡ old.has_failed
@@ -13,6 +13,7 @@ pub record IsFilling {S : Type 0} (left : S → Option (List ℕ)) (reads : S �
   pub most : reads now.source ≤ reads old.source + 82
   pub bounded : now.given ≤ 999999
   pub end : now.at_end ≡ true → IsAtEnd (left now.source)
+  pub same : borrow now.source ≡ borrow old.source
   pub begun : (now ≡ old) ⊎ ((IsSettled old.held → ⊥) × (old.at_end ≡ false))
 
 -- a part of a line is no whole line and none that is too long

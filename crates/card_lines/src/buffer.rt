@@ -61,6 +61,7 @@ impl Buffer {
         ensures kept { OnErr result (self.new ≡ self.old) }
         ensures counted { S.reads source.new ≡ min (S.reads source.old + 1) (2 ^ 64 - 1) }
         ensures failed { HasFailedBy result (S.has_failed source.old) (S.has_failed source.new) }
+        ensures same { S.borrow source.new ≡ S.borrow source.old }
     {
         let held = self.to - self.from;
         self.bytes.copy_within(self.from..self.to, 0);

@@ -74,6 +74,7 @@ impl<S: Source + Drop> CardLines<S> {
         ensures card { IfOk result (λ found. IfSome found (λ card. (text : List ℕ) → still_to_come S.left self.old ≡ Some text →
             GivesCard self.old.given text card (still_to_come S.left self.new))) }
         ensures one_more { IfOk result (λ found. IfSome found (λ _. self.new.given ≡ self.old.given + 1)) }
+        ensures few { self.new.given ≤ 999999 }
         ensures none { IfOk result (λ found. IfNone found ((text : List ℕ) → still_to_come S.left self.old ≡ Some text →
             lines_of text ≡ [])) }
         ensures all { IfOk result (λ found. IfNone found (IsAtEnd (S.left self.new.source))) }
@@ -89,6 +90,7 @@ impl<S: Source + Drop> CardLines<S> {
         ensures unread { IsSettled self.old.held → self.new.source ≡ self.old.source }
         ensures ended { self.old.at_end ≡ true → self.new.source ≡ self.old.source }
         ensures counted { S.reads self.new.source ≤ S.reads self.old.source + 82 }
+        ensures same { S.borrow self.new.source ≡ S.borrow self.old.source }
     {
         if self.has_failed {
             return Err(ReadFault::Failed);
@@ -116,6 +118,7 @@ impl<S: Source + Drop> CardLines<S> {
         ensures unread { IsSettled self.old.held → self.new.source ≡ self.old.source }
         ensures ended { self.old.at_end ≡ true → self.new.source ≡ self.old.source }
         ensures counted { S.reads self.new.source ≤ S.reads self.old.source + 82 }
+        ensures same { S.borrow self.new.source ≡ S.borrow self.old.source }
     {
         let Ok(front) = self.fill() else {
             return Err(ReadFault::Read {
@@ -144,6 +147,7 @@ impl<S: Source + Drop> CardLines<S> {
         ensures unread { IsSettled self.old.held → self.new.source ≡ self.old.source }
         ensures ended { self.old.at_end ≡ true → self.new.source ≡ self.old.source }
         ensures counted { S.reads self.new.source ≤ S.reads self.old.source + 82 }
+        ensures same { S.borrow self.new.source ≡ S.borrow self.old.source }
     {
         loop {
             let front = look_at(self.held.bytes());

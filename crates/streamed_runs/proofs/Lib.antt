@@ -1,2 +1,4 @@
 pub mod Feeding
+mod LastCards
+mod NextCards
 pub mod Streams

@@ -1,4 +1,5 @@
 pub mod Causes
+pub mod HelperStanding
 pub mod Laws
 pub mod Reading
 pub mod Runs

@@ -8,6 +8,7 @@
 
 mod fault;
 pub mod laws;
+mod run;
 mod running;
 
 pub use fault::{StreamCause, StreamFault};
