@@ -1,5 +1,5 @@
 -- The third program cycle of a level, put together: what the groups and units hold, and the line that they print.
-use Rattle.std.proofs.Common.{◌≡◌, ◌∙◌, refl, sym, ap, subst, ℕ, ◌+◌, ◌≤◌, ◌<◌, ◌^◌, ◌==◌, nat_lt, Bool, true, false, List, Contains, Option, Some, None, length, is_some, arith}
+use Rattle.std.proofs.Common.{◌≡◌, ◌∙◌, refl, sym, ap, subst, ℕ, ◌+◌, ◌≤◌, ◌<◌, ◌^◌, ◌==◌, nat_lt, Bool, true, false, List, Contains, Option, Some, None, length, is_some, arith, unsigned_abs}
 use Rattle.std.proofs.lemmas.Bool.Decides.{nat_tests}
 use Rattle.wanted.specs.ChartTotals.{names_signed}
 use Rattle.plans.specs.Plans.{Lists}
@@ -229,7 +229,7 @@ module _ (chart : Chart) (plan : Lists) (wiring : Wiring) (panel : IsPanel chart
           let good_kind : is_mismatched_kind field.kind mark ≡ false
           = sym (ap (λ (o : Option Field). is_mismatched o mark) named) ∙ good in
           record {
-            fits = subst (λ d. edit.size (total_of field (taking card so_far n)) < 10 ^ d) many_here shown.fits;
+            fits = subst (λ d. unsigned_abs (total_of field (taking card so_far n)) < 10 ^ d) many_here shown.fits;
             figure = shown.figure;
             below = λ marked less. shown.below less;
             above = λ marked less some.

@@ -1,6 +1,6 @@
 -- The cycles of a machine that is wired for a chart, put together: what it holds between cycles is kept, and each line is printed as the
 -- report has it.
-use Rattle.std.proofs.Common.{◌≡◌, ◌∙◌, refl, sym, ap, subst, ℕ, suc, ◌+◌, nat_le, ◌≤◌, ◌<◌, ◌^◌, ℤ, Bool, true, false, List, [], Option, Some, None, if◌then◌else◌, arith}
+use Rattle.std.proofs.Common.{◌≡◌, ◌∙◌, refl, sym, ap, subst, ℕ, suc, ◌+◌, nat_le, ◌≤◌, ◌<◌, ◌^◌, ℤ, Bool, true, false, List, [], Option, Some, None, if◌then◌else◌, arith, unsigned_abs}
 use Rattle.std.proofs.lemmas.Bool.Decides.{nat_tests}
 use Rattle.counter_cycles.specs.Acts.{Held}
 use Rattle.plans.specs.Plans.{Lists}
@@ -294,7 +294,7 @@ module _ (chart : Chart) (plan : Lists) (wiring : Wiring) (panel : IsPanel chart
       record {
         figure = shown.number ∙ ap same_size here;
         below = λ less. shown.below_zero (ap same_sign here ∙ less);
-        above = λ signed less some. shown.above_zero signed (ap same_sign here ∙ less) (subst (λ n. 1 ≤ edit.size n) (sym here) some);
+        above = λ signed less some. shown.above_zero signed (ap same_sign here ∙ less) (subst (λ n. 1 ≤ unsigned_abs n) (sym here) some);
         fits = fits chart plan panel.lawful name field k (groups (suc k)) amount has (due.fit (suc k) (omega arith) within);
         unsigned = λ none. (unsigned_total field (groups (suc k)) (never_negated chart plan name field amount none));
       }
@@ -305,7 +305,7 @@ module _ (chart : Chart) (plan : Lists) (wiring : Wiring) (panel : IsPanel chart
           ap (λ (b : Bool). total_of f (if b then [] else group)) above
 
       same_size : ℤ → ℕ
-      same_size n = edit.size n
+      same_size n = unsigned_abs n
 
       same_sign : ℤ → Bool
       same_sign n = edit.is_below_zero n

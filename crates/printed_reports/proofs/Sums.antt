@@ -1,6 +1,6 @@
 -- The totals of an amount and the sums of the report: a card is added to the sum of each level's unfinished group, and the end of a group
 -- clears its own sum and those of the groups within it.
-use Rattle.std.proofs.Common.{◌≡◌, ◌∙◌, refl, sym, ap, subst, ℕ, zero, suc, ◌≤◌, ◌<◌, ◌^◌, nat_le, ℤ, pos, negsuc, neg_ℤ, ◌+ℤ◌, Bool, true, false, List, [], ◌∷◌, ◌++◌, if◌then◌else◌, arith}
+use Rattle.std.proofs.Common.{◌≡◌, ◌∙◌, refl, sym, ap, subst, ℕ, zero, suc, ◌≤◌, ◌<◌, ◌^◌, nat_le, ℤ, pos, negsuc, neg_ℤ, ◌+ℤ◌, Bool, true, false, List, [], ◌∷◌, ◌++◌, if◌then◌else◌, arith, unsigned_abs}
 use Rattle.std.proofs.lemmas.Bool.Decides.{nat_tests}
 use Rattle.std.proofs.lemmas.Int.{ints}
 use Rattle.counter_cycles.specs.Acts.{Held}
@@ -51,7 +51,7 @@ card_sums amount field card so_far state lawful on_card stands =
 -- The group of a level ends: its sum fits, and isn't below 0 without a sign.
 pub group_end :
     (amount : Amount) (field : Field) (groups : ℕ → List (List ℕ)) (k : ℕ)
-    → edit.size (total_of field (groups (suc k))) < 10 ^ amount.digits (suc k)
+    → unsigned_abs (total_of field (groups (suc k))) < 10 ^ amount.digits (suc k)
     → (amount.is_signed ≡ false → sums.is_below_zero (total_of field (groups (suc k))) ≡ false)
     → IsGroupEnd amount (suc k) (sums_of field (cleared k groups))
 group_end amount field groups k fits unsigned =
@@ -59,7 +59,7 @@ group_end amount field groups k fits unsigned =
     record {
       is_level = omega arith;
       lower_ended = λ level from below. ended level below;
-      fits = subst (λ cards. sums.size (total_of field cards) < 10 ^ amount.digits (suc k)) (sym here) (same_size (total_of field (groups (suc k))) fits);
+      fits = subst (λ cards. unsigned_abs (total_of field cards) < 10 ^ amount.digits (suc k)) (sym here) (same_size (total_of field (groups (suc k))) fits);
       unsigned = λ none. ap (λ cards. sums.is_below_zero (total_of field cards)) here ∙ unsigned none;
     }
   where
@@ -71,7 +71,7 @@ group_end amount field groups k fits unsigned =
         let within : nat_le level k ≡ true = grind (arith, nat_tests, below) in
         ap (λ (b : Bool). total_of field (if b then [] else groups level)) within
 
-    same_size : (n : ℤ) → edit.size n < 10 ^ amount.digits (suc k) → sums.size n < 10 ^ amount.digits (suc k)
+    same_size : (n : ℤ) → unsigned_abs n < 10 ^ amount.digits (suc k) → unsigned_abs n < 10 ^ amount.digits (suc k)
     same_size n less = less
 
 -- the sums once one more level has ended
