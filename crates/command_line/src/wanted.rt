@@ -8,6 +8,7 @@ use clap::error::ErrorKind;
 use clap::{ArgMatches, Error};
 use std::alloc::Global;
 use std::io;
+use std::io::ErrorKind as IoErrorKind;
 
 /// What the words of the command line ask for; files are told by their paths.
 #[derive(Clone, Copy, Debug, PartialEq, Eq)]
@@ -29,15 +30,16 @@ pub enum Wanted<'a> {
 pub enum Refused {
     /// Memory ran out. Nothing is told yet.
     Memory,
-    /// The words are no command. What is wrong with them stands on standard error.
+    /// The words are no command. What is wrong with them stands on standard error, where that can be written.
     Mistaken,
     /// The words asked for the help or the version, which is printed.
     Answered,
-    /// The help, the version or what is wrong could not be written.
+    /// The help or the version could not be written, or what is wrong for want of memory.
     Unwritten(io::Error),
 }
 
-// Tells what is wrong with the words, or prints the help or the version that they ask for.
+// Tells what is wrong with the words, or prints the help or the version that they ask for. Where standard error can't be written, the
+// status alone tells of mistaken words.
 fn told(rt: &HostRuntime, error: &Error) -> Refused
     ensures { kind_of error.now ≡ ErrorKind.OutOfMemory → result ≡ Refused.Memory }
 {
@@ -45,7 +47,10 @@ fn told(rt: &HostRuntime, error: &Error) -> Refused
         return Refused::Memory;
     }
     match error.print(rt) {
-        Ok(()) if error.use_stderr() => Refused::Mistaken,
+        Err(unwritten) if unwritten.kind() == IoErrorKind::OutOfMemory => {
+            Refused::Unwritten(unwritten)
+        }
+        _ if error.use_stderr() => Refused::Mistaken,
         Ok(()) => Refused::Answered,
         Err(unwritten) => Refused::Unwritten(unwritten),
     }
