@@ -1,4 +1,0 @@
-pub mod Feeding
-mod LastCards
-mod NextCards
-pub mod Streams
