@@ -2,7 +2,7 @@
 use Rattle.std.proofs.Common.{◌≡◌, ◌∙◌, refl, sym, ap, ℕ, ◌≤◌, ◌<◌, ◌⊎◌, inl, inr, List, Some, slice_get, arith}
 use Rattle.std.proofs.lemmas.Bool.{cases_lt}
 use Rattle.capacity.specs.Capacities.{Capacities}
-use Rattle.allocate.specs.Exceeded.{HasFault, IsExceeded, IsFirstAmong, IsFirstOver, in_order}
+use Rattle.allocate.specs.Exceeded.{HasCapacityFault, IsExceeded, IsFirstAmong, IsFirstOver, in_order}
 use Rattle.wanted.specs.Units.{IsLowestOf}
 use Rattle.plans.specs.Excess.{count_there}
 use Rattle.wanted.specs.Counts.{count_wanted}
@@ -20,7 +20,7 @@ place-lowest capacities one other wanted machine is also = by (cases_lt also.pla
   where
     by : ((also.place < is.place) ⊎ (is.place ≤ also.place)) → is.place ≤ also.place
     by (inl before) = absurd (is.none_before also.place other before also.is_there also.over)
-    by (inr behind) = behind
+    by (inr after) = after
 
 -- so the first is one
 same_first : (one other : Capacity) (wanted : Wanted) (machine : Capacities) → IsFirstOver one wanted machine
@@ -70,7 +70,7 @@ Tells-counts wanted machine first count there other has = record {
 }
 
 -- each fault tells so
-Tells-fault : (wanted : Wanted) (machine : Capacities) (told : CapacityFault) → HasFault wanted machine told → Tells wanted machine told
+Tells-fault : (wanted : Wanted) (machine : Capacities) (told : CapacityFault) → HasCapacityFault wanted machine told → Tells wanted machine told
 Tells-fault wanted machine (fault.Counters width count there) has = Tells-counts wanted machine (of.Counters width) count there (λ same. cc) has
 Tells-fault wanted machine (fault.Pilots count there) has = Tells-counts wanted machine of.Pilots count there (λ same. cc) has
 Tells-fault wanted machine (fault.Comparing count there) has = Tells-counts wanted machine of.Comparing count there (λ same. cc) has

@@ -57,12 +57,12 @@ pub record IsExceeded (first : Capacity) (count there : ℕ) (wanted : Wanted) (
 
 -- The fault of what a chart wants on a machine: the first capacity that it exceeds, with what is wanted and what is there,
 -- or the lowest line of a total text that is too wide. No chart makes memory run out.
-abbrev pub HasFault : Wanted → Capacities → CapacityFault → Type 0
-HasFault wanted machine (fault.Counters width count there) = IsExceeded (of.Counters width) count there wanted machine
-HasFault wanted machine (fault.Pilots count there) = IsExceeded of.Pilots count there wanted machine
-HasFault wanted machine (fault.Comparing count there) = IsExceeded of.Comparing count there wanted machine
-HasFault wanted machine (fault.StorageWidth line) = IsFirstOver of.StorageWidth wanted machine × IsLowestOf wanted.wide_texts line
-HasFault wanted machine (fault.StorageUnits count there) = IsExceeded of.StorageUnits count there wanted machine
-HasFault wanted machine (fault.Splits count there) = IsExceeded of.Splits count there wanted machine
-HasFault wanted machine (fault.Indicate level count there) = IsExceeded (of.Indicate level) count there wanted machine
-HasFault wanted machine fault.Memory = ⊥
+abbrev pub HasCapacityFault : Wanted → Capacities → CapacityFault → Type 0
+HasCapacityFault wanted machine (fault.Counters width count there) = IsExceeded (of.Counters width) count there wanted machine
+HasCapacityFault wanted machine (fault.Pilots count there) = IsExceeded of.Pilots count there wanted machine
+HasCapacityFault wanted machine (fault.Comparing count there) = IsExceeded of.Comparing count there wanted machine
+HasCapacityFault wanted machine (fault.StorageWidth line) = IsFirstOver of.StorageWidth wanted machine × IsLowestOf wanted.wide_texts line
+HasCapacityFault wanted machine (fault.StorageUnits count there) = IsExceeded of.StorageUnits count there wanted machine
+HasCapacityFault wanted machine (fault.Splits count there) = IsExceeded of.Splits count there wanted machine
+HasCapacityFault wanted machine (fault.Indicate level count there) = IsExceeded (of.Indicate level) count there wanted machine
+HasCapacityFault wanted machine fault.Memory = ⊥

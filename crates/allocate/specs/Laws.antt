@@ -5,7 +5,7 @@ use Rattle.capacity.specs.declared.group.CounterGroup.{CounterGroup}
 use Rattle.charts.specs.Chart.{Chart}
 use Rattle.chart_rules.specs.Rules.{IsLawful}
 use Rattle.wanted.specs.ChartTotals.{totals_of}
-use Rattle.allocate.specs.Exceeded.{HasFault, Fits}
+use Rattle.allocate.specs.Exceeded.{HasCapacityFault, Fits}
 use Rattle.plans.specs.Excess.{IsOver}
 use Rattle.plans.specs.Assignments.{IsAssignment}
 use Rattle.wanted.specs.Wanted.{Wanted, wanted_of}
@@ -31,10 +31,10 @@ ChartsOverHaveNone =
 -- what fits a machine has no fault on it
 abbrev pub FittingChartsHaveNoFault : Type 0
 FittingChartsHaveNoFault =
-    (wanted : Wanted) (machine : Capacities) (told : CapacityFault) → Fits wanted machine → ¬ HasFault wanted machine told
+    (wanted : Wanted) (machine : Capacities) (told : CapacityFault) → Fits wanted machine → ¬ HasCapacityFault wanted machine told
 
 -- what is wanted has at most one fault on a machine
 abbrev pub ChartsExceedOneCapacity : Type 0
 ChartsExceedOneCapacity =
-    (wanted : Wanted) (machine : Capacities) (one other : CapacityFault) → HasFault wanted machine one
-    → HasFault wanted machine other → one ≡ other
+    (wanted : Wanted) (machine : Capacities) (one other : CapacityFault) → HasCapacityFault wanted machine one
+    → HasCapacityFault wanted machine other → one ≡ other

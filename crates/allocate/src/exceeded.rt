@@ -64,7 +64,7 @@ fn first_over(wanted: &Wanted, profile: &Profile) -> Option<Capacity>
 /// What is told where a capacity is the first that is exceeded.
 fn fault_of(capacity: Capacity, wanted: &Wanted, profile: &Profile) -> CapacityFault
     requires { law.IsFirstOver capacity wanted.now profile.now }
-    ensures { law.HasFault wanted.now profile.now result }
+    ensures { law.HasCapacityFault wanted.now profile.now result }
 {
     let count = wanted.count(capacity);
     let there = count_there(profile, capacity);
@@ -104,7 +104,7 @@ fn fault_of(capacity: Capacity, wanted: &Wanted, profile: &Profile) -> CapacityF
 /// The fault of what is wanted on a machine, if it does not fit.
 pub(crate) fn fault_on(wanted: &Wanted, profile: &Profile) -> Option<CapacityFault>
     ensures none { IfNone result (law.Fits wanted.now profile.now) }
-    ensures some { IfSome result (law.HasFault wanted.now profile.now) }
+    ensures some { IfSome result (law.HasCapacityFault wanted.now profile.now) }
 {
     let capacity = first_over(wanted, profile)?;
     Some(fault_of(capacity, wanted, profile))

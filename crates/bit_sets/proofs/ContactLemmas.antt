@@ -37,7 +37,7 @@ run_passes run closed words commons ones shut there place range at_commons at_on
     (λ (before : place < run.exits).
     let no_place : nat_le run.exits place ≡ false = grind (arith, nat_tests) in
     by_none _ _ _ no_place)
-    (λ behind. ap (λ b. nat_le run.exits place && b) (by_bit (place - run.exits) (omega arith)))
+    (λ after. ap (λ b. nat_le run.exits place && b) (by_bit (place - run.exits) (omega arith)))
     (cases_lt place run.exits) where
       by_none : (a b c : Bool) → a ≡ false → (a && b) ≡ (a && c)
       by_none a b c e = grind (arith, nat_tests)

@@ -1,4 +1,4 @@
--- Wires side by side: a run of them leads from a place and those behind it to another place and those behind it.
+-- Wires side by side: a run of them leads from a place and those after it to another place and those after it.
 use Rattle.std.specs.Prelude.{◌≡◌, ℕ, ◌+◌, ◌-◌, ◌<◌, ◌≤◌, ◌&&◌, ◌||◌, ◌⊎◌, nat_le, nat_lt, Bool, true, false, List, [], ◌∷◌, length, All}
 use Rattle.bit_sets.specs.Bits.{has_place}
 use Rattle.bit_sets.specs.Contacts.{is_contact, is_any_contact, IsRunInRange}

@@ -1,4 +1,4 @@
--- Runs of contacts: from a common place and those behind it to an exit place and those behind it, one by one.
+-- Runs of contacts: from a common place and those after it to an exit place and those after it, one by one.
 use Rattle.std.specs.Prelude.{ℕ, ◌+◌, ◌-◌, ◌<◌, ◌≤◌, ◌==◌, ◌&&◌, ◌||◌, not, nat_le, nat_lt, Bool, false, List, [], ◌∷◌}
 use Rattle.bit_sets.specs.Bits.{has_place}
 use Rattle.bit_sets.specs.declared.contacts.Run.{Run}

@@ -18,7 +18,7 @@ pub fn has(words: &[u64; WORDS], place: usize) -> bool
     has_in(words, place)
 }
 
-// Whether these words have a place; none behind their last.
+// Whether these words have a place; none after their last.
 pub(crate) fn has_in(words: &[u64], place: usize) -> bool
     ensures { result ≡ has_place words.now place }
 {
@@ -41,8 +41,8 @@ pub(crate) fn put(words: &mut [u64], place: usize)
     words[place / 64] |= bit_where(place % 64, true);
 }
 
-/// Adds a row of up to 128 places that follow one another: bit k stands for the place that is k behind the first one. Bits
-/// behind the last place change nothing.
+/// Adds a row of up to 128 places that follow one another: bit k stands for the place that is k after the first one. Bits
+/// after the last place change nothing.
 pub fn put_run(words: &mut [u64; WORDS], first: usize, bits: u128)
     requires { first < PLACES }
     ensures { GainsPlaces (λ place. nat_lt place PLACES && is_in_run first bits place) words.old words.new }
@@ -54,7 +54,7 @@ pub fn put_run(words: &mut [u64; WORDS], first: usize, bits: u128)
 }
 
 /// Which of the 128 places that follow one another from the first one are in the set: bit k stands for the place that is k
-/// behind the first one.
+/// after the first one.
 pub fn run(words: &[u64; WORDS], first: usize) -> u128
     requires { first < PLACES }
     ensures { (k : ℕ) → is_bit result k ≡ (nat_lt k 128 && has_place words.now (first + k)) }

@@ -2,7 +2,7 @@
 
 use card_code::Row;
 use hubs::Hub;
-use net::{Contacts, Cycle, Level, Ordinal, Point};
+use net::{Contacts, Cycle, Ordinal, Point, ProgramLevel};
 use selectors::{GROUPS, Indicate, Pilots, contacts};
 
 // How many hubs of the panel are in the set.
@@ -37,8 +37,8 @@ fn closed_at(cycle: Cycle, point: Point) -> usize {
 static CLOSED: [(Cycle, Point, usize); 6] = [
     (Cycle::Card, Point::C, 128 + 48 + 90),
     (Cycle::Card, Point::Row(Row::Nine), 128 + 48 + 90 + 16),
-    (Cycle::Prog(Level::Minor, Ordinal::First), Point::K, 176),
-    (Cycle::Prog(Level::Minor, Ordinal::First), Point::Row(Row::Twelve), 192),
+    (Cycle::Prog(ProgramLevel::Minor, Ordinal::First), Point::K, 176),
+    (Cycle::Prog(ProgramLevel::Minor, Ordinal::First), Point::Row(Row::Twelve), 192),
     (Cycle::Head(Ordinal::Second), Point::C, 176),
     (Cycle::Head(Ordinal::Second), Point::Row(Row::Zero), 192),
 ];

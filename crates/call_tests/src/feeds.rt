@@ -33,7 +33,7 @@ fn fed(
     alloc: Global,
     deck: &[u8],
     ends: u8,
-    behind: &[u8],
+    after: &[u8],
 ) -> Result<(Vec<PlacedLine>, Result<(), FeedFault>), Fail> {
     let setup = listing(alloc)?;
     let mut machine = Machine::new(alloc, &setup)?;
@@ -45,16 +45,16 @@ fn fed(
     for _ in 0..ends {
         last = machine.feed(None, &mut lines);
     }
-    for card in &read_deck(alloc, behind)? {
+    for card in &read_deck(alloc, after)? {
         last = machine.feed(Some(*card), &mut lines);
     }
     Ok((lines, last))
 }
 
-/// A deck, how many ends follow it, and a deck behind them; the lines as page, line and character, and the last feed's answer.
+/// A deck, how many ends follow it, and a deck after them; the lines as page, line and character, and the last feed's answer.
 #[rattlefmt::skip]
 static FEEDS: [(&[u8], u8, &[u8], &[(u64, u32, u8)], Result<(), FeedFault>); 6] = [
-    // An end that comes first runs nothing, and nothing comes behind an end.
+    // An end that comes first runs nothing, and nothing comes after an end.
     (b"", 1, b"", &[], Ok(())),
     (b"", 2, b"", &[], Err(FeedFault::Ended)),
     (b"A\n", 1, b"B\n", &[(1, 2, b'A')], Err(FeedFault::Ended)),
@@ -66,8 +66,8 @@ static FEEDS: [(&[u8], u8, &[u8], &[(u64, u32, u8)], Result<(), FeedFault>); 6] 
 
 #[test]
 fn cards_and_ends_are_fed(rt: HostRuntime) -> Result<(), Fail> {
-    for (deck, ends, behind, expected, answer) in FEEDS {
-        let (lines, last) = fed(rt.alloc(), deck, ends, behind)?;
+    for (deck, ends, after, expected, answer) in FEEDS {
+        let (lines, last) = fed(rt.alloc(), deck, ends, after)?;
         assert!(rt; read_so(lines.as_slice(), expected));
         assert_eq!(rt; last, answer);
     }

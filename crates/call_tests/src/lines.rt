@@ -4,7 +4,7 @@ use std::alloc::{AllocError, Global};
 use std::test::Fail;
 use tokens::{is, is_end_line, read_number, read_number_to, split_line};
 
-/// Lines with their tokens, a `;` behind each, or `None` where a line isn't made of tokens.
+/// Lines with their tokens, a `;` after each, or `None` where a line isn't made of tokens.
 #[rattlefmt::skip]
 static LINES: [(&str, Option<&str>); 10] = [
     ("   ", Some("")), ("  FORM 12  1 9 ", Some("FORM;12;1;9;")), ("HEAD 1 'A  B' X", Some("HEAD;1;'A  B';X;")),
@@ -18,7 +18,7 @@ static NUMBERS: [(&str, Option<u16>); 10] = [
     ("", None), ("00", None), ("07", None), ("1000", None), ("+1", None),
 ];
 
-/// The tokens of a line, a `;` behind each.
+/// The tokens of a line, a `;` after each.
 fn divided(alloc: Global, line: &str) -> Result<Option<Vec<u8>>, AllocError> {
     let Some(tokens) = split_line(alloc, line.as_bytes())? else {
         return Ok(None);

@@ -70,9 +70,9 @@ fn hubs_at_the_ends_of_words(rt: HostRuntime) -> Result<(), Fail> {
     Ok(())
 }
 
-// A row that reaches behind hub 1936 is cut there: from that hub it is one hub long, and from the last wheel, hub 1918, 19.
+// A row that reaches after hub 1936 is cut there: from that hub it is one hub long, and from the last wheel, hub 1918, 19.
 #[test]
-fn rows_that_reach_behind_the_last_hub(rt: HostRuntime) -> Result<(), Fail> {
+fn rows_that_reach_after_the_last_hub(rt: HostRuntime) -> Result<(), Fail> {
     let mut last = Picture::new();
     last.insert_row(Hub::RS, u128::MAX);
     let mut words = [0; 31];

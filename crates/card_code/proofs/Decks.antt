@@ -5,7 +5,7 @@ use Rattle.std.proofs.lemmas.List.{take_all}
 use Rattle.std.proofs.lemmas.List.Elements.{All-from_get_or, AllZip-get_or, all_zip_more}
 use Rattle.std.specs.List.{AllZip}
 use Rattle.card_code.specs.MostCards.{most_cards}
-use Rattle.card_code.specs.Deck.{Deck, IsCardOf, IsPunchable, IsReached, HasFault, HasLineFault, IsOddColumn, line_at}
+use Rattle.card_code.specs.Deck.{Deck, IsCardOf, IsPunchable, IsReached, HasDeckFault, HasLineFault, IsOddColumn, line_at}
 use Rattle.card_code.specs.Lines.{lines_of}
 use Rattle.card_code.specs.declared.deck.DeckFault.{DeckFault}
 use Rattle.card_code.specs.declared.deck.DeckFault.TheVariants.{CardTooLong, NoSuchCharacter, TooManyCards, Memory}
@@ -85,22 +85,22 @@ IsReached-next bytes text line rest cards read more cut =
     )
 
 -- the fault of the line at which reading stops
-pub HasFault-next : (bytes text line rest : List ℕ) (cards : List (List ℕ)) → IsReadUpTo bytes text cards →
+pub HasDeckFault-next : (bytes text line rest : List ℕ) (cards : List (List ℕ)) → IsReadUpTo bytes text cards →
     length cards ≢ most_cards → lines_of text ≡ line ∷ lines_of rest → (number : ℕ) → number ≡ length cards + 1 →
-    (fault : DeckFault) → HasLineFault line number fault → HasFault bytes fault
-HasFault-next bytes text line rest cards read more cut number e (CardTooLong n) h =
+    (fault : DeckFault) → HasLineFault line number fault → HasDeckFault bytes fault
+HasDeckFault-next bytes text line rest cards read more cut number e (CardTooLong n) h =
     let r = IsReached-next bytes text line rest cards read more cut in
     rw (h.0, e) (r.0, subst (λ s. 80 < length s) (sym r.1) h.1)
-HasFault-next bytes text line rest cards read more cut number e (NoSuchCharacter n column) h =
+HasDeckFault-next bytes text line rest cards read more cut number e (NoSuchCharacter n column) h =
     let r = IsReached-next bytes text line rest cards read more cut in
     rw (h.0, e) (r.0, subst (λ s. IsOddColumn s column) (sym r.1) h.1)
-HasFault-next bytes text line rest cards read more cut number e TooManyCards h = absurd h
-HasFault-next bytes text line rest cards read more cut number e Memory h = absurd h
+HasDeckFault-next bytes text line rest cards read more cut number e TooManyCards h = absurd h
+HasDeckFault-next bytes text line rest cards read more cut number e Memory h = absurd h
 
 -- reading stops at line 1,000,000
-pub HasFault-many : (bytes text line rest : List ℕ) (cards : List (List ℕ)) → IsReadUpTo bytes text cards →
-    length cards ≡ most_cards → lines_of text ≡ line ∷ lines_of rest → HasFault bytes TooManyCards
-HasFault-many bytes text line rest cards read full cut =
+pub HasDeckFault-many : (bytes text line rest : List ℕ) (cards : List (List ℕ)) → IsReadUpTo bytes text cards →
+    length cards ≡ most_cards → lines_of text ≡ line ∷ lines_of rest → HasDeckFault bytes TooManyCards
+HasDeckFault-many bytes text line rest cards read full cut =
     let all = lines_of bytes in
     let within : length cards < length all = within_of all (length cards) line (lines_of rest) (read.left ∙ cut) in
     (omega arith, rw full at (All-punchable (take (length cards) all) cards read.each))

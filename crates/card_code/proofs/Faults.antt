@@ -8,7 +8,7 @@ use Rattle.std.specs.List.{AllZip}
 use Rattle.card_code.specs.MostCards.{most_cards}
 use Rattle.card_code.proofs.Decks.{All-punchable}
 use Rattle.card_code.specs.CardCode.{rows_of}
-use Rattle.card_code.specs.Deck.{Deck, IsCardOf, IsOddColumn, IsPunchable, IsReached, HasFault, line_at}
+use Rattle.card_code.specs.Deck.{Deck, IsCardOf, IsOddColumn, IsPunchable, IsReached, HasDeckFault, line_at}
 use Rattle.card_code.specs.Lines.{lines_of}
 use Rattle.card_code.specs.declared.deck.DeckFault.{DeckFault}
 use Rattle.card_code.specs.declared.deck.DeckFault.TheVariants.{CardTooLong, NoSuchCharacter, TooManyCards, Memory}
@@ -22,7 +22,7 @@ same_column line one other a b k =
       | inr order ↦
           elim order [
             | inl within ↦ let e = sym (a.punched k within) ∙ b.punched k within in cc
-            | inr behind ↦ a.blank k (omega arith) ∙ sym (b.blank k (omega arith))
+            | inr after ↦ a.blank k (omega arith) ∙ sym (b.blank k (omega arith))
           ]
     ]
 
@@ -109,7 +109,7 @@ IsStop-reached bytes line here bad =
     }
 
 -- each fault stops the reading
-IsStop-fault : (bytes : List ℕ) (fault : DeckFault) → HasFault bytes fault → IsStop bytes (stop_of fault)
+IsStop-fault : (bytes : List ℕ) (fault : DeckFault) → HasDeckFault bytes fault → IsStop bytes (stop_of fault)
 unfolding stop_of
 IsStop-fault bytes (CardTooLong line) h =
     IsStop-reached bytes line h.0 (λ good. let short = good.short in let long = h.1 in omega arith)
@@ -143,7 +143,7 @@ not_long : (bytes : List ℕ) (n m : ℕ) → n ≡ m → 80 < length (line_at b
 not_long bytes n m e long short = omega (arith, subst (λ k. 80 < length (line_at bytes k)) e long)
 
 -- two faults of one line
-same_of_line : (bytes : List ℕ) (one other : DeckFault) → HasFault bytes one → HasFault bytes other →
+same_of_line : (bytes : List ℕ) (one other : DeckFault) → HasDeckFault bytes one → HasDeckFault bytes other →
     stop_of one ≡ stop_of other → one ≡ other
 unfolding stop_of
 same_of_line bytes (CardTooLong n) (CardTooLong m) a b e = ap CardTooLong e
@@ -164,9 +164,9 @@ same_of_line bytes (NoSuchCharacter n column) Memory a b e = absurd b
 same_of_line bytes TooManyCards Memory a b e = absurd b
 
 -- a text has one fault
-pub HasFault-same : (bytes : List ℕ) (one other : DeckFault) → HasFault bytes one → HasFault bytes other →
+pub HasDeckFault-same : (bytes : List ℕ) (one other : DeckFault) → HasDeckFault bytes one → HasDeckFault bytes other →
     one ≡ other
-HasFault-same bytes one other a b =
+HasDeckFault-same bytes one other a b =
     same_of_line bytes one other a b (same_stop bytes _ _ (IsStop-fault bytes one a) (IsStop-fault bytes other b))
 
 -- a line of a deck can be punched
@@ -179,7 +179,7 @@ at_card bytes cards line deck here =
 
 -- a text with a deck has no fault
 pub Deck-no_fault : (bytes : List ℕ) (cards : List (List ℕ)) (fault : DeckFault) → Deck bytes cards →
-    HasFault bytes fault → ⊥
+    HasDeckFault bytes fault → ⊥
 Deck-no_fault bytes cards (CardTooLong line) deck h =
     let short = (at_card bytes cards line deck h.0).short in
     let long = h.1 in
@@ -193,6 +193,6 @@ Deck-no_fault bytes cards TooManyCards deck h =
 Deck-no_fault bytes cards Memory deck h = h
 
 -- a text with a fault is told that fault
-pub told_at_fault : {V : Type 0} (bytes : List ℕ) (found due : DeckFault) → HasFault bytes found →
-    HasFault bytes due → IsErrOf {T = V} (Err found) due
-told_at_fault bytes found due a b = ap Err (HasFault-same bytes found due a b)
+pub told_at_fault : {V : Type 0} (bytes : List ℕ) (found due : DeckFault) → HasDeckFault bytes found →
+    HasDeckFault bytes due → IsErrOf {T = V} (Err found) due
+told_at_fault bytes found due a b = ap Err (HasDeckFault-same bytes found due a b)

@@ -77,7 +77,7 @@ pub without_cr-keeps : (piece line : List ℕ) (last : ℕ) → piece ≡ line +
     piece ≡ without_cr piece
 without_cr-keeps piece line last e other = e ∙ sym (ap without_cr e ∙ without_cr-other line last other)
 
--- the first line of a text with an LF, and the lines behind it
+-- the first line of a text with an LF, and the lines after it
 pub lines_at_first : (text line rest : List ℕ) (end : ℕ) → end < length text → get_or text end 0 ≡ 10 →
     ((k : ℕ) → k < end → get_or text k 0 ≢ 10) → line ≡ without_cr (take end text) →
     rest ≡ drop (end + 1) text → lines_of text ≡ line ∷ lines_of rest

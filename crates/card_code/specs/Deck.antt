@@ -14,7 +14,7 @@ fault_number (NoSuchCharacter line column) = Some 2
 fault_number TooManyCards = Some 3
 fault_number Memory = None
 
--- the card of a line: each byte is punched in its column, and the columns behind the line are blank
+-- the card of a line: each byte is punched in its column, and the columns after the line are blank
 pub record IsCardOf (line card : List ℕ) : Type 0 where
   pub short : length line ≤ 80
   pub whole : length card ≡ 80
@@ -46,7 +46,7 @@ HasLineFault line number (NoSuchCharacter n column) = (n ≡ number) × IsOddCol
 HasLineFault line number TooManyCards = ⊥
 HasLineFault line number Memory = ⊥
 
--- a line, from 1, of the first 999,999 that comes behind punchable lines alone
+-- a line, from 1, of the first 999,999 that comes after punchable lines alone
 pub record IsReached (bytes : List ℕ) (line : ℕ) : Type 0 where
   pub from : 1 ≤ line
   pub to : line ≤ most_cards
@@ -59,8 +59,8 @@ line_at bytes line = slice_index_or (lines_of bytes) (line - 1) []
 
 -- the fault that a text is refused for: that of its first line at fault, or a million lines of which
 -- the first 999,999 are punchable; no text makes memory run out
-abbrev pub HasFault : List ℕ → DeckFault → Type 0
-HasFault bytes (CardTooLong line) = IsReached bytes line × (80 < length (line_at bytes line))
-HasFault bytes (NoSuchCharacter line column) = IsReached bytes line × IsOddColumn (line_at bytes line) column
-HasFault bytes TooManyCards = (most_cards < length (lines_of bytes)) × All IsPunchable (take most_cards (lines_of bytes))
-HasFault bytes Memory = ⊥
+abbrev pub HasDeckFault : List ℕ → DeckFault → Type 0
+HasDeckFault bytes (CardTooLong line) = IsReached bytes line × (80 < length (line_at bytes line))
+HasDeckFault bytes (NoSuchCharacter line column) = IsReached bytes line × IsOddColumn (line_at bytes line) column
+HasDeckFault bytes TooManyCards = (most_cards < length (lines_of bytes)) × All IsPunchable (take most_cards (lines_of bytes))
+HasDeckFault bytes Memory = ⊥

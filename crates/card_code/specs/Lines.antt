@@ -6,7 +6,7 @@ abbrev pub onto : ℕ → List (List ℕ) → List (List ℕ)
 onto b [] = (b ∷ []) ∷ []
 onto b (piece ∷ pieces) = (b ∷ piece) ∷ pieces
 
--- A text is cut at each LF: the pieces before, between and behind them, at least one.
+-- A text is cut at each LF: the pieces before, between and after them, at least one.
 abbrev pub pieces : List ℕ → List (List ℕ)
 pieces [] = [] ∷ []
 pieces (b ∷ bs) = if b == 10 then [] ∷ pieces bs else onto b (pieces bs)

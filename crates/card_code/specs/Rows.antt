@@ -25,19 +25,19 @@ rows =
     Nine ∷ Eight ∷ Seven ∷ Six ∷ Five ∷ Four ∷ Three ∷ Two ∷ One ∷ Zero ∷ Eleven ∷ Twelve ∷ []
 
 -- the place of a row in that order, from 0
-abbrev pub row_place : Row → ℕ
-row_place Nine = 0
-row_place Eight = 1
-row_place Seven = 2
-row_place Six = 3
-row_place Five = 4
-row_place Four = 5
-row_place Three = 6
-row_place Two = 7
-row_place One = 8
-row_place Zero = 9
-row_place Eleven = 10
-row_place Twelve = 11
+abbrev pub passing_place : Row → ℕ
+passing_place Nine = 0
+passing_place Eight = 1
+passing_place Seven = 2
+passing_place Six = 3
+passing_place Five = 4
+passing_place Four = 5
+passing_place Three = 6
+passing_place Two = 7
+passing_place One = 8
+passing_place Zero = 9
+passing_place Eleven = 10
+passing_place Twelve = 11
 
 -- whether a set of rows has rows of a card alone: none above 12, and no row 10
 abbrev pub is_row_set : ℕ → Bool

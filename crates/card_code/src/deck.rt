@@ -3,7 +3,7 @@
 ghost use Rattle.std.specs.Prelude.{◌≡◌, ◌≢◌, ◌-◌, ◌<◌, ◌≤◌, ◌++◌, ℕ, ◌⊎◌, List, length, replicate, IfErr, IfOk, IsErrOf, IsOkAnd};
 ghost use Rattle.card_code.specs.declared.deck.DeckFault.{DeckFault};
 ghost use Rattle.arrayvec.specs.ArrayVec.{array_vec_len};
-ghost use Rattle.card_code.specs.Deck.{Deck, HasFault, HasLineFault, IsCardOf};
+ghost use Rattle.card_code.specs.Deck.{Deck, HasDeckFault, HasLineFault, IsCardOf};
 ghost use Rattle.card_code.specs.declared.deck.DeckFault.TheVariants.{Memory};
 
 use crate::card::{CARD_COLUMNS, Card};
@@ -66,12 +66,12 @@ impl<T: Drop> From<AllocFailed<T>> for DeckFault {
 /// refused.
 pub fn read_deck(alloc: Global, bytes: &[u8]) -> Result<Vec<Card>, DeckFault>
     ensures deck { IfOk result (λ cards. Deck bytes.now cards.items) }
-    ensures fault { IfErr result (λ fault. fault ≢ Memory → HasFault bytes.now fault) }
+    ensures fault { IfErr result (λ fault. fault ≢ Memory → HasDeckFault bytes.now fault) }
 
     // Nothing but the deck or the fault of the text is answered, or that memory ran out.
     ensures read { (cards : List (List ℕ)) → Deck bytes.now cards →
         IsOkAnd result (λ read. read.items ≡ cards) ⊎ IsErrOf result Memory }
-    ensures told { (due : DeckFault) → HasFault bytes.now due → IsErrOf result due ⊎ IsErrOf result Memory }
+    ensures told { (due : DeckFault) → HasDeckFault bytes.now due → IsErrOf result due ⊎ IsErrOf result Memory }
 {
     let mut cards = Vec::new(alloc);
     let mut text = bytes;
@@ -91,9 +91,9 @@ pub fn deck_text_is_unambiguous()
     ensures deck { (bytes : List ℕ) (one other : List (List ℕ)) →
         Deck bytes one → Deck bytes other → one ≡ other }
     ensures fault { (bytes : List ℕ) (one other : DeckFault) →
-        HasFault bytes one → HasFault bytes other → one ≡ other }
+        HasDeckFault bytes one → HasDeckFault bytes other → one ≡ other }
     ensures either { (bytes : List ℕ) (cards : List (List ℕ)) (fault : DeckFault) →
-        Deck bytes cards → ¬ HasFault bytes fault }
+        Deck bytes cards → ¬ HasDeckFault bytes fault }
 {}
 
 /// The card of the line with the number `number`, from 1.

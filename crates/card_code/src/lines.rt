@@ -3,10 +3,10 @@
 ghost use Rattle.std.specs.Prelude.{◌≡◌, ◌≢◌, ◌<◌, ℕ, [], ◌∷◌, length, slice_index, IfNone, IfSome, MatchOption};
 ghost use Rattle.card_code.specs.Lines.{lines_of, without_cr};
 
-/// The first line of a text without its line end, and the text behind it; `None` where no line is
+/// The first line of a text without its line end, and the text after it; `None` where no line is
 /// left.
 ///
-/// A line ends at LF or at the end of the text, and one CR at its end is dropped. What stands behind
+/// A line ends at LF or at the end of the text, and one CR at its end is dropped. What stands after
 /// the last LF is a line only where something of it is left then.
 pub fn next_line(text: &[u8]) -> Option<(&[u8], &[u8])>
     ensures none { IfNone result (lines_of text.now ≡ []) }

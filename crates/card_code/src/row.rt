@@ -1,6 +1,6 @@
 //! The twelve rows of a card.
 
-ghost use Rattle.card_code.specs.Rows.{row_number, row_place};
+ghost use Rattle.card_code.specs.Rows.{row_number, passing_place};
 
 /// A row of a card. Rows 0 to 9 are digit rows, 11 and 12 are zone rows; a card has no row 10.
 #[derive(Clone, Copy, Debug, PartialEq, Eq)]
@@ -74,7 +74,7 @@ impl Row {
 
     /// Its place among [`ROWS`], 0 to 11.
     pub fn place(self) -> usize
-        ensures value { result ≡ row_place self }
+        ensures value { result ≡ passing_place self }
         ensures range { result < 12 }
     {
         match self {

@@ -1,4 +1,4 @@
--- Bytes between two places of an array, and a read behind them.
+-- Bytes between two places of an array, and a read after them.
 use Rattle.std.proofs.Common.{◌≡◌, ◌∙◌, ℕ, ◌+◌, ◌-◌, ◌≤◌, List, ◌++◌, length, take, drop, slice_range, Option, Some, None, sym, ap, arith, append_assoc, length-take, length-drop}
 use Rattle.std.proofs.Math.Seq.{drop-drop, take-append-add, take-append-le}
 use Rattle.std.proofs.lemmas.List.{drop-take}
@@ -15,10 +15,10 @@ advance bytes from to count within =
     sym (ap (λ k. drop count (take k (drop from bytes))) parts ∙ drop-take count (to - (from + count)) (drop from bytes)
     ∙ ap (take (to - (from + count))) (drop-drop count from bytes))
 
--- the bytes held, and those that a read put behind them
-pub behind_held : (held read after : List ℕ) (size count : ℕ) → length held ≡ size → count ≤ length read
+-- the bytes held, and those that a read put after them
+pub after_held : (held read after : List ℕ) (size count : ℕ) → length held ≡ size → count ≤ length read
     → take (size + count - 0) (held ++ (read ++ after)) ≡ held ++ take count read
-behind_held held read after size count is within =
+after_held held read after size count is within =
     let sum : size + count - 0 ≡ length held + count = omega (arith, is) in
     ap (λ k. take k (held ++ (read ++ after))) sum ∙ take-append-add held (read ++ after) count
     ∙ ap (λ t. held ++ t) (take-append-le count read after within)

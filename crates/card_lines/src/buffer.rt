@@ -51,7 +51,7 @@ impl Buffer {
         self.from += count;
     }
 
-    // Reads once, behind what is held, of which there are at most 81 bytes; answers how many bytes came. None come only at the end.
+    // Reads once, after what is held, of which there are at most 81 bytes; answers how many bytes came. None come only at the end.
     pub(crate) fn read_more<S: Source>(&mut self, source: &mut S) -> Result<usize, DeviceFailed>
         requires { length self.old ≤ 81 }
         ensures text { Keeps (prepend_known self.old (S.left source.old)) (prepend_known self.new (S.left source.new)) }

@@ -63,7 +63,7 @@ impl<S: Source + Drop> CardLines<S> {
 
     /// The next card, or `None` where no line is left.
     ///
-    /// It reads only while it holds no whole line, and none that is surely too long, at most 82 times, and never again behind the
+    /// It reads only while it holds no whole line, and none that is surely too long, at most 82 times, and never again after the
     /// end of the source or a fault.
     ///
     /// # Errors

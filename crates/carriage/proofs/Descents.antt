@@ -1,12 +1,12 @@
 -- Where so many lines down lead.
 use Rattle.std.proofs.Common.{◌≡◌, ◌≢◌, ◌∙◌, ℕ, zero, suc, ◌+◌, ◌-◌, ◌<◌, ◌≤◌, ◌==◌, ◌&&◌, ◌||◌, ◌⊎◌, inl, inr, nat_le, nat_lt, Bool, true, false, refl, ap, arith}
 use Rattle.std.proofs.lemmas.Bool.Decides.{eqb_tells, nat_tests}
-use Rattle.setups.specs.Tapes.{Form, IsForm}
+use Rattle.setups.specs.Tapes.{CarriageTape, IsCarriageTape}
 use Rattle.carriage.specs.Moves.{down, down_by, come_to, next_page}
 use Rattle.carriage.specs.declared.spot.Spot.{Spot}
 
 -- one line down where this form has one more
-down-on_form : (form : Form) (page line next : ℕ) (latch : Bool) → next ≡ line + 1 → line < form.lines
+down-on_form : (form : CarriageTape) (page line next : ℕ) (latch : Bool) → next ≡ line + 1 → line < form.lines
     → down form (record { page = page; line = line; latch = latch }) ≡ come_to form page next latch
 down-on_form form page line next latch is_next below =
     let test : nat_lt line form.lines ≡ true = grind (arith, nat_tests, below) in
@@ -24,7 +24,7 @@ latch-none true line overflow = grind (arith, nat_tests)
 latch-none false line overflow = grind (arith, nat_tests)
 
 -- down by lines that this form still has
-pub down_by-on_form : (form : Form) (spot : Spot) (lines : ℕ) → spot.line + lines ≤ form.lines
+pub down_by-on_form : (form : CarriageTape) (spot : Spot) (lines : ℕ) → spot.line + lines ≤ form.lines
     → down_by form lines spot
     ≡ record {
       page = spot.page;
@@ -44,7 +44,7 @@ down_by-on_form form spot (suc lines) fits =
     ∙ ap (λ b. record { page = spot.page; line = spot.line + suc lines; latch = b }) (latch-more spot.latch spot.line (spot.line + lines) (spot.line + suc lines) form.overflow next (omega arith))
 
 -- one line down from the last line
-down-to_next : (form : Form) (page line : ℕ) (latch : Bool) → line ≡ form.lines
+down-to_next : (form : CarriageTape) (page line : ℕ) (latch : Bool) → line ≡ form.lines
     → down form (record { page = page; line = line; latch = latch }) ≡ come_to form (next_page page) 1 latch
 down-to_next form page line latch last =
     let test : nat_lt line form.lines ≡ false = grind (arith, nat_tests, last) in
@@ -65,8 +65,8 @@ latch-next true from to next overflow is_next = grind (arith, nat_tests)
 latch-next false from to next overflow is_next = grind (arith, nat_tests, is_next)
 
 -- down past the last line, but not through a whole form
-pub down_by-to_next : (form : Form) (spot : Spot) (lines : ℕ)
-    → IsForm form → spot.line ≤ form.lines → form.lines < spot.line + lines → lines ≤ form.lines
+pub down_by-to_next : (form : CarriageTape) (spot : Spot) (lines : ℕ)
+    → IsCarriageTape form → spot.line ≤ form.lines → form.lines < spot.line + lines → lines ≤ form.lines
     → down_by form lines spot
     ≡ record {
       page = next_page spot.page;

@@ -1,25 +1,25 @@
 -- The search for the next stop of a channel, line by line.
 use Rattle.std.proofs.Common.{◌≡◌, ◌≢◌, ℕ, zero, suc, ◌+◌, ◌-◌, ◌<◌, ◌≤◌, ◌==◌, ◌⊎◌, inl, inr, ◌↔◌, Bool, true, false, Some, None, if◌then◌else◌, refl, ap, arith}
 use Rattle.std.proofs.lemmas.Bool.Decides.{eqb_tells}
-use Rattle.setups.specs.Tapes.{Form}
+use Rattle.setups.specs.Tapes.{CarriageTape}
 use Rattle.carriage.specs.Laws.{IsNextStop, HasNoStopBelow}
 use Rattle.carriage.specs.Moves.{is_stop_of, stop_from, next_stop}
 
 -- a line without a stop is passed over
-pub stop_from-others : (form : Form) (channel line next lines rest : ℕ)
+pub stop_from-others : (form : CarriageTape) (channel line next lines rest : ℕ)
     → lines ≡ suc rest → next ≡ suc line → is_stop_of form channel line ≡ false
     → stop_from form channel line lines ≡ stop_from form channel next rest
 stop_from-others form channel line next lines rest more is_next none = rw (more, is_next, none) refl
 
 -- The first stop among so many lines from the given one on.
-record IsFirstStop (form : Form) (channel line lines stop : ℕ) : Type 0 where
+record IsFirstStop (form : CarriageTape) (channel line lines stop : ℕ) : Type 0 where
   low : line ≤ stop
   high : stop < line + lines
   is_stop : is_stop_of form channel stop ≡ true
   first : (other : ℕ) → line ≤ other → other < stop → is_stop_of form channel other ≡ false
 
 -- a stop at the line is the first one
-stop_here : (form : Form) (channel line lines stop : ℕ) → is_stop_of form channel line ≡ true → stop ≡ line
+stop_here : (form : CarriageTape) (channel line lines stop : ℕ) → is_stop_of form channel line ≡ true → stop ≡ line
     → IsFirstStop form channel line (suc lines) stop
 stop_here form channel line lines stop here same = record {
   low = omega (arith, same);
@@ -29,7 +29,7 @@ stop_here form channel line lines stop here same = record {
 }
 
 -- without a stop at the line it is the first one of the others
-stop_below : (form : Form) (channel line lines stop : ℕ) → is_stop_of form channel line ≡ false
+stop_below : (form : CarriageTape) (channel line lines stop : ℕ) → is_stop_of form channel line ≡ false
     → IsFirstStop form channel (suc line) lines stop → IsFirstStop form channel line (suc lines) stop
 stop_below form channel line lines stop none others = record {
   low = let l = others.low in omega (arith, l);
@@ -45,7 +45,7 @@ stop_below form channel line lines stop none others = record {
     by other low high (inr apart) = let a = apart.1 in others.first other (omega (arith, low, a)) high
 
 -- what the search finds is the first stop
-stop_from-found : (form : Form) (channel line lines stop : ℕ) → stop_from form channel line lines ≡ Some stop
+stop_from-found : (form : CarriageTape) (channel line lines stop : ℕ) → stop_from form channel line lines ≡ Some stop
     → IsFirstStop form channel line lines stop
 stop_from-found form channel line zero stop found = absurd (grind (arith, found))
 stop_from-found form channel line (suc lines) stop found =
@@ -59,7 +59,7 @@ stop_from-found form channel line (suc lines) stop found =
     by false none others found = stop_below form channel line lines stop none (others found)
 
 -- the first stop is found
-stop_from-finds : (form : Form) (channel line lines stop : ℕ) → IsFirstStop form channel line lines stop
+stop_from-finds : (form : CarriageTape) (channel line lines stop : ℕ) → IsFirstStop form channel line lines stop
     → stop_from form channel line lines ≡ Some stop
 stop_from-finds form channel line zero stop first = absurd (let l = first.low in let h = first.high in omega (arith, l, h))
 stop_from-finds form channel line (suc lines) stop first =
@@ -88,7 +88,7 @@ stop_from-finds form channel line (suc lines) stop first =
         })
 
 -- where nothing is found there is no stop
-stop_from-none : (form : Form) (channel line lines : ℕ) → stop_from form channel line lines ≡ None
+stop_from-none : (form : CarriageTape) (channel line lines : ℕ) → stop_from form channel line lines ≡ None
     → (other : ℕ) → line ≤ other → other < line + lines → is_stop_of form channel other ≡ false
 stop_from-none form channel line zero none other low high = absurd (omega (arith, low, high))
 stop_from-none form channel line (suc lines) none other low high =
@@ -104,7 +104,7 @@ stop_from-none form channel line (suc lines) none other low high =
     by false none others found (inr apart) = let a = apart.1 in others found (omega (arith, low, a)) (omega (arith, high))
 
 -- where there is no stop nothing is found
-stop_from-nowhere : (form : Form) (channel line lines : ℕ)
+stop_from-nowhere : (form : CarriageTape) (channel line lines : ℕ)
     → ((other : ℕ) → line ≤ other → other < line + lines → is_stop_of form channel other ≡ false)
     → stop_from form channel line lines ≡ None
 stop_from-nowhere form channel line zero none = refl
@@ -112,7 +112,7 @@ stop_from-nowhere form channel line (suc lines) none =
     rw (none line (omega arith) (omega arith)) (stop_from-nowhere form channel (suc line) lines (λ other low high. none other (omega (arith, low)) (omega (arith, high))))
 
 -- the next stop is the first one below the line that the form has
-pub next_stop-tells : (form : Form) (channel line stop : ℕ)
+pub next_stop-tells : (form : CarriageTape) (channel line stop : ℕ)
     → (next_stop form channel line ≡ Some stop) ↔ IsNextStop form channel line stop
 next_stop-tells form channel line stop = (there, back)
   where
@@ -140,7 +140,7 @@ next_stop-tells form channel line stop = (there, back)
         })
 
 -- there is no next stop exactly where the form has none below the line
-pub next_stop-none_tells : (form : Form) (channel line : ℕ)
+pub next_stop-none_tells : (form : CarriageTape) (channel line : ℕ)
     → (next_stop form channel line ≡ None) ↔ HasNoStopBelow form channel line
 next_stop-none_tells form channel line = (there, back)
   where

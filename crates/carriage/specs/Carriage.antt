@@ -2,7 +2,7 @@
 -- point of every cycle it senses what is asked for. At the end of every cycle it moves as the cycle wants, a printing
 -- cycle then places its line, and a skip and a restore that were asked for follow.
 use Rattle.std.specs.Prelude.{ℕ, Bool, true, Option, Some, None, if◌then◌else◌}
-use Rattle.setups.specs.Tapes.{Form}
+use Rattle.setups.specs.Tapes.{CarriageTape}
 use Rattle.setups.specs.Wiring.{Wiring}
 use Rattle.hubs.specs.declared.hub.Hub.{Hub}
 use Rattle.net.specs.Printing.{printing_of, prints}
@@ -20,7 +20,7 @@ use Rattle.carriage.specs.Moves.{at_first_line, down_by, skipped, restored}
 -- The carriage's state: the tape, the jacks that say which cycles print, where it stands, what was asked for in this
 -- cycle, and the page and line at which the cycle that ended last placed its line, if it printed.
 pub record CarriageState : Type 0 where
-  pub form : Form
+  pub form : CarriageTape
   pub printing : Printing
   pub spot : Spot
   pub asked : Asked
@@ -43,11 +43,11 @@ carriage_sensed carriage cycle (Row row) picture = carriage
 carriage_sensed carriage cycle K picture = carriage
 
 -- the first move at the end of a cycle: a printing cycle goes down by the lines asked for, another stays
-abbrev pub spaced : Form → Bool → ℕ → Spot → Spot
+abbrev pub spaced : CarriageTape → Bool → ℕ → Spot → Spot
 spaced form printing lines spot = if printing then down_by form lines spot else spot
 
 -- the first heading cycle begins a page in place of that, whether it prints or not
-abbrev pub moved : Form → Cycle → Bool → ℕ → Spot → Spot
+abbrev pub moved : CarriageTape → Cycle → Bool → ℕ → Spot → Spot
 moved form RunIn printing lines spot = spaced form printing lines spot
 moved form Card printing lines spot = spaced form printing lines spot
 moved form (Prog level cycle) printing lines spot = spaced form printing lines spot

@@ -1,25 +1,25 @@
 -- What the moves come to: the next stop, and where so many lines down lead.
 use Rattle.std.specs.Prelude.{◌≡◌, ℕ, ◌+◌, ◌-◌, ◌<◌, ◌≤◌, ◌&&◌, ◌||◌, nat_le, nat_lt, true, false}
-use Rattle.setups.specs.Tapes.{Form, IsForm}
+use Rattle.setups.specs.Tapes.{CarriageTape, IsCarriageTape}
 use Rattle.carriage.specs.Moves.{is_stop_of, down_by, next_page}
 use Rattle.carriage.specs.declared.spot.Spot.{Spot}
 
 -- The next stop of a channel is below the line, on the form, and no stop lies between.
-pub record IsNextStop (form : Form) (channel line stop : ℕ) : Type 0 where
+pub record IsNextStop (form : CarriageTape) (channel line stop : ℕ) : Type 0 where
   pub below : line < stop
   pub on_form : stop ≤ form.lines
   pub is_stop : is_stop_of form channel stop ≡ true
   pub first : (other : ℕ) → line < other → other < stop → is_stop_of form channel other ≡ false
 
 -- the form has no stop of the channel below the line
-abbrev pub HasNoStopBelow : Form → ℕ → ℕ → Type 0
+abbrev pub HasNoStopBelow : CarriageTape → ℕ → ℕ → Type 0
 HasNoStopBelow form channel line =
     (other : ℕ) → line < other → other ≤ form.lines → is_stop_of form channel other ≡ false
 
 -- Down by lines that this form still has: the latch is set where the overflow line lies below the line and not below the new one.
 abbrev pub GoesDownOnTheForm : Type 0
 GoesDownOnTheForm =
-    (form : Form) (spot : Spot) (lines : ℕ) → spot.line + lines ≤ form.lines
+    (form : CarriageTape) (spot : Spot) (lines : ℕ) → spot.line + lines ≤ form.lines
     → down_by form lines spot
     ≡ record {
       page = spot.page;
@@ -31,8 +31,8 @@ GoesDownOnTheForm =
 -- the overflow line lies below the line, or on the next page not below the new one.
 abbrev pub GoesToTheNextForm : Type 0
 GoesToTheNextForm =
-    (form : Form) (spot : Spot) (lines : ℕ)
-    → IsForm form → spot.line ≤ form.lines → form.lines < spot.line + lines → lines ≤ form.lines
+    (form : CarriageTape) (spot : Spot) (lines : ℕ)
+    → IsCarriageTape form → spot.line ≤ form.lines → form.lines < spot.line + lines → lines ≤ form.lines
     → down_by form lines spot
     ≡ record {
       page = next_page spot.page;

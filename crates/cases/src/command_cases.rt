@@ -90,7 +90,7 @@ fn write_served<W: Write>(out: &mut W, served: &Served) -> Result<()> {
     Ok(())
 }
 
-// Does what a row says: its command, its text, and its deck with all behind that.
+// Does what a row says: its command, its text, and its deck with all after that.
 fn write_row<W: Write>(
     rt: &HostRuntime,
     out: &mut W,
@@ -133,7 +133,7 @@ fn write_told<W: Write>(alloc: Global, out: &mut W) -> Result<()> {
     Ok(())
 }
 
-/// Writes what each command gives, behind its row.
+/// Writes what each command gives, after its row.
 pub fn write_all<W: Write>(rt: &HostRuntime, out: &mut W) -> Result<()> {
     out.write_all(b"== commands\n")?;
     let rows = fs::read_to_string(rt, "commands/rows")?;

@@ -1,4 +1,4 @@
-//! Runs wired panels over their decks, and prints the pages of each behind its name.
+//! Runs wired panels over their decks, and prints the pages of each after its name.
 //!
 //! The file `index` names the panels, one a line: a wiring chart and a deck each.
 

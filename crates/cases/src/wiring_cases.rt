@@ -1,6 +1,6 @@
 //! Reads wiring charts, and tells of each which fault it has, or writes it again.
 //!
-//! The file `index` names the charts, one a line. Behind their answers stands how many of the texts that `by_hand.wiring` begins with
+//! The file `index` names the charts, one a line. After their answers stands how many of the texts that `by_hand.wiring` begins with
 //! have each of them.
 
 use crate::read_case;
@@ -52,7 +52,7 @@ fn count(counts: &mut Counts, read: Result<Setup, WiringFault>) {
     *place = place.wrapping_add(1);
 }
 
-// Counts the answers to a text that is cut after each byte, before the first and behind the last among them.
+// Counts the answers to a text that is cut after each byte, before the first and after the last among them.
 fn count_cuts(alloc: Global, text: &[u8]) -> Counts {
     let mut counts = Counts {
         no_first_line: 0,

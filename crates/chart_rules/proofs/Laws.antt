@@ -12,7 +12,7 @@ use Rattle.charts.specs.declared.statement.FieldKind.{FieldKind}
 use Rattle.charts.specs.declared.statement.FieldKind.TheVariants as holds
 use Rattle.charts.specs.declared.statement.Statement.{Statement}
 use Rattle.charts.specs.declared.statement.Statement.TheVariants as says
-use Rattle.charts.proofs.Listed.{Order, is_one, goes_before, goes_behind, listed-first, listed-at, listed-place, listed-order, place-of, found-listed, given-by, none-any}
+use Rattle.charts.proofs.Listed.{Order, is_one, goes_before, goes_after, listed-first, listed-at, listed-place, listed-order, place-of, found-listed, given-by, none-any}
 use Rattle.field_rules.proofs.Places.{is_same_name-equal}
 use Rattle.field_rules.specs.Columns.{breaks_columns, breaks_amount_size, has_good_sign, is_too_large}
 use Rattle.field_rules.specs.Fields.{field_of, fields_of, field_named}
@@ -65,7 +65,7 @@ said-once chart lawful one other there there_other is is_other = by (listed-orde
     by : Order chart.lines one other → one ≡ other
     by (is_one it) = it
     by (goes_before a b c split) = absurd (never one other a b c split is)
-    by (goes_behind a b c split) = absurd (never other one a b c split is_other)
+    by (goes_after a b c split) = absurd (never other one a b c split is_other)
 
 -- a line with a field is a FIELD line
 pub statement-field : (statement : Statement) (field : Field) → field_of statement ≡ Some field → statement ≡ says.Field field
@@ -163,4 +163,4 @@ one-digit field card column valid from to = by (cases_lt column valid.digits.sta
   where
     by : (column < valid.digits.start) ⊎ (valid.digits.start ≤ column) → digit_count (column_of card column) ≤ 1
     by (inl before) = let e = valid.digits.blanks column from before in omega (arith, e)
-    by (inr behind) = let e = valid.digits.digits column behind to in omega (arith, e)
+    by (inr after) = let e = valid.digits.digits column after to in omega (arith, e)

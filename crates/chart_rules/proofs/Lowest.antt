@@ -97,7 +97,7 @@ module _ (rule : Rule) (chart : Chart) where
       later : (there : ℕ) (found : Line) → slice_get chart.lines there ≡ Some found → breaks rule chart.lines (take there chart.lines) found.statement ≡ true
           → ((there < place) ⊎ (place ≤ there)) → line.number ≤ found.number
       later there found is breaking (inl before) = absurd (true≢false (sym breaking ∙ passes there before found is))
-      later there found is breaking (inr behind) = number-rises chart.lines chart.end place there line found rise behind at is
+      later there found is breaking (inr after) = number-rises chart.lines chart.end place there line found rise after at is
 
       by : {other : ℕ} → Broken rule chart other → line.number ≤ other
       by (by_line front found back split breaking) =

@@ -60,7 +60,7 @@ place-lowest fields card one other is also = by (cases_lt also.place is.place)
   where
     by : ((also.place < is.place) ⊎ (is.place ≤ also.place)) → is.place ≤ also.place
     by (inl before) = absurd (also.invalid (is.valid_before also.place before also.field also.is_there))
-    by (inr behind) = behind
+    by (inr after) = after
 
 pub cards_have_one_fault : CardsHaveOneFault
 cards_have_one_fault fields card one other is also =

@@ -44,7 +44,7 @@ digit_count column = punched_among digit_rows column
 
 -- the digit parts of the columns from one on and before another are blank
 abbrev pub AreBlank : ℕ → ℕ → List ℕ → Type 0
-AreBlank first behind card = (column : ℕ) → first ≤ column → column < behind → digit_count (column_of card column) ≡ 0
+AreBlank first after card = (column : ℕ) → first ≤ column → column < after → digit_count (column_of card column) ≡ 0
 
 -- the digit parts of some columns are single digits
 abbrev pub AreSingle : ℕ → ℕ → List ℕ → Type 0

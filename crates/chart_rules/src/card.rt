@@ -150,7 +150,7 @@ fn digit_count(column: Column) -> usize
     punched_among(&DIGIT_ROWS, column)
 }
 
-/// The first of some columns that has a row 0 to 9, or the column behind them.
+/// The first of some columns that has a row 0 to 9, or the column after them.
 fn first_digit(first: u16, last: u16, card: &Card) -> u16
     requires from { 1 ≤ first }
     requires order { first ≤ last + 1 }

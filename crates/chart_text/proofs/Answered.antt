@@ -2,7 +2,7 @@
 use Rattle.std.proofs.Common.{◌≡◌, ◌≢◌, ℕ, List, Result, Ok, Err, IfOk, IfErr, refl, sym, ◌∙◌, inl, inr, ◌⊎◌}
 use Rattle.charts.specs.Chart.{Chart}
 use Rattle.chart_text.specs.ChartText.{Reads}
-use Rattle.chart_text.specs.TextFaults.{HasFault}
+use Rattle.chart_text.specs.TextFaults.{HasTextFault}
 use Rattle.chart_text.specs.HelperText.{chart_of, Answers}
 use Rattle.chart_text.specs.declared.fault.TextFault.{TextFault}
 use Rattle.chart_text.specs.declared.fault.TextFault.TheVariants.{TooLarge, NoFirstLine, NotALine, NoEnd, Memory}
@@ -14,7 +14,7 @@ read_by text (Ok chart) read = reads_is text chart read
 read_by text (Err fault) read = tt
 
 pub fault_by : (text : List ℕ) (answer : Result Chart TextFault) → Answers answer (chart_of text)
-    → IfErr answer (λ fault. fault ≢ Memory → HasFault text fault)
+    → IfErr answer (λ fault. fault ≢ Memory → HasTextFault text fault)
 fault_by text (Ok chart) read = tt
 fault_by text (Err Memory) read = λ other. absurd (other refl)
 fault_by text (Err TooLarge) read = λ _. fault_is text TooLarge read
@@ -32,7 +32,7 @@ only_read text (Err (NotALine line)) read chart is = inl (sym read ∙ reads_rea
 only_read text (Err NoEnd) read chart is = inl (sym read ∙ reads_read text chart is)
 
 pub only_fault : (text : List ℕ) (answer : Result Chart TextFault) → Answers answer (chart_of text)
-    → (fault : TextFault) → HasFault text fault → (answer ≡ Err fault) ⊎ (answer ≡ Err Memory)
+    → (fault : TextFault) → HasTextFault text fault → (answer ≡ Err fault) ⊎ (answer ≡ Err Memory)
 only_fault text (Ok c) read fault has = inl (sym read ∙ fault_read text fault has)
 only_fault text (Err Memory) read fault has = inr refl
 only_fault text (Err TooLarge) read fault has = inl (sym read ∙ fault_read text fault has)

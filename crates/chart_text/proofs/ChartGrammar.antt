@@ -5,9 +5,9 @@ use Rattle.std.specs.Bool.{Decides}
 use Rattle.std.specs.List.{AllByRecursion}
 use Rattle.card_code.specs.Lines.{lines_of}
 use Rattle.charts.specs.Chart.{Chart}
-use Rattle.tokens.specs.Frame.{IsEmptyLine, IsEndLine, line_at, IsLineFrom, IsBehindEnd, IsNoLine, LacksEnd}
+use Rattle.tokens.specs.Frame.{IsEmptyLine, IsEndLine, line_at, IsLineFrom, IsAfterEnd, IsNoLine, LacksEnd}
 use Rattle.chart_text.specs.ChartText.{IsFirstLine, IsFormLine, IsTooLarge, ReadsFrom, empty_line, form_line, end_line, Reads}
-use Rattle.chart_text.specs.TextFaults.{HasFirstLine, IsMisplaced, IsLowestMisplaced, HasFault, HaveFault}
+use Rattle.chart_text.specs.TextFaults.{HasFirstLine, IsMisplaced, IsLowestMisplaced, HasTextFault, HaveFault}
 use Rattle.tokens.specs.Dividing.{tokens_of}
 use Rattle.tokens.proofs.LineContent as lines
 use Rattle.tokens.proofs.TextFrame.{larger_by, title_by, told_false, refused_by}
@@ -59,7 +59,7 @@ chart_from-cons None number line lines content is = ap
 chart_from-cons (Some last) number line lines content is = ap
     (λ c. line_then (Some last) number c (λ e'. chart_from e' (suc number) lines)) is
 
--- behind END
+-- after END
 empties_read : (lines : List (List ℕ)) (number last : ℕ) → AllByRecursion IsEmptyLine lines
     → chart_from (Some last) number lines ≡ Ok (record { lines = []; end = last })
 unfolding chart_from
@@ -79,7 +79,7 @@ chart_read (form_line {number} {end = last} {line} {lines} {said} {statement} is
 chart_read (end_line {number} {line} {lines} is all) =
     chart_from-cons None number line lines End (end_read line is) ∙ empties_read lines (suc number) number all
 
--- what is read behind END
+-- what is read after END
 record EndsAt (last : ℕ) (lines : List (List ℕ)) (chart : Chart) : Type 0 where
   all : AllByRecursion IsEmptyLine lines
   nothing : chart.lines ≡ []
@@ -196,7 +196,7 @@ with_lines_outcome all front (Err TooLarge) is = is
 with_lines_outcome all front (Err NoFirstLine) is = is
 with_lines_outcome all front (Err Memory) is = is
 
--- a line that is not misplaced, behind good lines
+-- a line that is not misplaced, after good lines
 good_more : (all : List (List ℕ)) (number : ℕ) → GoodBelow all number → (IsMisplaced all number → ⊥)
     → GoodBelow all (suc number)
 good_more all number good here n below misplaced = by_order (cases_order n number)
@@ -234,74 +234,74 @@ all_good all number stands good n misplaced = good n (omega (arith, stands.size,
 empty_good : (all : List (List ℕ)) (number : ℕ) → content_of (line_at all number) ≡ Empty → IsMisplaced all number → ⊥
 empty_good all number here misplaced = by_cause misplaced.cause
   where
-    by_cause : IsNoLine IsFormLine (line_at all number) ⊎ (IsBehindEnd 2 all number × (IsEmptyLine (line_at all number) → ⊥)) → ⊥
+    by_cause : IsNoLine IsFormLine (line_at all number) ⊎ (IsAfterEnd 2 all number × (IsEmptyLine (line_at all number) → ⊥)) → ⊥
     by_cause (inl no_form) = no_form.not_empty (is_content (line_at all number) Empty here)
-    by_cause (inr behind) = behind.1 (is_content (line_at all number) Empty here)
+    by_cause (inr after) = after.1 (is_content (line_at all number) Empty here)
 
 -- a line before END is misplaced only where no form derives it
 before_end_good : (all : List (List ℕ)) (number : ℕ) → NoEndBelow all number → (IsNoLine IsFormLine (line_at all number) → ⊥)
     → IsMisplaced all number → ⊥
 before_end_good all number no_end a_form misplaced = by_cause misplaced.cause
   where
-    by_cause : IsNoLine IsFormLine (line_at all number) ⊎ (IsBehindEnd 2 all number × (IsEmptyLine (line_at all number) → ⊥)) → ⊥
+    by_cause : IsNoLine IsFormLine (line_at all number) ⊎ (IsAfterEnd 2 all number × (IsEmptyLine (line_at all number) → ⊥)) → ⊥
     by_cause (inl no_form) = a_form no_form
-    by_cause (inr behind) = no_end behind.0.end behind.0.before behind.0.there behind.0.is_end
+    by_cause (inr after) = no_end after.0.end after.0.before after.0.there after.0.is_end
 
--- a line behind END that is not empty
-misplaced_behind : (all : List (List ℕ)) (number : ℕ) (line : List ℕ) (rest : List (List ℕ))
-    → Stands all number (line ∷ rest) → GoodBelow all number → IsBehindEnd 2 all number
+-- a line after END that is not empty
+misplaced_after : (all : List (List ℕ)) (number : ℕ) (line : List ℕ) (rest : List (List ℕ))
+    → Stands all number (line ∷ rest) → GoodBelow all number → IsAfterEnd 2 all number
     → (content_of (line_at all number) ≡ Empty → ⊥) → IsLowestMisplaced all number
-misplaced_behind all number line rest stands good behind filled = record {
+misplaced_after all number line rest stands good after filled = record {
   misplaced = record {
     there = there_at all number line rest stands;
     cause = inr
-        (behind, λ has. filled (empty_read (line_at all number) has));
+        (after, λ has. filled (empty_read (line_at all number) has));
   };
   lowest = good;
 }
 
-behind_more : (all : List (List ℕ)) (number : ℕ) → IsBehindEnd 2 all number → IsBehindEnd 2 all (suc number)
-behind_more all number behind = record {
-  end = behind.end;
-  there = behind.there;
+after_more : (all : List (List ℕ)) (number : ℕ) → IsAfterEnd 2 all number → IsAfterEnd 2 all (suc number)
+after_more all number after = record {
+  end = after.end;
+  there = after.there;
   before = omega
-      (arith, behind.before);
-  is_end = behind.is_end;
+      (arith, after.before);
+  is_end = after.is_end;
 }
 
 ended_by : (all : List (List ℕ)) (number last : ℕ) (line : List ℕ) (rest : List (List ℕ)) (content : Content)
-    → Stands all number (line ∷ rest) → GoodBelow all number → IsBehindEnd 2 all number
+    → Stands all number (line ∷ rest) → GoodBelow all number → IsAfterEnd 2 all number
     → content_of (line_at all number) ≡ content
-    → ((n : ℕ) → Stands all n rest → GoodBelow all n → IsBehindEnd 2 all n → Outcome all (chart_from (Some last) n rest))
+    → ((n : ℕ) → Stands all n rest → GoodBelow all n → IsAfterEnd 2 all n → Outcome all (chart_from (Some last) n rest))
     → Outcome all (line_then (Some last) number content (λ e'. chart_from e' (suc number) rest))
-ended_by all number last line rest Empty stands good behind here others =
+ended_by all number last line rest Empty stands good after here others =
     others (suc number) (next_stands all number line rest stands)
-    (good_more all number good (empty_good all number here)) (behind_more all number behind)
-ended_by all number last line rest End stands good behind here others = misplaced_behind all number line rest stands
-    good behind (λ e. differ e here)
+    (good_more all number good (empty_good all number here)) (after_more all number after)
+ended_by all number last line rest End stands good after here others = misplaced_after all number line rest stands
+    good after (λ e. differ e here)
   where
     differ : {c : Content} → c ≡ Empty → c ≡ End → ⊥
     differ e f = cc
-ended_by all number last line rest (Says statement) stands good behind here others = misplaced_behind all number line
-    rest stands good behind (λ e. differ e here)
+ended_by all number last line rest (Says statement) stands good after here others = misplaced_after all number line
+    rest stands good after (λ e. differ e here)
   where
     differ : {c : Content} {s : Statement} → c ≡ Empty → c ≡ Says s → ⊥
     differ e f = cc
-ended_by all number last line rest NoLine stands good behind here others = misplaced_behind all number line rest
-    stands good behind (λ e. differ e here)
+ended_by all number last line rest NoLine stands good after here others = misplaced_after all number line rest
+    stands good after (λ e. differ e here)
   where
     differ : {c : Content} → c ≡ Empty → c ≡ NoLine → ⊥
     differ e f = cc
 
--- the outcome behind END
+-- the outcome after END
 ended_outcome : (all : List (List ℕ)) (last : ℕ) (rest : List (List ℕ)) (number : ℕ) → Stands all number rest
-    → GoodBelow all number → IsBehindEnd 2 all number
+    → GoodBelow all number → IsAfterEnd 2 all number
     → Outcome all (chart_from (Some last) number rest)
 unfolding chart_from
-ended_outcome all last [] number stands good behind =
-    (all_good all number stands good, λ lacks. lacks behind.end behind.there behind.is_end)
-ended_outcome all last (line ∷ rest) number stands good behind =
-    ended_by all number last line rest (content_of line) stands good behind
+ended_outcome all last [] number stands good after =
+    (all_good all number stands good, λ lacks. lacks after.end after.there after.is_end)
+ended_outcome all last (line ∷ rest) number stands good after =
+    ended_by all number last line rest (content_of line) stands good after
     (content_at all number line rest (content_of line) stands refl) (ended_outcome all last rest)
 
 no_end_here : (line : List ℕ) (content : Content) → content_of line ≡ content → (content ≡ End → ⊥) → IsEndLine line → ⊥
@@ -322,10 +322,10 @@ started_by all number line rest Empty stands good no_end here others =
     (no_end_more all number no_end (no_end_here (line_at all number) Empty here (not_end Empty (inl refl))))
 started_by all number line rest End stands good no_end here others =
     let is_end = is_content (line_at all number) End here in
-    let behind : IsBehindEnd 2 all (suc number) =
+    let after : IsAfterEnd 2 all (suc number) =
     record { end = number; there = there_at all number line rest stands; before = omega arith; is_end = is_end } in
     ended_outcome all number rest (suc number) (next_stands all number line rest stands)
-    (good_more all number good (before_end_good all number no_end (λ no_form. no_form.not_end is_end))) behind
+    (good_more all number good (before_end_good all number no_end (λ no_form. no_form.not_end is_end))) after
 started_by all number line rest (Says statement) stands good no_end here others =
     let is_form = is_content (line_at all number) (Says statement) here in
     with_lines_outcome all (record { number = number; statement = statement } ∷ []) (chart_from None (suc number) rest)
@@ -423,7 +423,7 @@ sized_fault (first ∷ others) fault false size read = begun_fault first others 
     (is_first first) size refl read
 
 -- the fault that is read is the one of the text
-pub fault_is : (bytes : List ℕ) (fault : TextFault) → chart_of bytes ≡ Err fault → HasFault bytes fault
+pub fault_is : (bytes : List ℕ) (fault : TextFault) → chart_of bytes ≡ Err fault → HasTextFault bytes fault
 unfolding chart_of
 fault_is bytes fault read = sized_fault (lines_of bytes) fault (is_large (lines_of bytes)) refl read
 
@@ -454,7 +454,7 @@ no_end_read lines (Err TooLarge) good lacks says = absurd says
 no_end_read lines (Err NoFirstLine) good lacks says = absurd says
 no_end_read lines (Err Memory) good lacks says = absurd says
 
--- what is read behind a good first line
+-- what is read after a good first line
 past_first : (first : List ℕ) (others : List (List ℕ)) → (IsTooLarge (first ∷ others) → ⊥)
     → HasFirstLine (first ∷ others) → read_all (first ∷ others) ≡ chart_from None 2 others
 past_first first others size has = rw (small (first ∷ others) size, (begun_told first).1 has.begun) refl
@@ -479,7 +479,7 @@ fault_read_all (first ∷ others) NoEnd has =
     (outcome first others)
 fault_read_all lines Memory has = absurd has
 
-pub fault_read : (bytes : List ℕ) (fault : TextFault) → HasFault bytes fault → chart_of bytes ≡ Err fault
+pub fault_read : (bytes : List ℕ) (fault : TextFault) → HasTextFault bytes fault → chart_of bytes ≡ Err fault
 unfolding chart_of
 fault_read bytes fault has = fault_read_all (lines_of bytes) fault has
 
@@ -527,11 +527,11 @@ reads_read bytes chart is =
 pub one_chart : (bytes : List ℕ) (a b : Chart) → Reads bytes a → Reads bytes b → a ≡ b
 one_chart bytes a b is also = same_ok a b (sym (reads_read bytes a is) ∙ reads_read bytes b also)
 
-pub no_chart : (bytes : List ℕ) (chart : Chart) (fault : TextFault) → HasFault bytes fault → Reads bytes chart → ⊥
+pub no_chart : (bytes : List ℕ) (chart : Chart) (fault : TextFault) → HasTextFault bytes fault → Reads bytes chart → ⊥
 no_chart bytes chart fault has is =
     let read = reads_read bytes chart is in
     let failed_too = fault_read bytes fault has in
     cc
 
-pub one_fault : (bytes : List ℕ) (a b : TextFault) → HasFault bytes a → HasFault bytes b → a ≡ b
+pub one_fault : (bytes : List ℕ) (a b : TextFault) → HasTextFault bytes a → HasTextFault bytes b → a ≡ b
 one_fault bytes a b has also = same_fault a b (sym (fault_read bytes a has) ∙ fault_read bytes b also)

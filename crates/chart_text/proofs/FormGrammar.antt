@@ -8,7 +8,7 @@ use Rattle.charts.specs.Name.{IsName}
 use Rattle.chart_text.specs.Forms.{SaysSign, unsigned, by_row, by_absence, SaysMark, unmarked, total_marked, SaysOption, as_it_is, indicated, item_marked, SaysKind, detail_line, total_line, Says, text_field, amount_field, control, print_detail, print_group, head, detail_literal, detail_field, total_literal, total_text, total_amount, space, page_after, skip_after, form, tape}
 use Rattle.tokens.specs.NumberReading.{number_of, numbers_of}
 use Rattle.chart_text.specs.HelperWords.{name_of, literal_of, mark_of, keyword_of, level_of, control_level_of, heading_line_of, spacing_lines_of}
-use Rattle.chart_text.specs.HelperForms.{stops_of, sign_of, total_mark_of, option_of, kind_of, field_kind_of, field_of, control_of, print_of, head_of, detail_literal_of, detail_field_of, detail_item_of, detail_of, total_literal_of, total_field_of, total_item_of, total_of, spacing_of, space_of, follower_of, after_of, form_of, tape_of, said_behind, statement_of}
+use Rattle.chart_text.specs.HelperForms.{stops_of, sign_of, total_mark_of, option_of, kind_of, field_kind_of, field_of, control_of, print_of, head_of, detail_literal_of, detail_field_of, detail_item_of, detail_of, total_literal_of, total_field_of, total_item_of, total_statement, spacing_of, space_of, follower_of, after_of, form_of, tape_of, said_after, statement_of}
 use Rattle.tokens.proofs.Steps.{bound, granted}
 use Rattle.tokens.proofs.TokenWord.{is_word}
 use Rattle.tokens.proofs.NumberGrammar.{number_is, number_read, numbers_are, numbers_read, as_many_numbers}
@@ -107,7 +107,7 @@ option_read as_it_is = refl
 option_read (indicated {level} {l} is) = rw (control_level_read level l is) refl
 option_read (item_marked is) = rw (mark_read is) refl
 
--- a kind of body line, and the tokens behind it
+-- a kind of body line, and the tokens after it
 record BeginsWithKind (operands : List (List ℕ)) (line : BodyLine) (others : List (List ℕ)) : Type 0 where
   kind : List (List ℕ)
   spelled : operands ≡ kind ++ others
@@ -271,8 +271,8 @@ total_item_is level wheel item (digits ∷ mark) s None found read =
     (total_amount (level_is level l.0 l.1) (number_is wheel w.0 w.1) (name_is item n.0 n.1)
     (number_is digits g.0 g.1) (total_mark_is mark m.0 m.1))
 
-total_is : (operands : List (List ℕ)) (s : Statement) → total_of operands ≡ Some s → Says (codes "TOTAL" ∷ operands) s
-unfolding total_of
+total_is : (operands : List (List ℕ)) (s : Statement) → total_statement operands ≡ Some s → Says (codes "TOTAL" ∷ operands) s
+unfolding total_statement
 total_is [] s read = cc
 total_is (level ∷ []) s read = cc
 total_is (level ∷ wheel ∷ []) s read = cc
@@ -377,7 +377,7 @@ keyword_is word k read =
     try_word word words.Space k _ r6 λ r7. try_word word words.After k _ r7 λ r8. try_word word words.Form k _ r8 λ r9.
     try_word word words.Tape k _ r9 λ r10. cc
 
-said_is : (k : Keyword) (operands : List (List ℕ)) (s : Statement) → said_behind k operands ≡ Some s
+said_is : (k : Keyword) (operands : List (List ℕ)) (s : Statement) → said_after k operands ≡ Some s
     → Says (spelled k ∷ operands) s
 said_is words.Field operands s read = field_is operands s read
 said_is words.Control operands s read = control_is operands s read
@@ -401,7 +401,7 @@ says_what_is_read (word ∷ operands) s read =
 -- what tokens say is read
 pub read_what_it_says : {tokens : List (List ℕ)} {s : Statement} → Says tokens s → statement_of tokens ≡ Some s
 unfolding statement_of field_of field_kind_of control_of print_of head_of detail_of detail_literal_of detail_field_of
-    total_of total_literal_of total_field_of space_of spacing_of after_of follower_of form_of tape_of stops_of
+    total_statement total_literal_of total_field_of space_of spacing_of after_of follower_of form_of tape_of stops_of
 read_what_it_says (text_field {name} {first} {last} {n} {a} {b} is_n is_a is_b) = rw
     (name_read name n is_n, number_read first a is_a, number_read last b is_b) refl
 read_what_it_says

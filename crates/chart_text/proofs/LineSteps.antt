@@ -67,25 +67,25 @@ chart_from-cons None number line lines = refl
 chart_from-cons (Some end) number line lines = refl
 
 -- the rest of a text, by its first line
-rest_from : (end : Option ℕ) (number : ℕ) (content : Content) (line rest behind : List ℕ)
-    → lines_of rest ≡ line ∷ lines_of behind → content ≡ content_of line
+rest_from : (end : Option ℕ) (number : ℕ) (content : Content) (line rest after : List ℕ)
+    → lines_of rest ≡ line ∷ lines_of after → content ≡ content_of line
     → chart_from end number (lines_of rest) ≡ line_then end number content
-    (λ e. chart_from e (suc number) (lines_of behind))
-rest_from end number content line rest behind first is =
-    ap (chart_from end number) first ∙ chart_from-cons end number line (lines_of behind)
-    ∙ ap (λ c. line_then end number c (λ e. chart_from e (suc number) (lines_of behind))) (sym is)
+    (λ e. chart_from e (suc number) (lines_of after))
+rest_from end number content line rest after first is =
+    ap (chart_from end number) first ∙ chart_from-cons end number line (lines_of after)
+    ∙ ap (λ c. line_then end number c (λ e. chart_from e (suc number) (lines_of after))) (sym is)
 
 -- one line more is read
 pub same_more : (lines new : List Line) (end new_end : Option ℕ) (number : ℕ) (content : Content)
-    (line rest behind : List ℕ) (all : Result Chart TextFault)
-    → lines_of rest ≡ line ∷ lines_of behind → content ≡ content_of line
+    (line rest after : List ℕ) (all : Result Chart TextFault)
+    → lines_of rest ≡ line ∷ lines_of after → content ≡ content_of line
     → TakesLine content number lines end new new_end
     → with_lines lines (chart_from end number (lines_of rest)) ≡ all
-    → with_lines new (chart_from new_end (number + 1) (lines_of behind)) ≡ all
-same_more lines new end new_end number content line rest behind all first is takes same =
-    ap (λ n. with_lines new (chart_from new_end n (lines_of behind))) (add-one number)
-    ∙ sym (takes (λ e. chart_from e (suc number) (lines_of behind)))
-    ∙ ap (with_lines lines) (sym (rest_from end number content line rest behind first is))
+    → with_lines new (chart_from new_end (number + 1) (lines_of after)) ≡ all
+same_more lines new end new_end number content line rest after all first is takes same =
+    ap (λ n. with_lines new (chart_from new_end n (lines_of after))) (add-one number)
+    ∙ sym (takes (λ e. chart_from e (suc number) (lines_of after)))
+    ∙ ap (with_lines lines) (sym (rest_from end number content line rest after first is))
     ∙ same
 
 -- one line is the fault
@@ -97,16 +97,16 @@ fault_of_all (NotALine line) lines read all faults same = sym same ∙ ap (with_
 fault_of_all NoEnd lines read all faults same = sym same ∙ ap (with_lines lines) faults
 fault_of_all Memory lines read all faults same = tt
 
-pub fault_more : (lines : List Line) (end : Option ℕ) (number : ℕ) (content : Content) (line rest behind : List ℕ)
+pub fault_more : (lines : List Line) (end : Option ℕ) (number : ℕ) (content : Content) (line rest after : List ℕ)
     (all : Result Chart TextFault) (fault : TextFault)
-    → lines_of rest ≡ line ∷ lines_of behind → content ≡ content_of line → RefusesLine content number end fault
+    → lines_of rest ≡ line ∷ lines_of after → content ≡ content_of line → RefusesLine content number end fault
     → with_lines lines (chart_from end number (lines_of rest)) ≡ all → Faults fault all
-fault_more lines end number content line rest behind all fault first is refuses same =
-    fault_of_all fault lines (line_then end number content (λ e. chart_from e (suc number) (lines_of behind))) all
-    (refuses (λ e. chart_from e (suc number) (lines_of behind)))
-    (ap (with_lines lines) (sym (rest_from end number content line rest behind first is)) ∙ same)
+fault_more lines end number content line rest after all fault first is refuses same =
+    fault_of_all fault lines (line_then end number content (λ e. chart_from e (suc number) (lines_of after))) all
+    (refuses (λ e. chart_from e (suc number) (lines_of after)))
+    (ap (with_lines lines) (sym (rest_from end number content line rest after first is)) ∙ same)
 
--- no line is left, behind END
+-- no line is left, after END
 pub same_at_end : (lines : List Line) (end : Option ℕ) (number last : ℕ) (rest : List ℕ)
     (all : Result Chart TextFault) (chart : Chart)
     → lines_of rest ≡ [] → end ≡ Some last → chart.lines ≡ lines → chart.end ≡ last

@@ -58,7 +58,7 @@ option_of (word ∷ token ∷ []) =
       Some (Marked mark)) else None)
 option_of (word ∷ token ∷ next ∷ others) = None
 
--- the kind of body line that tokens begin with, and the tokens behind it
+-- the kind of body line that tokens begin with, and the tokens after it
 unfoldable pub kind_of : List (List ℕ) → Option (BodyLine × List (List ℕ))
 kind_of [] = None
 kind_of (word ∷ []) = if bytes_eq word (codes "DETAIL") then Some (lines.Detail, []) else None
@@ -78,7 +78,7 @@ field_kind_of word (decimals ∷ sign) =
       Some (kinds.Amount d rule))
     else None
 
--- what tokens behind `FIELD` say
+-- what tokens after `FIELD` say
 unfoldable pub field_of : List (List ℕ) → Option Statement
 field_of (name ∷ kind ∷ first ∷ last ∷ others) = do
   n ← name_of name
@@ -88,7 +88,7 @@ field_of (name ∷ kind ∷ first ∷ last ∷ others) = do
   Some (says.Field (record { name = n; first = a; last = b; kind = k }))
 field_of _ = None
 
--- what tokens behind `CONTROL` say
+-- what tokens after `CONTROL` say
 unfoldable pub control_of : List (List ℕ) → Option Statement
 control_of (level ∷ name ∷ []) = do
   l ← control_level_of level
@@ -96,14 +96,14 @@ control_of (level ∷ name ∷ []) = do
   Some (says.Control l n)
 control_of _ = None
 
--- what tokens behind `PRINT` say
+-- what tokens after `PRINT` say
 unfoldable pub print_of : List (List ℕ) → Option Statement
 print_of (word ∷ []) =
     if bytes_eq word (codes "DETAIL") then Some (says.Print printings.Detail)
     else (if bytes_eq word (codes "GROUP") then Some (says.Print printings.Group) else None)
 print_of _ = None
 
--- what tokens behind `HEAD` say
+-- what tokens after `HEAD` say
 unfoldable pub head_of : List (List ℕ) → Option Statement
 head_of (line ∷ wheel ∷ literal ∷ []) = do
   h ← heading_line_of line
@@ -132,7 +132,7 @@ abbrev pub detail_item_of : List ℕ → List ℕ → List (List ℕ) → Option
 detail_item_of wheel item others (Some characters) = detail_literal_of wheel characters others
 detail_item_of wheel item others None = detail_field_of wheel item others
 
--- what tokens behind `DETAIL` say
+-- what tokens after `DETAIL` say
 unfoldable pub detail_of : List (List ℕ) → Option Statement
 detail_of (wheel ∷ item ∷ others) = detail_item_of wheel item others (literal_of item)
 detail_of _ = None
@@ -165,10 +165,10 @@ abbrev pub total_item_of : List ℕ → List ℕ → List ℕ → List (List ℕ
 total_item_of level wheel item others (Some characters) = total_literal_of level wheel characters others
 total_item_of level wheel item others None = total_field_of level wheel item others
 
--- what tokens behind `TOTAL` say
-unfoldable pub total_of : List (List ℕ) → Option Statement
-total_of (level ∷ wheel ∷ item ∷ others) = total_item_of level wheel item others (literal_of item)
-total_of _ = None
+-- what tokens after `TOTAL` say
+unfoldable pub total_statement : List (List ℕ) → Option Statement
+total_statement (level ∷ wheel ∷ item ∷ others) = total_item_of level wheel item others (literal_of item)
+total_statement _ = None
 
 -- the spacing of a kind of line
 unfoldable pub spacing_of : BodyLine → List (List ℕ) → Option Statement
@@ -177,7 +177,7 @@ spacing_of line (count ∷ []) = do
   Some (says.Space line n)
 spacing_of line _ = None
 
--- what tokens behind `SPACE` say
+-- what tokens after `SPACE` say
 unfoldable pub space_of : List (List ℕ) → Option Statement
 space_of operands = do
   kind ← kind_of operands
@@ -193,13 +193,13 @@ follower_of line (word ∷ channel ∷ []) =
     else None
 follower_of line _ = None
 
--- what tokens behind `AFTER` say
+-- what tokens after `AFTER` say
 unfoldable pub after_of : List (List ℕ) → Option Statement
 after_of operands = do
   kind ← kind_of operands
   follower_of kind.0 kind.1
 
--- what tokens behind `FORM` say
+-- what tokens after `FORM` say
 unfoldable pub form_of : List (List ℕ) → Option Statement
 form_of (size ∷ first ∷ overflow ∷ []) = do
   p ← number_of size
@@ -212,7 +212,7 @@ form_of _ = None
 unfoldable pub stops_of : List (List ℕ) → Option (List ℕ)
 stops_of tokens = if nat_le 1 (length tokens) && nat_le (length tokens) 10 then numbers_of tokens else None
 
--- what tokens behind `TAPE` say
+-- what tokens after `TAPE` say
 unfoldable pub tape_of : List (List ℕ) → Option Statement
 tape_of (channel ∷ stops) = do
   c ← number_of channel
@@ -220,22 +220,22 @@ tape_of (channel ∷ stops) = do
   Some (says.Tape c numbers)
 tape_of _ = None
 
--- what tokens behind a word say
-abbrev pub said_behind : Keyword → List (List ℕ) → Option Statement
-said_behind words.Field operands = field_of operands
-said_behind words.Control operands = control_of operands
-said_behind words.Print operands = print_of operands
-said_behind words.Head operands = head_of operands
-said_behind words.Detail operands = detail_of operands
-said_behind words.Total operands = total_of operands
-said_behind words.Space operands = space_of operands
-said_behind words.After operands = after_of operands
-said_behind words.Form operands = form_of operands
-said_behind words.Tape operands = tape_of operands
+-- what tokens after a word say
+abbrev pub said_after : Keyword → List (List ℕ) → Option Statement
+said_after words.Field operands = field_of operands
+said_after words.Control operands = control_of operands
+said_after words.Print operands = print_of operands
+said_after words.Head operands = head_of operands
+said_after words.Detail operands = detail_of operands
+said_after words.Total operands = total_statement operands
+said_after words.Space operands = space_of operands
+said_after words.After operands = after_of operands
+said_after words.Form operands = form_of operands
+said_after words.Tape operands = tape_of operands
 
 -- what the tokens of a line say, where they are a form
 unfoldable pub statement_of : List (List ℕ) → Option Statement
 statement_of [] = None
 statement_of (word ∷ operands) = do
   keyword ← keyword_of word
-  said_behind keyword operands
+  said_after keyword operands

@@ -20,7 +20,7 @@ pub record HasFirstLine (lines : List (List ℕ)) : Type 0 where
   pub there : 1 ≤ length lines
   pub begun : IsFirstLine (line_at lines 1)
 
--- the line of a number, from 2 on, is one that no form derives, or one behind END that isn't empty
+-- the line of a number, from 2 on, is one that no form derives, or one after END that isn't empty
 abbrev pub IsMisplaced : List (List ℕ) → ℕ → Type 0
 IsMisplaced lines number = frame.IsMisplaced IsFormLine 2 lines number
 
@@ -39,5 +39,5 @@ HaveFault lines NoEnd = (¬ IsTooLarge lines) × HasFirstLine lines × ((number 
 HaveFault lines Memory = ⊥
 
 -- the fault of a text
-abbrev pub HasFault : List ℕ → TextFault → Type 0
-HasFault bytes fault = HaveFault (lines_of bytes) fault
+abbrev pub HasTextFault : List ℕ → TextFault → Type 0
+HasTextFault bytes fault = HaveFault (lines_of bytes) fault

@@ -15,7 +15,7 @@ pub enum TextFault {
     /// Line 1 is not `CHART407 1`.
     #[error("line 1 is not `CHART407 1`")]
     NoFirstLine,
-    /// A line is no form of a chart, or stands behind END. It is the lowest such line.
+    /// A line is no form of a chart, or stands after END. It is the lowest such line.
     #[error("line {line} is no form of a chart")]
     NotALine {
         /// Its number, from 2.

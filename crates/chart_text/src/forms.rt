@@ -4,7 +4,7 @@ ghost use Rattle.std.specs.Prelude.{◌≡◌, ℕ, length, IfOk, IfSome, Some, 
 ghost use Rattle.std.specs.Str.{bytes_eq};
 ghost use Rattle.tokens.specs.NumberReading.{numbers_of};
 ghost use Rattle.tokens.specs.Texts.{texts};
-ghost use Rattle.chart_text.specs.HelperForms.{sign_of, total_mark_of, option_of, kind_of, stops_of, field_kind_of, field_of, control_of, print_of, head_of, detail_literal_of, detail_field_of, detail_of, total_literal_of, total_field_of, total_of, spacing_of, space_of, follower_of, after_of, form_of, tape_of, said_behind, statement_of};
+ghost use Rattle.chart_text.specs.HelperForms.{sign_of, total_mark_of, option_of, kind_of, stops_of, field_kind_of, field_of, control_of, print_of, head_of, detail_literal_of, detail_field_of, detail_of, total_literal_of, total_field_of, total_statement, spacing_of, space_of, follower_of, after_of, form_of, tape_of, said_after, statement_of};
 
 use crate::scanner::read_number;
 use crate::words::{
@@ -30,18 +30,18 @@ pub(crate) fn read_statement(
         return Ok(None);
     };
     match read_keyword(word) {
-        Some(keyword) => read_behind(alloc, keyword, operands),
+        Some(keyword) => read_operands(alloc, keyword, operands),
         None => Ok(None),
     }
 }
 
-/// What the tokens behind a word say.
-fn read_behind(
+/// What the tokens after a word say.
+fn read_operands(
     alloc: Global,
     keyword: Keyword,
     operands: &[&[u8]],
 ) -> Result<Option<Statement>, AllocError>
-    ensures { IfOk result (λ statement. statement ≡ said_behind keyword (texts operands.now)) }
+    ensures { IfOk result (λ statement. statement ≡ said_after keyword (texts operands.now)) }
 {
     match keyword {
         Keyword::Field => Ok(read_field(operands)),
@@ -207,9 +207,9 @@ fn read_option(operands: &[&[u8]]) -> Option<DetailOption>
 }
 
 /// `TOTAL l w literal`, `TOTAL l w name`, or `TOTAL l w name g` with or without a mark.
-#[tactic(auto, unfolding(crate::specs::HelperForms::total_of))]
+#[tactic(auto, unfolding(crate::specs::HelperForms::total_statement))]
 fn read_total(alloc: Global, operands: &[&[u8]]) -> Result<Option<Statement>, AllocError>
-    ensures { IfOk result (λ statement. statement ≡ total_of (texts operands.now)) }
+    ensures { IfOk result (λ statement. statement ≡ total_statement (texts operands.now)) }
 {
     let [level, wheel, item, others @ ..] = operands else {
         return Ok(None);
@@ -280,7 +280,7 @@ fn read_total_mark(operands: &[&[u8]]) -> Option<Option<Mark>>
     }
 }
 
-/// The kind of body line that tokens begin with, `DETAIL` or `TOTAL l`, and the tokens behind it.
+/// The kind of body line that tokens begin with, `DETAIL` or `TOTAL l`, and the tokens after it.
 #[tactic(auto, unfolding(crate::specs::HelperForms::kind_of))]
 fn read_kind<'a, 'b>(operands: &'b [&'a [u8]]) -> Option<(BodyLine, &'b [&'a [u8]])>
     ensures { option_map (λ kind. (kind.0, texts kind.1.now)) result ≡ kind_of (texts operands.now) }

@@ -5,7 +5,7 @@ ghost use Rattle.charts.specs.Chart.{Chart};
 ghost use Rattle.tokens.specs.Frame.{IsEmptyLine, IsEndLine};
 ghost use Rattle.chart_text.specs.ChartText.{IsFormLine, Reads};
 ghost use Rattle.charts.specs.Literals.{HaveLiteralTexts};
-ghost use Rattle.chart_text.specs.TextFaults.{HasFault};
+ghost use Rattle.chart_text.specs.TextFaults.{HasTextFault};
 ghost use Rattle.charts.specs.declared.statement.Statement.{Statement};
 ghost use Rattle.chart_text.specs.declared.fault.TextFault.{TextFault};
 
@@ -20,8 +20,8 @@ pub fn line_is_unambiguous()
 /// One chart at most fits a text. A text whose text rules are broken has no chart, and one fault.
 pub fn chart_text_is_unambiguous()
     ensures one_chart { (text : List ℕ) (one other : Chart) → Reads text one → Reads text other → one ≡ other }
-    ensures no_chart { (text : List ℕ) (chart : Chart) (fault : TextFault) → HasFault text fault → ¬ Reads text chart }
-    ensures one_fault { (text : List ℕ) (one other : TextFault) → HasFault text one → HasFault text other → one ≡ other }
+    ensures no_chart { (text : List ℕ) (chart : Chart) (fault : TextFault) → HasTextFault text fault → ¬ Reads text chart }
+    ensures one_fault { (text : List ℕ) (one other : TextFault) → HasTextFault text one → HasTextFault text other → one ≡ other }
 {}
 
 /// The literals of a chart that is read from a text have print characters and blanks alone.

@@ -7,7 +7,7 @@ ghost use Rattle.tokens.specs.Texts.{texts};
 ghost use Rattle.chart_text.specs.HelperForms.{statement_of};
 ghost use Rattle.charts.specs.Chart.{Chart, NumbersRise};
 ghost use Rattle.chart_text.specs.ChartText.{Reads};
-ghost use Rattle.chart_text.specs.TextFaults.{HasFault};
+ghost use Rattle.chart_text.specs.TextFaults.{HasTextFault};
 ghost use Rattle.chart_text.specs.HelperText.{content_of, chart_from, chart_of, chart_of_lines, Answers, TakesLine, RefusesLine};
 
 use crate::fault::TextFault;
@@ -30,17 +30,17 @@ const MAX_LINE_BYTES: usize = 200;
 ///
 /// The first of the text rules that is broken, in this order: `TooLarge` for more than 500 lines or a line
 /// of more than 200 bytes; `NoFirstLine` where line 1 is not `CHART407 1`; `NotALine` for the lowest line
-/// that no form derives, text behind END included; `NoEnd` where no line is END. `Memory` only where memory
+/// that no form derives, text after END included; `NoEnd` where no line is END. `Memory` only where memory
 /// was refused; what was read so far is freed then.
 pub fn read_chart(alloc: Global, text: &[u8]) -> Result<RawChart, TextFault>
     // What is read is the chart of the text, and a fault is the one of the text.
     ensures read { IfOk result (λ chart. Reads text.now chart) }
-    ensures fault { IfErr result (λ fault. fault ≢ TextFault.Memory → HasFault text.now fault) }
+    ensures fault { IfErr result (λ fault. fault ≢ TextFault.Memory → HasTextFault text.now fault) }
 
     // Each chart is read, and each fault told, unless memory is refused.
     ensures only_read { (chart : Chart) → Reads text.now chart
         → (result ≡ Ok chart) ⊎ (result ≡ Err TextFault.Memory) }
-    ensures only_fault { (fault : TextFault) → HasFault text.now fault
+    ensures only_fault { (fault : TextFault) → HasTextFault text.now fault
         → (result ≡ Err fault) ⊎ (result ≡ Err TextFault.Memory) }
 {
     read_text(alloc, text)
@@ -98,11 +98,11 @@ fn read_lines(alloc: Global, text: &[u8]) -> Result<RawChart, TextFault>
     let mut end = None;
     let mut number = 2;
     let mut rest = text;
-    while let Some((line, behind)) = next_line(rest) {
+    while let Some((line, after)) = next_line(rest) {
         let content = read_line(alloc, line)?;
         take_line(content, number, &mut lines, &mut end)?;
         number += 1;
-        rest = behind;
+        rest = after;
     }
     match end {
         Some(end) => Ok(RawChart::new(lines, end)),
@@ -110,7 +110,7 @@ fn read_lines(alloc: Global, text: &[u8]) -> Result<RawChart, TextFault>
     }
 }
 
-/// Takes the line of a number: behind the lines so far, or as END where there was none.
+/// Takes the line of a number: after the lines so far, or as END where there was none.
 fn take_line(
     content: Content<Statement>,
     number: u16,

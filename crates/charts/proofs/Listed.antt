@@ -15,11 +15,11 @@ use Rattle.std.proofs.lemmas.Option.{slice_get_past, slice_get_within, slice_get
 pub listed-first : {X : Type 0} (x : X) (xs : List X) → Contains (x ∷ xs) x
 listed-first x xs = (0, omega arith, refl)
 
--- an element behind the first
-pub listed-behind : {X : Type 0} {x : X} (y : X) (xs : List X) → Contains xs x → Contains (y ∷ xs) x
-listed-behind y xs there = (suc there.0, omega (arith, there.1), there.2)
+-- an element after the first
+pub listed-after : {X : Type 0} {x : X} (y : X) (xs : List X) → Contains xs x → Contains (y ∷ xs) x
+listed-after y xs there = (suc there.0, omega (arith, there.1), there.2)
 
--- an element is the first, or behind it
+-- an element is the first, or after it
 pub listed-cases : {X : Type 0} (x y : X) (xs : List X) → Contains (y ∷ xs) x → (y ≡ x) ⊎ Contains xs x
 listed-cases {X} x y xs there = by there.0 there.1 there.2
   where
@@ -55,7 +55,7 @@ listed-place x xs (k, within, is) = record {
 pub data Order {X : Type 0} (xs : List X) (one other : X) : Type 0 where
   is_one : one ≡ other → Order xs one other
   goes_before : (a b c : List X) → xs ≡ (a ++ one ∷ b) ++ other ∷ c → Order xs one other
-  goes_behind : (a b c : List X) → xs ≡ (a ++ other ∷ b) ++ one ∷ c → Order xs one other
+  goes_after : (a b c : List X) → xs ≡ (a ++ other ∷ b) ++ one ∷ c → Order xs one other
 
 pub listed-order : {X : Type 0} (xs : List X) (one other : X) → Contains xs one → Contains xs other → Order xs one other
 listed-order [] one other there there_other = absurd (listed-none one there)
@@ -68,11 +68,11 @@ listed-order (x ∷ xs) one other there there_other =
     by (inl is) (inr later) rest =
         let place = listed-place other xs later in goes_before [] place.earlier place.later (ap₂ (λ y ys. y ∷ ys) is place.parts)
     by (inr later) (inl is) rest =
-        let place = listed-place one xs later in goes_behind [] place.earlier place.later (ap₂ (λ y ys. y ∷ ys) is place.parts)
+        let place = listed-place one xs later in goes_after [] place.earlier place.later (ap₂ (λ y ys. y ∷ ys) is place.parts)
     by (inr later) (inr later_other) rest = elim (rest later later_other) [
       | is_one is ↦ is_one is
       | goes_before a b c split ↦ goes_before (x ∷ a) b c (ap (λ ys. x ∷ ys) split)
-      | goes_behind a b c split ↦ goes_behind (x ∷ a) b c (ap (λ ys. x ∷ ys) split)
+      | goes_after a b c split ↦ goes_after (x ∷ a) b c (ap (λ ys. x ∷ ys) split)
     ]
 
 -- what is found stands in the list, and passes
@@ -85,7 +85,7 @@ found-listed {X} test (y ∷ xs) x found = by (found-listed test xs x) (test y) 
     by below true passes is =
         let same : y ≡ x = cc in
         ((0, omega arith, same), ap test (sym same) ∙ passes)
-    by below false fails is = let rest = below is in (listed-behind y xs rest.0, rest.1)
+    by below false fails is = let rest = below is in (listed-after y xs rest.0, rest.1)
 
 -- where none is found, no element passes
 pub none-found : {X : Type 0} (test : X → Bool) (xs : List X) (x : X) → find test xs ≡ None → Contains xs x → test x ≡ false
@@ -96,7 +96,7 @@ none-found {X} test (y ∷ xs) x none there = by (none-found test xs x) (test y)
         → cond b (Some y) (find test xs) ≡ None → (y ≡ x) ⊎ Contains xs x → test x ≡ false
     by below true passes is where_is = cc
     by below false fails is (inl same) = ap test (sym same) ∙ fails
-    by below false fails is (inr behind) = below is behind
+    by below false fails is (inr after) = below is after
 
 -- where an element passes, one is found
 pub found-passing : {X : Type 0} (test : X → Bool) (xs : List X) (x : X) → Contains xs x → test x ≡ true → (y : X) × (find test xs ≡ Some y)
@@ -178,22 +178,22 @@ pub given-by : {X Y : Type 0} (f : X → Option Y) (xs : List X) (y : Y) → Con
 given-by f [] y there = absurd (listed-none y there)
 given-by {X} {Y} f (x ∷ xs) y there = by (given-by f xs y) (f x) refl there
   where
-    behind : Given f xs y → Given f (x ∷ xs) y
-    behind rest = record { element = rest.element; listed = listed-behind x xs rest.listed; gives = rest.gives }
+    after : Given f xs y → Given f (x ∷ xs) y
+    after rest = record { element = rest.element; listed = listed-after x xs rest.listed; gives = rest.gives }
 
     by : (Contains (filter_map f xs) y → Given f xs y) → (found : Option Y) → f x ≡ found
         → Contains (cons_option found (filter_map f xs)) y → Given f (x ∷ xs) y
-    by below None e is = behind (below is)
+    by below None e is = after (below is)
     by below (Some z) e is = elim (listed-cases y z (filter_map f xs) is) [
       | inl same ↦ record { element = x; listed = listed-first x xs; gives = e ∙ ap Some same }
-      | inr later ↦ behind (below later)
+      | inr later ↦ after (below later)
     ]
 
 pub listed-given : {X Y : Type 0} (f : X → Option Y) (xs : List X) (x : X) (y : Y) → Contains xs x → f x ≡ Some y
     → Contains (filter_map f xs) y
 listed-given f [] x y there gives = absurd (listed-none x there)
 listed-given {X} {Y} f (z ∷ xs) x y there gives =
-    by (λ behind. listed-given f xs x y behind gives) (f z) refl (listed-cases x z xs there)
+    by (λ after. listed-given f xs x y after gives) (f z) refl (listed-cases x z xs there)
   where
     by : (Contains xs x → Contains (filter_map f xs) y) → (found : Option Y) → f z ≡ found → (z ≡ x) ⊎ Contains xs x → Contains (cons_option found (filter_map f xs)) y
     by below None e (inl same) = let at : f z ≡ Some y = ap f same ∙ gives in cc
@@ -201,15 +201,15 @@ listed-given {X} {Y} f (z ∷ xs) x y there gives =
         let at : f z ≡ Some y = ap f same ∙ gives in
         let is : w ≡ y = cc in
         (0, omega arith, is)
-    by below None e (inr behind) = below behind
-    by below (Some w) e (inr behind) = listed-behind w (filter_map f xs) (below behind)
+    by below None e (inr after) = below after
+    by below (Some w) e (inr after) = listed-after w (filter_map f xs) (below after)
 
 -- an element gives one of the list of what the elements give
 pub listed-map : {X Y : Type 0} (f : X → Y) (xs : List X) (x : X) → Contains xs x → Contains (map f xs) (f x)
 listed-map f [] x there = absurd (listed-none x there)
 listed-map f (y ∷ xs) x there = elim (listed-cases x y xs there) [
   | inl same ↦ (0, omega arith, ap f same)
-  | inr later ↦ listed-behind (f y) (map f xs) (listed-map f xs x later)
+  | inr later ↦ listed-after (f y) (map f xs) (listed-map f xs x later)
 ]
 
 -- an element that passes is one of those that pass
@@ -222,7 +222,7 @@ listed-filter test (y ∷ xs) x there passes =
         → Contains (cond b (y ∷ filter test xs) (filter test xs)) x
     by true is (inl same) below = (0, omega arith, same)
     by false is (inl same) below = absurd (both_ways (test y) is (ap test same ∙ passes))
-    by true is (inr later) below = listed-behind y (filter test xs) (below later)
+    by true is (inr later) below = listed-after y (filter test xs) (below later)
     by false is (inr later) below = below later
 
 -- an element of a part is one of the whole

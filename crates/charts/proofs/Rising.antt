@@ -4,7 +4,7 @@ use Rattle.charts.specs.Chart.{NumbersRise}
 use Rattle.charts.specs.declared.chart.Line.{Line}
 use Rattle.charts.proofs.Listed.{listed-cases, listed-none}
 
--- the lines behind the first
+-- the lines after the first
 pub NumbersRise-tail : (line : Line) (lines : List Line) (end : ℕ) → NumbersRise (line ∷ lines) end → NumbersRise lines end
 NumbersRise-tail line [] end rise = tt
 NumbersRise-tail line (next ∷ lines) end rise = rise.1
@@ -18,7 +18,7 @@ number-above line (next ∷ lines) end other rise there =
   where
     by : (Contains lines other → next.number < other.number) → (next ≡ other) ⊎ Contains lines other → line.number < other.number
     by later (inl same) = let e = ap (λ l. l.number) same in omega (arith, rise.0, e)
-    by later (inr behind) = let more = later behind in omega (arith, rise.0, more)
+    by later (inr after) = let more = later after in omega (arith, rise.0, more)
 
 -- no two lines have one number
 pub one-line : (lines : List Line) (end : ℕ) (one other : Line) → NumbersRise lines end → Contains lines one → Contains lines other
@@ -31,12 +31,12 @@ one-line (line ∷ lines) end one other rise there there_other same =
     by : (Contains lines one → Contains lines other → one.number ≡ other.number → one ≡ other)
         → (line ≡ one) ⊎ Contains lines one → (line ≡ other) ⊎ Contains lines other → one ≡ other
     by later (inl is) (inl is_other) = sym is ∙ is_other
-    by later (inl is) (inr behind) =
-        let less = number-above line lines end other rise behind in
+    by later (inl is) (inr after) =
+        let less = number-above line lines end other rise after in
         let e = ap (λ l. l.number) is in
         absurd (omega (arith, less, e, same))
-    by later (inr behind) (inl is) =
-        let less = number-above line lines end one rise behind in
+    by later (inr after) (inl is) =
+        let less = number-above line lines end one rise after in
         let e = ap (λ l. l.number) is in
         absurd (omega (arith, less, e, same))
-    by later (inr behind) (inr behind_other) = later behind behind_other same
+    by later (inr after) (inr after_other) = later after after_other same

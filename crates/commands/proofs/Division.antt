@@ -1,23 +1,23 @@
--- Dividing a text behind its first line END, line by line.
+-- Dividing a text after its first line END, line by line.
 use Rattle.std.proofs.Common.{◌≡◌, ◌≢◌, ℕ, ◌+◌, ◌<◌, List, [], ◌∷◌, ◌++◌, length, take, drop, get_or, ap, sym, ◌∙◌, arith, suc, subst, take-append-drop, append_assoc}
 use Rattle.std.proofs.Math.Seq.{drop-cons, take-add}
 use Rattle.std.proofs.lemmas.List.{get_or-take, drop-drop, length-take-le}
 use Rattle.commands.specs.Input.{HasNoLineFeed, IsEndPiece, IsDivided, unended, end_line, other_line}
 
--- as the text behind these bytes is divided, so is the whole
-abbrev pub DividesBehind : List ℕ → ℕ → Type 0
-DividesBehind text taken =
+-- as the text after these bytes is divided, so is the whole
+abbrev pub DividesAfter : List ℕ → ℕ → Type 0
+DividesAfter text taken =
     (chart deck : List ℕ) → IsDivided (drop taken text) chart deck → IsDivided text (take taken text ++ chart) deck
 
-pub nothing_taken : (text : List ℕ) → DividesBehind text 0
+pub nothing_taken : (text : List ℕ) → DividesAfter text 0
 nothing_taken text chart deck is = is
 
 -- no LF is left
-pub all_chart : (text : List ℕ) (taken : ℕ) → DividesBehind text taken → HasNoLineFeed (drop taken text) → IsDivided text text []
-all_chart text taken behind none =
-    subst (λ (chart : List ℕ). IsDivided text chart []) (take-append-drop taken text) (behind _ _ (unended _ none))
+pub all_chart : (text : List ℕ) (taken : ℕ) → DividesAfter text taken → HasNoLineFeed (drop taken text) → IsDivided text text []
+all_chart text taken after none =
+    subst (λ (chart : List ℕ). IsDivided text chart []) (take-append-drop taken text) (after _ _ (unended _ none))
 
--- a line with its LF, and what is behind it
+-- a line with its LF, and what is after it
 module _ (text rest : List ℕ) (taken size : ℕ) (is_rest : rest ≡ drop taken text) (within : size < length rest)
     (found : get_or rest size 0 ≡ 10) (before : (k : ℕ) → k < size → get_or rest k 0 ≢ 10) where
   from_line_feed : drop size rest ≡ 10 ∷ drop (taken + (size + 1)) text
@@ -39,17 +39,17 @@ module _ (text rest : List ℕ) (taken size : ℕ) (is_rest : rest ≡ drop take
       take-add taken (size + 1) text ∙ ap (λ t. take taken text ++ take (size + 1) t) (sym is_rest)
       ∙ ap (λ t. take taken text ++ t) (take-add size 1 rest ∙ ap (λ t. take size rest ++ take 1 t) from_line_feed)
 
-  pub chart_ends : DividesBehind text taken → IsEndPiece (take size rest)
+  pub chart_ends : DividesAfter text taken → IsEndPiece (take size rest)
       → IsDivided text (take (taken + (size + 1)) text) (drop (taken + (size + 1)) text)
-  chart_ends behind end =
+  chart_ends after end =
       let deck = drop (taken + (size + 1)) text in
       let divided : IsDivided (drop taken text) (take size rest ++ 10 ∷ []) deck =
       subst (λ (t : List ℕ). IsDivided t (take size rest ++ 10 ∷ []) deck) (sym cut ∙ is_rest)
       (end_line _ _ no_line_feed end) in
-      subst (λ (c : List ℕ). IsDivided text c deck) (sym gathered) (behind _ _ divided)
+      subst (λ (c : List ℕ). IsDivided text c deck) (sym gathered) (after _ _ divided)
 
-  pub chart_goes_on : DividesBehind text taken → (IsEndPiece (take size rest) → ⊥) → DividesBehind text (taken + (size + 1))
-  chart_goes_on behind other chart deck is =
+  pub chart_goes_on : DividesAfter text taken → (IsEndPiece (take size rest) → ⊥) → DividesAfter text (taken + (size + 1))
+  chart_goes_on after other chart deck is =
       let divided : IsDivided (drop taken text) (take size rest ++ 10 ∷ chart) deck =
       subst (λ (t : List ℕ). IsDivided t (take size rest ++ 10 ∷ chart) deck) (sym cut ∙ is_rest)
       (other_line _ _ _ _ no_line_feed other is) in
@@ -57,4 +57,4 @@ module _ (text rest : List ℕ) (taken size : ℕ) (is_rest : rest ≡ drop take
       append_assoc (take taken text) (take size rest ++ 10 ∷ []) chart
       ∙ ap (λ t. take taken text ++ t) (append_assoc (take size rest) (10 ∷ []) chart) in
       subst (λ (c : List ℕ). IsDivided text c deck) (sym (ap (λ (t : List ℕ). t ++ chart) gathered ∙ regrouped))
-      (behind _ _ divided)
+      (after _ _ divided)

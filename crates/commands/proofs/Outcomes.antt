@@ -90,7 +90,7 @@ refused command text read items deck met told same_read is_deck refuses same thr
 
 -- a fault of the wiring chart, whatever the deck is that can't be read
 pub wiring_refused_for_any : (text : List ℕ) (deck : Option (List ℕ)) (cause : WiringFault) (told : Fault)
-    → (cause ≢ wiring.Memory → wiring_faults.HasFault text cause) → told ≡ wiring_told cause → status_of told ≡ 3
+    → (cause ≢ wiring.Memory → wiring_faults.HasWiringFault text cause) → told ≡ wiring_told cause → status_of told ≡ 3
     → IsRefused command.Replay text deck told
 wiring_refused_for_any text deck cause told has named three =
     record {

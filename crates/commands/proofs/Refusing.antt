@@ -1,7 +1,7 @@
 -- A fault of a text as it is told.
 use Rattle.std.proofs.Common.{◌≡◌, ◌≢◌, ◌∙◌, ap, List, ℕ, Result, Ok, Err, IfOk}
 use Rattle.std.specs.Prelude.{IfErr}
-use Rattle.card_code.specs.Deck.{Deck, HasFault}
+use Rattle.card_code.specs.Deck.{Deck, HasDeckFault}
 use Rattle.card_code.specs.declared.deck.DeckFault.{DeckFault}
 use Rattle.card_code.specs.declared.deck.DeckFault.TheVariants as deck
 use Rattle.compile407.specs.ChartFaults.{HasChartFault}
@@ -27,7 +27,7 @@ pub chart_refused : (text : List ℕ) (cause : ChartFault) (told : Fault) → (c
 chart_refused text cause told has named not_memory =
     record { cause = cause; at_fault = has (λ is. not_memory (named ∙ ap chart_told is)); named = named }
 
-pub deck_refused : (text : List ℕ) (cause : DeckFault) (told : Fault) → (cause ≢ deck.Memory → HasFault text cause)
+pub deck_refused : (text : List ℕ) (cause : DeckFault) (told : Fault) → (cause ≢ deck.Memory → HasDeckFault text cause)
     → told ≡ deck_told cause → told ≢ fault.Memory → RefusesDeck text told
 deck_refused text cause told has named not_memory =
     record { cause = cause; at_fault = has (λ is. not_memory (named ∙ ap deck_told is)); named = named }
@@ -39,7 +39,7 @@ cards_refused text punched compiled read cause told compiles is_deck has named n
     cards compiled compiles read is_deck cause (has (λ is. not_memory (named ∙ ap run_told is))) named
 
 pub wiring_refused : (text punched : List ℕ) (cause : WiringFault) (told : Fault)
-    → (cause ≢ wiring.Memory → wiring_faults.HasFault text cause) → told ≡ wiring_told cause → told ≢ fault.Memory
+    → (cause ≢ wiring.Memory → wiring_faults.HasDeckFault text cause) → told ≡ wiring_told cause → told ≢ fault.Memory
     → RefusesReplay text punched told
 wiring_refused text punched cause told has named not_memory =
     wires cause (has (λ is. not_memory (named ∙ ap wiring_told is))) named

@@ -1,4 +1,4 @@
--- How a text that has a chart and then its deck is divided: behind its first line END. A line is what an LF ends, and one CR at its
+-- How a text that has a chart and then its deck is divided: after its first line END. A line is what an LF ends, and one CR at its
 -- end is dropped, as in charts and decks; END is what it is in charts.
 use Rattle.std.specs.Prelude.{◌≢◌, ℕ, ◌<◌, List, [], ◌∷◌, ◌++◌, length, slice_index}
 use Rattle.card_code.specs.Lines.{without_cr}
@@ -13,7 +13,7 @@ abbrev pub IsEndPiece : List ℕ → Type 0
 IsEndPiece piece = IsEndLine (without_cr piece)
 
 -- The text is this chart and this deck: a text without LF is all chart; a first line END ends the chart; any other first line is the
--- chart's, which goes on behind it.
+-- chart's, which goes on after it.
 pub data IsDivided : List ℕ → List ℕ → List ℕ → Type 0 where
   unended : (text : List ℕ) → HasNoLineFeed text → IsDivided text text []
   end_line : (piece deck : List ℕ) → HasNoLineFeed piece → IsEndPiece piece

@@ -1,7 +1,7 @@
 -- Which fault is told where a command refuses its texts. The faults stand in the order in which a command meets them: a later one is
 -- told only where no earlier one is there.
 use Rattle.std.specs.Prelude.{◌≡◌, ℕ, List}
-use Rattle.card_code.specs.Deck.{Deck, HasFault}
+use Rattle.card_code.specs.Deck.{Deck, HasDeckFault}
 use Rattle.card_code.specs.declared.deck.DeckFault.{DeckFault}
 use Rattle.compile407.specs.ChartFaults.{HasChartFault}
 use Rattle.compile407.specs.Compilation.{Compilation}
@@ -27,7 +27,7 @@ pub record RefusesChart (text : List ℕ) (told : Fault) : Type 0 where
 -- the fault of a deck's text is told
 pub record RefusesDeck (deck : List ℕ) (told : Fault) : Type 0 where
   pub cause : DeckFault
-  pub at_fault : HasFault deck cause
+  pub at_fault : HasDeckFault deck cause
   pub named : told ≡ deck_told cause
 
 -- of a chart and a deck: the fault of the chart, else that of the deck's text, else that of its cards for this chart
@@ -39,7 +39,7 @@ pub data RefusesRun (text deck : List ℕ) (told : Fault) : Type 0 where
 
 -- of a wiring chart and a deck: the fault of the wiring chart, else that of the deck's text
 pub data RefusesReplay (text deck : List ℕ) (told : Fault) : Type 0 where
-  wires : (cause : WiringFault) → wiring_faults.HasFault text cause → told ≡ wiring_told cause → RefusesReplay text deck told
+  wires : (cause : WiringFault) → wiring_faults.HasDeckFault text cause → told ≡ wiring_told cause → RefusesReplay text deck told
   punches : (wiring : Wiring) → ReadsAs text wiring → RefusesDeck deck told → RefusesReplay text deck told
 
 -- what a command tells of a text and a deck that it refuses

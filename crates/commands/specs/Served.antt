@@ -7,7 +7,7 @@ use Rattle.commands.specs.Refusals.{Refuses}
 use Rattle.commands.specs.declared.command.Command.{Command}
 use Rattle.faults.specs.declared.fault.Fault.{Fault}
 
--- what the command answers on the text and the deck that was read is written behind what was there
+-- what the command answers on the text and the deck that was read is written after what was there
 pub record IsDone (command : Command) (text : List ℕ) (deck old new : Option (List ℕ)) : Type 0 where
   pub read : List ℕ
   pub is_deck : IfSome deck (λ known. read ≡ known)

@@ -1,6 +1,6 @@
 -- What is told of a chart that exceeds a capacity of the machine.
 use Rattle.std.proofs.Common.{◌≢◌, ℕ, List, refl}
-use Rattle.allocate.specs.Exceeded.{HasFault as Exceeds}
+use Rattle.allocate.specs.Exceeded.{HasCapacityFault}
 use Rattle.wanted.specs.Wanted.{wanted_of}
 use Rattle.allocate.specs.declared.fault.CapacityFault.{CapacityFault}
 use Rattle.allocate.specs.declared.fault.CapacityFault.TheVariants as exceeds
@@ -14,7 +14,7 @@ use Rattle.faults.specs.declared.chart.ChartFault.TheVariants as chart
 
 -- where a chart that is read and lawful exceeds a capacity, the fault of the capacity is the chart's
 pub capacity_told : (bytes : List ℕ) (read : Chart) (fault : CapacityFault) → Reads bytes read → IsLawful read →
-    (fault ≢ exceeds.Memory → Exceeds (wanted_of read.lines) standard fault)
+    (fault ≢ exceeds.Memory → HasCapacityFault (wanted_of read.lines) standard fault)
     → of_capacity fault ≢ chart.Memory → HasChartFault bytes (of_capacity fault)
 capacity_told bytes read (exceeds.Counters width count there) reads lawful has other =
     record { read = read; reads = reads; lawful = lawful; is_cause = λ same. cc; exceeds = has (λ same. cc) }

@@ -4,7 +4,7 @@ use Rattle.std.specs.List.{All}
 use Rattle.std.proofs.lemmas.List.Elements.{All-get_or}
 use Rattle.std.proofs.lemmas.Option.{slice_get_within, get_or_from_slice_get}
 use Rattle.allocate.proofs.Exclusions.{fitting_charts_have_no_fault}
-use Rattle.allocate.specs.Exceeded.{HasFault as Exceeds}
+use Rattle.allocate.specs.Exceeded.{HasCapacityFault}
 use Rattle.wanted.specs.Wanted.{wanted_of}
 use Rattle.capacity.specs.Capacities.{standard}
 use Rattle.charts.specs.Chart.{Chart}
@@ -39,7 +39,7 @@ compiled_texts_have_no_fault bytes compiled (chart.Rule broken line) reads is ha
     let P : Chart → Type 0 = λ c. Broken broken c line in
     (is.sound.lawful broken line (subst P (one_chart bytes has.read compiled.chart has.reads reads) has.first.broken))
 compiled_texts_have_no_fault bytes compiled (chart.Capacity fault) reads is has =
-    let P : Chart → Type 0 = λ c. Exceeds (wanted_of c.lines) standard fault in
+    let P : Chart → Type 0 = λ c. HasCapacityFault (wanted_of c.lines) standard fault in
     let exceeds = subst P (one_chart bytes has.read compiled.chart has.reads reads) has.exceeds in
     (fitting_charts_have_no_fault (wanted_of compiled.chart.lines) standard fault is.fits exceeds)
 compiled_texts_have_no_fault bytes compiled chart.Memory reads is has = has

@@ -7,14 +7,14 @@ use Rattle.std.proofs.lemmas.List.Elements.{All-get_or}
 use Rattle.std.proofs.lemmas.Option.{slice_get_within, get_or_from_slice_get}
 use Rattle.card_code.specs.MostCards.{most_cards}
 use Rattle.allocate.proofs.OneFault.{charts_exceed_one_capacity}
-use Rattle.allocate.specs.Exceeded.{HasFault as Exceeds}
+use Rattle.allocate.specs.Exceeded.{HasCapacityFault}
 use Rattle.wanted.specs.Wanted.{wanted_of}
 use Rattle.allocate.specs.declared.fault.CapacityFault.{CapacityFault}
 use Rattle.capacity.specs.Capacities.{standard}
 use Rattle.chart_text.proofs.ChartGrammar.{one_chart, no_chart, one_fault}
 use Rattle.charts.specs.Chart.{Chart}
 use Rattle.chart_text.specs.ChartText.{Reads}
-use Rattle.chart_text.specs.TextFaults.{HasFault}
+use Rattle.chart_text.specs.TextFaults.{HasTextFault}
 use Rattle.chart_text.specs.declared.fault.TextFault.{TextFault}
 use Rattle.chart_text.specs.declared.fault.TextFault.TheVariants as text
 use Rattle.chart_rules.proofs.OneFault as rules
@@ -37,9 +37,9 @@ use Rattle.faults.specs.declared.deck.RunFault.TheVariants as deck
 
 -- why a text has a fault: it is no chart, its chart breaks a rule, or its chart exceeds a capacity
 data Cause (bytes : List ℕ) (fault : ChartFault) : Type 0 where
-  by_text : (told : TextFault) → HasFault bytes told → fault ≡ of_text told → Cause bytes fault
+  by_text : (told : TextFault) → HasTextFault bytes told → fault ≡ of_text told → Cause bytes fault
   by_rule : (told : RuleFault) (read : Chart) → Reads bytes read → IsTold read told → fault ≡ of_rule told → Cause bytes fault
-  by_capacity : (told : CapacityFault) (read : Chart) → Reads bytes read → IsLawful read → Exceeds (wanted_of read.lines) standard told
+  by_capacity : (told : CapacityFault) (read : Chart) → Reads bytes read → IsLawful read → HasCapacityFault (wanted_of read.lines) standard told
       → fault ≡ chart.Capacity told → Cause bytes fault
 
 -- each fault of a text has its cause
@@ -72,10 +72,10 @@ module _ (bytes : List ℕ) where
       (subst (λ each. IsTold each one) (one_chart bytes read its_read reads also_reads) is) also
 
   -- and so is what is told of a capacity
-  same_capacity : (one other : CapacityFault) (read its_read : Chart) → Reads bytes read → Exceeds (wanted_of read.lines) standard one
-      → Reads bytes its_read → Exceeds (wanted_of its_read.lines) standard other → one ≡ other
+  same_capacity : (one other : CapacityFault) (read its_read : Chart) → Reads bytes read → HasCapacityFault (wanted_of read.lines) standard one
+      → Reads bytes its_read → HasCapacityFault (wanted_of its_read.lines) standard other → one ≡ other
   same_capacity one other read its_read reads is also_reads also =
-      let P : Chart → Type 0 = λ each. Exceeds (wanted_of each.lines) standard one in
+      let P : Chart → Type 0 = λ each. HasCapacityFault (wanted_of each.lines) standard one in
       charts_exceed_one_capacity (wanted_of its_read.lines) standard one other
       (subst P (one_chart bytes read its_read reads also_reads) is) also
 
@@ -117,7 +117,7 @@ module _ (of_cards : Chart) (cards : List (List ℕ)) where
           absurd (none_told of_cards also.card also.told
           (before_place (IsValidCard of_cards) cards is.place also.place also.card (omega (arith, within)) before also.is_there is.valid_before)
           also.first)
-      by (inr behind) = behind
+      by (inr after) = after
 
   -- what is told of the first card that isn't valid is one
   same_invalid : (one other : RunFault) → IsInvalidDeck of_cards cards one → IsInvalidDeck of_cards cards other → one ≡ other

@@ -1,13 +1,13 @@
 -- What a fault says of the text of a chart.
 use Rattle.std.specs.Prelude.{◌≢◌, ℕ, List}
-use Rattle.allocate.specs.Exceeded.{HasFault as Exceeds}
+use Rattle.allocate.specs.Exceeded.{HasCapacityFault}
 use Rattle.wanted.specs.Wanted.{wanted_of}
 use Rattle.allocate.specs.declared.fault.CapacityFault.{CapacityFault}
 use Rattle.allocate.specs.declared.fault.CapacityFault.TheVariants as capacity
 use Rattle.capacity.specs.Capacities.{standard}
 use Rattle.charts.specs.Chart.{Chart}
 use Rattle.chart_text.specs.ChartText.{Reads}
-use Rattle.chart_text.specs.TextFaults.{HasFault}
+use Rattle.chart_text.specs.TextFaults.{HasTextFault}
 use Rattle.chart_text.specs.declared.fault.TextFault.TheVariants as text
 use Rattle.chart_rules.specs.Rules.{IsLawful, IsFirstBroken}
 use Rattle.chart_rules.specs.declared.rule.Rule.{Rule}
@@ -26,14 +26,14 @@ pub record IsTooGreat (bytes : List ℕ) (fault : CapacityFault) : Type 0 where
   pub reads : Reads bytes read
   pub lawful : IsLawful read
   pub is_cause : fault ≢ capacity.Memory
-  pub exceeds : Exceeds (wanted_of read.lines) standard fault
+  pub exceeds : HasCapacityFault (wanted_of read.lines) standard fault
 
 -- What a fault says of the text of a chart; no text makes memory run out.
 abbrev pub HasChartFault : List ℕ → ChartFault → Type 0
-HasChartFault bytes chart.TooLarge = HasFault bytes text.TooLarge
-HasChartFault bytes chart.NoFirstLine = HasFault bytes text.NoFirstLine
-HasChartFault bytes (chart.NotALine line) = HasFault bytes (text.NotALine line)
-HasChartFault bytes chart.NoEnd = HasFault bytes text.NoEnd
+HasChartFault bytes chart.TooLarge = HasTextFault bytes text.TooLarge
+HasChartFault bytes chart.NoFirstLine = HasTextFault bytes text.NoFirstLine
+HasChartFault bytes (chart.NotALine line) = HasTextFault bytes (text.NotALine line)
+HasChartFault bytes chart.NoEnd = HasTextFault bytes text.NoEnd
 HasChartFault bytes (chart.Rule broken line) = BreaksRule bytes broken line
 HasChartFault bytes (chart.Capacity fault) = IsTooGreat bytes fault
 HasChartFault bytes chart.Memory = ⊥

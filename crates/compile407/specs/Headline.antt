@@ -6,7 +6,7 @@ use Rattle.chart_rules.specs.Rules.{IsLawful}
 use Rattle.charts.specs.Chart.{Chart, NumbersRise}
 use Rattle.charts.specs.Literals.{HaveLiteralTexts}
 use Rattle.printed_reports.specs.Promises.{BeginsReport, PrintsReport}
-use Rattle.setups.specs.Tapes.{IsForm}
+use Rattle.setups.specs.Tapes.{IsCarriageTape}
 use Rattle.setups.specs.Wiring.{Wiring}
 use Rattle.machine.specs.Runs.{MachineLines}
 use Rattle.wiring_text.specs.WiringText.{ReadsAs}
@@ -40,5 +40,5 @@ WrittenSetupsPrintReports =
 abbrev pub ReadSetupsPrintAlike : Type 0
 ReadSetupsPrintAlike =
     (text : List ℕ) (one other : Wiring) (cards : List (List ℕ)) (lines : List PlacedLine) →
-    ReadsAs text one → ReadsAs text other → IsForm one.tape → IsForm other.tape →
+    ReadsAs text one → ReadsAs text other → IsCarriageTape one.tape → IsCarriageTape other.tape →
     MachineLines one cards lines → MachineLines other cards lines

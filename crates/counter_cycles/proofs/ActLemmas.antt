@@ -18,7 +18,7 @@ use Rattle.counters.proofs.EarliestRows.{earliest-entered, points-stay}
 use Rattle.counters.proofs.Staying.{counters-stay}
 use Rattle.counter_cycles.specs.Acts.{Act, Held, IsControlled, act_controls, controls_with, held_by, latch_after, number_after}
 use Rattle.counter_cycles.specs.Acts.Act.{Minus, Plus, Show, Still, Test, Turn}
-use Rattle.counter_cycles.specs.Laws.{GroupsDoWhatIsAsked, HasDone, IsReady}
+use Rattle.counter_cycles.specs.Laws.{GroupsDoWhatIsAsked, HasDone, IsBetweenCycles}
 use Rattle.counter_cycles.proofs.DigitLemmas.{number-within, power-some}
 use Rattle.counter_cycles.proofs.EntryLemmas.{given-number}
 use Rattle.counter_cycles.proofs.TopLemmas.{tops}
@@ -46,16 +46,16 @@ left-still false power n small =
 abbrev pub held_with : ℕ → Bool → Held
 held_with number latch = record { number = number; latch = latch }
 
--- the latch behind what is asked, by the number behind it
-pub latch-behind : (act : Act) (is_ring : Bool) (power : ℕ) (held : Held)
+-- the latch after what is asked, by the number after it
+pub latch-after : (act : Act) (is_ring : Bool) (power : ℕ) (held : Held)
     → (if (act_controls act).test then nat_le (9 * power) (10 * number_after is_ring power act held.number) else held.latch)
     ≡ latch_after power act held
-latch-behind Still is_ring power held = refl
-latch-behind other is_ring power held = refl
+latch-after Still is_ring power held = refl
+latch-after other is_ring power held = refl
 
 -- A group goes through a cycle under the controls of what is asked, by what its number becomes.
 done-by : (is_ring : Bool) (act : Act) (counter : Counter) (cycle : Cycle) (pictures : Point → Hub → Bool)
-    → IsReady counter → IsControlled counter.name (act_controls act) pictures → ComesRound is_ring counter cycle pictures
+    → IsBetweenCycles counter → IsControlled counter.name (act_controls act) pictures → ComesRound is_ring counter cycle pictures
     → left_number is_ring (10 ^ counter.name.width)
     (start_number (act_controls act) (number counter.digits)
     + added_number (act_controls act) (10 ^ counter.name.width) (number (digits_given counter.name pictures)))
@@ -63,30 +63,30 @@ done-by : (is_ring : Bool) (act : Act) (counter : Counter) (cycle : Cycle) (pict
     → HasDone is_ring act counter (after_cycle cycle pictures counter)
 done-by is_ring act counter cycle pictures ready controlled round becomes =
     let power = 10 ^ counter.name.width in
-    let behind = after_cycle cycle pictures counter in
+    let turned = after_cycle cycle pictures counter in
     let stays = counters-stay.ended (after_points counter_sensed cycle pictures points counter) cycle
     (points-stay cycle pictures points counter ready.is_counter) in
     let after = number_after is_ring power act (number counter.digits) in
-    let is_number : number behind.digits ≡ after
+    let is_number : number turned.digits ≡ after
     = (earliest-entered counter cycle pictures ready.is_counter ready.entered).number is_ring round
     ∙ ap (λ k. left_number is_ring power
     (start_number k (number counter.digits) + added_number k power (number (digits_given counter.name pictures))))
     (controls_of-act counter.name (act_controls act) pictures controlled)
     ∙ becomes in
-    let is_latch : behind.latch ≡ latch_after power act (held_by counter)
-    = ap (λ b. if b then top_is_nine behind.digits else counter.latch) controlled.test
-    ∙ ap (λ b. if (act_controls act).test then b else counter.latch) (tops behind stays ∙ ap (λ n. nat_le (9 * power) (10 * n)) is_number)
-    ∙ latch-behind act is_ring power (held_by counter) in
+    let is_latch : turned.latch ≡ latch_after power act (held_by counter)
+    = ap (λ b. if b then top_is_nine turned.digits else counter.latch) controlled.test
+    ∙ ap (λ b. if (act_controls act).test then b else counter.latch) (tops turned stays ∙ ap (λ n. nat_le (9 * power) (10 * n)) is_number)
+    ∙ latch-after act is_ring power (held_by counter) in
     record {
-      held = ap (λ n. held_with n behind.latch) is_number ∙ ap (held_with after) is_latch;
+      held = ap (λ n. held_with n turned.latch) is_number ∙ ap (held_with after) is_latch;
       ready = record { is_counter = stays; entered = refl };
       name = refl;
       controls = refl;
     }
 
--- what is entered, as a sum behind nothing
-pub behind-nothing : (is_ring : Bool) (power n : ℕ) → left_number is_ring power (0 + n) ≡ left_number is_ring power n
-behind-nothing is_ring power n = let same : 0 + n ≡ n = omega arith in ap (left_number is_ring power) same
+-- what is entered, as a sum after nothing
+pub after-nothing : (is_ring : Bool) (power n : ℕ) → left_number is_ring power (0 + n) ≡ left_number is_ring power n
+after-nothing is_ring power n = let same : 0 + n ≡ n = omega arith in ap (left_number is_ring power) same
 
 pub acts-done : GroupsDoWhatIsAsked
 acts-done is_ring Still counter cycle pictures ready fits asks round =
@@ -101,7 +101,7 @@ acts-done is_ring Turn counter cycle pictures ready fits asks round =
     done-by is_ring Turn counter cycle pictures ready asks.controls round
     (ap (λ m. left_number is_ring power (0 + (power - 1 - m)))
     (given-number counter.name n pictures (number-within counter ready.is_counter) asks.entered)
-    ∙ behind-nothing is_ring power (power - 1 - n))
+    ∙ after-nothing is_ring power (power - 1 - n))
 acts-done is_ring Show counter cycle pictures ready fits asks round =
     done-by is_ring Show counter cycle pictures ready asks.controls round
     (left-still is_ring (10 ^ counter.name.width) 0 (power-some counter.name.width))

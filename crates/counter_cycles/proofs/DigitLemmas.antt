@@ -40,7 +40,7 @@ digit_of-top d m count small below =
 parted : (d m x y : ℕ) → d * (y * (10 * x)) + m ≡ m + (d * x * 10) * y
 parted d m x y = omega arith
 
--- the digits behind one that stands before them
+-- the digits after one that stands before them
 pub digit_of-below : (d m count position : ℕ) → 1 ≤ position → position ≤ count
     → digit_of (d * 10 ^ count + m) position ≡ digit_of m position
 digit_of-below d m count position from to =

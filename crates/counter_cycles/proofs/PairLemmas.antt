@@ -26,9 +26,9 @@ use Rattle.counters.proofs.Pairs.{ended-pair, number-append}
 use Rattle.counters.proofs.Staying.{counters-stay}
 use Rattle.counter_cycles.specs.Acts.{Act, Spells, act_controls, digit_of, held_after, number_after}
 use Rattle.counter_cycles.specs.Acts.Act.{Minus, Plus, Show, Still, Test, Turn}
-use Rattle.counter_cycles.specs.Laws.{IsReady}
+use Rattle.counter_cycles.specs.Laws.{IsBetweenCycles}
 use Rattle.counter_cycles.specs.Pairs.{AsksBoth, HaveDone, PairsDoWhatIsAsked, PairsShowTheirDigits, SpellInBoth, held_by_both}
-use Rattle.counter_cycles.proofs.ActLemmas.{behind-nothing, controls_of-act, held_with, latch-behind, left-still}
+use Rattle.counter_cycles.proofs.ActLemmas.{after-nothing, controls_of-act, held_with, latch-after, left-still}
 use Rattle.counter_cycles.proofs.DigitLemmas.{digit_of-below, power-some}
 use Rattle.counter_cycles.proofs.EntryLemmas.{given-number}
 use Rattle.counter_cycles.proofs.ShownLemmas.{groups-show}
@@ -82,7 +82,7 @@ top-both (d ∷ ds) lower some = refl
 
 -- what two groups are after the points of a cycle, as they are coupled
 coupled : (is_ring : Bool) (act : Act) (upper lower : Counter) (cycle : Cycle) (pictures : Point → Hub → Bool) → (held : ℕ)
-    → IsReady upper → IsReady lower → AsksBoth act held upper.name lower.name pictures
+    → IsBetweenCycles upper → IsBetweenCycles lower → AsksBoth act held upper.name lower.name pictures
     → CarryThrough is_ring (pictures K) upper.name lower.name (wheels_in (after_its_points cycle pictures upper))
     (wheels_in (after_its_points cycle pictures lower))
     → AreCoupled is_ring (after_its_points cycle pictures upper) (after_its_points cycle pictures lower)
@@ -99,7 +99,7 @@ coupled is_ring act upper lower cycle pictures held is and_is asks carry = recor
 
 -- Two groups go through a cycle under the controls of what is asked, by what their number becomes.
 done-both : (is_ring : Bool) (act : Act) (upper lower : Counter) (cycle : Cycle) (pictures : Point → Hub → Bool)
-    → IsReady upper → IsReady lower → AsksBoth act (number_of_both upper.digits lower.digits) upper.name lower.name pictures
+    → IsBetweenCycles upper → IsBetweenCycles lower → AsksBoth act (number_of_both upper.digits lower.digits) upper.name lower.name pictures
     → CarryThrough is_ring (pictures K) upper.name lower.name (wheels_in (after_its_points cycle pictures upper))
     (wheels_in (after_its_points cycle pictures lower))
     → left_number is_ring (10 ^ (upper.name.width + lower.name.width))
@@ -140,7 +140,7 @@ done-both is_ring act upper lower cycle pictures is and_is asks carry becomes =
     let is_latch : above.latch ≡ (held_after is_ring (upper.name.width + lower.name.width) act (held_by_both upper lower)).latch =
     ap (λ b. if b then top_is_nine above.digits else upper.latch) asks.controls.test
     ∙ ap (λ b. if (act_controls act).test then b else upper.latch) top
-    ∙ latch-behind act is_ring power (held_by_both upper lower) in
+    ∙ latch-after act is_ring power (held_by_both upper lower) in
     record {
       held = ap (λ n. held_with n above.latch) is_number ∙ ap (held_with after) is_latch;
       upper_ready = record { is_counter = stays; entered = refl };
@@ -154,7 +154,7 @@ done-both is_ring act upper lower cycle pictures is and_is asks carry becomes =
 
 -- what is entered in both under plus or minus
 entered-both : (act : Act) (upper lower : Counter) (cycle : Cycle) (pictures : Point → Hub → Bool) (held n : ℕ)
-    → IsReady upper → IsReady lower → AsksBoth act held upper.name lower.name pictures
+    → IsBetweenCycles upper → IsBetweenCycles lower → AsksBoth act held upper.name lower.name pictures
     → ((act_controls act).plus || (act_controls act).minus) ≡ true
     → n < 10 ^ (upper.name.width + lower.name.width) → SpellInBoth upper.name lower.name (digit_of n) pictures
     → number_of_both (after_its_points cycle pictures upper).entered (after_its_points cycle pictures lower).entered ≡ n
@@ -193,7 +193,7 @@ pairs-done is_ring Turn upper lower cycle pictures is and_is fits asks carry =
     done-both is_ring Turn upper lower cycle pictures is and_is asks carry
     (ap (λ m. left_number is_ring power (0 + (power - 1 - m)))
     (entered-both Turn upper lower cycle pictures n n is and_is asks refl (both-within upper lower is.is_counter and_is.is_counter) asks.entered)
-    ∙ behind-nothing is_ring power (power - 1 - n))
+    ∙ after-nothing is_ring power (power - 1 - n))
 pairs-done is_ring Show upper lower cycle pictures is and_is fits asks carry =
     done-both is_ring Show upper lower cycle pictures is and_is asks carry
     (left-still is_ring (10 ^ (upper.name.width + lower.name.width)) 0 (power-some (upper.name.width + lower.name.width)))

@@ -74,7 +74,7 @@ pub record Held : Type 0 where
 abbrev pub held_by : Counter → Held
 held_by counter = record { number = number counter.digits; latch = counter.latch }
 
--- the number of a group behind what was asked: `power` is ten to as many as it has positions
+-- the number of a group after what was asked: `power` is ten to as many as it has positions
 abbrev pub number_after : (is_ring : Bool) (power : ℕ) → Act → ℕ → ℕ
 number_after is_ring power Still number = number
 number_after is_ring power Test number = number
@@ -83,12 +83,12 @@ number_after is_ring power Show number = 0
 number_after is_ring power (Plus amount) number = left_number is_ring power (number + amount)
 number_after is_ring power (Minus amount) number = left_number is_ring power (number + (power - 1 - amount))
 
--- The latch behind what was asked: a test sets it where the top wheel stands at 9, and resets it elsewhere.
+-- The latch after what was asked: a test sets it where the top wheel stands at 9, and resets it elsewhere.
 abbrev pub latch_after : (power : ℕ) → Act → Held → Bool
 latch_after power Test held = nat_le (9 * power) (10 * held.number)
 latch_after power other held = held.latch
 
--- what a group holds behind what was asked
+-- what a group holds after what was asked
 abbrev pub held_after : (is_ring : Bool) (width : ℕ) → Act → Held → Held
 held_after is_ring width act held = record {
   number = number_after is_ring (10 ^ width) act held.number;

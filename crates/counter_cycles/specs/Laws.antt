@@ -13,22 +13,22 @@ use Rattle.counter_cycles.specs.Acts.{Act, Asks, IsWithinGroup, digit_of, held_a
 use Rattle.counter_cycles.specs.Digits.{spelt}
 
 -- A group between two cycles is a group of the panel, with nothing entered.
-pub record IsReady (counter : Counter) : Type 0 where
+pub record IsBetweenCycles (counter : Counter) : Type 0 where
   pub is_counter : IsCounter counter
   pub entered : counter.entered ≡ replicate counter.name.width 0
 
--- A group behind a cycle holds what the act leaves of what it held, and is the same group, ready for the next cycle.
-pub record HasDone (is_ring : Bool) (act : Act) (counter behind : Counter) : Type 0 where
-  pub held : held_by behind ≡ held_after is_ring counter.name.width act (held_by counter)
-  pub ready : IsReady behind
-  pub name : behind.name ≡ counter.name
-  pub controls : behind.controls ≡ no_controls
+-- A group after a cycle holds what the act leaves of what it held, and is the same group, ready for the next cycle.
+pub record HasDone (is_ring : Bool) (act : Act) (counter after : Counter) : Type 0 where
+  pub held : held_by after ≡ held_after is_ring counter.name.width act (held_by counter)
+  pub ready : IsBetweenCycles after
+  pub name : after.name ≡ counter.name
+  pub controls : after.controls ≡ no_controls
 
 -- A group does what is asked of it in a cycle, as a ring or without one.
 abbrev pub GroupsDoWhatIsAsked : Type 0
 GroupsDoWhatIsAsked =
     (is_ring : Bool) (act : Act) (counter : Counter) (cycle : Cycle) (pictures : Point → Hub → Bool)
-    → IsReady counter → IsWithinGroup counter.name.width act
+    → IsBetweenCycles counter → IsWithinGroup counter.name.width act
     → Asks act (number counter.digits) counter.name pictures
     → ComesRound is_ring counter cycle pictures
     → HasDone is_ring act counter (after_cycle cycle pictures counter)
@@ -42,7 +42,7 @@ EverythingCanBeAsked =
 abbrev pub GroupsBeginEmpty : Type 0
 GroupsBeginEmpty =
     (unit : ℕ) → 3 ≤ unit → unit ≤ 34
-    → IsReady (counter_at_start unit)
+    → IsBetweenCycles (counter_at_start unit)
     × (held_by (counter_at_start unit) ≡ record { number = 0; latch = false })
 
 -- The digits of a group are those of its number, and so are the rows at which its exits show them. No other hub shows any.

@@ -13,7 +13,7 @@ use Rattle.net.specs.declared.cycle.Point.{Point}
 use Rattle.net.specs.declared.cycle.Point.TheVariants as point
 use Rattle.counter_cycles.specs.Acts.{Act, Held, IsControlled, IsWithinGroup, Spells, act_controls, digit_of, held_after}
 use Rattle.counter_cycles.specs.Acts.Act.{Minus, Plus, Turn}
-use Rattle.counter_cycles.specs.Laws.{IsReady}
+use Rattle.counter_cycles.specs.Laws.{IsBetweenCycles}
 
 -- what two groups hold as one: the number of both, and the latch of the upper one
 abbrev pub held_by_both : Counter → Counter → Held
@@ -43,8 +43,8 @@ pub record AsksBoth (act : Act) (held : ℕ) (upper lower : Group) (pictures : P
 -- Two groups after a cycle hold what the act leaves of what one group of as many positions as both would hold, and are ready.
 pub record HaveDone (is_ring : Bool) (act : Act) (upper lower above below : Counter) : Type 0 where
   pub held : held_by_both above below ≡ held_after is_ring (upper.name.width + lower.name.width) act (held_by_both upper lower)
-  pub upper_ready : IsReady above
-  pub lower_ready : IsReady below
+  pub upper_ready : IsBetweenCycles above
+  pub lower_ready : IsBetweenCycles below
   pub upper_name : above.name ≡ upper.name
   pub lower_name : below.name ≡ lower.name
 
@@ -52,8 +52,8 @@ pub record HaveDone (is_ring : Bool) (act : Act) (upper lower above below : Coun
 abbrev pub PairsDoWhatIsAsked : Type 0
 PairsDoWhatIsAsked =
     (is_ring : Bool) (act : Act) (upper lower : Counter) (cycle : Cycle) (pictures : Point → Hub → Bool)
-    → IsReady upper
-    → IsReady lower
+    → IsBetweenCycles upper
+    → IsBetweenCycles lower
     → IsWithinGroup (upper.name.width + lower.name.width) act
     → AsksBoth act (number_of_both upper.digits lower.digits) upper.name lower.name pictures
     → CarryThrough is_ring (pictures point.K) upper.name lower.name (wheels_in (after_its_points cycle pictures upper))

@@ -27,14 +27,14 @@ use Rattle.counters.proofs.Staying.{counters-stay}
 abbrev impulsed_at : Group → (Point → Hub → Bool) → CardRow → ℕ → Bool
 impulsed_at name pictures row position = pictures (Row row) (GE name position)
 
--- what is entered behind some rows
+-- what is entered after some rows
 abbrev rows_taken : Controls → Group → (Point → Hub → Bool) → List CardRow → List ℕ → List ℕ
 rows_taken controls name pictures [] entered = entered
 rows_taken controls name pictures (row ∷ others) entered =
     rows_taken controls name pictures others
     (if takes controls (row_number row) then all_taken (row_number row) (impulsed_at name pictures row) entered else entered)
 
--- a group behind some rows has entered what they give, and no more
+-- a group after some rows has entered what they give, and no more
 after_rows : (cycle : Cycle) (pictures : Point → Hub → Bool) (some : List CardRow) (counter : Counter)
     → after_points counter_sensed cycle pictures (map Row some ++ (K ∷ [])) counter
     ≡ record counter {
@@ -49,13 +49,13 @@ after_rows cycle pictures (first ∷ others) counter =
 abbrev is_digit_row : CardRow → Bool
 is_digit_row row = nat_le 1 (row_number row) && nat_le (row_number row) 9
 
--- what a position has entered behind some rows, where digits are entered or not
+-- what a position has entered after some rows, where digits are entered or not
 abbrev digit_after : Bool → (CardRow → Bool) → List CardRow → ℕ → ℕ
 digit_after on impulsed [] digit = digit
 digit_after on impulsed (row ∷ others) digit =
     digit_after on impulsed others (if on && is_digit_row row then taken (row_number row) (impulsed row) digit else digit)
 
--- all positions behind some rows
+-- all positions after some rows
 row_taken-listed : (on : Bool) (row : ℕ) (impulsed : ℕ → Bool) (digit : ℕ → ℕ) (count : ℕ)
     → (if on then all_taken row impulsed (listed digit count) else listed digit count)
     ≡ listed (λ position. if on then taken row (impulsed position) (digit position) else digit position) count
@@ -86,7 +86,7 @@ digit_after-kept impulsed (row ∷ others) digit entered =
     by true = ap (λ b. if b && impulsed row then row_number row else digit) entered
     by false = refl
 
--- behind rows of digits stands the first of them at which the position was impulsed
+-- after rows of digits stands the first of them at which the position was impulsed
 digit_after-first : (impulsed : CardRow → Bool) (some others : List CardRow) → list_all is_digit_row some ≡ true
     → digit_after true impulsed others 0 ≡ 0
     → digit_after true impulsed (some ++ others) 0 ≡ first_digit impulsed some
@@ -107,13 +107,13 @@ digit_after-first impulsed (row ∷ some) others all none =
     by true below = digit_after-kept impulsed (some ++ others) (row_number row) (some_digit (row_number row) parts.0)
     by false below = below
 
--- what a position has entered behind all rows
+-- what a position has entered after all rows
 digit_after-rows : (on : Bool) (impulsed : CardRow → Bool)
     → digit_after on impulsed rows 0 ≡ (if on then first_digit impulsed digit_rows else 0)
 digit_after-rows true impulsed = digit_after-first impulsed digit_rows (Zero ∷ Eleven ∷ Twelve ∷ []) refl refl
 digit_after-rows false impulsed = refl
 
--- what a group has entered behind all rows
+-- what a group has entered after all rows
 rows_taken-all : (controls : Controls) (name : Group) (pictures : Point → Hub → Bool) (entered : List ℕ)
     → entered ≡ replicate name.width 0
     → rows_taken controls name pictures rows entered
@@ -154,17 +154,17 @@ earliest-entered counter cycle pictures is none =
     let controls = controls_of counter.name (pictures C) in
     let digits = digits_given counter.name pictures in
     let power = 10 ^ counter.name.width in
-    let behind = after_its_points cycle pictures counter in
+    let after = after_its_points cycle pictures counter in
     let all = after_rows cycle pictures rows (record counter { controls = controls }) in
     let taken = rows_taken-all controls counter.name pictures counter.entered none in
-    let entered : behind.entered ≡ (if controls.plus || controls.minus then digits else counter.entered)
+    let entered : after.entered ≡ (if controls.plus || controls.minus then digits else counter.entered)
     = ap (λ (c : Counter). c.entered) all ∙ taken in
     record {
       controlled = refl;
       entered = entered;
       carry = ap (λ (c : Counter). c.carry) all;
       number = λ is_ring round.
-          ended-left is_ring behind cycle (points-stay cycle pictures points counter is) (ap (λ (c : Counter). c.carry) all ∙ round)
+          ended-left is_ring after cycle (points-stay cycle pictures points counter is) (ap (λ (c : Counter). c.carry) all ∙ round)
           ∙ ap (λ ds. left_number is_ring power (start_number controls (number counter.digits) + added_number controls power (number ds)))
           entered
           ∙ ap (λ n. left_number is_ring power (start_number controls (number counter.digits) + n))

@@ -19,7 +19,7 @@ number-lt (d ∷ ds) all = rw pow-succ' (digit_small d (10 ^ length ds) (number 
 pub number-small : (ds : List ℕ) → length ds ≤ 8 → All IsDigit ds → number ds < 100000000
 number-small ds short all = omega (arith, number-lt ds all, pow-le-pow_right {n = 10} (omega arith) short)
 
--- digits behind a number
+-- digits after a number
 shifted : (v d x n : ℕ) → (v * 10 + d) * x + n ≡ v * (10 * x) + (d * x + n)
 shifted v d x n = omega arith
 

@@ -10,7 +10,7 @@ use Rattle.hubs.specs.declared.hub.Hub.TheVariants.{GX, CO, BAN, BAT, GE, PL, MI
 use Rattle.net.proofs.Rows.{is_hub-same}
 use Rattle.net.specs.Cycles.{is_closing}
 use Rattle.net.specs.HubSets.{is_hub}
-use Rattle.net.specs.Panel.{owner_of, reader_of, unit_behind, unit_of}
+use Rattle.net.specs.Panel.{owner_of, reader_of, unit_after, unit_of}
 use Rattle.net.specs.declared.cycle.Cycle.{Cycle}
 use Rattle.net.specs.declared.cycle.Point.{Point}
 use Rattle.net.specs.declared.cycle.Point.TheVariants.{C, Row, K}
@@ -24,7 +24,7 @@ use Rattle.counters.proofs.TakenRows.{all_taken-same}
 unit_of-group_of_unit : (unit : ℕ) → 3 ≤ unit → unit ≤ 34 → unit_of (group_of_unit unit) ≡ unit
 unit_of-group_of_unit unit from to =
     let e : 2 + (unit - 2) ≡ unit = omega arith in
-    ap (unit_behind 2) (group_place-unit unit from to) ∙ e
+    ap (unit_after 2) (group_place-unit unit from to) ∙ e
 
 -- an exit that shows a digit is the group's own
 shown-own : (name : Group) (given : ℕ) (digits : List ℕ) (hub : Hub) → shows name given digits hub ≡ true → owner_of hub ≡ unit_of name

@@ -66,7 +66,7 @@ pub is_bit-where : (test : Bool) (k j : ℕ) → k < 128 → is_bit (bool_byte t
 is_bit-where true k j low = ap (λ n. is_bit n j) (one_shl k 128 low) ∙ is_bit-pow k j
 is_bit-where false k j low = ap (λ n. is_bit (n % 2 ^ 128) j) (zero-mul (2 ^ k)) ∙ is_bit-zero j
 
--- a list at its first place, and behind it
+-- a list at its first place, and after it
 at_first : (d i : ℕ) (below : List ℕ) → i ≡ 0 → get_or (d ∷ below) i 0 ≡ d
 at_first d i below is = ap (λ k. get_or (d ∷ below) k 0) is
 

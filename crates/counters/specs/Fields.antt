@@ -17,7 +17,7 @@ counter_in group = record {
 }
 
 -- the group is the one of its unit, and what stands at its places are digits
-pub record IsLawful (group : Inside) : Type 0 where
+pub record IsOfItsUnit (group : Inside) : Type 0 where
   pub from : 3 ≤ group.unit
   pub to : group.unit ≤ 34
   pub unit : group.name ≡ group_of_unit group.unit

@@ -46,7 +46,7 @@ listed digit (suc position) = digit (position + 1) ∷ listed digit position
 abbrev pub digits_given : Group → (Point → Hub → Bool) → List ℕ
 digits_given name pictures = listed (digit_given name pictures) name.width
 
--- a group behind the points of a cycle
+-- a group after the points of a cycle
 abbrev pub after_its_points : Cycle → (Point → Hub → Bool) → Counter → Counter
 after_its_points cycle pictures counter = after_points counter_sensed cycle pictures points counter
 
@@ -55,7 +55,7 @@ abbrev pub ComesRound : Bool → Counter → Cycle → (Point → Hub → Bool) 
 ComesRound is_ring counter cycle pictures =
     pictures K (CI counter.name) ≡ carries_in is_ring (wheels_in (after_its_points cycle pictures counter))
 
--- A group goes through a cycle by its pictures with these controls and these digits: behind the points it has the controls, and under
+-- A group goes through a cycle by its pictures with these controls and these digits: after the points it has the controls, and under
 -- plus or minus it has entered the digits; a carry came in where its carry entry was impulsed; and where that was as in a ring, or
 -- without one, its number becomes what is left of the sum of where it starts and what is added.
 pub record GoesThrough (counter : Counter) (cycle : Cycle) (pictures : Point → Hub → Bool) (controls : Controls) (digits : List ℕ)
@@ -71,7 +71,7 @@ pub record GoesThrough (counter : Counter) (cycle : Cycle) (pictures : Point →
       ≡ left_number is_ring (10 ^ counter.name.width)
       (start_number controls (number counter.digits) + added_number controls (10 ^ counter.name.width) (number digits))
 
--- A group in which nothing is entered, as at the start and behind each cycle, goes through every cycle with the controls that are
+-- A group in which nothing is entered, as at the start and after each cycle, goes through every cycle with the controls that are
 -- impulsed at the control point and the digits of the earliest rows.
 abbrev pub EarliestRowsAreEntered : Type 0
 EarliestRowsAreEntered =

@@ -24,7 +24,7 @@ pub(crate) const PLACES: usize = 8;
 pub struct Group {
     unit: u8,
     name: hubs::Group,
-    // By position, the top one first; the places behind the units stay as they are.
+    // By position, the top one first; the places after the units stay as they are.
     digits: [u8; PLACES],
     entered: [u8; PLACES],
     // Whether a carry came in at the units, in the cycle that runs.
@@ -38,11 +38,11 @@ impl Model for Group {
 
     ghost Value = { Counter };
 
-    ghost use Rattle.counters.specs.Fields.{counter_in, IsLawful};
+    ghost use Rattle.counters.specs.Fields.{counter_in, IsOfItsUnit};
 
     ghost view = { counter_in };
 
-    ghost invariant = { IsLawful };
+    ghost invariant = { IsOfItsUnit };
 }
 
 impl Group {

@@ -45,7 +45,7 @@ pub fn wired_pairs_are_coupled()
     ensures { WiredPairsAreCoupled }
 {}
 
-/// A group has a digit and an entered digit for each of its positions, at the start and behind whatever it senses.
+/// A group has a digit and an entered digit for each of its positions, at the start and after whatever it senses.
 pub fn groups_stay_groups()
     ensures { CountersStay }
 {}
@@ -56,7 +56,7 @@ pub fn groups_keep_to_their_own_hubs()
     ensures { CountersKeepToTheirOwn }
 {}
 
-/// Behind the points of a cycle a group has the controls of the control point and, under plus or minus, at each position the digit
+/// After the points of a cycle a group has the controls of the control point and, under plus or minus, at each position the digit
 /// of the earliest of the rows 9 to 1 at which its entry was impulsed, or 0. The number of these digits is what is added.
 pub fn earliest_rows_are_entered()
     ensures { EarliestRowsAreEntered }

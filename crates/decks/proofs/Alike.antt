@@ -14,7 +14,7 @@ use Rattle.report.specs.Breaks.{break_up_to, highest, taking, cleared}
 use Rattle.report.specs.Groups.{control_fields, is_same_on, is_same_at}
 use Rattle.decks.specs.Alike.{AlikeWith}
 use Rattle.decks.specs.Laws.{GroupsAreAlike, TotalTextsAreTheLastCards}
-use Rattle.decks.specs.Stands.{Stand, at_first, stand_behind, stand_before, last_of}
+use Rattle.decks.specs.Stands.{Stand, at_first, stand_after, stand_before, last_of}
 
 -- what two tests tell of each element
 all-both : {X : Type 0} (one other both : X → Bool) (xs : List X)
@@ -63,7 +63,7 @@ break-above lines (suc most) card next level over few =
         let last : suc most ≡ level = grind (arith, nat_tests, small, few) in
         subst (λ n. is_same_at lines n card next ≡ true) last is
 
--- what is left unfinished behind a card is alike with the next
+-- what is left unfinished after a card is alike with the next
 alike-next : (lines : List Line) (so_far : ℕ → List (List ℕ)) (card next : List ℕ) → AlikeWith lines so_far card
     → AlikeWith lines (cleared (highest lines card next) (taking card so_far)) next
 alike-next lines so_far card next alike level above low high =
@@ -82,9 +82,9 @@ alike-next lines so_far card next alike level above low high =
         (λ one here. same-trans lines above one card next here same) (so_far level) (alike level above low high))
         (All-cons Same card [] same (All-nil Same))
 
-pub alike-behind : (lines : List Line) (stand : Stand) (card next : List ℕ) → AlikeWith lines stand.so_far card
-    → AlikeWith lines (stand_behind lines stand card (Some next)).so_far next
-alike-behind lines stand card next alike = alike-next lines stand.so_far card next alike
+pub alike-after : (lines : List Line) (stand : Stand) (card next : List ℕ) → AlikeWith lines stand.so_far card
+    → AlikeWith lines (stand_after lines stand card (Some next)).so_far next
+alike-after lines stand card next alike = alike-next lines stand.so_far card next alike
 
 pub alike-first : (lines : List Line) (card : List ℕ) → AlikeWith lines at_first.so_far card
 alike-first lines card level above low high = All-nil (λ one. is_same_at lines above one card ≡ true)
@@ -93,7 +93,7 @@ alike-before : (lines : List Line) (stand : Stand) (card : List ℕ) (cards : Li
     → AlikeWith lines (stand_before lines stand card cards).so_far (last_of card cards)
 alike-before lines stand card [] alike = alike
 alike-before lines stand card (next ∷ cards) alike =
-    alike-before lines (stand_behind lines stand card (Some next)) next cards (alike-behind lines stand card next alike)
+    alike-before lines (stand_after lines stand card (Some next)) next cards (alike-after lines stand card next alike)
 
 pub groups_alike : GroupsAreAlike
 groups_alike lines card cards = alike-before lines at_first card cards (alike-first lines card)

@@ -5,14 +5,14 @@ use Rattle.std.proofs.lemmas.List.{append_assoc}
 use Rattle.placed_lines.specs.declared.placed_line.PlacedLine.{PlacedLine}
 use Rattle.charts.specs.Chart.{Chart}
 use Rattle.charts.specs.declared.chart.Line.{Line}
-use Rattle.report.specs.Breaks.{ended_behind, taking, cleared, totals_to, chunk_of, flat}
+use Rattle.report.specs.Breaks.{ended_after, taking, cleared, totals_to, chunk_of, flat}
 use Rattle.report.specs.Outline.{OutlineLine, Detail, Total, outline_of}
 use Rattle.report.specs.Places.{before_all, placed}
 use Rattle.report.specs.Report.{body_of, report_lines}
 use Rattle.report.proofs.OutlineByCards.{deck_by_cards}
-use Rattle.decks.specs.Left.{bodies_of, left_behind}
+use Rattle.decks.specs.Left.{bodies_of, left_after}
 use Rattle.decks.specs.Laws.{ReportsBeginByCards}
-use Rattle.decks.specs.Stands.{Stand, at_first, card_bodies, stand_behind, bodies_before, before_card, report_before}
+use Rattle.decks.specs.Stands.{Stand, at_first, card_bodies, stand_after, bodies_before, before_card, report_before}
 use Rattle.decks.proofs.Places.{placed-append}
 
 -- total lines belong to the card before them
@@ -31,21 +31,21 @@ before-first : (lines : List Line) (so_far : ℕ → List (List ℕ)) (opens : �
 before-first lines so_far opens card [] = refl
 before-first lines so_far opens card (next ∷ cards) = refl
 
--- the lines before the last of a card and the cards behind it, whatever comes behind
-before-flat : (lines : List Line) (stand : Stand) (card : List ℕ) (cards behind : List (List ℕ))
-    → bodies_of lines (before_card (length cards) (flat lines stand.so_far stand.opens card (cards ++ behind)))
+-- the lines before the last of a card and the cards after it, whatever comes after
+before-flat : (lines : List Line) (stand : Stand) (card : List ℕ) (cards after : List (List ℕ))
+    → bodies_of lines (before_card (length cards) (flat lines stand.so_far stand.opens card (cards ++ after)))
     ≡ bodies_before lines stand card cards
-before-flat lines stand card [] behind =
-    ap (bodies_of lines) (before-first lines stand.so_far stand.opens card behind)
-before-flat lines stand card (next ∷ cards) behind =
-    let ended = ended_behind lines card (Some next) in
+before-flat lines stand card [] after =
+    ap (bodies_of lines) (before-first lines stand.so_far stand.opens card after)
+before-flat lines stand card (next ∷ cards) after =
+    let ended = ended_after lines card (Some next) in
     let chunk = chunk_of stand.opens stand.so_far card ended in
-    let others = flat lines (cleared ended (taking card stand.so_far)) ended next (cards ++ behind) in
+    let others = flat lines (cleared ended (taking card stand.so_far)) ended next (cards ++ after) in
     ap (λ l. bodies_of lines (Detail stand.opens card ∷ l))
     (before-totals (length cards) ended (taking card stand.so_far) others)
     ∙ flat_map-append (body_of lines) chunk (before_card (length cards) others)
     ∙ ap (λ l. card_bodies lines stand card (Some next) ++ l)
-    (before-flat lines (stand_behind lines stand card (Some next)) next cards behind)
+    (before-flat lines (stand_after lines stand card (Some next)) next cards after)
 
 -- the lines from those of a card on
 from_card : ℕ → List OutlineLine → List OutlineLine
@@ -68,19 +68,19 @@ report_begins : (chart : Chart) (cards : List (List ℕ)) (count : ℕ)
 report_begins chart cards count =
     let outline = outline_of chart.lines cards in
     let before = bodies_of chart.lines (before_card count outline) in
-    let behind = bodies_of chart.lines (from_card count outline) in (
-      placed chart.lines (left_behind chart.lines before_all before) behind,
+    let after = bodies_of chart.lines (from_card count outline) in (
+      placed chart.lines (left_after chart.lines before_all before) after,
       ap (placed chart.lines before_all)
           (ap (bodies_of chart.lines) (outline-cut count outline)
           ∙ flat_map-append (body_of chart.lines) (before_card count outline) (from_card count outline))
-          ∙ placed-append chart.lines before_all before behind,
+          ∙ placed-append chart.lines before_all before after,
     )
 
 pub reports_begin : ReportsBeginByCards
-reports_begin chart card cards behind = (
+reports_begin chart card cards after = (
   ap (placed chart.lines before_all)
       (ap (λ outline. bodies_of chart.lines (before_card (length cards) outline))
-      (deck_by_cards chart.lines (card ∷ (cards ++ behind)))
-      ∙ before-flat chart.lines at_first card cards behind),
-  report_begins chart (card ∷ (cards ++ behind)) (length cards),
+      (deck_by_cards chart.lines (card ∷ (cards ++ after)))
+      ∙ before-flat chart.lines at_first card cards after),
+  report_begins chart (card ∷ (cards ++ after)) (length cards),
 )

@@ -2,7 +2,7 @@
 use Rattle.std.proofs.Common.{◌≡◌, ◌∙◌, refl, sym, ap, subst, ℕ, zero, suc, ◌+◌, ◌≤◌, nat_le, Bool, true, false, ◌⊎◌, inl, inr, List, [], ◌∷◌, ◌++◌, Some, arith}
 use Rattle.std.proofs.lemmas.Bool.Decides.{nat_tests}
 use Rattle.charts.specs.declared.chart.Line.{Line}
-use Rattle.report.specs.Breaks.{ended_behind, no_cards, taking, cleared}
+use Rattle.report.specs.Breaks.{ended_after, no_cards, taking, cleared}
 use Rattle.report.specs.Misfits.{Misfit, misfits_in, first_of}
 use Rattle.report.specs.Totals.{GroupFits}
 use Rattle.report.proofs.GroupMisfits.{group_fits, no_misfit_in}
@@ -54,13 +54,13 @@ no_misfits lines card (suc level) groups fit =
     let group = no_misfit_in lines (suc level) card (groups (suc level)) (fit (suc level) (omega arith) (omega arith)) in
     λ i. below i ++ group i
 
--- the first misfit of a card and the cards behind it is not before it
+-- the first misfit of a card and the cards after it is not before it
 pub first-least : (lines : List Line) (number : ℕ) (so_far : ℕ → List (List ℕ)) (card : List ℕ) (cards : List (List ℕ))
     (misfit : Misfit) → first_of (misfits_from lines number so_far card cards) ≡ Some misfit → number ≤ misfit.card
 first-least lines number so_far card [] misfit first =
     let is = first-card lines number 4 (taking card so_far) misfit first in omega (arith, is)
 first-least lines number so_far card (next ∷ cards) misfit first =
-    let ended = ended_behind lines card (Some next) in
+    let ended = ended_after lines card (Some next) in
     by (first-append (misfits_to lines number ended (taking card so_far))
     (misfits_from lines (number + 1) (cleared ended (taking card so_far)) next cards) misfit first)
     (first-card lines number ended (taking card so_far) misfit)
@@ -80,7 +80,7 @@ fit-first lines number so_far card cards zero misfit fit first =
 fit-first lines number so_far card [] (suc count) misfit fit first =
     let none = no_misfits lines number 4 (taking card so_far) fit in absurd cc
 fit-first lines number so_far card (next ∷ cards) (suc count) misfit fit first =
-    let ended = ended_behind lines card (Some next) in
+    let ended = ended_after lines card (Some next) in
     let none = no_misfits lines number ended (taking card so_far) fit.0 in
     let others = misfits_from lines (number + 1) (cleared ended (taking card so_far)) next cards in
     let later = fit-first lines (number + 1) (cleared ended (taking card so_far)) next cards count misfit fit.1
@@ -101,7 +101,7 @@ first-fit lines number so_far card [] (suc count) later =
     let far = later misfit first in
     omega (arith, here, far)))
 first-fit lines number so_far card (next ∷ cards) (suc count) later =
-    let ended = ended_behind lines card (Some next) in
+    let ended = ended_after lines card (Some next) in
     let others = misfits_from lines (number + 1) (cleared ended (taking card so_far)) next cards in
     let none : misfits_to lines number ended (taking card so_far) ≡ [] =
     no_first (misfits_to lines number ended (taking card so_far))

@@ -7,7 +7,7 @@ use Rattle.charts.specs.Levels.{level_number}
 use Rattle.charts.specs.declared.chart.Line.{Line}
 use Rattle.report.specs.Groups.{cards_of, groups_in}
 use Rattle.report.specs.Outline.{OutlineLine, Detail, Total, outline_of}
-use Rattle.report.specs.Misfits.{Misfit, first_of, misfits, misfits_behind, misfits_in}
+use Rattle.report.specs.Misfits.{Misfit, first_of, misfits, misfits_after, misfits_in}
 use Rattle.report.specs.Totals.{GroupFits}
 use Rattle.report.proofs.Fitting.{level_range, numbered}
 use Rattle.report.proofs.FittingGroups.{FitIn, IsLate, late_within, within_late}
@@ -15,47 +15,47 @@ use Rattle.report.proofs.GroupMisfits.{misfits_numbered}
 use Rattle.decks.specs.FitBefore.{FitBefore}
 use Rattle.decks.specs.Laws.{MisfitsAreLater, TotalsFitBeforeTheFirstMisfit}
 
--- a misfit behind no fewer cards
+-- a misfit after no fewer cards
 abbrev IsFrom : ℕ → Misfit → Type 0
 IsFrom cards misfit = cards ≤ misfit.card
 
--- and behind more
-abbrev IsBehind : ℕ → Misfit → Type 0
-IsBehind count misfit = count < misfit.card
+-- and after more
+abbrev IsAfter : ℕ → Misfit → Type 0
+IsAfter count misfit = count < misfit.card
 
--- the misfits of lines of an outline are behind the cards before these
-misfits-from : (lines : List Line) (cards : ℕ) (some : List OutlineLine) → All (IsFrom cards) (misfits_behind lines cards some)
+-- the misfits of lines of an outline are after the cards before these
+misfits-from : (lines : List Line) (cards : ℕ) (some : List OutlineLine) → All (IsFrom cards) (misfits_after lines cards some)
 misfits-from lines cards [] = All-nil (IsFrom cards)
 misfits-from lines cards (Detail opens card ∷ others) =
-    All-weaker (IsFrom (cards + 1)) (IsFrom cards) (λ misfit late. omega (arith, late)) (misfits_behind lines (cards + 1) others)
+    All-weaker (IsFrom (cards + 1)) (IsFrom cards) (λ misfit late. omega (arith, late)) (misfits_after lines (cards + 1) others)
     (misfits-from lines (cards + 1) others)
 misfits-from lines cards (Total level group ∷ others) =
-    All-append (IsFrom cards) (misfits_in lines level cards group) (misfits_behind lines cards others)
+    All-append (IsFrom cards) (misfits_in lines level cards group) (misfits_after lines cards others)
     (All-weaker (λ (misfit : Misfit). misfit.card ≡ cards) (IsFrom cards) (λ misfit at. omega (arith, at)) (misfits_in lines level cards group)
     (misfits_numbered lines level cards group))
     (misfits-from lines cards others)
 
--- where the first misfit is behind so many cards, all are
-all-behind : (lines : List Line) (count cards : ℕ) (some : List OutlineLine)
-    → ((misfit : Misfit) → first_of (misfits_behind lines cards some) ≡ Some misfit → count < misfit.card)
-    → All (IsBehind count) (misfits_behind lines cards some)
-all-behind lines count cards [] first = All-nil (IsBehind count)
-all-behind lines count cards (Detail opens card ∷ others) first = all-behind lines count (cards + 1) others first
-all-behind lines count cards (Total level group ∷ others) first =
-    by (misfits_in lines level cards group) (misfits_numbered lines level cards group) first (all-behind lines count cards others)
+-- where the first misfit is after so many cards, all are
+all-after : (lines : List Line) (count cards : ℕ) (some : List OutlineLine)
+    → ((misfit : Misfit) → first_of (misfits_after lines cards some) ≡ Some misfit → count < misfit.card)
+    → All (IsAfter count) (misfits_after lines cards some)
+all-after lines count cards [] first = All-nil (IsAfter count)
+all-after lines count cards (Detail opens card ∷ others) first = all-after lines count (cards + 1) others first
+all-after lines count cards (Total level group ∷ others) first =
+    by (misfits_in lines level cards group) (misfits_numbered lines level cards group) first (all-after lines count cards others)
   where
     by : (here : List Misfit) → All (λ (misfit : Misfit). misfit.card ≡ cards) here
-        → ((misfit : Misfit) → first_of (here ++ misfits_behind lines cards others) ≡ Some misfit → count < misfit.card)
-        → (((misfit : Misfit) → first_of (misfits_behind lines cards others) ≡ Some misfit → count < misfit.card) → All (IsBehind count) (misfits_behind lines cards others))
-        → All (IsBehind count) (here ++ misfits_behind lines cards others)
+        → ((misfit : Misfit) → first_of (here ++ misfits_after lines cards others) ≡ Some misfit → count < misfit.card)
+        → (((misfit : Misfit) → first_of (misfits_after lines cards others) ≡ Some misfit → count < misfit.card) → All (IsAfter count) (misfits_after lines cards others))
+        → All (IsAfter count) (here ++ misfits_after lines cards others)
     by [] all late more = more late
     by (misfit ∷ here) all late more =
         let at = All-head (λ (one : Misfit). one.card ≡ cards) misfit here all in
-        let behind = late misfit refl in
-        let far : count < cards = omega (arith, at, behind) in
-        All-append (IsBehind count) (misfit ∷ here) (misfits_behind lines cards others)
-        (All-weaker (λ (one : Misfit). one.card ≡ cards) (IsBehind count) (λ one same. omega (arith, far, same)) (misfit ∷ here) all)
-        (All-weaker (IsFrom cards) (IsBehind count) (λ one from. omega (arith, far, from)) (misfits_behind lines cards others)
+        let after = late misfit refl in
+        let far : count < cards = omega (arith, at, after) in
+        All-append (IsAfter count) (misfit ∷ here) (misfits_after lines cards others)
+        (All-weaker (λ (one : Misfit). one.card ≡ cards) (IsAfter count) (λ one same. omega (arith, far, same)) (misfit ∷ here) all)
+        (All-weaker (IsFrom cards) (IsAfter count) (λ one from. omega (arith, far, from)) (misfits_after lines cards others)
         (misfits-from lines cards others))
 
 -- numbers of cards up to one
@@ -118,7 +118,7 @@ fit_before_misfits lines (card ∷ cards) count = (before, later)
     later late level earlier others group is few =
         let range = level_range level in
         let all = late_within lines (UpTo count) (card ∷ cards)
-        (All-weaker (IsBehind count) (IsLate lines (UpTo count)) (λ misfit behind counts. omega (arith, behind, counts)) (misfits lines (card ∷ cards))
-        (all-behind lines count 0 (outline_of lines (card ∷ cards)) late)) (level_number level) range.0 range.1 in
+        (All-weaker (IsAfter count) (IsLate lines (UpTo count)) (λ misfit after counts. omega (arith, after, counts)) (misfits lines (card ∷ cards))
+        (all-after lines count 0 (outline_of lines (card ∷ cards)) late)) (level_number level) range.0 range.1 in
         each_in lines count (level_number level) 0 earlier others group
         (subst (FitIn lines (UpTo count) (level_number level) 0) is all) (omega (arith, few))

@@ -1,13 +1,13 @@
 -- Decks of which some cards are known.
 use Rattle.std.proofs.Common.{◌≡◌, ◌∙◌, refl, sym, ap, ℕ, ◌+◌, List, [], ◌∷◌, ◌++◌, Some, length, length-append, slice_get, append-nil, append_assoc, arith}
 use Rattle.charts.specs.declared.chart.Line.{Line}
-use Rattle.report.specs.Breaks.{cleared, ended_behind, taking}
+use Rattle.report.specs.Breaks.{cleared, ended_after, taking}
 use Rattle.report.specs.Misfits.{Misfit, first_of, misfits}
 use Rattle.report.proofs.Fitting.{fit_without_misfits}
 use Rattle.decks.specs.CardMisfits.{misfits_from}
 use Rattle.decks.specs.FitSoFar.{FitSoFar, groups_before, misfits_of_last}
 use Rattle.decks.specs.Laws.{FitsGoOn, FitsSoFarAreBefore, FitsSoFarEnd, FirstMisfitsAreTold}
-use Rattle.decks.specs.Stands.{Stand, at_first, last_of, stand_before, stand_behind}
+use Rattle.decks.specs.Stands.{Stand, at_first, last_of, stand_before, stand_after}
 use Rattle.decks.proofs.FirstMisfits.{first-least}
 use Rattle.decks.proofs.FitBefore.{fit_before_misfits}
 use Rattle.decks.proofs.Misfits.{misfits_of_cards}
@@ -21,14 +21,14 @@ last-more card (one ∷ cards) next = last-more one cards next
 -- where the report stands before it
 pub stand-more : (lines : List Line) (stand : Stand) (card : List ℕ) (cards : List (List ℕ)) (next : List ℕ)
     → stand_before lines stand card (cards ++ next ∷ [])
-    ≡ stand_behind lines (stand_before lines stand card cards) (last_of card cards) (Some next)
+    ≡ stand_after lines (stand_before lines stand card cards) (last_of card cards) (Some next)
 stand-more lines stand card [] next = refl
-stand-more lines stand card (one ∷ cards) next = stand-more lines (stand_behind lines stand card (Some one)) one cards next
+stand-more lines stand card (one ∷ cards) next = stand-more lines (stand_after lines stand card (Some one)) one cards next
 
 -- and the unfinished groups
 pub groups-more : (lines : List Line) (card : List ℕ) (cards : List (List ℕ)) (next : List ℕ)
     → groups_before lines card (cards ++ next ∷ [])
-    ≡ cleared (ended_behind lines (last_of card cards) (Some next)) (taking (last_of card cards) (groups_before lines card cards))
+    ≡ cleared (ended_after lines (last_of card cards) (Some next)) (taking (last_of card cards) (groups_before lines card cards))
 groups-more lines card cards next = ap (λ (stand : Stand). stand.so_far) (stand-more lines at_first card cards next)
 
 -- the first of two lists
@@ -50,7 +50,7 @@ fits_go_on lines card = (misfits_of_first, more)
         ∙ fit (next ∷ later)
         ∙ ap
         (λ l. l ++ misfits_from lines (length cards + 1 + 1)
-        (cleared (ended_behind lines (last_of card cards) (Some next)) (taking (last_of card cards) (groups_before lines card cards))) next later)
+        (cleared (ended_after lines (last_of card cards) (Some next)) (taking (last_of card cards) (groups_before lines card cards))) next later)
         none
         ∙ ap
         (λ groups. misfits_from lines (length cards + 1 + 1) groups next later)
@@ -75,7 +75,7 @@ fits_end lines card cards fit none =
 pub first_told : FirstMisfitsAreTold
 first_told lines card cards later misfit fit first = (
   ap first_of (fit later) ∙ of later first,
-  first-card lines (length cards + 1) (ended_behind lines (last_of card cards) (slice_get later 0))
+  first-card lines (length cards + 1) (ended_after lines (last_of card cards) (slice_get later 0))
       (taking (last_of card cards) (groups_before lines card cards)) misfit first,
 )
   where

@@ -4,12 +4,12 @@ use Rattle.std.specs.List.{All, range_with_len}
 use Rattle.std.proofs.lemmas.List.Elements.{All-nil, All-cons, All-append, All-weaker}
 use Rattle.placed_lines.specs.declared.placed_line.PlacedLine.{PlacedLine}
 use Rattle.charts.specs.declared.chart.Line.{Line}
-use Rattle.report.specs.Breaks.{ended_behind, chunk_of}
+use Rattle.report.specs.Breaks.{ended_after, chunk_of}
 use Rattle.report.specs.ChartForm.{heading_count}
 use Rattle.report.specs.Places.{BodyText, Left, before_all, page_of, line_below, left_by, heading_on, headed, placed}
 use Rattle.report.specs.Report.{body_lines}
 use Rattle.report.proofs.FewLines.{bodies-few, chunk-few, body_lines-few}
-use Rattle.decks.specs.Left.{left_behind}
+use Rattle.decks.specs.Left.{left_after}
 use Rattle.decks.specs.Laws.{PagesAreFew, PagesHaveNumbers}
 use Rattle.decks.specs.Stands.{Stand, card_bodies}
 
@@ -18,7 +18,7 @@ pub card_bodies-few : (lines : List Line) (stand : Stand) (card : List ℕ) (nex
     → length (card_bodies lines stand card next) ≤ 5
 card_bodies-few lines stand card next =
     let few = chunk-few lines stand.opens stand.so_far card next in
-    let most = bodies-few lines (chunk_of stand.opens stand.so_far card (ended_behind lines card next)) in
+    let most = bodies-few lines (chunk_of stand.opens stand.so_far card (ended_after lines card next)) in
     omega (arith, few, most)
 
 -- the next line is on the same page or the next
@@ -26,11 +26,11 @@ page-most : (page : ℕ) (line : Option ℕ) → page_of (record { page = page; 
 page-most page None = omega arith
 page-most page (Some line) = omega arith
 
-pub behind-most : (lines : List Line) (left : Left) (bodies : List BodyText)
-    → (left_behind lines left bodies).page ≤ left.page + length bodies
-behind-most lines left [] = omega arith
-behind-most lines left (body ∷ others) =
-    let more = behind-most lines (left_by lines left body.kind) others in
+pub after-most : (lines : List Line) (left : Left) (bodies : List BodyText)
+    → (left_after lines left bodies).page ≤ left.page + length bodies
+after-most lines left [] = omega arith
+after-most lines left (body ∷ others) =
+    let more = after-most lines (left_by lines left body.kind) others in
     let next = page-most left.page left.line in
     omega (arith, more, next)
 
@@ -67,7 +67,7 @@ placed-most lines left (body ∷ others) =
 
 pub pages_few : PagesAreFew
 pages_few lines cards =
-    (body_lines-few lines cards, (λ left bodies. (behind-most lines left bodies, placed-most lines left bodies)))
+    (body_lines-few lines cards, (λ left bodies. (after-most lines left bodies, placed-most lines left bodies)))
 
 pub pages_numbered : PagesHaveNumbers
 pages_numbered chart cards long =

@@ -5,7 +5,7 @@ use Rattle.std.proofs.lemmas.Grind.{flat_map-append}
 use Rattle.std.proofs.lemmas.List.Elements.{All-head, All-tail}
 use Rattle.placed_lines.specs.declared.placed_line.PlacedLine.{PlacedLine}
 use Rattle.charts.specs.declared.chart.Line.{Line}
-use Rattle.report.specs.Breaks.{ended_behind, no_cards, taking, cleared, chunk_of, flat}
+use Rattle.report.specs.Breaks.{ended_after, no_cards, taking, cleared, chunk_of, flat}
 use Rattle.report.specs.Places.{before_all, placed}
 use Rattle.report.specs.Report.{body_of, report_lines}
 use Rattle.report.specs.Misfits.{Misfit, misfits, first_of}
@@ -16,24 +16,24 @@ use Rattle.decks.specs.Alike.{AlikeWith}
 use Rattle.decks.specs.CardMisfits.{FitFrom, FirstFit}
 use Rattle.decks.specs.FitBefore.{FitBefore}
 use Rattle.decks.specs.Left.{bodies_of}
-use Rattle.decks.specs.Runner.{Runner, GoesByCards, Runs, Fed}
-use Rattle.decks.specs.Stands.{Stand, at_first, card_bodies, stand_behind, bodies_before, stand_before, last_of, report_before}
-use Rattle.decks.proofs.Alike.{alike-behind, alike-first}
+use Rattle.decks.specs.Runner.{Runner, GoesByCards, Runs, HasFedCards}
+use Rattle.decks.specs.Stands.{Stand, at_first, card_bodies, stand_after, bodies_before, stand_before, last_of, report_before}
+use Rattle.decks.proofs.Alike.{alike-after, alike-first}
 use Rattle.decks.proofs.Begins.{reports_begin}
 use Rattle.decks.proofs.FirstMisfits.{fit_before_first}
 use Rattle.decks.proofs.FitBefore.{fit_before_misfits}
-use Rattle.decks.proofs.Pages.{behind-most, card_bodies-few}
+use Rattle.decks.proofs.Pages.{after-most, card_bodies-few}
 use Rattle.decks.proofs.Places.{placed-append}
 
--- a card leaves room for the pages of the cards behind it
-room-behind : (lines : List Line) (stand : Stand) (card : List ℕ) (next : Option (List ℕ)) (count : ℕ)
-    → stand.left.page + 5 * suc count < 2 ^ 32 → (stand_behind lines stand card next).left.page + 5 * count < 2 ^ 32
-room-behind lines stand card next count room =
-    let most = behind-most lines stand.left (card_bodies lines stand card next) in
+-- a card leaves room for the pages of the cards after it
+room-after : (lines : List Line) (stand : Stand) (card : List ℕ) (next : Option (List ℕ)) (count : ℕ)
+    → stand.left.page + 5 * suc count < 2 ^ 32 → (stand_after lines stand card next).left.page + 5 * count < 2 ^ 32
+room-after lines stand card next count room =
+    let most = after-most lines stand.left (card_bodies lines stand card next) in
     let few = card_bodies-few lines stand card next in
     omega (arith, room, most, few)
 
--- From a state in which a card waits on, a run places the lines of that card and of the cards behind it.
+-- From a state in which a card waits on, a run places the lines of that card and of the cards after it.
 runs_from : {S : Type 0} (runner : Runner S) → GoesByCards runner → (stand : Stand) (card : List ℕ) (cards : List (List ℕ))
     (old : S) (placed_lines : List PlacedLine) → All runner.Reads (card ∷ cards)
     → stand.left.page + 5 * suc (length cards) < 2 ^ 32 → AlikeWith runner.chart.lines stand.so_far card
@@ -47,14 +47,14 @@ runs_from runner goes stand card [] old placed_lines reads room alike fit follow
 runs_from runner goes stand card (next ∷ cards) old placed_lines reads room alike fit follows
     (new, first, others, feed, run, is) =
     let lines = runner.chart.lines in
-    let ended = ended_behind lines card (Some next) in
-    let behind = stand_behind lines stand card (Some next) in
+    let ended = ended_after lines card (Some next) in
+    let after = stand_after lines stand card (Some next) in
     let later = All-tail runner.Reads card (next ∷ cards) reads in
     let one = goes.goes stand card (Some next) old new first (All-head runner.Reads card (next ∷ cards) reads)
     (All-head runner.Reads next cards later) (omega (arith, room)) alike fit.0 follows feed in
-    let more = runs_from runner goes behind next cards new others later
-    (room-behind lines stand card (Some next) (suc (length cards)) room) (alike-behind lines stand card next alike) fit.1 one.1 run in
-    let rest = flat lines behind.so_far behind.opens next cards in
+    let more = runs_from runner goes after next cards new others later
+    (room-after lines stand card (Some next) (suc (length cards)) room) (alike-after lines stand card next alike) fit.1 one.1 run in
+    let rest = flat lines after.so_far after.opens next cards in
     is
     ∙ (λ i. one.0 i ++ more i)
     ∙ sym (placed-append lines stand.left (card_bodies lines stand card (Some next)) (bodies_of lines rest))
@@ -65,7 +65,7 @@ fed_from : {S : Type 0} (runner : Runner S) → GoesByCards runner → (stand : 
     (old new : S) (placed_lines : List PlacedLine) → All runner.Reads (card ∷ cards)
     → stand.left.page + 5 * length cards < 2 ^ 32 → AlikeWith runner.chart.lines stand.so_far card
     → FitFrom runner.chart.lines stand.so_far card cards (length cards)
-    → runner.Follows stand card old → Fed runner old cards new placed_lines
+    → runner.Follows stand card old → HasFedCards runner old cards new placed_lines
     → (placed_lines ≡ placed runner.chart.lines stand.left (bodies_before runner.chart.lines stand card cards))
     × runner.Follows (stand_before runner.chart.lines stand card cards) (last_of card cards) new
 fed_from runner goes stand card [] old new placed_lines reads room alike fit follows fed =
@@ -73,15 +73,15 @@ fed_from runner goes stand card [] old new placed_lines reads room alike fit fol
 fed_from runner goes stand card (next ∷ cards) old new placed_lines reads room alike fit follows
     (mid, first, others, feed, fed, is) =
     let lines = runner.chart.lines in
-    let behind = stand_behind lines stand card (Some next) in
+    let after = stand_after lines stand card (Some next) in
     let later = All-tail runner.Reads card (next ∷ cards) reads in
     let one = goes.goes stand card (Some next) old mid first (All-head runner.Reads card (next ∷ cards) reads)
     (All-head runner.Reads next cards later) (omega (arith, room)) alike fit.0 follows feed in
-    let more = fed_from runner goes behind next cards mid new others later
-    (room-behind lines stand card (Some next) (length cards) room) (alike-behind lines stand card next alike) fit.1 one.1 fed in (
+    let more = fed_from runner goes after next cards mid new others later
+    (room-after lines stand card (Some next) (length cards) room) (alike-after lines stand card next alike) fit.1 one.1 fed in (
       is
           ∙ (λ i. one.0 i ++ more.0 i)
-          ∙ sym (placed-append lines stand.left (card_bodies lines stand card (Some next)) (bodies_before lines behind next cards)),
+          ∙ sym (placed-append lines stand.left (card_bodies lines stand card (Some next)) (bodies_before lines after next cards)),
       more.1,
     )
 
@@ -108,7 +108,7 @@ runs_follow_decks runner goes (card ∷ cards) placed_lines reads long fits (new
 -- A machine that goes by cards, fed some cards, has placed the lines before the last of them, and stands where the report does.
 pub feeds_follow_decks : {S : Type 0} (runner : Runner S) → GoesByCards runner → (card : List ℕ) (cards : List (List ℕ))
     (new : S) (placed_lines : List PlacedLine) → All runner.Reads (card ∷ cards) → length (card ∷ cards) ≤ 999999
-    → FirstFit runner.chart.lines (card ∷ cards) (length cards) → Fed runner runner.start (card ∷ cards) new placed_lines
+    → FirstFit runner.chart.lines (card ∷ cards) (length cards) → HasFedCards runner runner.start (card ∷ cards) new placed_lines
     → (placed_lines ≡ placed runner.chart.lines before_all (bodies_before runner.chart.lines at_first card cards))
     × runner.Follows (stand_before runner.chart.lines at_first card cards) (last_of card cards) new
 feeds_follow_decks runner goes card cards new placed_lines reads long fit (mid, first, others, feed, fed, is) =
@@ -116,19 +116,19 @@ feeds_follow_decks runner goes card cards new placed_lines reads long fit (mid, 
     let more = fed_from runner goes at_first card cards mid new others reads (omega (arith, long)) (alike-first runner.chart.lines card) fit begun.1 fed in
     (is ∙ ap (λ l. l ++ others) begun.0 ∙ more.0, more.1)
 
--- groups that fit before a card fit whatever comes behind it
-fit-before : (lines : List Line) (so_far : ℕ → List (List ℕ)) (card : List ℕ) (cards behind : List (List ℕ))
-    → FitFrom lines so_far card (cards ++ behind) (length cards) → FitFrom lines so_far card cards (length cards)
-fit-before lines so_far card [] behind fit = tt
-fit-before lines so_far card (next ∷ cards) behind fit =
-    let ended = ended_behind lines card (Some next) in
-    (fit.0, fit-before lines (cleared ended (taking card so_far)) next cards behind fit.1)
+-- groups that fit before a card fit whatever comes after it
+fit-before : (lines : List Line) (so_far : ℕ → List (List ℕ)) (card : List ℕ) (cards after : List (List ℕ))
+    → FitFrom lines so_far card (cards ++ after) (length cards) → FitFrom lines so_far card cards (length cards)
+fit-before lines so_far card [] after fit = tt
+fit-before lines so_far card (next ∷ cards) after fit =
+    let ended = ended_after lines card (Some next) in
+    (fit.0, fit-before lines (cleared ended (taking card so_far)) next cards after fit.1)
 
 -- Up to a card that the first totals fit before, a machine that goes by cards has placed the lines of the report that stand before it.
 pub feeds_begin_reports : {S : Type 0} (runner : Runner S) → GoesByCards runner → (card : List ℕ)
     (cards later : List (List ℕ)) (new : S) (placed_lines : List PlacedLine) → All runner.Reads (card ∷ cards)
     → length (card ∷ cards) ≤ 999999 → FitBefore runner.chart.lines (card ∷ (cards ++ later)) (length cards)
-    → Fed runner runner.start (card ∷ cards) new placed_lines
+    → HasFedCards runner runner.start (card ∷ cards) new placed_lines
     → placed_lines ≡ report_before runner.chart (card ∷ (cards ++ later)) (length cards)
 feeds_begin_reports runner goes card cards later new placed_lines reads long fits fed =
     let lines = runner.chart.lines in

@@ -1,7 +1,7 @@
 -- Decks of which some cards are known, and no group that ended so far has a misfit.
 use Rattle.std.specs.Prelude.{◌≡◌, ℕ, ◌+◌, List, ◌∷◌, ◌++◌, Option, length}
 use Rattle.charts.specs.declared.chart.Line.{Line}
-use Rattle.report.specs.Breaks.{ended_behind, taking}
+use Rattle.report.specs.Breaks.{ended_after, taking}
 use Rattle.report.specs.Misfits.{Misfit, misfits}
 use Rattle.decks.specs.CardMisfits.{misfits_from, misfits_to}
 use Rattle.decks.specs.Stands.{at_first, last_of, stand_before}
@@ -20,5 +20,5 @@ FitSoFar lines card cards =
 -- the misfits of the groups that end with the last of a card and the cards after it, given the next card, if there is one
 abbrev pub misfits_of_last : List Line → List ℕ → List (List ℕ) → Option (List ℕ) → List Misfit
 misfits_of_last lines card cards next =
-    misfits_to lines (length cards + 1) (ended_behind lines (last_of card cards) next)
+    misfits_to lines (length cards + 1) (ended_after lines (last_of card cards) next)
     (taking (last_of card cards) (groups_before lines card cards))

@@ -17,14 +17,14 @@ use Rattle.decks.specs.Alike.{AlikeWith}
 use Rattle.decks.specs.CardMisfits.{misfits_by_cards, FirstFit}
 use Rattle.decks.specs.FitBefore.{FitBefore}
 use Rattle.decks.specs.FitSoFar.{FitSoFar, misfits_of_last}
-use Rattle.decks.specs.Left.{left_behind}
+use Rattle.decks.specs.Left.{left_after}
 use Rattle.decks.specs.Stands.{at_first, bodies_before, stand_before, last_of, report_before}
 
 -- The misfits of a deck are those of its cards.
 abbrev pub MisfitsGoByCards : Type 0
 MisfitsGoByCards = (lines : List Line) (cards : List (List ℕ)) → misfits lines cards ≡ misfits_by_cards lines cards
 
--- The first misfit of a deck, if there is one, is behind more cards.
+-- The first misfit of a deck, if there is one, is after more cards.
 abbrev pub MisfitsAreLater : List Line → List (List ℕ) → ℕ → Type 0
 MisfitsAreLater lines cards count = (misfit : Misfit) → first_of (misfits lines cards) ≡ Some misfit → count < misfit.card
 
@@ -33,7 +33,7 @@ abbrev pub TotalsFitBeforeTheFirstMisfit : Type 0
 TotalsFitBeforeTheFirstMisfit =
     (lines : List Line) (cards : List (List ℕ)) (count : ℕ) → FitBefore lines cards count ↔ MisfitsAreLater lines cards count
 
--- So do the groups that end, card by card, behind the first so many.
+-- So do the groups that end, card by card, after the first so many.
 abbrev pub GroupsFitBeforeTheFirstMisfit : Type 0
 GroupsFitBeforeTheFirstMisfit =
     (lines : List Line) (cards : List (List ℕ)) (count : ℕ) → FirstFit lines cards count ↔ MisfitsAreLater lines cards count
@@ -42,8 +42,8 @@ GroupsFitBeforeTheFirstMisfit =
 abbrev pub PlacesSplit : Type 0
 PlacesSplit =
     (lines : List Line) (left : Left) (one other : List BodyText)
-    → (placed lines left (one ++ other) ≡ placed lines left one ++ placed lines (left_behind lines left one) other)
-    × (left_behind lines left (one ++ other) ≡ left_behind lines (left_behind lines left one) other)
+    → (placed lines left (one ++ other) ≡ placed lines left one ++ placed lines (left_after lines left one) other)
+    × (left_after lines left (one ++ other) ≡ left_after lines (left_after lines left one) other)
 
 -- The lines of a report before those of a card are those of the cards before it, whatever comes later, and the report begins with them.
 abbrev pub ReportsBeginByCards : Type 0
@@ -60,7 +60,7 @@ PagesAreFew =
     (lines : List Line) (cards : List (List ℕ))
     → (length (body_lines lines cards) ≤ 5 * length cards)
     × ((left : Left) (bodies : List BodyText)
-    → ((left_behind lines left bodies).page ≤ left.page + length bodies)
+    → ((left_after lines left bodies).page ≤ left.page + length bodies)
     × All (λ (line : PlacedLine). line.page ≤ left.page + length bodies) (placed lines left bodies))
 
 -- With at most 999,999 cards no page number reaches 2 to the 32nd.

@@ -1,4 +1,4 @@
--- Places of body lines in parts: where some of them leave the form, those behind go on.
+-- Places of body lines in parts: where some of them leave the form, those after go on.
 use Rattle.std.specs.Prelude.{List, [], ◌∷◌}
 use Rattle.std.specs.List.{flat_map}
 use Rattle.charts.specs.declared.chart.Line.{Line}
@@ -11,6 +11,6 @@ abbrev pub bodies_of : List Line → List OutlineLine → List BodyText
 bodies_of lines outline = flat_map (body_of lines) outline
 
 -- where body lines leave the form
-abbrev pub left_behind : List Line → Left → List BodyText → Left
-left_behind lines left [] = left
-left_behind lines left (body ∷ others) = left_behind lines (left_by lines left body.kind) others
+abbrev pub left_after : List Line → Left → List BodyText → Left
+left_after lines left [] = left
+left_after lines left (body ∷ others) = left_after lines (left_by lines left body.kind) others

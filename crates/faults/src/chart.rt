@@ -18,7 +18,7 @@ pub enum ChartFault {
     /// The first line is not `CHART407 1`.
     #[error("the chart does not begin with CHART407 1")]
     NoFirstLine,
-    /// A line is no form of a chart, or stands behind END. It is the lowest such line.
+    /// A line is no form of a chart, or stands after END. It is the lowest such line.
     #[error("line {line} is no line of a chart")]
     NotALine {
         /// Its number, from 2.

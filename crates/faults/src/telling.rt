@@ -15,18 +15,18 @@ fn write_word<W: Write>(out: &mut W, word: &str) -> io::Result<()> {
     out.write_all(word.as_bytes())
 }
 
-// Writes a word and another one behind it.
+// Writes a word and another one after it.
 fn write_words<W: Write>(out: &mut W, word: &str, other: &str) -> io::Result<()> {
     write_word(out, word)?;
     write_word(out, other)
 }
 
-// Writes a word and the number behind it.
+// Writes a word and the number after it.
 fn write_figure<W: Write>(out: &mut W, word: &str, number: u64) -> io::Result<()> {
     write_words(out, word, Buffer::new().format(number))
 }
 
-// Writes words, each with the number behind it.
+// Writes words, each with the number after it.
 fn write_figures<W: Write>(out: &mut W, figures: &[(&str, u64)]) -> io::Result<()> {
     for (word, number) in figures {
         write_figure(out, word, *number)?;

@@ -135,6 +135,6 @@ position-none p xs ys h = by ∙ sym (is_some-find p xs)
         let long = length-append xs ys in
         grind (arith, nat_tests, whole, most, long)
 
--- the fields of a chart are those of its first lines and those behind
+-- the fields of a chart are those of its first lines and those after
 pub fields_of-split : (lines : List Line) (i : ℕ) → fields_of lines ≡ fields_of (take i lines) ++ fields_of (drop i lines)
 fields_of-split lines i = ap fields_of (sym (take-append-drop i lines)) ∙ filter_map-append (λ each. field_of each.statement) (take i lines) (drop i lines)

@@ -91,7 +91,7 @@ pub(crate) fn field_count(lines: &[Line]) -> usize
         .count()
 }
 
-/// Puts a field behind the others, and into the index where it is the first of its name.
+/// Puts a field after the others, and into the index where it is the first of its name.
 fn add_field(
     in_order: &mut Vec<Field>,
     first: &mut IndexMap<Name, usize>,

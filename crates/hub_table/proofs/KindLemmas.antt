@@ -17,16 +17,16 @@ pub first_or_other : {X : Type 0} (y : X) (xs : List X) (x : X) → Contains (y 
 first_or_other y xs x (zero, within, is) = inl (sym is)
 first_or_other y xs x (suc k, within, is) = inr (k, omega arith, is)
 
--- the kinds of an unbroken list stand behind those before the list
-stands_behind : (from to : ℕ) (kinds : List Letters) → is_unbroken from to kinds ≡ true → (one : Letters)
+-- the kinds of an unbroken list stand after those before the list
+stands_after : (from to : ℕ) (kinds : List Letters) → is_unbroken from to kinds ≡ true → (one : Letters)
     → Contains kinds one → from ≤ (row_of one).before
-stands_behind from to [] unbroken one (k, within, is) = absurd (omega arith)
-stands_behind from to (first ∷ others) unbroken one listed =
+stands_after from to [] unbroken one (k, within, is) = absurd (omega arith)
+stands_after from to (first ∷ others) unbroken one listed =
     let parts = and_parts ((row_of first).before == from) _ unbroken in
     let starts : (row_of first).before ≡ from = eqb-true _ _ parts.0 in
     ⊎_elim
     (λ (here : one ≡ first). rw here (omega (arith, starts)))
-    (λ later. let behind = stands_behind (from + count_of (row_of first).shape) to others parts.1 one later in omega (arith, behind))
+    (λ later. let after = stands_after (from + count_of (row_of first).shape) to others parts.1 one later in omega (arith, after))
     (first_or_other first others one listed)
 
 -- a number is of one kind of an unbroken list
@@ -36,17 +36,17 @@ one_of_list from to [] unbroken one other n (k, within, is) and_listed has and_h
 one_of_list from to (first ∷ others) unbroken one other n listed and_listed has and_has =
     let parts = and_parts ((row_of first).before == from) _ unbroken in
     let starts : (row_of first).before ≡ from = eqb-true _ _ parts.0 in
-    let behind : (kind : Letters) → Contains others kind → from + count_of (row_of first).shape ≤ (row_of kind).before =
-    λ kind later. stands_behind (from + count_of (row_of first).shape) to others parts.1 kind later in
+    let after : (kind : Letters) → Contains others kind → from + count_of (row_of first).shape ≤ (row_of kind).before =
+    λ kind later. stands_after (from + count_of (row_of first).shape) to others parts.1 kind later in
     ⊎_elim
     (λ (here : one ≡ first).
     ⊎_elim
     (λ (too : other ≡ first). here ∙ sym too)
-    (λ later. let has_first : HasNumber first n = rw here at has in absurd (omega (arith, behind other later, has_first, and_has, starts)))
+    (λ later. let has_first : HasNumber first n = rw here at has in absurd (omega (arith, after other later, has_first, and_has, starts)))
     (first_or_other first others other and_listed))
     (λ later.
     ⊎_elim
-    (λ (too : other ≡ first). let has_first : HasNumber first n = rw too at and_has in absurd (omega (arith, behind one later, has_first, has, starts)))
+    (λ (too : other ≡ first). let has_first : HasNumber first n = rw too at and_has in absurd (omega (arith, after one later, has_first, has, starts)))
     (λ (too : Contains others other).
     one_of_list (from + count_of (row_of first).shape) to others parts.1 one other n later too has and_has)
     (first_or_other first others other and_listed))
@@ -55,9 +55,9 @@ one_of_list from to (first ∷ others) unbroken one other n listed and_listed ha
 -- each number of an unbroken list is of a kind
 some_of_list : (from to : ℕ) (kinds : List Letters) → is_unbroken from to kinds ≡ true → (n : ℕ) → from < n → n ≤ to
     → (letters : Letters) × HasNumber letters n
-some_of_list from to [] unbroken n behind within =
+some_of_list from to [] unbroken n after within =
     let ends : from ≡ to = eqb-true from to unbroken in absurd (omega (arith, ends))
-some_of_list from to (first ∷ others) unbroken n behind within =
+some_of_list from to (first ∷ others) unbroken n after within =
     let parts = and_parts ((row_of first).before == from) _ unbroken in
     let starts : (row_of first).before ≡ from = eqb-true _ _ parts.0 in
     ⊎_elim
@@ -152,7 +152,7 @@ spelled-injective one other alike =
     let same = ap (λ (token : List ℕ). kind_spelled token (exit_kinds ++ entry_kinds)) alike in
     cc
 
--- whether the hubs of a kind are on their side of the table: the exits up to 1040, the entries behind
+-- whether the hubs of a kind are on their side of the table: the exits up to 1040, the entries after
 abbrev is_on_its_side : Letters → Bool
 is_on_its_side letters =
     if (row_of letters).is_exit
@@ -166,17 +166,17 @@ stands_on_its_side other = refl
 pub exits_end : (letters : Letters) → (row_of letters).is_exit ≡ true
     → (row_of letters).before + count_of (row_of letters).shape ≤ 1040
 exits_end letters is_exit = on_side (row_of letters).is_exit _ _ is_exit (stands_on_its_side letters) where
-  on_side : (is_exit : Bool) (before behind : ℕ) → is_exit ≡ true
-      → (if is_exit then nat_le behind 1040 else nat_le 1040 before && nat_le behind 1936) ≡ true → behind ≤ 1040
-  on_side is_exit before behind is side = grind (arith, nat_tests)
+  on_side : (is_exit : Bool) (before after : ℕ) → is_exit ≡ true
+      → (if is_exit then nat_le after 1040 else nat_le 1040 before && nat_le after 1936) ≡ true → after ≤ 1040
+  on_side is_exit before after is side = grind (arith, nat_tests)
 
 pub entries_start : (letters : Letters) → (row_of letters).is_exit ≡ false
     → (1040 ≤ (row_of letters).before) × ((row_of letters).before + count_of (row_of letters).shape ≤ 1936)
 entries_start letters is_entry = on_side (row_of letters).is_exit _ _ is_entry (stands_on_its_side letters) where
-  on_side : (is_exit : Bool) (before behind : ℕ) → is_exit ≡ false
-      → (if is_exit then nat_le behind 1040 else nat_le 1040 before && nat_le behind 1936) ≡ true
-      → (1040 ≤ before) × (behind ≤ 1936)
-  on_side is_exit before behind is side = grind (arith, nat_tests)
+  on_side : (is_exit : Bool) (before after : ℕ) → is_exit ≡ false
+      → (if is_exit then nat_le after 1040 else nat_le 1040 before && nat_le after 1936) ≡ true
+      → (1040 ≤ before) × (after ≤ 1936)
+  on_side is_exit before after is side = grind (arith, nat_tests)
 
 -- no kind has a number above 255
 pub kinds_have_small_lasts : (letters : Letters) → has_small_lasts (row_of letters).shape ≡ true

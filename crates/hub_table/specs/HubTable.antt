@@ -63,7 +63,7 @@ row_of SP = entries (codes "SP") 1921 TwoOrThree
 row_of SK = entries (codes "SK") 1923 (To 12)
 row_of RS = entries (codes "RS") 1935 Alone
 
--- a kind has the hub of a number: it is behind those before the kind, and not behind the kind's own
+-- a kind has the hub of a number: it is after those before the kind, and not after the kind's own
 abbrev pub HasNumber : Letters → ℕ → Type 0
 HasNumber letters number =
     ((row_of letters).before < number) × (number ≤ (row_of letters).before + count_of (row_of letters).shape)
@@ -77,7 +77,7 @@ unfoldable pub entry_kinds : List Letters
 entry_kinds =
     CA ∷ CB ∷ GE ∷ PL ∷ MI ∷ RO ∷ BT ∷ CI ∷ BAC ∷ PIC ∷ PIX ∷ SE ∷ SI ∷ SO ∷ IE ∷ CSE ∷ W ∷ ST ∷ SP ∷ SK ∷ RS ∷ []
 
--- whether kinds follow one another without a gap, from behind so many hubs up to so many
+-- whether kinds follow one another without a gap, from so many hubs to so many
 abbrev pub is_unbroken : ℕ → ℕ → List Letters → Bool
 is_unbroken from to [] = from == to
 is_unbroken from to (letters ∷ others) =

@@ -121,14 +121,14 @@ record Place (hub : Hub) (n : ℕ) : Type 0 where
   is_place : place_of (row_of (letters_of hub)).shape (numbers_of hub) ≡ Some place
   number : (row_of (letters_of hub)).before + place ≡ n
 
-behind : (before : ℕ) (found : Option ℕ) (n : ℕ) → option_map (λ (place : ℕ). before + place) found ≡ Some n
+after : (before : ℕ) (found : Option ℕ) (n : ℕ) → option_map (λ (place : ℕ). before + place) found ≡ Some n
     → (place : ℕ) × (found ≡ Some place) × (before + place ≡ n)
-behind before (Some place) n e = (place, refl, cc)
-behind before None n e = cc
+after before (Some place) n e = (place, refl, cc)
+after before None n e = cc
 
 place_of_number : (hub : Hub) (n : ℕ) → number_of hub ≡ Some n → Place hub n
 place_of_number hub n e =
-    let found = behind (row_of (letters_of hub)).before (place_of (row_of (letters_of hub)).shape (numbers_of hub)) n e in
+    let found = after (row_of (letters_of hub)).before (place_of (row_of (letters_of hub)).shape (numbers_of hub)) n e in
     record { place = found.0; is_place = found.1; number = found.2 }
 
 -- a hub's number is one of its kind
@@ -156,7 +156,7 @@ number_of-injective one other n e f =
     let and_own = hub_named-own other in
     cc
 
--- the hub at a place of a kind has the number that is as many behind
+-- the hub at a place of a kind has the number that is as many after
 number_at : (letters : Letters) (numbers : Numbers) (hub : Hub) (p : ℕ) → hub_named letters numbers ≡ Some hub
     → place_of (row_of letters).shape numbers ≡ Some p → number_of hub ≡ Some ((row_of letters).before + p)
 number_at letters numbers hub p named is =
@@ -229,7 +229,7 @@ is_exit-number hub n e =
         λ low. and_from is_exit is_there (side ∙ of_le m low) there,
       )
 
--- the entries have the numbers behind
+-- the entries have the numbers after
 pub is_entry-number : (hub : Hub) (n : ℕ) → number_of hub ≡ Some n → is_entry_hub hub ≡ true ↔ (1041 ≤ n)
 is_entry-number hub n e =
     by_tests (row_of (letters_of hub)).is_exit (is_hub_in_range hub) n (exit_by_number hub n e) (in_range hub n e) where

@@ -104,7 +104,7 @@ hub_named kind.SK (One channel) = Some (SK channel)
 hub_named kind.RS Bare = Some RS
 hub_named letters numbers = None
 
--- The number of a hub: behind the hubs of the kinds before its own, by its place there. A hub out of range has none.
+-- The number of a hub: after the hubs of the kinds before its own, by its place there. A hub out of range has none.
 abbrev pub number_of : Hub → Option ℕ
 number_of hub =
     option_map (λ place. (row_of (letters_of hub)).before + place) (place_of (row_of (letters_of hub)).shape (numbers_of hub))

@@ -6,7 +6,7 @@ use Rattle.std.proofs.lemmas.Option.{slice_get-get_or, get_or_from_slice_get}
 use Rattle.std.specs.List.{All, Contains}
 use Rattle.std.proofs.Math.Bool.{or-true}
 use Rattle.charts.specs.declared.chart.Line.{Line}
-use Rattle.setups.specs.Tapes.{AddsStop, Form, HasStops, has_stop}
+use Rattle.setups.specs.Tapes.{AddsStop, CarriageTape, HasStops, has_stop}
 use Rattle.report.specs.ChartForm.{form_of, stops_of}
 use Rattle.jacks_and_tape.specs.HelperJacks.{HasTape, Punches, StopsBefore}
 use Rattle.wiring_table.specs.WiredFor.{IsTapeOf}
@@ -19,7 +19,7 @@ read-alike xs k d e less = get_or_from_slice_get xs k (get_or xs k e) d (slice_g
 abbrev pub Among : (channel : ℕ) → List ℕ → (index c line : ℕ) → Type 0
 Among channel stops index c line = (c ≡ channel) × ((k : ℕ) × (k < index) × (get_or stops k line ≡ line))
 
-pub punches-none : (channel : ℕ) (stops : List ℕ) {tape : Form} → Punches (Among channel stops 0) tape tape
+pub punches-none : (channel : ℕ) (stops : List ℕ) {tape : CarriageTape} → Punches (Among channel stops 0) tape tape
 punches-none channel stops {tape} = record {
   lines = refl;
   first = refl;
@@ -30,7 +30,7 @@ punches-none channel stops {tape} = record {
     none : (c l : ℕ) → Among channel stops 0 c l → ⊥
     none c l among = let less = among.1.1 in omega (arith, less)
 
-pub punches-more : (channel index : ℕ) (stops : List ℕ) {old mid new : Form} → index < length stops
+pub punches-more : (channel index : ℕ) (stops : List ℕ) {old mid new : CarriageTape} → index < length stops
     → Punches (Among channel stops index) old mid → AddsStop mid new channel (get_or stops index 0)
     → Punches (Among channel stops (index + 1)) old new
 punches-more channel index stops {old} {mid} {new} within so_far added = record {
@@ -77,14 +77,14 @@ punches-more channel index stops {old} {mid} {new} within so_far added = record 
             equal a b d e x y = grind (arith, nat_tests, x, y)
 
 -- all stops of a channel
-pub punches-all : (channel index : ℕ) (stops : List ℕ) {old new : Form} → Punches (Among channel stops index) old new
+pub punches-all : (channel index : ℕ) (stops : List ℕ) {old new : CarriageTape} → Punches (Among channel stops index) old new
     → index ≡ length stops → Punches (λ c line. (c ≡ channel) × Contains stops line) old new
 punches-all channel index stops {old} {new} added same =
     let P : ℕ → Type 0 = λ n. Punches (Among channel stops n) old new in
     subst P same added
 
 -- the stops of no channel yet
-pub channels-none : {lines : List Line} {tape : Form} → Punches (StopsBefore lines 2) tape tape
+pub channels-none : {lines : List Line} {tape : CarriageTape} → Punches (StopsBefore lines 2) tape tape
 channels-none {lines} {tape} = record {
   lines = refl;
   first = refl;
@@ -96,7 +96,7 @@ channels-none {lines} {tape} = record {
     none c l stop = let from = stop.from in let less = stop.before in omega (arith, from, less)
 
 -- those of one channel more
-pub channels-more : (lines : List Line) (channel : ℕ) (stops : List ℕ) (old mid new : Form) → 2 ≤ channel
+pub channels-more : (lines : List Line) (channel : ℕ) (stops : List ℕ) (old mid new : CarriageTape) → 2 ≤ channel
     → stops ≡ stops_of lines channel → Punches (StopsBefore lines channel) old mid
     → Punches (λ c line. (c ≡ channel) × Contains stops line) mid new → Punches (StopsBefore lines (channel + 1)) old new
 channels-more lines channel stops old mid new from same so_far added = record {
@@ -146,7 +146,7 @@ stops-within lines channel long stops has same e = λ k d less. at k d less
         (stop.line_from, omega (arith, to, e))
 
 -- a tape with the stops of all channels is that of the chart
-pub tape-whole : (lines : List Line) (bare tape : Form) (bound : ℕ) → HasTape lines → bare.lines ≡ (form_of lines).lines
+pub tape-whole : (lines : List Line) (bare tape : CarriageTape) (bound : ℕ) → HasTape lines → bare.lines ≡ (form_of lines).lines
     → bare.first ≡ (form_of lines).first → bare.overflow ≡ (form_of lines).overflow → HasStops bare []
     → Punches (StopsBefore lines bound) bare tape → bound ≡ 12 → IsTapeOf lines tape
 tape-whole lines bare tape bound has long top full none punched twelve = record {

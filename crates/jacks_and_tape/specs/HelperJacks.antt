@@ -6,7 +6,7 @@ use Rattle.print_rules.specs.declared.items.Item.{Item}
 use Rattle.print_rules.specs.declared.items.Figure.{Figure}
 use Rattle.charts.specs.declared.chart.Line.{Line}
 use Rattle.charts.specs.declared.statement.Statement.{Statement}
-use Rattle.setups.specs.Tapes.{Form, IsFormed, IsStop, has_stop}
+use Rattle.setups.specs.Tapes.{CarriageTape, IsFormed, IsStop, has_stop}
 use Rattle.setups.specs.Wiring.{Wiring, HasJack, SameWires}
 use Rattle.hubs.specs.declared.jack.Jack.{Jack}
 use Rattle.hubs.specs.declared.jack.Jack.TheVariants as jack
@@ -47,7 +47,7 @@ pub record JacksBefore (lines : List Line) (place : ℕ) (each : Jack) : Type 0 
   pub jacks : LineJacks lines line.statement each
 
 -- the new tape has the old one's form and stops, and some stops more
-pub record Punches (stops_of : (channel line : ℕ) → Type 0) (old new : Form) : Type 0 where
+pub record Punches (stops_of : (channel line : ℕ) → Type 0) (old new : CarriageTape) : Type 0 where
   pub lines : new.lines ≡ old.lines
   pub first : new.first ≡ old.first
   pub overflow : new.overflow ≡ old.overflow

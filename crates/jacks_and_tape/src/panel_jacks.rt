@@ -127,11 +127,11 @@ fn plug_figure(setup: &mut Setup, wheel: usize, figure: Figure)
     let end = (wheel + figure.width()) as u8;
     plug_links(setup, from + 1, end);
     plug_suppresses(setup, from, from + digits - decimals.max(1));
-    plug_symbols(setup, behind_units(from, digits, decimals), end);
+    plug_symbols(setup, after_units(from, digits, decimals), end);
 }
 
-// The wheel behind the units of an amount.
-fn behind_units(wheel: u8, digits: u8, decimals: u8) -> u8
+// The wheel after the units of an amount.
+fn after_units(wheel: u8, digits: u8, decimals: u8) -> u8
     requires { mark_wheel wheel digits decimals ≤ 121 }
     ensures { result ≡ mark_wheel wheel digits decimals }
 {

@@ -1,11 +1,11 @@
 -- A body line comes to the place that the report gives it, and its skip or page turn leaves the carriage where the report says.
 use Rattle.std.proofs.Common.{◌≡◌, ℕ, ◌+◌, ◌-◌, ◌<◌, ◌≤◌, ◌&&◌, ◌||◌, nat_lt, nat_le, Bool, true, false, List, Option, Some, None, refl, sym, ap, subst, ◌∙◌, arith, if◌then◌else◌}
 use Rattle.std.proofs.lemmas.Bool.Decides.{nat_tests}
-use Rattle.setups.specs.Tapes.{Form}
+use Rattle.setups.specs.Tapes.{CarriageTape}
 use Rattle.net.specs.Printing.{prints}
 use Rattle.net.specs.declared.cycle.Cycle.{Cycle}
 use Rattle.net.specs.declared.cycle.Cycle.TheVariants.{Card, Prog}
-use Rattle.net.specs.declared.cycle.Level.TheVariants.{Minor, Intermediate, Major, Final}
+use Rattle.net.specs.declared.cycle.ProgramLevel.TheVariants.{Minor, Intermediate, Major, Final}
 use Rattle.net.specs.declared.cycle.Ordinal.TheVariants.{Third}
 use Rattle.carriage.specs.Carriage.{CarriageState, carriage_ended, ended_at, spaced}
 use Rattle.carriage.specs.Moves.{down_by, skipped, skipped_to, restored}
@@ -16,8 +16,8 @@ use Rattle.charts.specs.declared.statement.After.{After}
 use Rattle.charts.specs.declared.statement.After.TheVariants as action
 use Rattle.report.specs.ChartForm.{form_of, spacing_of, after_of}
 use Rattle.report.specs.Places.{Left, page_of, line_below, next_stop, after_action, above_overflow}
-use Rattle.line_places.specs.Placing.{printing_of_chart, kind_of, prints_kind, channel_of, turns_page, asked_of, IsFormOf, IsCarriageOf, IsOnLine, IsReady, line_above}
-use Rattle.line_places.specs.CarriageCycles.{carriage_behind}
+use Rattle.line_places.specs.Placing.{printing_of_chart, kind_of, prints_kind, channel_of, turns_page, asked_of, IsFormOf, IsCarriageOf, IsOnLine, AwaitsBody, line_above}
+use Rattle.line_places.specs.CarriageCycles.{carriage_after}
 use Rattle.line_places.specs.FormFacts.{HasGoodStops, HasGoodForm}
 use Rattle.line_places.specs.Laws.{IsBodyLinePlaced}
 use Rattle.line_places.proofs.Stops.{next_stop-of_chart, next_stop-below}
@@ -54,7 +54,7 @@ latch-from_above line to overflow its same above =
     rw (test, same) refl
 
 -- down from above the overflow line: the latch is set where the new line is that line or past it
-pub down-from_above : (form : Form) (spot : Spot) (page line lines to overflow : ℕ) → spot.page ≡ page → spot.line ≡ line
+pub down-from_above : (form : CarriageTape) (spot : Spot) (page line lines to overflow : ℕ) → spot.page ≡ page → spot.line ≡ line
     → spot.latch ≡ false → form.overflow ≡ overflow → line < overflow → line + lines ≡ to → to ≤ form.lines
     → down_by form lines spot ≡ spot_at page to (nat_le overflow to)
 down-from_above form spot page line lines to overflow is_page is_line is_reset same above sum fits =
@@ -80,7 +80,7 @@ latch-to_stop : (line stop overflow its : ℕ) → its ≡ overflow → line < s
 latch-to_stop line stop overflow its same below = grind (arith, nat_tests, same, below)
 
 -- a skip goes to its stop
-skip-to_stop : (form : Form) (page line stop overflow : ℕ) → form.overflow ≡ overflow → line < stop → stop ≤ form.lines
+skip-to_stop : (form : CarriageTape) (page line stop overflow : ℕ) → form.overflow ≡ overflow → line < stop → stop ≤ form.lines
     → down_by form (stop - line) (spot_at page line (nat_le overflow line)) ≡ spot_at page stop (nat_le overflow stop)
 skip-to_stop form page line stop overflow same below fits =
     let sum : line + (stop - line) ≡ stop = omega (arith, below) in
@@ -94,7 +94,7 @@ record IsLeft (lines : List Line) (page : ℕ) (line : Option ℕ) (spot : Spot)
   on_line : IsOnLine lines (above_overflow (form_of lines).overflow line) spot
 
 -- what follows a line leaves the carriage where the report says
-leaves : (lines : List Line) (form : Form) (follows : Option After) (page line : ℕ) → IsFormOf lines form
+leaves : (lines : List Line) (form : CarriageTape) (follows : Option After) (page line : ℕ) → IsFormOf lines form
     → HasGoodStops lines → ((channel : ℕ) → follows ≡ Some (action.Skip channel) → (2 ≤ channel) × (channel ≤ 11))
     → IsLeft lines page (after_action lines follows line)
     (restored (turns_page follows) (skipped form (channel_of follows) (spot_at page line (nat_le (form_of lines).overflow line))))
@@ -126,9 +126,9 @@ spaced-below lines (Some line) kind = refl
 
 -- a body line is placed where the report places it
 pub body-placed : (lines : List Line) (left : Left) (carriage : CarriageState) (cycle : Cycle) (kind : ℕ)
-    → HasGoodForm lines → IsCarriageOf lines carriage → IsReady lines left carriage.spot
+    → HasGoodForm lines → IsCarriageOf lines carriage → AwaitsBody lines left carriage.spot
     → kind_of cycle ≡ Some kind → prints_kind lines kind ≡ true
-    → IsBodyLinePlaced lines left kind (carriage_behind carriage (asked_of lines kind) cycle)
+    → IsBodyLinePlaced lines left kind (carriage_after carriage (asked_of lines kind) cycle)
 body-placed lines left carriage cycle kind good is ready is_kind printed =
     let overflow = (form_of lines).overflow in
     let asking : CarriageState = record carriage { asked = asked_of lines kind } in
@@ -142,7 +142,7 @@ body-placed lines left carriage cycle kind good is ready is_kind printed =
     let fits : line_below lines left.line kind ≤ carriage.form.lines = omega (arith, sum, above, bottom, far, length) in
     let prints_it : prints carriage.printing cycle ≡ true =
     ap (λ p. prints p cycle) is.printing ∙ jacks-print lines cycle kind is_kind ∙ printed in
-    let there : carriage_behind carriage (asked_of lines kind) cycle
+    let there : carriage_after carriage (asked_of lines kind) cycle
     ≡ ended_at asking true (spot_at (page_of left) line (nat_le overflow line)) =
     ended-printing asking cycle kind is_kind prints_it
     ∙ ap (ended_at asking true)

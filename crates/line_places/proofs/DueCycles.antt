@@ -1,7 +1,7 @@
 -- Which cycle is due, as the cards' cycles go on.
 use Rattle.std.specs.Prelude.{Bool, true, false, not, ◌||◌, Option, Some, None, if◌then◌else◌}
 use Rattle.net.specs.declared.cycle.Cycle.{Cycle}
-use Rattle.net.specs.declared.cycle.Level.{Level}
+use Rattle.net.specs.declared.cycle.ProgramLevel.{ProgramLevel}
 use Rattle.net.specs.declared.cycle.Ordinal.TheVariants.{First, Second, Third}
 use Rattle.program_unit.specs.CycleOrder.{next_cycle, card_over}
 use Rattle.program_unit.specs.Program.{ProgramState}
@@ -13,7 +13,7 @@ use Rattle.program_unit.specs.declared.stage.Stage.TheVariants.{Fresh, RanIn, Ra
 abbrev pub due : ProgramState → (waits restore more : Bool) → Option Cycle
 due program waits restore more = if waits || not (card_over program more) then next_cycle program restore more else None
 
--- whether a stage lies between cards, before heading cycles: behind the run-in, a card cycle, or the third cycle of a level
+-- whether a stage lies between cards, before heading cycles: after the run-in, a card cycle, or the third cycle of a level
 abbrev pub is_between : Stage → Bool
 is_between Fresh = false
 is_between RanIn = true
@@ -24,7 +24,7 @@ is_between (RanProg level Third) = true
 is_between (BeforeCard heading) = false
 is_between (BeforeTotal level heading) = false
 
--- the stage behind the cycles of these levels: without a level, behind the card cycle
-abbrev pub stage_behind : Option Level → Stage
-stage_behind None = RanCard
-stage_behind (Some level) = RanProg level Third
+-- the stage after the cycles of these levels: without a level, after the card cycle
+abbrev pub stage_after : Option ProgramLevel → Stage
+stage_after None = RanCard
+stage_after (Some level) = RanProg level Third

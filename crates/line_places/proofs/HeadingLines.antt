@@ -2,7 +2,7 @@
 use Rattle.std.proofs.Common.{◌≡◌, ℕ, zero, suc, ◌+◌, ◌-◌, ◌^◌, ◌<◌, ◌≤◌, nat_lt, nat_le, max, Bool, true, false, List, [], ◌∷◌, ◌++◌, map, Option, None, refl, sym, ap, subst, ◌∙◌, arith, if◌then◌else◌}
 use Rattle.std.specs.List.{range_with_len}
 use Rattle.std.proofs.lemmas.Bool.Decides.{nat_tests}
-use Rattle.setups.specs.Tapes.{Form}
+use Rattle.setups.specs.Tapes.{CarriageTape}
 use Rattle.net.specs.declared.cycle.Cycle.TheVariants.{Head}
 use Rattle.net.specs.declared.cycle.Ordinal.TheVariants.{First, Second, Third}
 use Rattle.net.specs.declared.printing.Printing.{Printing}
@@ -16,14 +16,14 @@ use Rattle.charts.specs.declared.chart.Line.{Line}
 use Rattle.report.specs.BodyLines.{heading_line}
 use Rattle.report.specs.ChartForm.{form_of, heading_count}
 use Rattle.report.specs.Places.{Left, heading_on}
-use Rattle.line_places.specs.Placing.{IsCarriageOf, IsAt, IsReady}
-use Rattle.line_places.specs.CarriageCycles.{carriage_behind, carriage_behind_all, line_at, lines_placed, heading_cycles}
+use Rattle.line_places.specs.Placing.{IsCarriageOf, IsAt, AwaitsBody}
+use Rattle.line_places.specs.CarriageCycles.{carriage_after, carriage_after_all, line_at, lines_placed, heading_cycles}
 use Rattle.line_places.specs.FormFacts.{HasGoodForm}
 use Rattle.line_places.specs.Laws.{AreHeadingTexts, AreHeadingsPlaced}
 use Rattle.line_places.proofs.BodyLines.{spot_at, down-from_above}
 
 -- a carriage between cycles
-abbrev standing : Form → Printing → Spot → Option (ℕ × ℕ) → CarriageState
+abbrev standing : CarriageTape → Printing → Spot → Option (ℕ × ℕ) → CarriageState
 standing form printing spot printed = record { form = form; printing = printing; spot = spot; asked = nothing_asked; printed = printed }
 
 -- a page number below 2^32 is followed by the next
@@ -35,14 +35,14 @@ page-turned page below =
 -- the first heading cycle begins the page
 page-begun : (carriage : CarriageState) (page first : ℕ) (prints : Bool) → carriage.printing.first_heading ≡ prints
     → next_page carriage.spot.page ≡ page → carriage.form.first ≡ first
-    → carriage_behind carriage nothing_asked (Head First)
+    → carriage_after carriage nothing_asked (Head First)
     ≡ standing carriage.form carriage.printing (spot_at page first false) (carriages.placed prints (spot_at page first false))
 page-begun carriage page first prints printing is_page is_first =
     λ i. standing carriage.form carriage.printing (spot_at (is_page i) (is_first i) false)
     (carriages.placed (printing i) (spot_at (is_page i) (is_first i) false))
 
 -- a heading line that is printed is spaced by one
-heading-spaced : (form : Form) (page line next overflow : ℕ) (prints : Bool) → form.overflow ≡ overflow → overflow ≤ form.lines
+heading-spaced : (form : CarriageTape) (page line next overflow : ℕ) (prints : Bool) → form.overflow ≡ overflow → overflow ≤ form.lines
     → line < overflow → next < overflow → next ≡ (if prints then line + 1 else line)
     → spaced form prints 1 (spot_at page line false) ≡ spot_at page next false
 heading-spaced form page line next overflow false same fits above next_above is_next = ap (λ n. spot_at page n false) (sym is_next)
@@ -52,18 +52,18 @@ heading-spaced form page line next overflow true same fits above next_above is_n
     ∙ ap (spot_at page next) passed
 
 -- the second heading cycle
-second-begun : (form : Form) (printing : Printing) (page line next : ℕ) (prints : Bool) (printed : Option (ℕ × ℕ))
+second-begun : (form : CarriageTape) (printing : Printing) (page line next : ℕ) (prints : Bool) (printed : Option (ℕ × ℕ))
     → printing.second_heading ≡ prints → spaced form prints 1 (spot_at page line false) ≡ spot_at page next false
-    → carriage_behind (standing form printing (spot_at page line false) printed) nothing_asked (Head Second)
+    → carriage_after (standing form printing (spot_at page line false) printed) nothing_asked (Head Second)
     ≡ standing form printing (spot_at page next false) (carriages.placed prints (spot_at page next false))
 second-begun form printing page line next prints printed is_printing goes =
     let here : CarriageState = standing form printing (spot_at page line false) printed in
     ap (λ b. ended_at here b (spaced form b 1 (spot_at page line false))) is_printing ∙ ap (ended_at here prints) goes
 
 -- the third heading cycle
-third-begun : (form : Form) (printing : Printing) (page line next : ℕ) (prints : Bool) (printed : Option (ℕ × ℕ))
+third-begun : (form : CarriageTape) (printing : Printing) (page line next : ℕ) (prints : Bool) (printed : Option (ℕ × ℕ))
     → printing.third_heading ≡ prints → spaced form prints 1 (spot_at page line false) ≡ spot_at page next false
-    → carriage_behind (standing form printing (spot_at page line false) printed) nothing_asked (Head Third)
+    → carriage_after (standing form printing (spot_at page line false) printed) nothing_asked (Head Third)
     ≡ standing form printing (spot_at page next false) (carriages.placed prints (spot_at page next false))
 third-begun form printing page line next prints printed is_printing goes =
     let here : CarriageState = standing form printing (spot_at page line false) printed in
@@ -126,17 +126,17 @@ heads-placed lines page (suc (suc (suc (suc more)))) texts few are = absurd (ome
 abbrev place_on : List Line → ℕ → ℕ → ℕ → Option (ℕ × ℕ)
 place_on lines page number line = carriages.placed (nat_le number (heading_count lines)) (spot_at page line false)
 
--- The states behind the three heading cycles.
+-- The states after the three heading cycles.
 record AreBegun (lines : List Line) (page : ℕ) (carriage : CarriageState) : Type 0 where
-  one : carriage_behind carriage nothing_asked (Head First)
+  one : carriage_after carriage nothing_asked (Head First)
       ≡ standing carriage.form carriage.printing (spot_at page (form_of lines).first false)
       (place_on lines page 1 (form_of lines).first)
   two : (printed : Option (ℕ × ℕ))
-      → carriage_behind (standing carriage.form carriage.printing (spot_at page (form_of lines).first false) printed) nothing_asked (Head Second)
+      → carriage_after (standing carriage.form carriage.printing (spot_at page (form_of lines).first false) printed) nothing_asked (Head Second)
       ≡ standing carriage.form carriage.printing (spot_at page (second_line (heading_count lines) (form_of lines).first) false)
       (place_on lines page 2 (second_line (heading_count lines) (form_of lines).first))
   three : (printed : Option (ℕ × ℕ))
-      → carriage_behind (standing carriage.form carriage.printing (spot_at page (second_line (heading_count lines) (form_of lines).first) false) printed) nothing_asked (Head Third)
+      → carriage_after (standing carriage.form carriage.printing (spot_at page (second_line (heading_count lines) (form_of lines).first) false) printed) nothing_asked (Head Third)
       ≡ standing carriage.form carriage.printing (spot_at page (third_line (heading_count lines) (form_of lines).first) false)
       (place_on lines page 3 (third_line (heading_count lines) (form_of lines).first))
 
@@ -165,14 +165,14 @@ begun lines page carriage good is is_page =
           (heading-spaced carriage.form page (second_line count first) (third_line count first) overflow (nat_le 3 count) is.form.overflow fits second third refl);
     }
 
--- behind the three heading cycles the carriage stands at the last heading line, or at the first line
-behind-all : (lines : List Line) (page : ℕ) (carriage : CarriageState) (texts : ℕ → List ℕ) → AreBegun lines page carriage
-    → carriage_behind_all carriage (heading_cycles texts)
+-- after the three heading cycles the carriage stands at the last heading line, or at the first line
+after-all : (lines : List Line) (page : ℕ) (carriage : CarriageState) (texts : ℕ → List ℕ) → AreBegun lines page carriage
+    → carriage_after_all carriage (heading_cycles texts)
     ≡ standing carriage.form carriage.printing (spot_at page (third_line (heading_count lines) (form_of lines).first) false)
     (place_on lines page 3 (third_line (heading_count lines) (form_of lines).first))
-behind-all lines page carriage texts are =
-    ap (λ c. carriage_behind (carriage_behind c nothing_asked (Head Second)) nothing_asked (Head Third)) are.one
-    ∙ ap (λ c. carriage_behind c nothing_asked (Head Third)) (are.two (place_on lines page 1 (form_of lines).first))
+after-all lines page carriage texts are =
+    ap (λ c. carriage_after (carriage_after c nothing_asked (Head Second)) nothing_asked (Head Third)) are.one
+    ∙ ap (λ c. carriage_after c nothing_asked (Head Third)) (are.two (place_on lines page 1 (form_of lines).first))
     ∙ are.three (place_on lines page 2 (second_line (heading_count lines) (form_of lines).first))
 
 -- the lines that the heading cycles place, by where the carriage stands at the end of each
@@ -186,10 +186,10 @@ placed-all lines page carriage texts are =
     let first : Option (ℕ × ℕ) = place_on lines page 1 (form_of lines).first in
     let second : Option (ℕ × ℕ) =
     place_on lines page 2 (second_line (heading_count lines) (form_of lines).first) in
-    let behind_second : CarriageState → CarriageState = λ c. carriage_behind c nothing_asked (Head Second) in
-    let behind_third : CarriageState → CarriageState = λ c. carriage_behind c nothing_asked (Head Third) in
-    ap (λ c. line_at c.printed (texts 1) ++ (line_at (behind_second c).printed (texts 2) ++ (line_at (behind_third (behind_second c)).printed (texts 3) ++ []))) are.one
-    ∙ ap (λ c. line_at first (texts 1) ++ (line_at c.printed (texts 2) ++ (line_at (behind_third c).printed (texts 3) ++ []))) (are.two first)
+    let after_second : CarriageState → CarriageState = λ c. carriage_after c nothing_asked (Head Second) in
+    let after_third : CarriageState → CarriageState = λ c. carriage_after c nothing_asked (Head Third) in
+    ap (λ c. line_at c.printed (texts 1) ++ (line_at (after_second c).printed (texts 2) ++ (line_at (after_third (after_second c)).printed (texts 3) ++ []))) are.one
+    ∙ ap (λ c. line_at first (texts 1) ++ (line_at c.printed (texts 2) ++ (line_at (after_third c).printed (texts 3) ++ []))) (are.two first)
     ∙ ap (λ c. line_at first (texts 1) ++ (line_at second (texts 2) ++ (line_at c.printed (texts 3) ++ []))) (are.three second)
 
 -- where the next line starts a page, the heading cycles place that page's heading lines
@@ -199,20 +199,20 @@ pub headings-placed : (lines : List Line) (left : Left) (carriage : CarriageStat
 headings-placed lines left carriage texts good is at starts below are_texts =
     let are = begun lines (left.page + 1) carriage good is (ap next_page at.page ∙ page-turned left.page below) in
     let leaves : left ≡ record { page = left.page; line = None } = λ i. record { page = left.page; line = starts i } in
-    let behind = behind-all lines (left.page + 1) carriage texts are in
+    let after = after-all lines (left.page + 1) carriage texts are in
     let top = third-line (heading_count lines) (form_of lines).first good.room.few_headings in
-    let P : CarriageState → Type 0 = λ c. IsReady lines (record { page = left.page; line = None }) c.spot in
+    let P : CarriageState → Type 0 = λ c. AwaitsBody lines (record { page = left.page; line = None }) c.spot in
     let Q : Left → Type 0 = λ l. AreHeadingsPlaced lines l carriage texts in
     subst Q (sym leaves)
     (record {
       heads = placed-all lines (left.page + 1) carriage texts are
           ∙ heads-placed lines (left.page + 1) (heading_count lines) texts good.room.few_headings are_texts;
-      ready = subst P (sym behind)
+      ready = subst P (sym after)
           (record {
             page = refl;
             line = top;
             above = subst (λ n. n < (form_of lines).overflow) (sym top) good.room.top;
             latch = refl;
           });
-      keeps = subst (IsCarriageOf lines) (sym behind) (record { form = is.form; printing = is.printing });
+      keeps = subst (IsCarriageOf lines) (sym after) (record { form = is.form; printing = is.printing });
     })

@@ -2,7 +2,7 @@
 use Rattle.std.proofs.Common.{◌≡◌, ℕ, ◌<◌, ◌≤◌, ◌==◌, true, false, List, Contains, Option, Some, None, refl, sym, subst, ◌∙◌, arith}
 use Rattle.std.proofs.lemmas.Bool.Decides.{nat_tests}
 use Rattle.std.proofs.lemmas.Bool.{false_from_ne_true}
-use Rattle.setups.specs.Tapes.{Form, has_stop}
+use Rattle.setups.specs.Tapes.{CarriageTape, has_stop}
 use Rattle.carriage.specs.Moves as moves
 use Rattle.carriage.proofs.StopSteps.{next_stop-tells, next_stop-none_tells}
 use Rattle.charts.specs.declared.chart.Line.{Line}
@@ -14,7 +14,7 @@ use Rattle.line_places.specs.Placing.{IsFormOf}
 use Rattle.line_places.specs.FormFacts.{HasGoodStops}
 
 -- the stops of channels 2 to 11 are the punched ones
-is-punched : (form : Form) (channel line : ℕ) → 2 ≤ channel → channel ≤ 11
+is-punched : (form : CarriageTape) (channel line : ℕ) → 2 ≤ channel → channel ≤ 11
     → moves.is_stop_of form channel line ≡ has_stop form channel line
 is-punched form channel line from to =
     let first : (channel == 1) ≡ false = grind (arith, nat_tests, from) in
@@ -27,7 +27,7 @@ next_of : (lines : List Line) (channel line stop : ℕ) → HasGoodStops lines �
 next_of lines channel line stop good is = found 0 line (stops_of lines channel) stop (good.rise channel) is
 
 -- the next stop of the carriage's tape is that of the chart
-pub next_stop-of_chart : (lines : List Line) (form : Form) (channel line : ℕ) → IsFormOf lines form → HasGoodStops lines
+pub next_stop-of_chart : (lines : List Line) (form : CarriageTape) (channel line : ℕ) → IsFormOf lines form → HasGoodStops lines
     → 2 ≤ channel → channel ≤ 11 → moves.next_stop form channel line ≡ next_stop lines channel line
 next_stop-of_chart lines form channel line is_form good from to = by (next_stop lines channel line) refl
   where

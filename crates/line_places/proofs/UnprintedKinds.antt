@@ -28,7 +28,7 @@ use Rattle.charts.proofs.Listed.{any-passing}
 use Rattle.chart_rules.proofs.Laws.{kept-line, lacks-lawful}
 use Rattle.report.specs.ChartForm.{is_print_detail, prints_details, is_total_item, prints_totals, kind_number, spacing_of, spacing_from, after_of, after_from}
 use Rattle.line_places.specs.Placing.{prints_kind, channel_of, turns_page, kind_of, asked_of, IsCarriageOf}
-use Rattle.line_places.specs.CarriageCycles.{carriage_behind, begins_page}
+use Rattle.line_places.specs.CarriageCycles.{carriage_after, begins_page}
 use Rattle.line_places.proofs.BodyLines.{jacks-print}
 use Rattle.line_places.proofs.Placements.{quiet-stays}
 use Rattle.report.proofs.LawfulForms.{spacing-range}
@@ -137,9 +137,9 @@ begins-none (Head heading) kind is = cc
 -- the cycle of a kind that isn't printed leaves the carriage where it stands
 pub unprinted-stays : (chart : Chart) (carriage : CarriageState) (cycle : Cycle) (kind : ℕ)
     → IsLawful chart → IsCarriageOf chart.lines carriage → kind_of cycle ≡ Some kind → prints_kind chart.lines kind ≡ false
-    → carriage_behind carriage (asked_of chart.lines kind) cycle ≡ record carriage { asked = nothing_asked; printed = None }
+    → carriage_after carriage (asked_of chart.lines kind) cycle ≡ record carriage { asked = nothing_asked; printed = None }
 unprinted-stays chart carriage cycle kind lawful is is_kind unprinted =
     let quiet : prints carriage.printing cycle ≡ false =
     ap (λ p. prints p cycle) is.printing ∙ jacks-print chart.lines cycle kind is_kind ∙ unprinted in
-    ap (λ a. carriage_behind carriage a cycle) (unprinted-silent chart kind lawful unprinted)
+    ap (λ a. carriage_after carriage a cycle) (unprinted-silent chart kind lawful unprinted)
     ∙ quiet-stays carriage cycle quiet (begins-none cycle kind is_kind)

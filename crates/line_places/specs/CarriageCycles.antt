@@ -17,21 +17,21 @@ pub record CarriageCycle : Type 0 where
   pub asked : Asked
   pub text : List ℕ
 
--- the carriage behind a cycle in which it was asked for something
-abbrev pub carriage_behind : CarriageState → Asked → Cycle → CarriageState
-carriage_behind carriage asked cycle = carriage_ended (record carriage { asked = asked }) cycle
+-- the carriage after a cycle in which it was asked for something
+abbrev pub carriage_after : CarriageState → Asked → Cycle → CarriageState
+carriage_after carriage asked cycle = carriage_ended (record carriage { asked = asked }) cycle
 
--- the carriage behind some cycles
-abbrev pub carriage_behind_all : CarriageState → List CarriageCycle → CarriageState
-carriage_behind_all carriage [] = carriage
-carriage_behind_all carriage (each ∷ others) = carriage_behind_all (carriage_behind carriage each.asked each.cycle) others
+-- the carriage after some cycles
+abbrev pub carriage_after_all : CarriageState → List CarriageCycle → CarriageState
+carriage_after_all carriage [] = carriage
+carriage_after_all carriage (each ∷ others) = carriage_after_all (carriage_after carriage each.asked each.cycle) others
 
 -- the lines that some cycles place
 abbrev pub lines_placed : CarriageState → List CarriageCycle → List PlacedLine
 lines_placed carriage [] = []
 lines_placed carriage (each ∷ others) =
-    line_at (carriage_behind carriage each.asked each.cycle).printed each.text
-    ++ lines_placed (carriage_behind carriage each.asked each.cycle) others
+    line_at (carriage_after carriage each.asked each.cycle).printed each.text
+    ++ lines_placed (carriage_after carriage each.asked each.cycle) others
 
 -- the three heading cycles, in which nothing is asked for, and on the wheels the texts with their numbers
 abbrev pub heading_cycles : (ℕ → List ℕ) → List CarriageCycle

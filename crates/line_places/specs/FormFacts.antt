@@ -6,7 +6,7 @@ use Rattle.charts.specs.declared.statement.After.TheVariants as action
 use Rattle.report.specs.ChartForm.{form_of, heading_count, spacing_of, after_of, stops_of}
 use Rattle.report.specs.Places.{top_line}
 
--- A page has room for the heading lines above the overflow line, and for a line of any spacing behind one that stands above it.
+-- A page has room for the heading lines above the overflow line, and for a line of any spacing after one that stands above it.
 pub record HasRoom (lines : List Line) : Type 0 where
   pub first : 1 ≤ (form_of lines).first
   pub top : top_line lines < (form_of lines).overflow

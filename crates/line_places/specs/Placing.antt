@@ -18,7 +18,7 @@ use Rattle.report.specs.ChartForm.{form_of, heading_count, prints_details, print
 use Rattle.report.specs.Places.{Left, page_of, top_line}
 
 -- A carriage tape is that of a chart: its lines are those of the chart's form, and channels 2 to 11 have the chart's stops.
-pub record IsFormOf (lines : List Line) (form : tapes.Form) : Type 0 where
+pub record IsFormOf (lines : List Line) (form : tapes.CarriageTape) : Type 0 where
   pub length : form.lines ≡ (form_of lines).lines
   pub first : form.first ≡ (form_of lines).first
   pub overflow : form.overflow ≡ (form_of lines).overflow
@@ -95,7 +95,7 @@ line_above lines (Some line) = line
 
 -- The carriage stands as the next body line finds it: on that line's page, on the line from which it is spaced, above the overflow
 -- line, with the latch reset.
-pub record IsReady (lines : List Line) (left : Left) (spot : Spot) : Type 0 where
+pub record AwaitsBody (lines : List Line) (left : Left) (spot : Spot) : Type 0 where
   pub page : spot.page ≡ page_of left
   pub line : spot.line ≡ line_above lines left.line
   pub above : spot.line < (form_of lines).overflow

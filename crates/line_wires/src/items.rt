@@ -27,7 +27,7 @@ fn mark_shown(shown: DetailOption) -> Option<Mark>
     }
 }
 
-/// The wheel behind the units of an amount, where its mark begins.
+/// The wheel after the units of an amount, where its mark begins.
 pub fn mark_wheel(wheel: u16, digits: u16, decimals: u16) -> u16
     requires { figures.mark_wheel wheel digits decimals ≤ 121 }
     ensures { result ≡ figures.mark_wheel wheel digits decimals }
@@ -98,10 +98,10 @@ fn wire_detail_amount(
     let kind = field.kind;
     let digits = field.last + 1 - field.first;
     let (decimals, rule) = (kind.decimals(), rule_of(kind));
-    let behind = mark_wheel(wheel, digits, decimals);
+    let after = mark_wheel(wheel, digits, decimals);
     wire_digits(setup, plan, line, wheel, field)?;
     wire_point(setup, 4, wheel, digits, decimals)?;
-    wire_detail_marks(setup, plan, name, behind, rule, mark)?;
+    wire_detail_marks(setup, plan, name, after, rule, mark)?;
     Ok(())
 }
 

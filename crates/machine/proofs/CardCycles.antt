@@ -3,9 +3,9 @@ use Rattle.std.proofs.Common.{◌≡◌, Bool, true, false, not, ◌&&◌, Optio
 use Rattle.net.specs.Printing.{prints}
 use Rattle.net.specs.declared.cycle.Cycle.{Cycle}
 use Rattle.net.specs.declared.cycle.Cycle.TheVariants.{Card, Prog, Head}
-use Rattle.net.specs.declared.cycle.Level.{Level}
+use Rattle.net.specs.declared.cycle.ProgramLevel.{ProgramLevel}
 use Rattle.net.specs.declared.cycle.Ordinal.TheVariants.{First, Second, Third}
-use Rattle.program_unit.specs.CycleOrder.{cycle_behind, behind, has_level_left, headed, is_over_at, level_above}
+use Rattle.program_unit.specs.CycleOrder.{cycle_after, after, has_level_left, headed, is_over_at, level_above}
 use Rattle.program_unit.specs.Program.{ProgramState, stage_ended}
 use Rattle.program_unit.specs.declared.stage.Stage.{Stage}
 use Rattle.program_unit.specs.declared.stage.Stage.TheVariants.{Fresh, RanIn, RanCard, RanProg, BeforeCard, BeforeTotal}
@@ -29,9 +29,9 @@ pub record GoesWithout (program : ProgramState) (stage : Stage) (cycle : Cycle) 
 same_some : (one other : Cycle) → ◌≡◌ {A = Option Cycle} (Some one) (Some other) → one ≡ other
 same_some one other same = cc
 
-level-without : (program : ProgramState) (stage : Stage) (done : Option Level) (restore : Bool) (cycle : Cycle)
+level-without : (program : ProgramState) (stage : Stage) (done : Option ProgramLevel) (restore : Bool) (cycle : Cycle)
     → is_over_at program stage false ≡ not (has_level_left program done false)
-    → behind program done restore false ≡ Some cycle → GoesWithout program stage cycle
+    → after program done restore false ≡ Some cycle → GoesWithout program stage cycle
 level-without program stage done restore cycle over = by (has_level_left program done false) over
   where
     by : (left : Bool) → is_over_at program stage false ≡ not left
@@ -41,7 +41,7 @@ level-without program stage done restore cycle over = by (has_level_left program
         (record { other = refl; going = is; still = refl })
     by false is due = cc
 
-total-without : (program : ProgramState) (level : Level) (restore : Bool) (cycle : Cycle)
+total-without : (program : ProgramState) (level : ProgramLevel) (restore : Bool) (cycle : Cycle)
     → headed program.printing restore (Prog level Third) ≡ cycle → GoesWithout program (RanProg level Second) cycle
 total-without program level restore cycle = by (prints program.printing (Prog level Third) && restore)
   where
@@ -54,7 +54,7 @@ total-without program level restore cycle = by (prints program.printing (Prog le
 
 -- where no card stands at first reading and none is awaited, no card cycle follows, nor will one be awaited
 pub without-card : (program : ProgramState) (stage : Stage) (restore : Bool) (cycle : Cycle)
-    → awaits_card stage ≡ false → cycle_behind program stage restore false ≡ Some cycle → GoesWithout program stage cycle
+    → awaits_card stage ≡ false → cycle_after program stage restore false ≡ Some cycle → GoesWithout program stage cycle
 without-card program Fresh restore cycle awaits due = cc
 without-card program RanIn restore cycle awaits due = cc
 without-card program RanCard restore cycle awaits due = level-without program RanCard None restore cycle refl due
@@ -76,8 +76,8 @@ without-card program (BeforeTotal level Third) restore cycle awaits due =
     subst (λ (c : Cycle). GoesWithout program (BeforeTotal level Third) c) (same_some (Prog level Third) cycle due)
     (record { other = refl; going = refl; still = refl })
 
-level-over : (program : ProgramState) (done : Option Level) (restore more : Bool)
-    → behind program done restore more ≡ Some Card → not (has_level_left program done more) ≡ true
+level-over : (program : ProgramState) (done : Option ProgramLevel) (restore more : Bool)
+    → after program done restore more ≡ Some Card → not (has_level_left program done more) ≡ true
 level-over program done restore more = by (has_level_left program done more)
   where
     by : (left : Bool)
@@ -89,7 +89,7 @@ level-over program done restore more = by (has_level_left program done more)
     by true due = cc
     by false due = refl
 
-no-total : (program : ProgramState) (level : Level) (restore : Bool)
+no-total : (program : ProgramState) (level : ProgramLevel) (restore : Bool)
     → ◌≡◌ {A = Option Cycle} (Some (headed program.printing restore (Prog level Third))) (Some Card) → ⊥
 no-total program level restore = by (prints program.printing (Prog level Third) && restore)
   where
@@ -99,7 +99,7 @@ no-total program level restore = by (prints program.printing (Prog level Third) 
 
 -- where a card cycle follows, the cycles of the card before are over
 pub card-over : (program : ProgramState) (stage : Stage) (restore more : Bool)
-    → cycle_behind program stage restore more ≡ Some Card → is_over_at program stage more ≡ true
+    → cycle_after program stage restore more ≡ Some Card → is_over_at program stage more ≡ true
 card-over program Fresh restore true due = cc
 card-over program Fresh restore false due = cc
 card-over program RanIn restore more due = refl
@@ -112,7 +112,7 @@ card-over program (BeforeTotal level First) restore more due = cc
 card-over program (BeforeTotal level Second) restore more due = cc
 card-over program (BeforeTotal level Third) restore more due = cc
 
-level-with : (program : ProgramState) (done : Option Level) (restore : Bool) → behind program done restore true ≡ None → ⊥
+level-with : (program : ProgramState) (done : Option ProgramLevel) (restore : Bool) → after program done restore true ≡ None → ⊥
 level-with program done restore = by (has_level_left program done true)
   where
     by : (left : Bool)
@@ -121,7 +121,7 @@ level-with program done restore = by (has_level_left program done true)
     by false due = cc
 
 -- where a card stands at first reading, some cycle follows
-pub with-card : (program : ProgramState) (stage : Stage) (restore : Bool) → cycle_behind program stage restore true ≡ None → ⊥
+pub with-card : (program : ProgramState) (stage : Stage) (restore : Bool) → cycle_after program stage restore true ≡ None → ⊥
 with-card program Fresh restore due = cc
 with-card program RanIn restore due = cc
 with-card program RanCard restore due = level-with program None restore due

@@ -14,7 +14,7 @@ use Rattle.hubs.specs.declared.hub.Group.{Group}
 use Rattle.hubs.specs.declared.hub.Hub.{Hub}
 use Rattle.hubs.specs.declared.hub.Hub.TheVariants.{BAN, BAT, CO, PIN, PIT, CSD, CSZ}
 use Rattle.net.specs.Cycles.{is_closing}
-use Rattle.net.specs.Panel.{unit_of, unit_behind}
+use Rattle.net.specs.Panel.{unit_of, unit_after}
 use Rattle.net.specs.declared.cycle.Cycle.{Cycle}
 use Rattle.net.specs.HubSets.{GainsHubs, has_hub}
 use Rattle.net.specs.declared.cycle.Point.{Point}
@@ -26,7 +26,7 @@ use Rattle.selectors.specs.Splits.{is_digit_row, split_closes}
 use Rattle.storage_units.specs.Storage.{storage_sensed}
 use Rattle.machine.specs.Fields.{AreInUnitOrder}
 use Rattle.machine.specs.Machine.{MachineState, closes, sensed, group_units}
-use Rattle.machine.specs.Steady.{latches_of, nines_of, closed_at, AreSteady}
+use Rattle.machine.specs.Steady.{balance_latches, nines_of, closed_at, AreSteady}
 use Rattle.machine.specs.declared.closed.Closed.{Closed}
 
 -- the numbers count up from k
@@ -108,7 +108,7 @@ up_to-last : (last n p : ℕ) → up_to last n ≡ Some p → (1 ≤ p) × (p �
 up_to-last last n p is = (grind (arith, nat_tests), grind (arith, nat_tests))
 
 unit_of-place : (width number : Option ℕ) → ((p : ℕ) → width ≡ Some p → (1 ≤ p) × (p ≤ 4))
-    → ((p : ℕ) → number ≡ Some p → (1 ≤ p) × (p ≤ 8)) → unit_behind 2 (part_place 8 width number) < 35
+    → ((p : ℕ) → number ≡ Some p → (1 ≤ p) × (p ≤ 8)) → unit_after 2 (part_place 8 width number) < 35
 unit_of-place None number first second = omega arith
 unit_of-place (Some w) None first second = omega arith
 unit_of-place (Some w) (Some n) first second =
@@ -167,7 +167,7 @@ any-and false test xs = none-of xs
 -- the contacts of the groups: those of their balance positions, and those of their carries
 groups-close : (groups : List Counter) (cycle : Cycle) (point : Point) (hub : Hub) → AreInUnitOrder groups
     → list_any (λ group. counter_closes group cycle point hub) groups
-    ≡ (carry_closes point (nines_of groups) hub || balance_closes (latches_of groups) hub)
+    ≡ (carry_closes point (nines_of groups) hub || balance_closes (balance_latches groups) hub)
 groups-close groups cycle point (BAN group position) ordered =
     told-of (λ g. g.latch) groups group (is_within position 4) not ordered
 groups-close groups cycle point (BAT group position) ordered =
@@ -191,10 +191,10 @@ joined false false false false false = refl
 -- all closed contacts
 pub closes-joined : (machine : MachineState) (cycle : Cycle) (point : Point) (hub : Hub) → AreInUnitOrder machine.groups
     → closes machine cycle point hub
-    ≡ closed_contacts cycle point machine.pilots machine.indicate (latches_of machine.groups) (nines_of machine.groups) hub
+    ≡ closed_contacts cycle point machine.pilots machine.indicate (balance_latches machine.groups) (nines_of machine.groups) hub
 closes-joined machine cycle point hub ordered =
     rw (groups-close machine.groups cycle point hub ordered, none-of machine.storage)
-    (joined (carry_closes point (nines_of machine.groups) hub) (balance_closes (latches_of machine.groups) hub)
+    (joined (carry_closes point (nines_of machine.groups) hub) (balance_closes (balance_latches machine.groups) hub)
     (pilots_closes machine.pilots cycle point hub) (indicate_closes machine.indicate cycle point hub) (split_closes point hub))
 
 split_last : (a b c d : Bool) → ((a || (b || c)) || d) ≡ (a || (b || (c || d)))
@@ -219,7 +219,7 @@ or-none false = refl
 
 -- the contacts that are closed once for a cycle
 pub steady-closed : (cycle : Cycle) (closed : Closed) (machine : MachineState) (latches : List Bool)
-    → AreInUnitOrder machine.groups → latches ≡ latches_of machine.groups
+    → AreInUnitOrder machine.groups → latches ≡ balance_latches machine.groups
     → ((point : Point) (hub : Hub) → has_hub closed.steady hub ≡ steady_closes cycle point machine.pilots machine.indicate latches hub)
     → GainsHubs (split_closes (Row rows.Nine)) closed.steady closed.digits
     → GainsHubs (split_closes (Row rows.Twelve)) closed.steady closed.zones
@@ -251,7 +251,7 @@ pub closes-all : (cycle : Cycle) (closed : Closed) (machine : MachineState) (poi
     → (has_hub (closed_at closed point) hub || carry_closes point (nines_of machine.groups) hub) ≡ closes machine cycle point hub
 closes-all cycle closed machine point hub ordered steady =
     ap (λ (b : Bool). b || carry_closes point (nines_of machine.groups) hub) (steady point hub)
-    ∙ steady-first (carry_closes point (nines_of machine.groups) hub) (balance_closes (latches_of machine.groups) hub)
+    ∙ steady-first (carry_closes point (nines_of machine.groups) hub) (balance_closes (balance_latches machine.groups) hub)
     (pilots_closes machine.pilots cycle point hub) (indicate_closes machine.indicate cycle point hub) (split_closes point hub)
     ∙ sym (closes-joined machine cycle point hub ordered)
 
@@ -290,10 +290,10 @@ latch-steady group cycle (Row row) picture = refl
 latch-steady group cycle K picture = refl
 
 latches-steady : (groups : List Counter) (cycle : Cycle) (at : Point) (picture : Hub → Bool)
-    → latches_of (map (λ group. counter_sensed group cycle at picture) groups) ≡ latches_of groups
+    → balance_latches (map (λ group. counter_sensed group cycle at picture) groups) ≡ balance_latches groups
 latches-steady [] cycle at picture = refl
 latches-steady (group ∷ groups) cycle at picture =
-    ap (λ b. b ∷ latches_of (map (λ g. counter_sensed g cycle at picture) groups)) (latch-steady group cycle at picture)
+    ap (λ b. b ∷ balance_latches (map (λ g. counter_sensed g cycle at picture) groups)) (latch-steady group cycle at picture)
     ∙ ap (λ bs. group.latch ∷ bs) (latches-steady groups cycle at picture)
 
 pilots-steady : (pilots : PilotStates) (cycle : Cycle) (at point : Point) (picture : Hub → Bool) (hub : Hub)
@@ -329,6 +329,6 @@ AreSteady-sensed cycle closed machine at picture steady point hub =
     ∙ ap (λ (ls : List Bool). (balance_closes ls hub
     || (pilots_closes machine.pilots cycle point hub || indicate_closes machine.indicate cycle point hub)) || split_closes point hub)
     (sym (latches-steady machine.groups cycle at picture))
-    ∙ ap (λ (b : Bool). (balance_closes (latches_of (sensed machine cycle at picture).groups) hub
+    ∙ ap (λ (b : Bool). (balance_closes (balance_latches (sensed machine cycle at picture).groups) hub
     || (b || indicate_closes machine.indicate cycle point hub)) || split_closes point hub)
     (sym (pilots-steady machine.pilots cycle at point picture hub))

@@ -9,7 +9,7 @@ use Rattle.machine.specs.Machine.{MachineState, machine_at_start}
 use Rattle.machine.specs.Runs.{MachineLines}
 use Rattle.machine.proofs.FeedsInRuns.{feeds-in-run}
 
--- Whatever run over the cards that are left follows, it is the rest of a run over the deck behind the lines so far.
+-- Whatever run over the cards that are left follows, it is the rest of a run over the deck after the lines so far.
 pub record Ran (wiring : Wiring) (cards : List (List ℕ)) (left : List (List ℕ)) (now : MachineState) (lines : List PlacedLine) :
     Type 0 where
   pub whole :
@@ -28,10 +28,10 @@ LinesFrom-more wiring old card cards new first others feed run = (new, first, ot
 
 -- one card more
 pub Ran-more : (wiring : Wiring) (net : NetRows) (cards : List (List ℕ)) (card : List ℕ) (left : List (List ℕ))
-    (old new : MachineState) (before behind : List PlacedLine)
-    → IsNetOf wiring net → Ran wiring cards (card ∷ left) old before → GainsFeed net old (Some card) new before behind
-    → Ran wiring cards left new behind
-Ran-more wiring net cards card left old new before behind is_net ran gains = record {
+    (old new : MachineState) (before after : List PlacedLine)
+    → IsNetOf wiring net → Ran wiring cards (card ∷ left) old before → GainsFeed net old (Some card) new before after
+    → Ran wiring cards left new after
+Ran-more wiring net cards card left old new before after is_net ran gains = record {
   whole = λ others run.
       subst (λ (all : List PlacedLine). LinesFrom wiring (machine_at_start wiring) cards all)
       (sym (append_assoc before gains.lines others) ∙ ap (λ (l : List PlacedLine). l ++ others) (sym gains.gained))
@@ -44,11 +44,11 @@ LinesFrom-none : (wiring : Wiring) (old new : MachineState) (lines : List Placed
 unfolding LinesFrom
 LinesFrom-none wiring old new lines feed = (new, feed)
 
--- behind the last card the end is fed, and the lines are those of the run
-pub Ran-all : (wiring : Wiring) (net : NetRows) (cards : List (List ℕ)) (old new : MachineState) (before behind : List PlacedLine)
-    → IsNetOf wiring net → Ran wiring cards [] old before → GainsFeed net old None new before behind
-    → MachineLines wiring cards behind
-Ran-all wiring net cards old new before behind is_net ran gains =
-    feeds-in-run wiring cards behind
+-- after the last card the end is fed, and the lines are those of the run
+pub Ran-all : (wiring : Wiring) (net : NetRows) (cards : List (List ℕ)) (old new : MachineState) (before after : List PlacedLine)
+    → IsNetOf wiring net → Ran wiring cards [] old before → GainsFeed net old None new before after
+    → MachineLines wiring cards after
+Ran-all wiring net cards old new before after is_net ran gains =
+    feeds-in-run wiring cards after
     (subst (λ (all : List PlacedLine). LinesFrom wiring (machine_at_start wiring) cards all) (sym gains.gained)
     (ran.whole gains.lines (LinesFrom-none wiring old new gains.lines (gains.feeds wiring is_net))))

@@ -9,7 +9,7 @@ none-three : (a : Bool) → (a || false || false || false) ≡ a
 none-three true = refl
 none-three false = refl
 
--- the units that emit, one behind another, with those that emit nothing between them
+-- the units that emit, one after another, with those that emit nothing between them
 pub all-emit : (before stations comparing groups storage emitters program : Bool)
     → (before || stations || comparing || groups || storage || emitters || program)
     ≡ (before

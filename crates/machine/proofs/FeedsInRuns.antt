@@ -5,7 +5,7 @@ use Rattle.placed_lines.specs.declared.placed_line.PlacedLine.{PlacedLine}
 use Rattle.setups.specs.Wiring.{Wiring}
 use Rattle.net.specs.declared.cycle.Cycle.{Cycle}
 use Rattle.net.specs.declared.cycle.Cycle.TheVariants.{RunIn, Card, Prog, Head}
-use Rattle.program_unit.specs.CycleOrder.{card_over, cycle_behind, is_fresh, is_over_at}
+use Rattle.program_unit.specs.CycleOrder.{card_over, cycle_after, is_fresh, is_over_at}
 use Rattle.program_unit.specs.Program.{ProgramState}
 use Rattle.program_unit.specs.declared.stage.Stage.{Stage}
 use Rattle.program_unit.specs.declared.stage.Stage.TheVariants.{Fresh, RanIn, RanCard, RanProg, BeforeCard, BeforeTotal}
@@ -19,31 +19,31 @@ use Rattle.machine.proofs.FeedSteps.{due_in-going}
 use Rattle.machine.proofs.FewCycles.{IsSupplied, goes-without, other-supplied}
 use Rattle.machine.proofs.Keeps.{CycleRun-ends}
 
--- what is fed lies before the cards behind it as long as it waits
+-- what is fed lies before the cards after it as long as it waits
 abbrev waiting : Bool → Option (List ℕ) → List (List ℕ) → List (List ℕ)
-waiting true None behind = behind
-waiting true (Some card) behind = card ∷ behind
-waiting false next behind = behind
+waiting true None waiting_cards = waiting_cards
+waiting true (Some card) waiting_cards = card ∷ waiting_cards
+waiting false next waiting_cards = waiting_cards
 
 -- a machine in a feed as one in a run, with the cards that are fed later
 abbrev as_run : Fed → List (List ℕ) → InRun
-as_run fed behind = record { machine = fed.machine; hopper = waiting fed.waits fed.next behind }
+as_run fed waiting_cards = record { machine = fed.machine; hopper = waiting fed.waits fed.next waiting_cards }
 
 -- a card cycle takes what waits
-card-taken : (machine : MachineState) (next : Option (List ℕ)) (behind : List (List ℕ)) → (next ≡ None → behind ≡ [])
-    → cards_moved machine (waiting true next behind) ≡ record { machine = moved_on next machine; hopper = behind }
-card-taken machine (Some card) behind none = refl
+card-taken : (machine : MachineState) (next : Option (List ℕ)) (waiting_cards : List (List ℕ)) → (next ≡ None → waiting_cards ≡ [])
+    → cards_moved machine (waiting true next waiting_cards) ≡ record { machine = moved_on next machine; hopper = waiting_cards }
+card-taken machine (Some card) waiting_cards none = refl
 card-taken machine None [] none = refl
-card-taken machine None (card ∷ behind) none = let e = none refl in cc
+card-taken machine None (card ∷ waiting_cards) none = let e = none refl in cc
 
-ready-taken : (cycle : Cycle) (fed : Fed) (behind : List (List ℕ)) → (fed.next ≡ None → behind ≡ [])
-    → (cycle ≡ Card → fed.waits ≡ true) → made_ready cycle (as_run fed behind) ≡ as_run (taken cycle fed) behind
-ready-taken RunIn fed behind none waits = refl
-ready-taken Card fed behind none waits =
-    ap (λ (w : Bool). cards_moved fed.machine (waiting w fed.next behind)) (waits refl)
-    ∙ card-taken fed.machine fed.next behind none
-ready-taken (Prog level ordinal) fed behind none waits = refl
-ready-taken (Head heading) fed behind none waits = refl
+ready-taken : (cycle : Cycle) (fed : Fed) (waiting_cards : List (List ℕ)) → (fed.next ≡ None → waiting_cards ≡ [])
+    → (cycle ≡ Card → fed.waits ≡ true) → made_ready cycle (as_run fed waiting_cards) ≡ as_run (taken cycle fed) waiting_cards
+ready-taken RunIn fed waiting_cards none waits = refl
+ready-taken Card fed waiting_cards none waits =
+    ap (λ (w : Bool). cards_moved fed.machine (waiting w fed.next waiting_cards)) (waits refl)
+    ∙ card-taken fed.machine fed.next waiting_cards none
+ready-taken (Prog level ordinal) fed waiting_cards none waits = refl
+ready-taken (Head heading) fed waiting_cards none waits = refl
 
 taken-next : (cycle : Cycle) (fed : Fed) → (taken cycle fed).next ≡ fed.next
 taken-next RunIn fed = refl
@@ -67,25 +67,25 @@ card-waits fed cycle due is =
 -- Cycles of a feed are cycles of a run, and what follows the feed follows them. Inside is what holds all through the feed.
 module _ (wiring : Wiring) (Inside : Fed → Type 0)
     (stays : (cycle : Cycle) (old new : Fed) → FeedStep wiring cycle old new → Inside old → Inside new)
-    (behind : List (List ℕ)) (last : (fed : Fed) → Inside fed → fed.next ≡ None → behind ≡ [])
+    (waiting_cards : List (List ℕ)) (last : (fed : Fed) → Inside fed → fed.next ≡ None → waiting_cards ≡ [])
     (left : MachineState) (others : List PlacedLine)
     (ends : (end : Fed) → Inside end → due_in end ≡ None → end.machine ≡ left
-    → (rest : List Cycle) × RunsBy (CycleRun wiring) rest (as_run end behind) others)
+    → (rest : List Cycle) × RunsBy (CycleRun wiring) rest (as_run end waiting_cards) others)
   where
     feed-in-run : (cycles : List Cycle) (fed : Fed) (lines : List PlacedLine) → Inside fed → FeedRuns wiring cycles fed left lines
-        → (all : List Cycle) × RunsBy (CycleRun wiring) all (as_run fed behind) (lines ++ others)
+        → (all : List Cycle) × RunsBy (CycleRun wiring) all (as_run fed waiting_cards) (lines ++ others)
     unfolding FeedRuns RunsBy
     feed-in-run [] fed lines inside (due, is_left, none) =
         let rest = ends fed inside due (sym is_left) in (
           rest.0,
-          subst (λ (l : List PlacedLine). RunsBy (CycleRun wiring) rest.0 (as_run fed behind) (l ++ others)) (sym none) rest.1,
+          subst (λ (l : List PlacedLine). RunsBy (CycleRun wiring) rest.0 (as_run fed waiting_cards) (l ++ others)) (sym none) rest.1,
         )
     feed-in-run (cycle ∷ cycles) fed lines inside (mid, more, step, run, is) =
-        let ready = ready-taken cycle fed behind (last fed inside) (card-waits fed cycle step.due) in
+        let ready = ready-taken cycle fed waiting_cards (last fed inside) (card-waits fed cycle step.due) in
         let after = feed-in-run cycles mid more (stays cycle fed mid step inside) run in
-        let hopper : waiting mid.waits mid.next behind ≡ (made_ready cycle (as_run fed behind)).hopper =
-        ap (λ (w : Bool). waiting w mid.next behind) step.waits
-        ∙ ap (λ (n : Option (List ℕ)). waiting (taken cycle fed).waits n behind) (step.next ∙ sym (taken-next cycle fed))
+        let hopper : waiting mid.waits mid.next waiting_cards ≡ (made_ready cycle (as_run fed waiting_cards)).hopper =
+        ap (λ (w : Bool). waiting w mid.next waiting_cards) step.waits
+        ∙ ap (λ (n : Option (List ℕ)). waiting (taken cycle fed).waits n waiting_cards) (step.next ∙ sym (taken-next cycle fed))
         ∙ ap (λ (r : InRun). r.hopper) (sym ready) in (
           cycle ∷ after.0,
           (
@@ -148,7 +148,7 @@ card-ends card fed has = by (fed.waits || not (is_over fed.machine)) refl
     by true is due =
         absurd
         (with-card fed.machine.program fed.machine.program.stage fed.machine.carriage.spot.latch
-        (ap (λ (more : Bool). cycle_behind fed.machine.program fed.machine.program.stage fed.machine.carriage.spot.latch more)
+        (ap (λ (more : Bool). cycle_after fed.machine.program fed.machine.program.stage fed.machine.carriage.spot.latch more)
         (sym has.more) ∙ due))
     by false is due =
         let over = or_false fed.waits (is_over fed.machine) is in (
@@ -157,19 +157,19 @@ card-ends card fed has = by (fed.waits || not (is_over fed.machine)) refl
               (ap (λ (more : Bool). card_over fed.machine.program more) (sym has.more) ∙ over.1),
         )
 
--- the feed of a card, and a run over the cards behind it
-card-in-run : (wiring : Wiring) (card : List ℕ) (behind : List (List ℕ)) (cycles : List Cycle) (fed : Fed) (new : MachineState)
+-- the feed of a card, and a run over the cards after it
+card-in-run : (wiring : Wiring) (card : List ℕ) (waiting_cards : List (List ℕ)) (cycles : List Cycle) (fed : Fed) (new : MachineState)
     (lines others : List PlacedLine)
     → HasCard card fed → FeedRuns wiring cycles fed new lines
     → (is_fresh new.program.stage ≡ false → has_more new ≡ true
-    → (rest : List Cycle) × RunsBy (CycleRun wiring) rest (record { machine = new; hopper = behind }) others)
-    → (all : List Cycle) × RunsBy (CycleRun wiring) all (as_run fed behind) (lines ++ others)
-card-in-run wiring card behind cycles fed new lines others has runs goes_on =
-    feed-in-run wiring (HasCard card) (card-stays wiring card) behind (λ f is none. let e = sym none ∙ is.next in cc) new others ends
+    → (rest : List Cycle) × RunsBy (CycleRun wiring) rest (record { machine = new; hopper = waiting_cards }) others)
+    → (all : List Cycle) × RunsBy (CycleRun wiring) all (as_run fed waiting_cards) (lines ++ others)
+card-in-run wiring card waiting_cards cycles fed new lines others has runs goes_on =
+    feed-in-run wiring (HasCard card) (card-stays wiring card) waiting_cards (λ f is none. let e = sym none ∙ is.next in cc) new others ends
     cycles fed lines has runs
   where
     ends : (end : Fed) → HasCard card end → due_in end ≡ None → end.machine ≡ new
-        → (rest : List Cycle) × RunsBy (CycleRun wiring) rest (as_run end behind) others
+        → (rest : List Cycle) × RunsBy (CycleRun wiring) rest (as_run end waiting_cards) others
     ends end has_card due same =
         let over = card-ends card end has_card due in
         let rest = goes_on (ap (λ (m : MachineState). is_fresh m.program.stage) (sym same) ∙ over.1)
@@ -182,9 +182,9 @@ card-in-run wiring card behind cycles fed new lines others has runs goes_on =
         )
       where
         same_run : (m n : MachineState) (w : Bool) → m ≡ n → false ≡ w → (next : Option (List ℕ))
-            → ◌≡◌ {A = InRun} (record { machine = m; hopper = behind })
-            (record { machine = n; hopper = waiting w next behind })
-        same_run m n w machines waits next = λ i. record { machine = machines i; hopper = waiting (waits i) next behind }
+            → ◌≡◌ {A = InRun} (record { machine = m; hopper = waiting_cards })
+            (record { machine = n; hopper = waiting w next waiting_cards })
+        same_run m n w machines waits next = λ i. record { machine = machines i; hopper = waiting (waits i) next waiting_cards }
 
 -- Where the end is fed, no card stands at first reading once the end was taken.
 record HasEnd (fed : Fed) : Type 0 where
@@ -259,7 +259,7 @@ end-in-run wiring cycles fed new lines has runs =
         → (rest : List Cycle) × RunsBy (CycleRun wiring) rest (as_run end []) []
     ends end is due same = ([], (end-ends end is due, refl))
 
--- the start of a feed behind the first one
+-- the start of a feed after the first one
 begun-later : (machine : MachineState) (next : Option (List ℕ)) → is_fresh machine.program.stage ≡ false
     → begun machine next ≡ record { machine = machine; waits = true; next = next }
 begun-later machine next fresh = by (is_fresh machine.program.stage) fresh
@@ -274,7 +274,7 @@ begun-later machine next fresh = by (is_fresh machine.program.stage) fresh
     by true is = cc
     by false is = refl
 
--- the feeds behind the first one
+-- the feeds after the first one
 later-in-run : (wiring : Wiring) (old : MachineState) (cards : List (List ℕ)) (lines : List PlacedLine)
     → is_fresh old.program.stage ≡ false → has_more old ≡ true → LinesFrom wiring old cards lines
     → (all : List Cycle) × RunsBy (CycleRun wiring) all (record { machine = old; hopper = cards }) lines

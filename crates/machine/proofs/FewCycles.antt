@@ -4,7 +4,7 @@ use Rattle.placed_lines.specs.declared.placed_line.PlacedLine.{PlacedLine}
 use Rattle.setups.specs.Wiring.{Wiring}
 use Rattle.net.specs.declared.cycle.Cycle.{Cycle}
 use Rattle.net.specs.declared.cycle.Cycle.TheVariants.{RunIn, Card, Prog, Head}
-use Rattle.program_unit.specs.CycleOrder.{cycle_behind, is_over_at}
+use Rattle.program_unit.specs.CycleOrder.{cycle_after, is_over_at}
 use Rattle.program_unit.specs.declared.stage.Stage.{Stage}
 use Rattle.program_unit.specs.declared.stage.Stage.TheVariants.{RanCard}
 use Rattle.machine.specs.Cycles.{CycleRun}
@@ -26,7 +26,7 @@ pub goes-without : (machine : MachineState) (cycle : Cycle) → IsSupplied machi
     → has_more machine ≡ false → GoesWithout machine.program machine.program.stage cycle
 goes-without machine cycle supplied due none =
     without-card machine.program machine.program.stage machine.carriage.spot.latch cycle (supplied none)
-    (sym (ap (λ (more : Bool). cycle_behind machine.program machine.program.stage machine.carriage.spot.latch more) none) ∙ due)
+    (sym (ap (λ (more : Bool). cycle_after machine.program machine.program.stage machine.carriage.spot.latch more) none) ∙ due)
 
 -- a cycle leaves a machine supplied
 pub other-supplied : (cycle : Cycle) (old new : MachineState) → IsSupplied old → cycle_due old ≡ Some cycle

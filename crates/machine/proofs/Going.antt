@@ -11,7 +11,7 @@ use Rattle.machine.specs.Gains.{GainsFeed, GainsPrefix}
 use Rattle.machine.specs.Machine.{MachineState}
 use Rattle.machine.proofs.OneOutcome.{FeedStep-one}
 
--- Lines were gained since the start of a feed. Whatever run follows from now on, it is the rest of a run from the start behind
+-- Lines were gained since the start of a feed. Whatever run follows from now on, it is the rest of a run from the start after
 -- these lines, and each run from the start is these lines and a run from now on.
 pub record Gone (net : NetRows) (start : Fed) (old : List PlacedLine) (now : Fed) (new : List PlacedLine) : Type 0 where
   pub lines : List PlacedLine
@@ -56,10 +56,10 @@ FeedRuns-after wiring cycle (also ∷ cycles) old mid left all step (also_mid, o
 
 -- one cycle more, with the line that it places
 pub Gone-more : (net : NetRows) (start : Fed) (old : List PlacedLine) (now : Fed) (new : List PlacedLine) (cycle : Cycle) (mid : Fed)
-    (also behind : List PlacedLine)
+    (also later : List PlacedLine)
     → Gone net start old now new → ((wiring : Wiring) → IsNetOf wiring net → FeedStep wiring cycle now mid)
-    → also ≡ line_of mid.machine → behind ≡ new ++ also → Gone net start old mid behind
-Gone-more net start old now new cycle mid also behind gone step placed is = record {
+    → also ≡ line_of mid.machine → later ≡ new ++ also → Gone net start old mid later
+Gone-more net start old now new cycle mid also later gone step placed is = record {
   lines = gone.lines ++ also;
   gained =
       is ∙ ap (λ (l : List PlacedLine). l ++ also) gone.gained ∙ append_assoc old gone.lines also;

@@ -9,7 +9,7 @@ use Rattle.placed_lines.specs.InOrder.{IsAfter, FollowInOrder}
 use Rattle.carriage.specs.Moves.{down_by, next_page, next_stop, skipped, skipped_to, restored, latched, at_first_line}
 use Rattle.placed_lines.specs.declared.placed_line.PlacedLine.{PlacedLine}
 use Rattle.carriage.specs.declared.spot.Spot.{Spot}
-use Rattle.setups.specs.Tapes.{Form, IsForm}
+use Rattle.setups.specs.Tapes.{CarriageTape, IsCarriageTape}
 use Rattle.net.specs.Printing.{prints}
 use Rattle.net.specs.declared.cycle.Cycle.{Cycle}
 use Rattle.net.specs.declared.cycle.Cycle.TheVariants.{RunIn, Card, Prog, Head}
@@ -18,7 +18,7 @@ use Rattle.machine.specs.Cycles.{line_at}
 use Rattle.machine.proofs.Keeps.{AsksLines}
 
 -- A move: at most to the next page, never back, and to a line of the form.
-pub record Moves (form : Form) (old new : Spot) : Type 0 where
+pub record Moves (form : CarriageTape) (old new : Spot) : Type 0 where
   pub page_from : old.page ≤ new.page
   pub page_to : new.page ≤ old.page + 1
   pub not_back : old.page ≡ new.page → old.line ≤ new.line
@@ -26,7 +26,7 @@ pub record Moves (form : Form) (old new : Spot) : Type 0 where
   pub latch : new.latch ≡ false → (old.latch ≡ false) ⊎ (1 ≤ new.page)
 
 -- A move down: to a later place.
-pub record MovesDown (form : Form) (old new : Spot) : Type 0 where
+pub record MovesDown (form : CarriageTape) (old new : Spot) : Type 0 where
   pub moves : Moves form old new
   pub line : 1 ≤ new.line
   pub down : old.page ≡ new.page → old.line < new.line
@@ -35,7 +35,7 @@ next_page-up : (page : ℕ) → page < 2 ^ 32 → next_page page ≡ page + 1
 next_page-up page below = grind (arith, nat_tests)
 
 -- down by one to three lines
-down_by-moves : (form : Form) (spot : Spot) (lines : ℕ) → IsForm form → AsksLines lines → spot.line ≤ form.lines
+down_by-moves : (form : CarriageTape) (spot : Spot) (lines : ℕ) → IsCarriageTape form → AsksLines lines → spot.line ≤ form.lines
     → spot.page < 2 ^ 32 → MovesDown form spot (down_by form lines spot)
 down_by-moves form spot lines is_form asks inside below = by (nat_le (spot.line + lines) form.lines) refl
   where
@@ -71,7 +71,7 @@ down_by-moves form spot lines is_form asks inside below = by (nat_le (spot.line 
           down = λ same. absurd (omega (arith, up, same));
         })
 
-stays : (form : Form) (spot : Spot) → spot.line ≤ form.lines → Moves form spot spot
+stays : (form : CarriageTape) (spot : Spot) → spot.line ≤ form.lines → Moves form spot spot
 stays form spot inside = record {
   page_from = omega arith;
   page_to = omega arith;
@@ -81,16 +81,16 @@ stays form spot inside = record {
 }
 
 -- a skip stays on its page
-record Skips (form : Form) (old new : Spot) : Type 0 where
+record Skips (form : CarriageTape) (old new : Spot) : Type 0 where
   page : new.page ≡ old.page
   line : old.line ≤ new.line
   inside : new.line ≤ form.lines
   latch : new.latch ≡ false → old.latch ≡ false
 
-set_latch : (form : Form) (spot : Spot) → spot.line ≤ form.lines → Skips form spot (latched spot)
+set_latch : (form : CarriageTape) (spot : Spot) → spot.line ≤ form.lines → Skips form spot (latched spot)
 set_latch form spot inside = record { page = refl; line = omega arith; inside = inside; latch = λ reset. cc }
 
-skipped-skips : (form : Form) (channel : Option ℕ) (spot : Spot) → spot.line ≤ form.lines
+skipped-skips : (form : CarriageTape) (channel : Option ℕ) (spot : Spot) → spot.line ≤ form.lines
     → Skips form spot (skipped form channel spot)
 skipped-skips form None spot inside = record { page = refl; line = omega arith; inside = inside; latch = λ reset. reset }
 skipped-skips form (Some channel) spot inside = by (next_stop form channel spot.line) refl
@@ -108,14 +108,14 @@ skipped-skips form (Some channel) spot inside = by (next_stop form channel spot.
           latch = λ reset. (or_parts spot.latch _ reset).0;
         })
 
-restored-skips : (form : Form) (restore : Bool) (spot : Spot) → spot.line ≤ form.lines → Skips form spot (restored restore spot)
+restored-skips : (form : CarriageTape) (restore : Bool) (spot : Spot) → spot.line ≤ form.lines → Skips form spot (restored restore spot)
 restored-skips form true spot inside = set_latch form spot inside
 restored-skips form false spot inside = record { page = refl; line = omega arith; inside = inside; latch = λ reset. reset }
 
 -- what follows the first move
-behind-skips : (form : Form) (channel : Option ℕ) (restore : Bool) (spot : Spot) → spot.line ≤ form.lines
+after-skips : (form : CarriageTape) (channel : Option ℕ) (restore : Bool) (spot : Spot) → spot.line ≤ form.lines
     → Skips form spot (restored restore (skipped form channel spot))
-behind-skips form channel restore spot inside =
+after-skips form channel restore spot inside =
     let first = skipped-skips form channel spot inside in
     let second = restored-skips form restore (skipped form channel spot) first.inside in
     record {
@@ -137,7 +137,7 @@ not_before p l q m r n pages lines (inr after) = by (nat_lt p q) refl
         let line = lines same in
         inr (omega (arith, same, after.0), omega (arith, line, after.1))
 
--- lines that follow a place follow each place that is not behind it
+-- lines that follow a place follow each place that is not after it
 pub follow-earlier : (form_lines page line later_page later_line : ℕ) (lines : List PlacedLine)
     → page ≤ later_page → (page ≡ later_page → line ≤ later_line)
     → FollowInOrder form_lines later_page later_line lines → FollowInOrder form_lines page line lines
@@ -146,14 +146,14 @@ follow-earlier form_lines page line later_page later_line (placed ∷ others) pa
     (not_before page line later_page later_line placed.page placed.line pages not_back next, on_form, follow)
 
 -- The first move at the end of a cycle, and the line that is placed there.
-record FirstMove (form : Form) (cycle : Cycle) (printing : Bool) (old mid : Spot) : Type 0 where
+record FirstMove (form : CarriageTape) (cycle : Cycle) (printing : Bool) (old mid : Spot) : Type 0 where
   moves : Moves form old mid
   places :
       (text : List ℕ) (others : List PlacedLine) → FollowInOrder form.lines mid.page mid.line others
       → FollowInOrder form.lines old.page old.line (line_at (placed printing mid) text ++ others)
   turned : cycle ≡ Head First → old.page < mid.page
 
-after-down : (form : Form) (old new : Spot) → MovesDown form old new → IsAfter old.page old.line new.page new.line
+after-down : (form : CarriageTape) (old new : Spot) → MovesDown form old new → IsAfter old.page old.line new.page new.line
 after-down form old new moves = by (nat_lt old.page new.page) refl
   where
     by : (earlier : Bool) → nat_lt old.page new.page ≡ earlier → IsAfter old.page old.line new.page new.line
@@ -163,8 +163,8 @@ after-down form old new moves = by (nat_lt old.page new.page) refl
         let same : old.page ≡ new.page = grind (arith, nat_tests, from) in
         inr (same, moves.down same)
 
-spaced-first : (form : Form) (cycle : Cycle) (printing : Bool) (lines : ℕ) (spot : Spot)
-    → IsForm form → AsksLines lines → spot.line ≤ form.lines → spot.page < 2 ^ 32 → (cycle ≡ Head First → ⊥)
+spaced-first : (form : CarriageTape) (cycle : Cycle) (printing : Bool) (lines : ℕ) (spot : Spot)
+    → IsCarriageTape form → AsksLines lines → spot.line ≤ form.lines → spot.page < 2 ^ 32 → (cycle ≡ Head First → ⊥)
     → (printing ≡ true → 1 ≤ spot.page) → FirstMove form cycle printing spot (spaced form printing lines spot)
 spaced-first form cycle true lines spot is_form asks inside below other on_page =
     let down = down_by-moves form spot lines is_form asks inside below in
@@ -189,7 +189,7 @@ spaced-first form cycle false lines spot is_form asks inside below other on_page
   turned = λ is. absurd (other is);
 }
 
-first_line-first : (form : Form) (printing : Bool) (spot : Spot) → IsForm form → spot.page < 2 ^ 32
+first_line-first : (form : CarriageTape) (printing : Bool) (spot : Spot) → IsCarriageTape form → spot.page < 2 ^ 32
     → FirstMove form (Head First) printing spot (at_first_line form spot)
 first_line-first form printing spot is_form below =
     let up = next_page-up spot.page below in
@@ -222,8 +222,8 @@ first_line-first form printing spot is_form below =
         follow-earlier form.lines spot.page spot.line (next_page spot.page) form.first others (omega (arith, up))
         (λ same. absurd (omega (arith, up, same))) follow
 
-moved-first : (form : Form) (cycle : Cycle) (printing : Bool) (lines : ℕ) (spot : Spot)
-    → IsForm form → AsksLines lines → spot.line ≤ form.lines → spot.page < 2 ^ 32
+moved-first : (form : CarriageTape) (cycle : Cycle) (printing : Bool) (lines : ℕ) (spot : Spot)
+    → IsCarriageTape form → AsksLines lines → spot.line ≤ form.lines → spot.page < 2 ^ 32
     → (printing ≡ true → (cycle ≡ Head First) ⊎ (1 ≤ spot.page))
     → FirstMove form cycle printing spot (moved form cycle printing lines spot)
 moved-first form RunIn printing lines spot is_form asks inside below on_page =
@@ -244,7 +244,7 @@ moved-first form (Head Third) printing lines spot is_form asks inside below on_p
     spaced-first form (Head Third) printing lines spot is_form asks inside below (λ is. cc)
     (λ on. ⊎_elim (λ (is : Head Third ≡ Head First). cc) (λ (page : 1 ≤ spot.page). page) (on_page on))
 
--- What the end of a cycle makes of the lines that follow: its own line first, then those behind the new place.
+-- What the end of a cycle makes of the lines that follow: its own line first, then those after the new place.
 pub record Ended (cycle : Cycle) (old new : CarriageState) : Type 0 where
   pub moves : Moves old.form old.spot new.spot
   pub places :
@@ -254,7 +254,7 @@ pub record Ended (cycle : Cycle) (old new : CarriageState) : Type 0 where
   pub turned : cycle ≡ Head First → old.spot.page < new.spot.page
 
 pub carriage_ended-ends : (carriage : CarriageState) (cycle : Cycle)
-    → IsForm carriage.form → AsksLines carriage.asked.lines → carriage.spot.line ≤ carriage.form.lines
+    → IsCarriageTape carriage.form → AsksLines carriage.asked.lines → carriage.spot.line ≤ carriage.form.lines
     → carriage.spot.page < 2 ^ 32
     → (prints carriage.printing cycle ≡ true → (cycle ≡ Head First) ⊎ (1 ≤ carriage.spot.page))
     → Ended cycle carriage (carriage_ended carriage cycle)
@@ -263,7 +263,7 @@ carriage_ended-ends carriage cycle is_form asks inside below on_page =
     let printing = prints carriage.printing cycle in
     let mid = moved form cycle printing carriage.asked.lines carriage.spot in
     let first = moved-first form cycle printing carriage.asked.lines carriage.spot is_form asks inside below on_page in
-    let skips = behind-skips form carriage.asked.channel carriage.asked.restore mid first.moves.inside in
+    let skips = after-skips form carriage.asked.channel carriage.asked.restore mid first.moves.inside in
     record {
       moves = record {
         page_from = omega (arith, first.moves.page_from, skips.page);

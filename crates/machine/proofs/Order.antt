@@ -3,16 +3,16 @@ use Rattle.std.proofs.Common.{◌≡◌, ℕ, suc, ◌+◌, ◌^◌, ◌≤◌, 
 use Rattle.carriage.specs.Carriage.{CarriageState, carriage_ended}
 use Rattle.placed_lines.specs.InOrder.{FollowInOrder, IsInOrder}
 use Rattle.placed_lines.specs.declared.placed_line.PlacedLine.{PlacedLine}
-use Rattle.setups.specs.Tapes.{Form, IsForm}
+use Rattle.setups.specs.Tapes.{CarriageTape, IsCarriageTape}
 use Rattle.setups.specs.Wiring.{Wiring}
 use Rattle.net.specs.Printing.{prints}
 use Rattle.net.specs.declared.cycle.Cycle.{Cycle}
 use Rattle.net.specs.declared.cycle.Cycle.TheVariants.{RunIn, Card, Prog, Head}
-use Rattle.net.specs.declared.cycle.Level.{Level}
+use Rattle.net.specs.declared.cycle.ProgramLevel.{ProgramLevel}
 use Rattle.net.specs.declared.cycle.Ordinal.{Ordinal}
 use Rattle.net.specs.declared.cycle.Ordinal.TheVariants.{First, Second, Third}
 use Rattle.net.specs.declared.printing.Printing.{Printing}
-use Rattle.program_unit.specs.CycleOrder.{cycle_behind, behind, headed, has_level_left, level_above}
+use Rattle.program_unit.specs.CycleOrder.{cycle_after, after, headed, has_level_left, level_above}
 use Rattle.program_unit.specs.Program.{ProgramState, stage_ended}
 use Rattle.program_unit.specs.declared.stage.Stage.{Stage}
 use Rattle.program_unit.specs.declared.stage.Stage.TheVariants.{Fresh, RanIn, RanCard, RanProg, BeforeCard, BeforeTotal}
@@ -46,10 +46,10 @@ headed-reset printing restore due cycle = by (prints printing due) restore refl
     by true false is same on = inr refl
     by false r is same on = let off : prints printing cycle ≡ false = ap (λ (c : Cycle). prints printing c) (sym same) ∙ is in cc
 
-behind-reset : (program : ProgramState) (done : Option Level) (restore more : Bool) (cycle : Cycle)
-    → behind program done restore more ≡ Some cycle → prints program.printing cycle ≡ true
+after-reset : (program : ProgramState) (done : Option ProgramLevel) (restore more : Bool) (cycle : Cycle)
+    → after program done restore more ≡ Some cycle → prints program.printing cycle ≡ true
     → (cycle ≡ Head First) ⊎ (restore ≡ false)
-behind-reset program done restore more cycle = by (has_level_left program done more) more
+after-reset program done restore more cycle = by (has_level_left program done more) more
   where
     by : (left card : Bool)
         → (if left
@@ -71,7 +71,7 @@ not_printing printing due cycle silent same on =
 
 -- a cycle prints on a page, unless it begins one
 due-on_page : (program : ProgramState) (stage : Stage) (restore more : Bool) (cycle : Cycle) (page : ℕ)
-    → cycle_behind program stage restore more ≡ Some cycle → (restore ≡ false → 1 ≤ page)
+    → cycle_after program stage restore more ≡ Some cycle → (restore ≡ false → 1 ≤ page)
     → (is_heading stage ≡ true → 1 ≤ page) → prints program.printing cycle ≡ true → (cycle ≡ Head First) ⊎ (1 ≤ page)
 due-on_page program Fresh restore true cycle page due reset heads on =
     absurd (not_printing program.printing RunIn cycle refl (same_some RunIn cycle due) on)
@@ -81,7 +81,7 @@ due-on_page program RanIn restore more cycle page due reset heads on =
     (headed-reset program.printing restore Card cycle (same_some (headed program.printing restore Card) cycle due) on)
 due-on_page program RanCard restore more cycle page due reset heads on =
     ⊎_elim (λ (is : cycle ≡ Head First). inl is) (λ (is : restore ≡ false). inr (reset is))
-    (behind-reset program None restore more cycle due on)
+    (after-reset program None restore more cycle due on)
 due-on_page program (RanProg level First) restore more cycle page due reset heads on =
     absurd (not_printing program.printing (Prog level Second) cycle refl (same_some (Prog level Second) cycle due) on)
 due-on_page program (RanProg level Second) restore more cycle page due reset heads on =
@@ -90,11 +90,11 @@ due-on_page program (RanProg level Second) restore more cycle page due reset hea
     (same_some (headed program.printing restore (Prog level Third)) cycle due) on)
 due-on_page program (RanProg level Third) restore more cycle page due reset heads on =
     ⊎_elim (λ (is : cycle ≡ Head First). inl is) (λ (is : restore ≡ false). inr (reset is))
-    (behind-reset program (Some level) restore more cycle due on)
+    (after-reset program (Some level) restore more cycle due on)
 due-on_page program (BeforeCard heading) restore more cycle page due reset heads on = inr (heads refl)
 due-on_page program (BeforeTotal level heading) restore more cycle page due reset heads on = inr (heads refl)
 
--- The second and the third heading cycle come behind one alone.
+-- The second and the third heading cycle come after one alone.
 headed-first : (printing : Printing) (restore : Bool) (due : Cycle) (heading : Ordinal)
     → headed printing restore due ≡ Head heading → ((h : Ordinal) → due ≡ Head h → ⊥) → heading ≡ First
 headed-first printing restore due heading = by (prints printing due && restore)
@@ -104,9 +104,9 @@ headed-first printing restore due heading = by (prints printing due && restore)
     by true same never = cc
     by false same never = absurd (never heading same)
 
-behind-first : (program : ProgramState) (done : Option Level) (restore more : Bool) (heading : Ordinal)
-    → behind program done restore more ≡ Some (Head heading) → heading ≡ First
-behind-first program done restore more heading = by (has_level_left program done more) more
+after-first : (program : ProgramState) (done : Option ProgramLevel) (restore more : Bool) (heading : Ordinal)
+    → after program done restore more ≡ Some (Head heading) → heading ≡ First
+after-first program done restore more heading = by (has_level_left program done more) more
   where
     by : (left card : Bool)
         → (if left
@@ -121,19 +121,19 @@ behind-first program done restore more heading = by (has_level_left program done
     by false false due = cc
 
 due-heading : (program : ProgramState) (stage : Stage) (restore more : Bool) (heading : Ordinal)
-    → cycle_behind program stage restore more ≡ Some (Head heading) → (heading ≡ First) ⊎ (is_heading stage ≡ true)
+    → cycle_after program stage restore more ≡ Some (Head heading) → (heading ≡ First) ⊎ (is_heading stage ≡ true)
 due-heading program Fresh restore true heading due = cc
 due-heading program Fresh restore false heading due = cc
 due-heading program RanIn restore more heading due =
     inl (headed-first program.printing restore Card heading
     (same_some (headed program.printing restore Card) (Head heading) due) (λ h same. cc))
-due-heading program RanCard restore more heading due = inl (behind-first program None restore more heading due)
+due-heading program RanCard restore more heading due = inl (after-first program None restore more heading due)
 due-heading program (RanProg level First) restore more heading due = cc
 due-heading program (RanProg level Second) restore more heading due =
     inl (headed-first program.printing restore (Prog level Third) heading
     (same_some (headed program.printing restore (Prog level Third)) (Head heading) due) (λ h same. cc))
 due-heading program (RanProg level Third) restore more heading due =
-    inl (behind-first program (Some level) restore more heading due)
+    inl (after-first program (Some level) restore more heading due)
 due-heading program (BeforeCard before) restore more heading due = inr refl
 due-heading program (BeforeTotal level before) restore more heading due = inr refl
 
@@ -146,7 +146,7 @@ heading-ended stage (Prog level ordinal) is = cc
 heading-ended stage (Head heading) is = (heading, refl)
 
 -- What holds of a machine all through a run, with so many cycles to follow.
-record IsSound (form : Form) (machine : MachineState) (left : ℕ) : Type 0 where
+record IsSound (form : CarriageTape) (machine : MachineState) (left : ℕ) : Type 0 where
   form_is : machine.carriage.form ≡ form
   printing : machine.carriage.printing ≡ machine.program.printing
   inside : machine.carriage.spot.line ≤ form.lines
@@ -176,9 +176,9 @@ ready-program Card run = moved-program run.machine run.hopper
 ready-program (Prog level ordinal) run = refl
 ready-program (Head heading) run = refl
 
-module _ (form : Form) (is_form : IsForm form) (old new : MachineState) (at_end : CarriageState) (cycle : Cycle) (more : Bool)
+module _ (form : CarriageTape) (is_form : IsCarriageTape form) (old new : MachineState) (at_end : CarriageState) (cycle : Cycle) (more : Bool)
     (left : ℕ) (sound : IsSound form old (suc left))
-    (due : cycle_behind old.program old.program.stage old.carriage.spot.latch more ≡ Some cycle)
+    (due : cycle_after old.program old.program.stage old.carriage.spot.latch more ≡ Some cycle)
     (kept : KeepsCarriage old.carriage at_end) (is_new : new.carriage ≡ carriage_ended at_end cycle)
     (printing : new.program.printing ≡ old.program.printing) (stage : new.program.stage ≡ stage_ended old.program.stage cycle)
   where
@@ -192,7 +192,7 @@ module _ (form : Form) (is_form : IsForm form) (old new : MachineState) (at_end 
     line_kept = ap (λ s. s.line) kept.spot
 
     lines_kept : at_end.form.lines ≡ form.lines
-    lines_kept = ap (λ (f : Form). f.lines) form_kept
+    lines_kept = ap (λ (f : CarriageTape). f.lines) form_kept
 
     prints_on_page : prints at_end.printing cycle ≡ true → (cycle ≡ Head First) ⊎ (1 ≤ at_end.spot.page)
     prints_on_page on =
@@ -206,7 +206,7 @@ module _ (form : Form) (is_form : IsForm form) (old new : MachineState) (at_end 
         let few = sound.few in
         let inside = sound.inside in
         subst (λ (c : CarriageState). Ended cycle at_end c) (sym is_new)
-        (carriage_ended-ends at_end cycle (subst IsForm (sym form_kept) is_form) (kept.lines sound.asks)
+        (carriage_ended-ends at_end cycle (subst IsCarriageTape (sym form_kept) is_form) (kept.lines sound.asks)
         (omega (arith, inside, line_kept, lines_kept)) (omega (arith, few, page_kept)) prints_on_page)
 
     heads : is_heading new.program.stage ≡ true → 1 ≤ new.carriage.spot.page
@@ -247,7 +247,7 @@ module _ (form : Form) (is_form : IsForm form) (old new : MachineState) (at_end 
         → FollowInOrder form.lines old.carriage.spot.page old.carriage.spot.line (line_of new ++ others)
     places-before others follow =
         subst
-        (λ (f : Form). FollowInOrder f.lines new.carriage.spot.page new.carriage.spot.line others
+        (λ (f : CarriageTape). FollowInOrder f.lines new.carriage.spot.page new.carriage.spot.line others
         → FollowInOrder f.lines old.carriage.spot.page old.carriage.spot.line (line_of new ++ others))
         form_kept
         (λ own.
@@ -255,14 +255,14 @@ module _ (form : Form) (is_form : IsForm form) (old new : MachineState) (at_end 
         (ended.places new.wheels.line others own))
         follow
 
--- One cycle of a run: the machine is sound behind it, and the lines that follow it follow its own.
-record StepsSoundly (form : Form) (old new : MachineState) (left : ℕ) : Type 0 where
+-- One cycle of a run: the machine is sound after it, and the lines that follow it follow its own.
+record StepsSoundly (form : CarriageTape) (old new : MachineState) (left : ℕ) : Type 0 where
   sound : IsSound form new left
   places :
       (others : List PlacedLine) → FollowInOrder form.lines new.carriage.spot.page new.carriage.spot.line others
       → FollowInOrder form.lines old.carriage.spot.page old.carriage.spot.line (line_of new ++ others)
 
-CycleRun-sound : (wiring : Wiring) (form : Form) → IsForm form → (cycle : Cycle) (run : InRun) (new : MachineState) (left : ℕ)
+CycleRun-sound : (wiring : Wiring) (form : CarriageTape) → IsCarriageTape form → (cycle : Cycle) (run : InRun) (new : MachineState) (left : ℕ)
     → IsSound form run.machine (suc left) → cycle_due run.machine ≡ Some cycle
     → CycleRun wiring cycle (made_ready cycle run).machine new → StepsSoundly form run.machine new left
 CycleRun-sound wiring form is_form cycle run new left sound due ran =
@@ -281,7 +281,7 @@ CycleRun-sound wiring form is_form cycle run new left sound due ran =
     }
 
 -- the lines of a run follow the place of the carriage
-RunsBy-in_order : (wiring : Wiring) (form : Form) → IsForm form
+RunsBy-in_order : (wiring : Wiring) (form : CarriageTape) → IsCarriageTape form
     → (cycles : List Cycle) (run : InRun) (lines : List PlacedLine)
     → IsSound form run.machine (length cycles) → RunsBy (CycleRun wiring) cycles run lines
     → FollowInOrder form.lines run.machine.carriage.spot.page run.machine.carriage.spot.line lines
@@ -295,7 +295,7 @@ RunsBy-in_order wiring form is_form (cycle ∷ cycles) run lines sound (new, oth
     steps.sound runs))
 
 -- a machine at the start of a run is sound
-start-sound : (wiring : Wiring) (next : Option (List ℕ)) (left : ℕ) → IsForm wiring.tape → left ≤ 2 ^ 32
+start-sound : (wiring : Wiring) (next : Option (List ℕ)) (left : ℕ) → IsCarriageTape wiring.tape → left ≤ 2 ^ 32
     → IsSound wiring.tape (moved_on next (machine_at_start wiring)) left
 start-sound wiring next left is_form few = record {
   form_is = refl;
@@ -309,7 +309,7 @@ start-sound wiring next left is_form few = record {
 
 -- the lines of a run are in order
 pub MachineLines-in_order : (wiring : Wiring) (cards : List (List ℕ)) (lines : List PlacedLine)
-    → IsForm wiring.tape → length cards ≤ 999999 → MachineLines wiring cards lines → IsInOrder wiring.tape.lines lines
+    → IsCarriageTape wiring.tape → length cards ≤ 999999 → MachineLines wiring cards lines → IsInOrder wiring.tape.lines lines
 MachineLines-in_order wiring [] lines is_form short (cycles, runs) =
     let few = runs-have-few wiring [] cycles lines runs in
     RunsBy-in_order wiring wiring.tape is_form cycles (run_at_start wiring []) lines

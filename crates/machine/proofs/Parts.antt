@@ -6,9 +6,9 @@ use Rattle.machine.specs.Laws.{RunsGoInParts}
 
 pub LinesFrom-parts : RunsGoInParts
 unfolding LinesFrom FedLines
-LinesFrom-parts wiring old [] behind lines run = (old, [], lines, (refl, refl), run, refl)
-LinesFrom-parts wiring old (card ∷ cards) behind lines (mid, first, others, feed, run, is) =
-    let (left, fed, rest, feeds, goes_on, same) = LinesFrom-parts wiring mid cards behind others run in (
+LinesFrom-parts wiring old [] after lines run = (old, [], lines, (refl, refl), run, refl)
+LinesFrom-parts wiring old (card ∷ cards) after lines (mid, first, others, feed, run, is) =
+    let (left, fed, rest, feeds, goes_on, same) = LinesFrom-parts wiring mid cards after others run in (
       left,
       first ++ fed,
       rest,

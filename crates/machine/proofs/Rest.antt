@@ -15,7 +15,7 @@ use Rattle.hubs.specs.declared.hub.Hub.{Hub}
 use Rattle.hubs.specs.declared.hub.Hub.TheVariants.{CI, GE, PL, MI, RO, BT}
 use Rattle.net.specs.HubSets.{HubSet, has_hub, is_bit, is_bit_from, is_in_reach, is_in_row, is_near}
 use Rattle.net.specs.Cycles.{is_closing}
-use Rattle.net.specs.Panel.{unit_behind}
+use Rattle.net.specs.Panel.{unit_after}
 use Rattle.net.specs.declared.cycle.Cycle.{Cycle}
 use Rattle.net.specs.declared.cycle.Point.{Point}
 use Rattle.net.specs.declared.cycle.Point.TheVariants.{C, Row, K}
@@ -95,7 +95,7 @@ abbrev pub first_group : Group
 first_group = record { width = 3; number = 1 }
 
 -- The control hubs of all groups are the 128 from the first one on.
-near : (place : Option ℕ) (before : ℕ) → 1268 ≤ before → before ≤ 1364 → 3 ≤ unit_behind 2 place → unit_behind 2 place < 35
+near : (place : Option ℕ) (before : ℕ) → 1268 ≤ before → before ≤ 1364 → 3 ≤ unit_after 2 place → unit_after 2 place < 35
     → is_near (Some 1269) (option_map (λ p. before + p) place) ≡ true
 near None before low high from to = absurd (omega (arith, from))
 near (Some p) before low high from to = grind (arith, nat_tests, low, high, from, to)
@@ -134,7 +134,7 @@ pub no_bit : (bits : ℕ) → not (bits == 0) ≡ false → bits ≡ 0
 no_bit bits is = grind (arith, nat_tests)
 
 -- nor does a carry come in where no bit of the row from the first carry entry on is set
-near_carry : (place : Option ℕ) → 3 ≤ unit_behind 2 place → unit_behind 2 place < 35
+near_carry : (place : Option ℕ) → 3 ≤ unit_after 2 place → unit_after 2 place < 35
     → is_near (Some 1397) (option_map (λ p. 1396 + p) place) ≡ true
 near_carry None from to = absurd (omega (arith, from))
 near_carry (Some p) from to = grind (arith, nat_tests, from, to)

@@ -5,7 +5,7 @@ use Rattle.carriage.specs.Asked.{nothing_asked}
 use Rattle.placed_lines.specs.declared.placed_line.PlacedLine.{PlacedLine}
 use Rattle.counters.specs.Counters.{counter_at_start}
 use Rattle.setups.proofs.SameTapes.{SameTape-same}
-use Rattle.setups.specs.Tapes.{IsForm, SameTape}
+use Rattle.setups.specs.Tapes.{IsCarriageTape, SameTape}
 use Rattle.setups.specs.Wiring.{Wiring, SameWires, SameJacks}
 use Rattle.hubs.specs.declared.hub.Hub.{Hub}
 use Rattle.hubs.specs.declared.jack.Jack.TheVariants as jack
@@ -136,7 +136,7 @@ start-same one other jacks tape = λ i. record {
 
 -- setups with the same wires, jacks and tape have the same lines
 pub MachineLines-same : (one other : Wiring) (cards : List (List ℕ)) (lines : List PlacedLine)
-    → IsForm one.tape → IsForm other.tape
+    → IsCarriageTape one.tape → IsCarriageTape other.tape
     → SameWires one other → SameJacks one other → SameTape one.tape other.tape
     → MachineLines one cards lines → MachineLines other cards lines
 MachineLines-same one other cards lines form also wires jacks tape (cycles, runs) =

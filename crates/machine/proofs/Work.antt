@@ -5,10 +5,10 @@ use Rattle.net.specs.Cycles.{level_number, ordinal_number}
 use Rattle.net.specs.Printing.{prints}
 use Rattle.net.specs.declared.cycle.Cycle.{Cycle}
 use Rattle.net.specs.declared.cycle.Cycle.TheVariants.{RunIn, Card, Prog, Head}
-use Rattle.net.specs.declared.cycle.Level.{Level}
-use Rattle.net.specs.declared.cycle.Level.TheVariants.{Minor, Final}
+use Rattle.net.specs.declared.cycle.ProgramLevel.{ProgramLevel}
+use Rattle.net.specs.declared.cycle.ProgramLevel.TheVariants.{Minor, Final}
 use Rattle.net.specs.declared.cycle.Ordinal.TheVariants.{First, Second, Third}
-use Rattle.program_unit.specs.CycleOrder.{cycle_behind, behind, headed, levels_to, level_above, top_level, has_level_left, is_over_at}
+use Rattle.program_unit.specs.CycleOrder.{cycle_after, after, headed, levels_to, level_above, top_level, has_level_left, is_over_at}
 use Rattle.program_unit.specs.Program.{ProgramState, stage_ended}
 use Rattle.program_unit.specs.declared.stage.Stage.{Stage}
 use Rattle.program_unit.specs.declared.stage.Stage.TheVariants.{Fresh, RanIn, RanCard, RanProg, BeforeCard, BeforeTotal}
@@ -38,7 +38,7 @@ left_in stage top false = left_of stage top
 abbrev pub top_of : ProgramState → Bool → ℕ
 top_of program more = levels_to (top_level program more)
 
-levels_to-four : (level : Option Level) → levels_to level ≤ 4
+levels_to-four : (level : Option ProgramLevel) → levels_to level ≤ 4
 levels_to-four None = omega arith
 levels_to-four (Some Minor) = omega arith
 levels_to-four other = omega arith
@@ -46,7 +46,7 @@ levels_to-four other = omega arith
 pub top_of-four : (program : ProgramState) (more : Bool) → top_of program more ≤ 4
 top_of-four program more = levels_to-four (top_level program more)
 
--- A cycle leaves less to follow. Behind a card cycle at most 24 cycles follow.
+-- A cycle leaves less to follow. After a card cycle at most 24 cycles follow.
 abbrev Falls : Stage → ℕ → Bool → Cycle → Type 0
 Falls stage top waits Card = 24 < left_in stage top waits
 Falls stage top waits cycle = left_in (stage_ended stage cycle) top waits < left_in stage top waits
@@ -63,14 +63,14 @@ card-falls stage top false restore true cycle here fresh waiting is =
     subst (λ (c : Cycle). Falls stage top true c) is (rw fresh (omega arith))
 card-falls stage top printing restore false cycle here fresh waiting is = cc
 
-level_above-next : (done : Option Level) → levels_to done < 4 → level_number (level_above done) ≡ levels_to done + 1
+level_above-next : (done : Option ProgramLevel) → levels_to done < 4 → level_number (level_above done) ≡ levels_to done + 1
 level_above-next (Some Final) below = absurd (omega (arith, below))
 level_above-next other below = refl
 
 same_some : {X : Type 0} → (one other : X) → ◌≡◌ {A = Option X} (Some one) (Some other) → one ≡ other
 same_some one other same = cc
 
-level-falls : (stage : Stage) (top : ℕ) (waits : Bool) (done : Option Level) → top ≤ 4 → levels_to done < top
+level-falls : (stage : Stage) (top : ℕ) (waits : Bool) (done : Option ProgramLevel) → top ≤ 4 → levels_to done < top
     → left_of stage top ≡ 6 * (top - levels_to done) → left_before stage ≡ 28
     → Falls stage top waits (Prog (level_above done) First)
 level-falls stage top true done four below here fresh =
@@ -78,13 +78,13 @@ level-falls stage top true done four below here fresh =
 level-falls stage top false done four below here fresh =
     let next = level_above-next done (omega (arith, four, below)) in rw (next, here) (omega (arith, below))
 
--- behind the cycles of a card, or of one of its levels
-behind-falls : (program : ProgramState) (stage : Stage) (done : Option Level) (restore more waits : Bool) (cycle : Cycle)
+-- after the cycles of a card, or of one of its levels
+after-falls : (program : ProgramState) (stage : Stage) (done : Option ProgramLevel) (restore more waits : Bool) (cycle : Cycle)
     → left_of stage (top_of program more) ≡ 6 * (top_of program more - levels_to done) → left_before stage ≡ 28
     → stage_ended stage (Head First) ≡ BeforeCard First
-    → behind program done restore more ≡ Some cycle → (waits || not (not (has_level_left program done more))) ≡ true
+    → after program done restore more ≡ Some cycle → (waits || not (not (has_level_left program done more))) ≡ true
     → Falls stage (top_of program more) waits cycle
-behind-falls program stage done restore more waits cycle here fresh waiting = by (has_level_left program done more) more refl
+after-falls program stage done restore more waits cycle here fresh waiting = by (has_level_left program done more) more refl
   where
     top : ℕ
     top = top_of program more
@@ -108,7 +108,7 @@ behind-falls program stage done restore more waits cycle here fresh waiting = by
     by false false is due going = cc
 
 -- the third program cycle of a level is due, or its first heading cycle
-total-falls : (level : Level) (top : ℕ) (printing restore waits : Bool) (cycle : Cycle)
+total-falls : (level : ProgramLevel) (top : ℕ) (printing restore waits : Bool) (cycle : Cycle)
     → (if printing && restore then Head First else Prog level Third) ≡ cycle
     → Falls (RanProg level Second) top waits cycle
 total-falls level top true true true cycle is =
@@ -126,7 +126,7 @@ total-falls level top false restore false cycle is =
 
 -- each cycle that is due leaves less to follow
 pub work-falls : (program : ProgramState) (stage : Stage) (restore more waits : Bool) (cycle : Cycle)
-    → cycle_behind program stage restore more ≡ Some cycle → (waits || not (is_over_at program stage more)) ≡ true
+    → cycle_after program stage restore more ≡ Some cycle → (waits || not (is_over_at program stage more)) ≡ true
     → Falls stage (top_of program more) waits cycle
 work-falls program Fresh restore true true cycle due going =
     subst (λ (c : Cycle). Falls Fresh (top_of program true) true c) (same_some RunIn cycle due) (omega arith)
@@ -138,7 +138,7 @@ work-falls program RanIn restore more true cycle due going =
     (same_some (headed program.printing restore Card) cycle due)
 work-falls program RanIn restore more false cycle due going = cc
 work-falls program RanCard restore more waits cycle due going =
-    behind-falls program RanCard None restore more waits cycle (omega arith) refl refl due going
+    after-falls program RanCard None restore more waits cycle (omega arith) refl refl due going
 work-falls program (RanProg level First) restore more true cycle due going =
     subst (λ (c : Cycle). Falls (RanProg level First) (top_of program more) true c) (same_some (Prog level Second) cycle due)
     (omega arith)
@@ -149,7 +149,7 @@ work-falls program (RanProg level Second) restore more waits cycle due going =
     total-falls level (top_of program more) (prints program.printing (Prog level Third)) restore waits cycle
     (same_some (headed program.printing restore (Prog level Third)) cycle due)
 work-falls program (RanProg level Third) restore more waits cycle due going =
-    behind-falls program (RanProg level Third) (Some level) restore more waits cycle refl refl refl due going
+    after-falls program (RanProg level Third) (Some level) restore more waits cycle refl refl refl due going
 work-falls program (BeforeCard heading) restore more false cycle due going = cc
 work-falls program (BeforeCard First) restore more true cycle due going =
     subst (λ (c : Cycle). Falls (BeforeCard First) (top_of program more) true c) (same_some (Head Second) cycle due) (omega arith)

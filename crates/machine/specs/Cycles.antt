@@ -1,5 +1,5 @@
 -- A cycle of the machine. At each of its fourteen points all units emit by their states, wires and closed contacts make of that
--- the picture of the impulsed hubs, and all units sense it. Behind the last point every unit ends the cycle.
+-- the picture of the impulsed hubs, and all units sense it. After the last point every unit ends the cycle.
 use Rattle.std.specs.Prelude.{◌≡◌, ℕ, zero, suc, Bool, List, slice_index_or}
 pub use Rattle.placed_lines.specs.Lines.{line_at}
 use Rattle.placed_lines.specs.declared.placed_line.PlacedLine.{PlacedLine}

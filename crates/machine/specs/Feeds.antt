@@ -1,6 +1,6 @@
 -- A machine is fed card by card. The first feed gives it the first card, and its run-in. Each later feed gives it the next
--- card, or none behind the last one, and runs the card cycle of the card before, with the heading cycles before that and
--- all cycles behind it up to those of the next card. The cards move on exactly when a card cycle is due, just before it runs.
+-- card, or none after the last one, and runs the card cycle of the card before, with the heading cycles before that and
+-- all cycles after it up to those of the next card. The cards move on exactly when a card cycle is due, just before it runs.
 -- That the feeds of a deck are its run is a law.
 use Rattle.std.specs.Prelude.{◌≡◌, ℕ, Bool, true, false, not, ◌||◌, List, [], ◌∷◌, ◌++◌, Option, Some, None, if◌then◌else◌}
 use Rattle.placed_lines.specs.declared.placed_line.PlacedLine.{PlacedLine}
@@ -55,7 +55,7 @@ FeedRuns wiring (cycle ∷ cycles) fed new lines =
     × FeedRuns wiring cycles mid new others
     × (lines ≡ line_of mid.machine ++ others)
 
--- A feed: a card, or none behind the last one, the machine that it leaves, and the lines that it places.
+-- A feed: a card, or none after the last one, the machine that it leaves, and the lines that it places.
 pub record Feeds (wiring : Wiring) (old : MachineState) (next : Option (List ℕ)) (new : MachineState)
     (lines : List PlacedLine) : Type 0 where
   pub cycles : List Cycle

@@ -4,7 +4,7 @@ use Rattle.card_code.specs.MostCards.{most_cards}
 use Rattle.placed_lines.specs.InOrder.{IsInOrder}
 use Rattle.placed_lines.specs.declared.placed_line.PlacedLine.{PlacedLine}
 use Rattle.hubs.specs.declared.hub.Hub.{Hub}
-use Rattle.setups.specs.Tapes.{IsForm, SameTape}
+use Rattle.setups.specs.Tapes.{IsCarriageTape, SameTape}
 use Rattle.setups.specs.Wiring.{Wiring, SameWires, SameJacks}
 use Rattle.net.specs.declared.cycle.Cycle.{Cycle}
 use Rattle.net.specs.declared.cycle.Point.{Point}
@@ -14,7 +14,7 @@ use Rattle.machine.specs.Fields.{AreInUnitOrder}
 use Rattle.machine.specs.Feeds.{Fed, FedLines, FeedStep, LinesFrom}
 use Rattle.machine.specs.Machine.{MachineState, machine_at_start, closes, sensed, ended}
 use Rattle.machine.specs.Runs.{MachineLines, RunsBy, moved_on, run_at_start}
-use Rattle.machine.specs.Steady.{latches_of, nines_of}
+use Rattle.machine.specs.Steady.{balance_latches, nines_of}
 
 -- A run is what the feeds of its cards, and one for the end, do one after another: the lines are the same.
 abbrev pub FeedsCutRuns : Type 0
@@ -35,7 +35,7 @@ RunsHaveFewCycles =
 abbrev pub LinesComeInOrder : Type 0
 LinesComeInOrder =
     (wiring : Wiring) (cards : List (List ℕ)) (lines : List PlacedLine)
-    → IsForm wiring.tape → length cards ≤ most_cards → MachineLines wiring cards lines → IsInOrder wiring.tape.lines lines
+    → IsCarriageTape wiring.tape → length cards ≤ most_cards → MachineLines wiring cards lines → IsInOrder wiring.tape.lines lines
 
 -- At most one cycle follows in a feed, and it leaves one machine.
 abbrev pub OneCycleFollows : Type 0
@@ -64,19 +64,19 @@ RunsHaveOneOutcome =
 -- machine that these feeds leave.
 abbrev pub RunsGoInParts : Type 0
 RunsGoInParts =
-    (wiring : Wiring) (old : MachineState) (cards behind : List (List ℕ)) (lines : List PlacedLine)
-    → LinesFrom wiring old (cards ++ behind) lines
+    (wiring : Wiring) (old : MachineState) (cards after : List (List ℕ)) (lines : List PlacedLine)
+    → LinesFrom wiring old (cards ++ after) lines
     → (mid : MachineState)
     × (first rest : List PlacedLine)
     × FedLines wiring old cards mid first
-    × LinesFrom wiring mid behind rest
+    × LinesFrom wiring mid after rest
     × (lines ≡ first ++ rest)
 
 -- Setups with the same wires, jacks and tape have the same lines.
 abbrev pub SameSetupsPrintAlike : Type 0
 SameSetupsPrintAlike =
     (one other : Wiring) (cards : List (List ℕ)) (lines : List PlacedLine)
-    → IsForm one.tape → IsForm other.tape
+    → IsCarriageTape one.tape → IsCarriageTape other.tape
     → SameWires one other → SameJacks one other → SameTape one.tape other.tape
     → MachineLines one cards lines → MachineLines other cards lines
 
@@ -96,4 +96,4 @@ pub record UnitsCloseThePanelsContacts : Type 0 where
   pub closed :
       (machine : MachineState) (cycle : Cycle) (point : Point) (hub : Hub) → AreInUnitOrder machine.groups
       → closes machine cycle point hub
-      ≡ closed_contacts cycle point machine.pilots machine.indicate (latches_of machine.groups) (nines_of machine.groups) hub
+      ≡ closed_contacts cycle point machine.pilots machine.indicate (balance_latches machine.groups) (nines_of machine.groups) hub

@@ -91,7 +91,7 @@ closes machine cycle point exit =
     || closes_nothing machine.carriage cycle point exit
     || closes_nothing machine.program cycle point exit
 
--- each unit as it is behind a point whose picture it has sensed
+-- each unit as it is after a point whose picture it has sensed
 abbrev pub sensed : MachineState → Cycle → Point → (Hub → Bool) → MachineState
 sensed machine cycle point picture = record {
   stations = senses_nothing machine.stations cycle point picture;

@@ -1,4 +1,4 @@
--- A machine that runs: it is fed at most 999,999 cards and then the end, and takes nothing more behind the end. Where memory
+-- A machine that runs: it is fed at most 999,999 cards and then the end, and takes nothing more after the end. Where memory
 -- was refused in a feed it is spoiled, and takes nothing from then on.
 use Rattle.std.specs.Prelude.{◌≡◌, ℕ, ◌+◌, ◌==◌, ◌&&◌, Bool, true, false, List, Option, Some, None, is_some, if◌then◌else◌}
 use Rattle.card_code.specs.MostCards.{most_cards}
@@ -24,7 +24,7 @@ pub record IsStarted (wiring : Wiring) (running : Running) : Type 0 where
   pub goes_on : running.is_ended ≡ false
   pub whole : running.is_spoiled ≡ false
 
--- why a feed is refused, if it is: a spoiled machine first, then a card too many, then what comes behind the end
+-- why a feed is refused, if it is: a spoiled machine first, then a card too many, then what comes after the end
 abbrev pub refusal : Running → Option (List ℕ) → Option FeedFault
 refusal running next =
     if running.is_spoiled
@@ -33,7 +33,7 @@ refusal running next =
     then Some TooManyCards
     else if running.is_ended then Some Ended else None
 
--- the machine behind a feed, with its units as the feed left them
+-- the machine after a feed, with its units as the feed left them
 abbrev pub fed : Option (List ℕ) → MachineState → Running → Running
 fed None machine running = record running { machine = machine; is_ended = true }
 fed (Some card) machine running = record running { machine = machine; cards = running.cards + 1 }

@@ -14,8 +14,8 @@ use Rattle.machine.specs.Machine.{MachineState}
 use Rattle.machine.specs.declared.closed.Closed.{Closed}
 
 -- the balance latches of the counter groups
-abbrev pub latches_of : List Counter → List Bool
-latches_of groups = map (λ group. group.latch) groups
+abbrev pub balance_latches : List Counter → List Bool
+balance_latches groups = map (λ group. group.latch) groups
 
 -- which counter groups stand at nines: all their positions at 9, with the advance of the cycle and before any carry
 abbrev pub nines_of : List Counter → List Bool
@@ -32,4 +32,4 @@ abbrev pub AreSteady : Cycle → Closed → MachineState → Type 0
 AreSteady cycle closed machine =
     (point : Point) (hub : Hub)
     → has_hub (closed_at closed point) hub
-    ≡ (steady_closes cycle point machine.pilots machine.indicate (latches_of machine.groups) hub || split_closes point hub)
+    ≡ (steady_closes cycle point machine.pilots machine.indicate (balance_latches machine.groups) hub || split_closes point hub)

@@ -1,7 +1,7 @@
 //! A cycle of the machine: its fourteen points, and its end.
 
 ghost use Rattle.std.specs.Prelude.{◌≡◌, map};
-ghost use Rattle.machine.specs.Steady.{latches_of};
+ghost use Rattle.machine.specs.Steady.{balance_latches};
 
 use crate::closed::Closed;
 use crate::groups::{latches, nines};

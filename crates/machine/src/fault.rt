@@ -8,7 +8,7 @@ pub enum FeedFault {
     /// Memory was refused in a feed before, and what that feed left to do is lost.
     #[error("an earlier feed ran out of memory")]
     Spoiled,
-    /// A card behind the 999,999th.
+    /// A card after the 999,999th.
     #[error("more than 999,999 cards")]
     TooManyCards,
     /// The end was fed before.

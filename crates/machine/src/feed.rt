@@ -85,7 +85,7 @@ impl Units {
         waits
     }
 
-    // Feeds a card, or the end, runs the cycles that follow, and puts their lines behind the others.
+    // Feeds a card, or the end, runs the cycles that follow, and puts their lines after the others.
     pub(crate) fn feed(
         &mut self,
         net: &Net,
@@ -104,7 +104,7 @@ impl Units {
     }
 }
 
-// Puts the line, if there is one, behind the others. Where memory is refused they stay as they were.
+// Puts the line, if there is one, after the others. Where memory is refused they stay as they were.
 fn append(lines: &mut Vec<PlacedLine>, line: Option<PlacedLine>) -> Result<(), AllocError>
     ensures appended { OnOk result (lines.new.items ≡ lines.old.items ++ option_to_list line) }
     ensures refused { OnErr result (lines.new.items ≡ lines.old.items) }

@@ -10,7 +10,7 @@ ghost use Rattle.net.specs.declared.cycle.Point.TheVariants.{C, K};
 ghost use Rattle.machine.specs.Fields.{AreInUnitOrder};
 ghost use Rattle.machine.specs.Machine.{group_units};
 ghost use Rattle.machine.specs.Rest.{AreAtRest, AreAllSilent, ComeNoCarries};
-ghost use Rattle.machine.specs.Steady.{latches_of, nines_of};
+ghost use Rattle.machine.specs.Steady.{balance_latches, nines_of};
 
 use crate::rows::{emit_all, sense_all};
 use counters::Group;
@@ -101,7 +101,7 @@ pub(crate) fn sense_groups(
     is_busy
 }
 
-// Whether a group may be busy behind a point.
+// Whether a group may be busy after a point.
 fn stays_busy(is_busy: bool, point: Point, picture: &Picture) -> bool
     ensures idle { result ≡ false → is_busy ≡ false }
     ensures silent { result ≡ false → point ≡ C → AreAllSilent (has_hub picture.now) }
@@ -140,7 +140,7 @@ fn is_closing(point: Point) -> bool
 
 // The balance latches of the counter groups.
 pub(crate) fn latches(groups: &[Group; GROUPS]) -> [bool; GROUPS]
-    ensures { result ≡ latches_of groups.now }
+    ensures { result ≡ balance_latches groups.now }
 {
     let mut latches = [false; GROUPS];
     for place in 0..GROUPS {

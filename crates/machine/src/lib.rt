@@ -1,7 +1,7 @@
 //! The simulated machine: the 45 units on a panel, cycle by cycle.
 //!
 //! A cycle has fourteen points. At each point all units emit by their states, the panel's wires and closed contacts make
-//! the picture of the impulsed hubs, and then all units sense it; behind the last point each unit ends the cycle. What
+//! the picture of the impulsed hubs, and then all units sense it; after the last point each unit ends the cycle. What
 //! that is, for every setup of the panel and every deck, is told in `specs/`.
 #![tactic(auto)]
 

@@ -61,13 +61,13 @@ impl Machine {
         })
     }
 
-    /// Feeds the next card, or the end, and puts the lines of the cycles that follow behind those of `out`.
+    /// Feeds the next card, or the end, and puts the lines of the cycles that follow after those of `out`.
     ///
     /// The first card runs the run-in. Each later card, and the end, runs the card cycle of the card before it, with the
-    /// heading cycles that precede that and the cycles behind it, up to those of the next card. The end as the first
+    /// heading cycles that precede that and the cycles after it, up to those of the next card. The end as the first
     /// feed runs nothing.
     ///
-    /// Refused with `Spoiled` where memory was refused before, else with `TooManyCards` for a card behind 999,999 of
+    /// Refused with `Spoiled` where memory was refused before, else with `TooManyCards` for a card after 999,999 of
     /// them, else with `Ended` where the end was fed before: then nothing changes. With `Memory` where memory is
     /// refused in this feed: then `out` has gained the first of the lines that were due, and the machine is spoiled.
     pub fn feed(&mut self, next: Option<Card>, out: &mut Vec<PlacedLine>) -> Result<(), FeedFault>

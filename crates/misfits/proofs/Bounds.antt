@@ -71,7 +71,7 @@ kept_closed cards ended total kept = by (nat_le (level_number total.level) ended
     by true = record { amount = kept.amount; few_digits = kept.few_digits; small = none_within (cards * above_amounts) }
     by false = kept
 
--- behind fewer cards the bounds are narrower
+-- after fewer cards the bounds are narrower
 wider : (few most : ℕ) (sum : ℤ) → few ≤ most → IsWithin (few * above_amounts) sum → IsWithin (most * above_amounts) sum
 wider few most sum less within = (omega (arith, ints, within, less), omega (arith, ints, within, less))
 

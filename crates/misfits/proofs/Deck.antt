@@ -2,7 +2,7 @@
 use Rattle.std.proofs.Common.{◌≡◌, ◌∙◌, refl, sym, ap, ℕ, zero, suc, ◌+◌, ◌<◌, List, [], ◌∷◌, ◌++◌, Option, Some, None, length, drop, get_or, slice_get, append-nil}
 use Rattle.charts.specs.declared.chart.Line.{Line}
 use Rattle.decks.specs.CardMisfits.{misfits_by_cards, misfits_from, misfits_to}
-use Rattle.report.specs.Breaks.{cleared, ended_behind, no_cards, taking}
+use Rattle.report.specs.Breaks.{cleared, ended_after, no_cards, taking}
 use Rattle.report.specs.Misfits.{Misfit, first_of, misfits}
 use Rattle.decks.proofs.Misfits.{misfits_of_cards}
 use Rattle.misfits.specs.OpenSums.{AreSumsOf, Sums}
@@ -13,7 +13,7 @@ abbrev pub left_misfits : List Line → ℕ → (ℕ → List (List ℕ)) → Li
 left_misfits lines gone so_far [] = []
 left_misfits lines gone so_far (card ∷ cards) = misfits_from lines (gone + 1) so_far card cards
 
--- What the pass over a deck keeps: the sums are those of some unfinished groups, behind so many cards, and the first misfit is that of the
+-- What the pass over a deck keeps: the sums are those of some unfinished groups, after so many cards, and the first misfit is that of the
 -- cards that are left.
 pub record Kept (lines : List Line) (cards : List (List ℕ)) (place : ℕ) (sums : Sums) : Type 0 where
   pub so_far : ℕ → List (List ℕ)
@@ -35,7 +35,7 @@ head-drop (x ∷ xs) (suc i) = head-drop xs i
 -- the misfits of a card, and those of the cards that are left then
 one_card : (lines : List Line) (cards : List (List ℕ)) (place : ℕ) (so_far : ℕ → List (List ℕ)) (card : List ℕ) → place < length cards
     → card ≡ get_or cards place card
-    → let ended = ended_behind lines card (slice_get cards (place + 1)) in
+    → let ended = ended_after lines card (slice_get cards (place + 1)) in
     left_misfits lines place so_far (drop place cards)
     ≡ misfits_to lines (place + 1) ended (taking card so_far)
     ++ left_misfits lines (place + 1) (cleared ended (taking card so_far)) (drop (place + 1) cards)
@@ -45,14 +45,14 @@ one_card lines cards place so_far card within at =
   where
     by : (others : List (List ℕ)) (next : Option (List ℕ)) → next ≡ head others
         → misfits_from lines (place + 1) so_far card others
-        ≡ misfits_to lines (place + 1) (ended_behind lines card next) (taking card so_far)
-        ++ left_misfits lines (place + 1) (cleared (ended_behind lines card next) (taking card so_far)) others
+        ≡ misfits_to lines (place + 1) (ended_after lines card next) (taking card so_far)
+        ++ left_misfits lines (place + 1) (cleared (ended_after lines card next) (taking card so_far)) others
     by [] next is =
-        ap (λ o. misfits_to lines (place + 1) (ended_behind lines card o) (taking card so_far)) (sym is)
-        ∙ sym (append-nil (misfits_to lines (place + 1) (ended_behind lines card next) (taking card so_far)))
+        ap (λ o. misfits_to lines (place + 1) (ended_after lines card o) (taking card so_far)) (sym is)
+        ∙ sym (append-nil (misfits_to lines (place + 1) (ended_after lines card next) (taking card so_far)))
     by (one ∷ others) next is =
-        ap (λ o. misfits_to lines (place + 1) (ended_behind lines card o) (taking card so_far)
-        ++ left_misfits lines (place + 1) (cleared (ended_behind lines card o) (taking card so_far)) (one ∷ others))
+        ap (λ o. misfits_to lines (place + 1) (ended_after lines card o) (taking card so_far)
+        ++ left_misfits lines (place + 1) (cleared (ended_after lines card o) (taking card so_far)) (one ∷ others))
         (sym is)
 
 -- before the first card
@@ -72,37 +72,37 @@ kept_first lines cards sums are none = record {
 module _ (lines : List Line) (cards : List (List ℕ)) (place : ℕ) (card : List ℕ) (next : Option (List ℕ)) (old : Sums)
     (kept : Kept lines cards place old) (within : place < length cards) (at : card ≡ get_or cards place card)
     (is_next : next ≡ slice_get cards (place + 1)) where
-  abbrev behind : ℕ → List (List ℕ)
-  behind = cleared (ended_behind lines card next) (taking card kept.so_far)
+  abbrev after : ℕ → List (List ℕ)
+  after = cleared (ended_after lines card next) (taking card kept.so_far)
 
   -- those of the card
   abbrev here : ℕ → List Misfit
-  here number = misfits_to lines number (ended_behind lines card next) (taking card kept.so_far)
+  here number = misfits_to lines number (ended_after lines card next) (taking card kept.so_far)
 
   all : first_of (misfits lines cards)
-      ≡ first_of (here (old.cards + 1) ++ left_misfits lines (place + 1) behind (drop (place + 1) cards))
+      ≡ first_of (here (old.cards + 1) ++ left_misfits lines (place + 1) after (drop (place + 1) cards))
   all =
       kept.first
       ∙ ap first_of (one_card lines cards place kept.so_far card within at)
       ∙ ap
-      (λ o. first_of (misfits_to lines (place + 1) (ended_behind lines card o) (taking card kept.so_far)
-      ++ left_misfits lines (place + 1) (cleared (ended_behind lines card o) (taking card kept.so_far)) (drop (place + 1) cards)))
+      (λ o. first_of (misfits_to lines (place + 1) (ended_after lines card o) (taking card kept.so_far)
+      ++ left_misfits lines (place + 1) (cleared (ended_after lines card o) (taking card kept.so_far)) (drop (place + 1) cards)))
       (sym is_next)
-      ∙ ap (λ n. first_of (here (n + 1) ++ left_misfits lines (place + 1) behind (drop (place + 1) cards))) (sym kept.counted)
+      ∙ ap (λ n. first_of (here (n + 1) ++ left_misfits lines (place + 1) after (drop (place + 1) cards))) (sym kept.counted)
 
   -- a misfit of the card is the first of the deck
   pub told_first_of_deck : (misfit : Misfit) → Some misfit ≡ first_of (here (old.cards + 1)) → Some misfit ≡ first_of (misfits lines cards)
   told_first_of_deck misfit tells =
-      sym (all ∙ first-append (here (old.cards + 1)) (left_misfits lines (place + 1) behind (drop (place + 1) cards)) misfit (sym tells))
+      sym (all ∙ first-append (here (old.cards + 1)) (left_misfits lines (place + 1) after (drop (place + 1) cards)) misfit (sym tells))
 
   -- without one the pass goes on
-  pub kept_more : (new : Sums) → None ≡ first_of (here (old.cards + 1)) → AreSumsOf lines behind new → new.cards ≡ old.cards + 1
+  pub kept_more : (new : Sums) → None ≡ first_of (here (old.cards + 1)) → AreSumsOf lines after new → new.cards ≡ old.cards + 1
       → Kept lines cards (place + 1) new
   kept_more new none are more = record {
-    so_far = behind;
+    so_far = after;
     are = are;
     counted = more ∙ ap (λ n. n + 1) kept.counted;
     first = all
-        ∙ ap (λ l. first_of (l ++ left_misfits lines (place + 1) behind (drop (place + 1) cards)))
+        ∙ ap (λ l. first_of (l ++ left_misfits lines (place + 1) after (drop (place + 1) cards)))
         (no_first (here (old.cards + 1)) (sym none));
   }

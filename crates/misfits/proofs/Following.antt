@@ -5,7 +5,7 @@ use Rattle.decks.specs.CardMisfits.{misfits_to}
 use Rattle.decks.specs.FitSoFar.{groups_before, misfits_of_last}
 use Rattle.decks.specs.Stands.{last_of}
 use Rattle.decks.proofs.FitSoFar.{groups-more}
-use Rattle.report.specs.Breaks.{cleared, ended_behind, no_cards, taking}
+use Rattle.report.specs.Breaks.{cleared, ended_after, no_cards, taking}
 use Rattle.report.specs.Misfits.{Misfit, first_of}
 use Rattle.misfits.specs.OpenSums.{AreSumsOf, Sums}
 use Rattle.misfits.specs.OpenTotals.{open_totals}
@@ -22,19 +22,19 @@ sums_begin lines card sums are none = record { are = are; counted = none }
 -- what is told where the last card is taken, given the next
 pub sums_tell : (lines : List Line) (card : List ℕ) (cards : List (List ℕ)) (sums : Sums) (next : Option (List ℕ)) (found : Option Misfit)
     → SumsBefore lines card cards sums
-    → found ≡ first_of (misfits_to lines (sums.cards + 1) (ended_behind lines (last_of card cards) next)
+    → found ≡ first_of (misfits_to lines (sums.cards + 1) (ended_after lines (last_of card cards) next)
     (taking (last_of card cards) (groups_before lines card cards)))
     → found ≡ first_of (misfits_of_last lines card cards next)
 sums_tell lines card cards sums next found before tells =
     tells
     ∙ ap
-    (λ n. first_of (misfits_to lines (n + 1) (ended_behind lines (last_of card cards) next)
+    (λ n. first_of (misfits_to lines (n + 1) (ended_after lines (last_of card cards) next)
     (taking (last_of card cards) (groups_before lines card cards))))
     before.counted
 
 -- and what the sums then are
 pub sums_go_on : (lines : List Line) (card : List ℕ) (cards : List (List ℕ)) (next : List ℕ) (old new : Sums) → SumsBefore lines card cards old
-    → AreSumsOf lines (cleared (ended_behind lines (last_of card cards) (Some next)) (taking (last_of card cards) (groups_before lines card cards))) new
+    → AreSumsOf lines (cleared (ended_after lines (last_of card cards) (Some next)) (taking (last_of card cards) (groups_before lines card cards))) new
     → new.cards ≡ old.cards + 1
     → SumsBefore lines card (cards ++ next ∷ []) new
 sums_go_on lines card cards next old new before are more = record {

@@ -14,7 +14,7 @@ use Rattle.charts.specs.declared.statement.Field.{Field}
 use Rattle.charts.specs.declared.statement.Mark.{Mark}
 use Rattle.charts.specs.declared.statement.Statement.{Statement}
 use Rattle.charts.specs.declared.statement.Statement.TheVariants as says
-use Rattle.charts.proofs.Listed.{listed-behind, listed-first, listed-place}
+use Rattle.charts.proofs.Listed.{listed-after, listed-first, listed-place}
 use Rattle.field_rules.specs.Columns.{has_good_sign}
 use Rattle.field_rules.specs.Digits.{is_out_of_digits}
 use Rattle.field_rules.specs.Fields.{field_named}
@@ -108,7 +108,7 @@ kept_at_first chart lawful = all chart.lines (λ line there. there)
         → All (IsKept 0) (open_totals chart.lines no_cards some)
     all [] there = All-nil (IsKept 0)
     all (line ∷ some) there =
-        by (open_on chart.lines no_cards line.statement) refl (all some (λ other stands. there other (listed-behind line some stands)))
+        by (open_on chart.lines no_cards line.statement) refl (all some (λ other stands. there other (listed-after line some stands)))
       where
         by : (o : Option OpenTotal) → open_on chart.lines no_cards line.statement ≡ o → All (IsKept 0) (open_totals chart.lines no_cards some)
             → All (IsKept 0) (cons_option o (open_totals chart.lines no_cards some))

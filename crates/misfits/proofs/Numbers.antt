@@ -8,7 +8,7 @@ use Rattle.card_code.specs.CardCode.{has_row}
 use Rattle.charts.proofs.Listed.{found-listed, listed-within}
 use Rattle.report.specs.Amounts.{digit_in, number_in}
 
--- a digit's share with one digit more behind it
+-- a digit's share with one digit more after it
 share : (digit power more : ℕ) → digit * (power * 10) ≡ 10 * (digit * power)
 share digit power more = omega arith
 

@@ -1,4 +1,4 @@
--- What the open totals are behind a card, and what they tell.
+-- What the open totals are after a card, and what they tell.
 use Rattle.std.proofs.Common.{◌≡◌, ◌∙◌, ap, ap₂, ℕ, ◌+◌, ◌<◌, ◌≤◌, List, [], ◌++◌, Option, length, map, drop, append-nil, arith}
 use Rattle.std.specs.List.{refill}
 use Rattle.std.proofs.lemmas.List.{length-map, take_all, drop_all}

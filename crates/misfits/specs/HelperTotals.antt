@@ -18,7 +18,7 @@ above_amounts = 100000000
 abbrev pub IsWithin : ℕ → ℤ → Type 0
 IsWithin most number = (neg_ℤ (pos most) ≤ℤ number) × (number ≤ℤ pos most)
 
--- An open total keeps the bounds behind so many cards: its amount's columns and digits, the digits of its total line, and its sum.
+-- An open total keeps the bounds after so many cards: its amount's columns and digits, the digits of its total line, and its sum.
 pub record IsKept (cards : ℕ) (total : OpenTotal) : Type 0 where
   pub amount : IsGoodAmount total.field
   pub few_digits : total.digits ≤ most_digits

@@ -4,7 +4,7 @@ ghost use Rattle.std.specs.Prelude.{◌≡◌, ◌≤◌, ◌<◌, length, nat_e
 ghost use Rattle.chart_rules.specs.HelperOnCard.{IsOnCard};
 ghost use Rattle.chart_rules.specs.Rules.{IsLawful};
 ghost use Rattle.chart_rules.specs.ValidCard.{column_of};
-ghost use Rattle.report.specs.Breaks.{ended_behind, highest};
+ghost use Rattle.report.specs.Breaks.{ended_after, highest};
 ghost use Rattle.report.specs.Groups.{is_same_at, is_same_on};
 ghost use Rattle.misfits.specs.HelperGroups.{all_stay_same, stays_same};
 
@@ -77,8 +77,8 @@ fn highest_break(chart: &Chart, one: &Card, other: &Card) -> u8
 }
 
 /// The highest level whose group ends after a card: that of the break before the next card, and 4 after the last card.
-pub(crate) fn ended_behind(chart: &Chart, card: &Card, next: Option<Card>) -> u8
-    ensures value { result ≡ ended_behind chart.now.lines card.now next }
+pub(crate) fn ended_after(chart: &Chart, card: &Card, next: Option<Card>) -> u8
+    ensures value { result ≡ ended_after chart.now.lines card.now next }
     ensures levels { result ≤ 4 }
 {
     match next {

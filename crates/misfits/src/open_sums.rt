@@ -5,13 +5,13 @@ ghost use Rattle.std.specs.List.{All};
 ghost use Rattle.card_code.specs.MostCards.{most_cards};
 ghost use Rattle.chart_rules.specs.Rules.{IsLawful};
 ghost use Rattle.decks.specs.CardMisfits.{misfits_to};
-ghost use Rattle.report.specs.Breaks.{cleared, ended_behind, no_cards, taking};
+ghost use Rattle.report.specs.Breaks.{cleared, ended_after, no_cards, taking};
 ghost use Rattle.report.specs.Misfits.{first_of};
 ghost use Rattle.misfits.specs.OpenSums.{AreSumsOf};
 ghost use Rattle.misfits.specs.OpenTotals.{open_on};
 ghost use Rattle.misfits.specs.Told.{told};
 
-use crate::groups::ended_behind;
+use crate::groups::ended_after;
 use crate::misfit::Misfit;
 use crate::open_total::{OpenTotal, add_card, end_groups, first_misfit_to};
 use arrayvec::ArrayVec;
@@ -93,15 +93,15 @@ impl OpenSums {
         requires { self.old.cards < most_cards }
         ensures told { (so_far : ℕ → List (List ℕ)) → AreSumsOf chart.now.lines so_far self.old →
             option_map told result ≡ first_of (misfits_to chart.now.lines (self.old.cards + 1)
-            (ended_behind chart.now.lines card.now next) (taking card.now so_far)) }
+            (ended_after chart.now.lines card.now next) (taking card.now so_far)) }
         ensures goes_on { (so_far : ℕ → List (List ℕ)) → AreSumsOf chart.now.lines so_far self.old →
             AreSumsOf chart.now.lines
-            (cleared (ended_behind chart.now.lines card.now next) (taking card.now so_far)) self.new }
+            (cleared (ended_after chart.now.lines card.now next) (taking card.now so_far)) self.new }
         ensures counted { self.new.cards ≡ self.old.cards + 1 }
     {
         add_card(self.totals.as_mut_slice(), card);
         self.cards += 1;
-        let ended = ended_behind(chart, card, next);
+        let ended = ended_after(chart, card, next);
         let misfit = first_misfit_to(self.totals.as_slice(), ended, self.cards);
         end_groups(self.totals.as_mut_slice(), ended);
         misfit

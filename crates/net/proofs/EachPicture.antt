@@ -22,7 +22,7 @@ use Rattle.net.proofs.PanelContacts.{contact_by_place, contact_numbered, in_runs
 hub_low : (place : ℕ) → place < 1936 → (hub : Hub) × (number_of hub ≡ Some (place + 1))
 hub_low place low = hub_numbered (place + 1) (omega arith) (omega (arith, low))
 
--- the hub at a place of the panel; behind the last place it is the last hub
+-- the hub at a place of the panel; after the last place it is the last hub
 hub_found : (place : ℕ) → (place < 1936) ⊎ (1936 ≤ place) → Hub
 hub_found place (inl low) = (hub_low place low).0
 hub_found place (inr high) = RS

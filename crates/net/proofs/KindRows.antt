@@ -12,7 +12,7 @@ use Rattle.hubs.specs.declared.hub.Hub.TheVariants.{FR, SR, CX, GX, BAN, BAT, PI
 use Rattle.net.specs.HubSets.{HubSet, has_hub, is_bit, is_bit_from, is_in_reach, is_in_row}
 use Rattle.net.proofs.Rows.{row_here, row_elsewhere, row_read}
 
--- the number of the n-th of so many hubs behind so many others; none out of range
+-- the number of the n-th of so many hubs after so many others; none out of range
 abbrev pub numbered_at : ℕ → ℕ → ℕ → Option ℕ
 numbered_at start last n = if is_within n last then Some (start + n) else None
 
@@ -24,8 +24,8 @@ numbered_in start last n from to =
 
 -- Hubs that are numbered one after another, from 1 to the last.
 module _ (at : ℕ → Hub) (start last : ℕ) (numbered : (n : ℕ) → number_of (at n) ≡ numbered_at start last n) where
-  behind : 1 ≤ last → (k : ℕ) → k < last → number_of (at (k + 1)) ≡ Some (start + 1 + k)
-  behind some k low =
+  after : 1 ≤ last → (k : ℕ) → k < last → number_of (at (k + 1)) ≡ Some (start + 1 + k)
+  after some k low =
       let index : start + (k + 1) ≡ start + 1 + k = omega arith in
       numbered (k + 1) ∙ numbered_in start last (k + 1) (omega arith) (omega arith) ∙ ap Some index
 
@@ -36,7 +36,7 @@ module _ (at : ℕ → Hub) (start last : ℕ) (numbered : (n : ℕ) → number_
   pub row_other : (bits : ℕ) (hub : Hub) → 1 ≤ last → bits < 2 ^ last → ((n : ℕ) → at n ≢ hub)
       → is_in_row (at 1) bits hub ≡ false
   row_other bits hub some small none =
-      row_elsewhere (at 1) hub (λ k. at (k + 1)) (start + 1) last bits (first_is some) small (behind some)
+      row_elsewhere (at 1) hub (λ k. at (k + 1)) (start + 1) last bits (first_is some) small (after some)
       (λ k low. none (k + 1))
 
   -- one of them is in their row where its bit is set

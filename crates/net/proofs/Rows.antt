@@ -39,16 +39,16 @@ is_hub-same one other same = by (number_of one) (number_of other) refl refl same
 pub is_hub-own : (hub : Hub) (n : ℕ) → number_of hub ≡ Some n → is_hub hub hub ≡ true
 is_hub-own hub n is = ap (λ m. is_same_number m m) is ∙ (eq-eqb n n refl)
 
--- the hub that is k behind the first one of a row has bit k
+-- the hub that is k after the first one of a row has bit k
 pub row_here : (first hub : Hub) (n k bits : ℕ) → number_of first ≡ Some n → number_of hub ≡ Some (n + k)
     → is_in_row first bits hub ≡ is_bit bits k
 row_here first hub n k bits is and_is =
-    let behind : nat_le n (n + k) ≡ true = grind (arith, nat_tests) in
+    let after : nat_le n (n + k) ≡ true = grind (arith, nat_tests) in
     let index : n + k - n ≡ k = omega arith in
     ap (λ m. is_bit_from m bits (number_of hub)) is ∙ ap (is_bit_from (Some n) bits) and_is
-    ∙ ap (λ b. b && is_bit bits (n + k - n)) behind ∙ ap (is_bit bits) index
+    ∙ ap (λ b. b && is_bit bits (n + k - n)) after ∙ ap (is_bit bits) index
 
--- a hub that is none of a row's is not in it, where the row has no bit behind its last hub
+-- a hub that is none of a row's is not in it, where the row has no bit after its last hub
 pub row_elsewhere : (first hub : Hub) (at : ℕ → Hub) (n count bits : ℕ) → number_of first ≡ Some n → bits < 2 ^ count
     → ((k : ℕ) → k < count → number_of (at k) ≡ Some (n + k)) → ((k : ℕ) → k < count → at k ≢ hub)
     → is_in_row first bits hub ≡ false
@@ -67,7 +67,7 @@ row_elsewhere first hub at n count bits is small numbered none = ap (λ m. is_bi
       (cases_lt m (n + count)))
       (cases_lt m n)
 
--- what a row that was read says of the hub that is k behind the first one
+-- what a row that was read says of the hub that is k after the first one
 pub row_read : (first hub : Hub) (n k bits : ℕ) (set : HubSet) → number_of first ≡ Some n → number_of hub ≡ Some (n + k) → k < 128
     → ((other : Hub) → is_in_reach first other ≡ true → is_in_row first bits other ≡ has_hub set other)
     → is_bit bits k ≡ has_hub set hub

@@ -37,14 +37,14 @@ cut_here words k long here =
 
 -- a set that is cut holds hubs alone
 pub HoldsHubsAlone-cut : (words : List ℕ) → length words ≡ 31 → HoldsHubsAlone (cut words)
-HoldsHubsAlone-cut words long k past = ⊎_elim here behind (cases_eq (k / 64) 30) where
+HoldsHubsAlone-cut words long k past = ⊎_elim here after (cases_eq (k / 64) 30) where
   here : k / 64 ≡ 30 → has_place (cut words) k ≡ false
   here last =
       let no : nat_lt (k % 64) 16 ≡ false = grind (arith, nat_tests) in
       cut_here words k long last ∙ ap (λ b. has_place words k && b) no ∙ and-false _
 
-  behind : k / 64 ≢ 30 → has_place (cut words) k ≡ false
-  behind other =
+  after : k / 64 ≢ 30 → has_place (cut words) k ≡ false
+  after other =
       let same : length (cut words) ≡ 31 = grind (arith, common_steps) in
       has_place-past (cut words) k (omega (arith, same))
 
@@ -123,11 +123,11 @@ row_read_at words seen n bits named given same is from read near =
           ∙ ap (λ b. b && has_place words (n - 1 + (m - n))) f ∙ ap (has_place words) g
       by None near = cc
 
--- a row that was read has no bit behind that of the last hub
+-- a row that was read has no bit after that of the last hub
 pub row_cut_at :
     (words : List ℕ) (n bits : ℕ) (named : Option ℕ) (number k : ℕ) → Some n ≡ named → named ≡ Some number → 1 ≤ n
     → HoldsHubsAlone words → ((k : ℕ) → is_bit bits k ≡ (nat_lt k 128 && has_place words (n - 1 + k)))
     → 1936 < number + k → is_bit bits k ≡ false
-row_cut_at words n bits named number k is and_is from alone read behind =
+row_cut_at words n bits named number k is and_is from alone read after =
     let same : n ≡ number = cc in
-    read k ∙ ap (λ b. nat_lt k 128 && b) (alone (n - 1 + k) (omega (arith, same, from, behind))) ∙ and-false _
+    read k ∙ ap (λ b. nat_lt k 128 && b) (alone (n - 1 + k) (omega (arith, same, from, after))) ∙ and-false _

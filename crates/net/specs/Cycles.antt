@@ -1,15 +1,15 @@
 -- Cycles and points: the numbers of levels and of the three cycles of a kind, and the fourteen points in their order.
 use Rattle.std.specs.Prelude.{ℕ, Bool, true, false, List, [], ◌∷◌}
 use Rattle.card_code.specs.declared.row.Row.TheVariants as row
-use Rattle.net.specs.declared.cycle.Level.{Level}
-use Rattle.net.specs.declared.cycle.Level.TheVariants.{Minor, Intermediate, Major, Final}
+use Rattle.net.specs.declared.cycle.ProgramLevel.{ProgramLevel}
+use Rattle.net.specs.declared.cycle.ProgramLevel.TheVariants.{Minor, Intermediate, Major, Final}
 use Rattle.net.specs.declared.cycle.Ordinal.{Ordinal}
 use Rattle.net.specs.declared.cycle.Ordinal.TheVariants.{First, Second, Third}
 use Rattle.net.specs.declared.cycle.Point.{Point}
 use Rattle.net.specs.declared.cycle.Point.TheVariants.{C, Row, K}
 
 -- the number of a level
-abbrev pub level_number : Level → ℕ
+abbrev pub level_number : ProgramLevel → ℕ
 level_number Minor = 1
 level_number Intermediate = 2
 level_number Major = 3

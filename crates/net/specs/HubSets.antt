@@ -9,7 +9,7 @@ use Rattle.bit_sets.specs.Bits.{has_place}
 pub record HubSet : Type 0 where
   pub words : List ℕ
 
--- A set's words hold hubs alone: each bit behind that of the last hub, place 1935, is 0.
+-- A set's words hold hubs alone: each bit after that of the last hub, place 1935, is 0.
 abbrev pub HoldsHubsAlone : List ℕ → Type 0
 HoldsHubsAlone words = (place : ℕ) → 1936 ≤ place → has_place words place ≡ false
 

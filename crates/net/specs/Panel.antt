@@ -19,14 +19,14 @@ contact_of (CSD split) = Some (hub.CSE split)
 contact_of (CSZ split) = Some (hub.CSE split)
 contact_of other = None
 
--- the number behind units that come before, or 0 where there is none
-abbrev pub unit_behind : ℕ → Option ℕ → ℕ
-unit_behind before (Some place) = before + place
-unit_behind before None = 0
+-- the number after units that come before, or 0 where there is none
+abbrev pub unit_after : ℕ → Option ℕ → ℕ
+unit_after before (Some place) = before + place
+unit_after before None = 0
 
 -- the unit of a counter group: 3 to 34, by width and number; 0 where there is no such group
 abbrev pub unit_of : Group → ℕ
-unit_of group = unit_behind 2 (group_place group.width group.number)
+unit_of group = unit_after 2 (group_place group.width group.number)
 
 -- The unit that owns an exit: it emits there, or the contact that leads to it is its own; at a carry exit both. 0 for an entry.
 abbrev pub owner_of : Hub → ℕ

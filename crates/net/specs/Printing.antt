@@ -5,8 +5,8 @@ use Rattle.setups.specs.Wiring.{Wiring, is_plugged}
 use Rattle.hubs.specs.declared.jack.Jack.TheVariants as jack
 use Rattle.net.specs.declared.cycle.Cycle.{Cycle}
 use Rattle.net.specs.declared.cycle.Cycle.TheVariants.{RunIn, Card, Prog, Head}
-use Rattle.net.specs.declared.cycle.Level.{Level}
-use Rattle.net.specs.declared.cycle.Level.TheVariants.{Minor, Intermediate, Major, Final}
+use Rattle.net.specs.declared.cycle.ProgramLevel.{ProgramLevel}
+use Rattle.net.specs.declared.cycle.ProgramLevel.TheVariants.{Minor, Intermediate, Major, Final}
 use Rattle.net.specs.declared.cycle.Ordinal.{Ordinal}
 use Rattle.net.specs.declared.cycle.Ordinal.TheVariants.{First, Second, Third}
 use Rattle.net.specs.declared.printing.Printing.{Printing}
@@ -25,7 +25,7 @@ printing_of wiring = record {
 }
 
 -- whether the totals of a level are printed
-abbrev pub prints_total : Printing → Level → Bool
+abbrev pub prints_total : Printing → ProgramLevel → Bool
 prints_total printing Minor = printing.minor_totals
 prints_total printing Intermediate = printing.intermediate_totals
 prints_total printing Major = printing.major_totals

@@ -6,14 +6,14 @@ use card_code::Row;
 
 /// A level of totals.
 #[derive(Clone, Copy, Debug, PartialEq, Eq)]
-pub enum Level {
+pub enum ProgramLevel {
     /// Level 1.
     Minor,
     /// Level 2.
     Intermediate,
     /// Level 3.
     Major,
-    /// Level 4, behind the last card.
+    /// Level 4, after the last card.
     Final,
 }
 
@@ -33,10 +33,10 @@ pub enum Ordinal {
 pub enum Cycle {
     /// The first cycle of a run: card 1 passes the first reading station.
     RunIn,
-    /// A card passes the second reading station, and the card behind it the first.
+    /// A card passes the second reading station, and the card after it the first.
     Card,
     /// A program cycle of a level. The third can print.
-    Prog(Level, Ordinal),
+    Prog(ProgramLevel, Ordinal),
     /// A heading cycle. The first begins a page.
     Head(Ordinal),
 }
@@ -48,7 +48,7 @@ pub enum Point {
     C,
     /// The point of a card row: 9 down to 0, then 11 and 12.
     Row(Row),
-    /// The closing point, behind the rows.
+    /// The closing point, after the rows.
     K,
 }
 
@@ -70,7 +70,7 @@ pub const POINTS: [Point; 14] = [
     Point::K,
 ];
 
-impl Level {
+impl ProgramLevel {
     ghost use Rattle.std.specs.Prelude.{◌≡◌, ◌≤◌};
 
     /// Its number, 1 to 4.
@@ -80,10 +80,10 @@ impl Level {
         ensures to { result ≤ 4 }
     {
         match self {
-            Level::Minor => 1,
-            Level::Intermediate => 2,
-            Level::Major => 3,
-            Level::Final => 4,
+            ProgramLevel::Minor => 1,
+            ProgramLevel::Intermediate => 2,
+            ProgramLevel::Major => 3,
+            ProgramLevel::Final => 4,
         }
     }
 }

@@ -9,7 +9,7 @@ mod picture;
 mod printing;
 mod unit;
 
-pub use cycle::{Cycle, Level, Ordinal, POINTS, Point};
+pub use cycle::{Cycle, Ordinal, POINTS, Point, ProgramLevel};
 pub use laws::{
     emitting_exits_have_a_picture, impulsed_hubs_are_the_least_set,
     wires_to_entries_lead_no_further,

@@ -5,7 +5,7 @@ ghost use Rattle.setups.specs.Wiring.{IsEntryNumber};
 ghost use Rattle.net.specs.NetRows.{AddsRow};
 
 use crate::contacts::CONTACTS;
-use crate::picture::{Contacts, Picture, cut_behind_hubs};
+use crate::picture::{Contacts, Picture, cut_after_hubs};
 use bit_sets::{EXITS, Rows, reach};
 use hubs::Hub;
 use setups::Setup;
@@ -58,7 +58,7 @@ impl Net {
         out.words = exits.words;
         reach(&self.rows, &CONTACTS, contacts.words(), &mut out.words);
         // Wires lead to hubs alone. The rows do not tell so, and a cut costs next to nothing.
-        cut_behind_hubs(&mut out.words);
+        cut_after_hubs(&mut out.words);
     }
 }
 

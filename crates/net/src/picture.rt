@@ -14,7 +14,7 @@ pub const HUBS: usize = 1936;
 /// A set of hubs, as the exits that emit at a point or the hubs that are impulsed then.
 #[derive(Clone, Copy, Debug, PartialEq, Eq)]
 pub struct Picture {
-    // The hub with the number h is bit h - 1, counted through the words. The bits behind the last hub are 0: so equal sets
+    // The hub with the number h is bit h - 1, counted through the words. The bits after the last hub are 0: so equal sets
     // have equal words.
     pub(crate) words: [u64; WORDS],
 }
@@ -44,7 +44,7 @@ impl Picture {
         Picture { words: [0; WORDS] }
     }
 
-    /// Its words: the hub with the number h, 1 to 1936, is bit (h - 1) % 64 of word (h - 1) / 64. The bits behind the last hub
+    /// Its words: the hub with the number h, 1 to 1936, is bit (h - 1) % 64 of word (h - 1) / 64. The bits after the last hub
     /// are 0.
     pub fn words(&self) -> &[u64; WORDS]
         ensures words { result.now ≡ self.now.words }
@@ -72,14 +72,14 @@ impl Picture {
     }
 
     /// Adds a row of up to 128 hubs that follow one another: bit k stands for the hub whose number is the first one's and k.
-    /// Bits behind the last hub change nothing, and neither does a row from a hub out of range.
+    /// Bits after the last hub change nothing, and neither does a row from a hub out of range.
     #[inline(always)]
     pub fn insert_row(&mut self, first: Hub, bits: u128)
         ensures { GainsHubs (is_in_row first bits) self.old self.new }
     {
         if let Some(number) = first.number() {
             bit_sets::put_run(&mut self.words, number as usize - 1, bits);
-            cut_behind_hubs(&mut self.words);
+            cut_after_hubs(&mut self.words);
         }
     }
 
@@ -95,7 +95,7 @@ impl Picture {
     }
 
     /// Which of the 128 hubs that follow one another from the first one are in the set: bit k stands for the hub whose
-    /// number is the first one's and k. The bits behind the last hub are 0, and so are all bits where the first hub is out of
+    /// number is the first one's and k. The bits after the last hub are 0, and so are all bits where the first hub is out of
     /// range.
     #[inline(always)]
     pub fn row(&self, first: Hub) -> u128
@@ -110,9 +110,9 @@ impl Picture {
     }
 }
 
-// Cuts the bits behind the last hub, whose own bit is bit 15 of the last word.
+// Cuts the bits after the last hub, whose own bit is bit 15 of the last word.
 #[inline(always)]
-pub(crate) fn cut_behind_hubs(words: &mut [u64; WORDS])
+pub(crate) fn cut_after_hubs(words: &mut [u64; WORDS])
     ensures hubs { HoldsHubsAlone words.new }
     ensures kept { (place : ℕ) → place < HUBS → has_place words.new place ≡ has_place words.old place }
 {

@@ -1,6 +1,6 @@
 //! Which cycles print.
 
-use crate::cycle::{Cycle, Level, Ordinal};
+use crate::cycle::{Cycle, Ordinal, ProgramLevel};
 use hubs::Jack;
 use setups::Setup;
 
@@ -51,14 +51,14 @@ impl Printing {
     }
 
     // Whether the totals of a level are printed.
-    fn prints_total(&self, level: Level) -> bool
+    fn prints_total(&self, level: ProgramLevel) -> bool
         ensures { result ≡ prints_total self.now level }
     {
         match level {
-            Level::Minor => self.minor_totals,
-            Level::Intermediate => self.intermediate_totals,
-            Level::Major => self.major_totals,
-            Level::Final => self.final_totals,
+            ProgramLevel::Minor => self.minor_totals,
+            ProgramLevel::Intermediate => self.intermediate_totals,
+            ProgramLevel::Major => self.major_totals,
+            ProgramLevel::Final => self.final_totals,
         }
     }
 

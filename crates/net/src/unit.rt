@@ -14,7 +14,7 @@ use crate::picture::Picture;
 /// A unit of the machine. What it does depends on its own state, the cycle and the point alone.
 ///
 /// At each point of a cycle all units emit; the panel makes the picture of the impulsed hubs of that; then all units sense
-/// the picture. Behind the closing point each unit ends the cycle. What a unit gathers at the points of the rows
+/// the picture. After the closing point each unit ends the cycle. What a unit gathers at the points of the rows
 /// changes nothing of what it emits, and of which of its contacts are closed, at these points.
 pub trait Unit {
     // The exits that it emits.

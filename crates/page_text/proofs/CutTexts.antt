@@ -15,7 +15,7 @@ cut-other [] last other = grind (arith, nat_tests, other)
 cut-other (character ∷ []) last other = ap (onto_cut character) (cut-other [] last other)
 cut-other (character ∷ next ∷ text) last other = ap (onto_cut character) (cut-other (next ∷ text) last other)
 
--- the text up to a place behind 0 is the text up to the place before it and one character more
+-- the text up to a place after 0 is the text up to the place before it and one character more
 take_back : (text : List ℕ) (end : ℕ) → 0 < end → end ≤ length text → take end text
     ≡ take (end - 1) text ++ get_or text (end - 1) 0 ∷ []
 take_back text end some within =

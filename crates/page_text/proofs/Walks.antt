@@ -5,7 +5,7 @@ use Rattle.std.proofs.lemmas.Bool.Decides.{eqb_tells, nat_tests}
 use Rattle.placed_lines.specs.declared.placed_line.PlacedLine.{PlacedLine}
 use Rattle.placed_lines.specs.InOrder.{IsAfter, FollowInOrder, IsInOrder}
 use Rattle.page_text.specs.Pages.{Pages, page_bytes, line_bytes, text_at, last_page, without_trailing_blanks}
-use Rattle.page_text.specs.Walking.{first_text, behind, behind_lines, behind_pages, walked_lines, walked_pages}
+use Rattle.page_text.specs.Walking.{first_text, left_after, left_after_lines, left_after_pages, walked_lines, walked_pages}
 use Rattle.page_text.proofs.Parts.{flat_map-range_more}
 
 -- a number and one is the next number
@@ -15,55 +15,55 @@ next n = omega arith
 -- a definition's step, by a number and one
 walked_at_next : (left : List PlacedLine) (page n : ℕ)
     → walked_lines left page n
-    ++ (without_trailing_blanks (first_text (behind_lines left page n) page (suc n)) ++ 10 ∷ [])
+    ++ (without_trailing_blanks (first_text (left_after_lines left page n) page (suc n)) ++ 10 ∷ [])
     ≡ walked_lines left page (suc n)
 unfolding walked_lines
 walked_at_next left page n = refl
 
 walked_next : (left : List PlacedLine) (page n : ℕ)
     → walked_lines left page n
-    ++ (without_trailing_blanks (first_text (behind_lines left page n) page (n + 1)) ++ 10 ∷ [])
+    ++ (without_trailing_blanks (first_text (left_after_lines left page n) page (n + 1)) ++ 10 ∷ [])
     ≡ walked_lines left page (n + 1)
 walked_next left page n = subst
-    (λ k. walked_lines left page n ++ (without_trailing_blanks (first_text (behind_lines left page n) page k) ++ 10 ∷ []) ≡ walked_lines left page k)
+    (λ k. walked_lines left page n ++ (without_trailing_blanks (first_text (left_after_lines left page n) page k) ++ 10 ∷ []) ≡ walked_lines left page k)
     (next n) (walked_at_next left page n)
 
-behind_at_next : (left : List PlacedLine) (long n : ℕ)
-    → behind_lines (behind_pages left long n) (suc n) long ≡ behind_pages left long (suc n)
-unfolding behind_pages
-behind_at_next left long n = refl
+after_at_next : (left : List PlacedLine) (long n : ℕ)
+    → left_after_lines (left_after_pages left long n) (suc n) long ≡ left_after_pages left long (suc n)
+unfolding left_after_pages
+after_at_next left long n = refl
 
-behind_next : (left : List PlacedLine) (long n : ℕ)
-    → behind_lines (behind_pages left long n) (n + 1) long ≡ behind_pages left long (n + 1)
-behind_next left long n = subst (λ k. behind_lines (behind_pages left long n) k long ≡ behind_pages left long k) (next n)
-    (behind_at_next left long n)
+after_next : (left : List PlacedLine) (long n : ℕ)
+    → left_after_lines (left_after_pages left long n) (n + 1) long ≡ left_after_pages left long (n + 1)
+after_next left long n = subst (λ k. left_after_lines (left_after_pages left long n) k long ≡ left_after_pages left long k) (next n)
+    (after_at_next left long n)
 
 pages_at_next : (left : List PlacedLine) (long n : ℕ)
-    → walked_pages left long n ++ (walked_lines (behind_pages left long n) (suc n) long ++ 12 ∷ [])
+    → walked_pages left long n ++ (walked_lines (left_after_pages left long n) (suc n) long ++ 12 ∷ [])
     ≡ walked_pages left long (suc n)
 unfolding walked_pages
 pages_at_next left long n = refl
 
 pages_next : (left : List PlacedLine) (long n : ℕ)
-    → walked_pages left long n ++ (walked_lines (behind_pages left long n) (n + 1) long ++ 12 ∷ [])
+    → walked_pages left long n ++ (walked_lines (left_after_pages left long n) (n + 1) long ++ 12 ∷ [])
     ≡ walked_pages left long (n + 1)
 pages_next left long n = subst
-    (λ k. walked_pages left long n ++ (walked_lines (behind_pages left long n) k long ++ 12 ∷ []) ≡ walked_pages left long k)
+    (λ k. walked_pages left long n ++ (walked_lines (left_after_pages left long n) k long ++ 12 ∷ []) ≡ walked_pages left long k)
     (next n) (pages_at_next left long n)
 
-line_at_next : (left now : List PlacedLine) (page n : ℕ) → now ≡ behind_lines left page n
-    → behind now page (suc n) ≡ behind_lines left page (suc n)
-unfolding behind_lines
-line_at_next left now page n is = ap (λ l. behind l page (suc n)) is
+line_at_next : (left now : List PlacedLine) (page n : ℕ) → now ≡ left_after_lines left page n
+    → left_after now page (suc n) ≡ left_after_lines left page (suc n)
+unfolding left_after_lines
+line_at_next left now page n is = ap (λ l. left_after l page (suc n)) is
 
 -- a line more
-pub behind_lines-more : (left now : List PlacedLine) (page n : ℕ) → now ≡ behind_lines left page n
-    → behind now page (n + 1) ≡ behind_lines left page (n + 1)
-behind_lines-more left now page n is =
-    subst (λ k. behind now page k ≡ behind_lines left page k) (next n) (line_at_next left now page n is)
+pub left_after_lines-more : (left now : List PlacedLine) (page n : ℕ) → now ≡ left_after_lines left page n
+    → left_after now page (n + 1) ≡ left_after_lines left page (n + 1)
+left_after_lines-more left now page n is =
+    subst (λ k. left_after now page k ≡ left_after_lines left page k) (next n) (line_at_next left now page n is)
 
 pub walked_lines-more :
-    (left now : List PlacedLine) (page n : ℕ) (text old mid new : List ℕ) → now ≡ behind_lines left page n
+    (left now : List PlacedLine) (page n : ℕ) (text old mid new : List ℕ) → now ≡ left_after_lines left page n
     → text ≡ first_text now page (n + 1) → mid ≡ old ++ walked_lines left page n
     → new ≡ mid ++ (without_trailing_blanks text ++ 10 ∷ []) → new ≡ old ++ walked_lines left page (n + 1)
 walked_lines-more left now page n text old mid new is shown so_far grown =
@@ -74,40 +74,40 @@ walked_lines-more left now page n text old mid new is shown so_far grown =
     ∙ ap (λ bytes. old ++ bytes) (walked_next left page n)
 
 -- a page more
-pub behind_pages-more : (left now new : List PlacedLine) (long n : ℕ) → now ≡ behind_pages left long n
-    → new ≡ behind_lines now (n + 1) long → new ≡ behind_pages left long (n + 1)
-behind_pages-more left now new long n is more = more ∙ ap (λ l. behind_lines l (n + 1) long) is ∙ behind_next left long n
+pub left_after_pages-more : (left now new : List PlacedLine) (long n : ℕ) → now ≡ left_after_pages left long n
+    → new ≡ left_after_lines now (n + 1) long → new ≡ left_after_pages left long (n + 1)
+left_after_pages-more left now new long n is more = more ∙ ap (λ l. left_after_lines l (n + 1) long) is ∙ after_next left long n
 
 pub walked_pages-more :
-    (left now : List PlacedLine) (long n : ℕ) (old new : List ℕ) → now ≡ behind_pages left long n
+    (left now : List PlacedLine) (long n : ℕ) (old new : List ℕ) → now ≡ left_after_pages left long n
     → old ≡ walked_pages left long n → new ≡ old ++ (walked_lines now (n + 1) long ++ 12 ∷ [])
     → new ≡ walked_pages left long (n + 1)
 walked_pages-more left now long n old new is so_far grown =
     grown ∙ ap₂ (λ o l. o ++ (walked_lines l (n + 1) long ++ 12 ∷ [])) so_far is ∙ pages_next left long n
 
--- nothing is behind at first
-pub none_behind : (left : List PlacedLine) (page : ℕ) → left ≡ behind_lines left page 0
-unfolding behind_lines
-none_behind left page = refl
+-- nothing is after at first
+pub none_after : (left : List PlacedLine) (page : ℕ) → left ≡ left_after_lines left page 0
+unfolding left_after_lines
+none_after left page = refl
 
 pub none_walked : (left : List PlacedLine) (page : ℕ) (old : List ℕ) → old ≡ old ++ walked_lines left page 0
 unfolding walked_lines
 none_walked left page old = sym (append-nil old)
 
-pub no_pages : (left : List PlacedLine) (long : ℕ) → (left ≡ behind_pages left long 0) × ([] ≡ walked_pages left long 0)
-unfolding behind_pages walked_pages
+pub no_pages : (left : List PlacedLine) (long : ℕ) → (left ≡ left_after_pages left long 0) × ([] ≡ walked_pages left long 0)
+unfolding left_after_pages walked_pages
 no_pages left long = (refl, refl)
 
--- one list has the texts of another at the places behind one
-abbrev AgreeBehind : ℕ → ℕ → List PlacedLine → List PlacedLine → Type 0
-AgreeBehind page line left all = (p l : ℕ) → IsAfter page line p l → text_at left p l ≡ text_at all p l
+-- one list has the texts of another at the places after one
+abbrev AgreeAfter : ℕ → ℕ → List PlacedLine → List PlacedLine → Type 0
+AgreeAfter page line left all = (p l : ℕ) → IsAfter page line p l → text_at left p l ≡ text_at all p l
 
--- what is left of lines in order behind a place
+-- what is left of lines in order after a place
 record IsLeft (long page line : ℕ) (left all : List PlacedLine) : Type 0 where
   order : FollowInOrder long page line left
-  agree : AgreeBehind page line left all
+  agree : AgreeAfter page line left all
 
--- a place behind one behind a place is behind that
+-- a place after one after a place is after that
 pub after-trans : (a b c d e f : ℕ) → IsAfter a b c d → IsAfter c d e f → IsAfter a b e f
 after-trans a b c d e f (inl x) (inl y) = inl (omega (arith, x, y))
 after-trans a b c d e f (inl x) (inr y) = inl (omega (arith, x, y.0))
@@ -128,7 +128,7 @@ at_place placed page line = by_tests (eqb_tells placed.page page) (eqb_tells pla
     by_tests (inl x) (inr y) = inr ((λ e f. y.1 f), grind (arith, nat_tests, x.0, y.0))
     by_tests (inr x) y = inr ((λ e f. x.1 e), grind (arith, nat_tests, x.0))
 
--- in lines behind a place nothing stands at a place that is not behind it
+-- in lines after a place nothing stands at a place that is not after it
 none_before :
     (long page line : ℕ) (lines : List PlacedLine) (p l : ℕ) → FollowInOrder long page line lines
     → (IsAfter page line p l → ⊥) → text_at lines p l ≡ []
@@ -150,12 +150,12 @@ ap_left : {long page line : ℕ} {one other all : List PlacedLine} → one ≡ o
     → IsLeft long page line other all
 ap_left {long} {page} {line} {one} {other} {all} same is = subst (λ l. IsLeft long page line l all) same is
 
--- no place is behind itself
+-- no place is after itself
 pub not_itself : (page line p l : ℕ) → IsAfter page line p l → page ≡ p → line ≡ l → ⊥
 not_itself page line p l (inl x) e f = omega (arith, x, e)
 not_itself page line p l (inr x) e f = omega (arith, x.1, f)
 
--- what is behind a place, and not on the next line, is behind that line
+-- what is after a place, and not on the next line, is after that line
 further : (page line p l : ℕ) → IsAfter page line p l → ((p ≡ page) → (l ≡ line + 1) → ⊥) → IsAfter page (line + 1) p l
 further page line p l (inl x) other = inl x
 further page line p l (inr x) other = let apart : l ≢ line + 1 = other (sym x.0) in inr (x.0, omega (arith, x.1, apart))
@@ -163,7 +163,7 @@ further page line p l (inr x) other = let apart : l ≢ line + 1 = other (sym x.
 -- one line more
 one_line :
     (long page line : ℕ) (left all : List PlacedLine) → line < long → IsLeft long page line left all
-    → (first_text left page (line + 1) ≡ text_at all page (line + 1)) × IsLeft long page (line + 1) (behind left page (line + 1)) all
+    → (first_text left page (line + 1) ≡ text_at all page (line + 1)) × IsLeft long page (line + 1) (left_after left page (line + 1)) all
 one_line long page line [] all within is = (
   is.agree page (line + 1) (inr (refl, omega arith)),
   record {
@@ -179,7 +179,7 @@ one_line long page line (placed ∷ others) all within is = by_place (at_place p
     by_place : ((placed.page ≡ page) × (placed.line ≡ line + 1) × ((placed.page == page && placed.line == line + 1) ≡ true))
         ⊎ (((placed.page ≡ page) → (placed.line ≡ line + 1) → ⊥) × ((placed.page == page && placed.line == line + 1) ≡ false))
         → (first_text (placed ∷ others) page (line + 1) ≡ text_at all page (line + 1))
-        × IsLeft long page (line + 1) (behind (placed ∷ others) page (line + 1)) all
+        × IsLeft long page (line + 1) (left_after (placed ∷ others) page (line + 1)) all
     by_place (inl here) = (
       ap (λ b. if b then placed.text else []) here.2
           ∙ sym (ap (λ b. if b then placed.text else text_at others page (line + 1)) here.2)
@@ -215,37 +215,37 @@ one_line long page line (placed ∷ others) all within is = by_place (at_place p
 lines_walked :
     (long page n : ℕ) (left all : List PlacedLine) → n ≤ long → IsLeft long page 0 left all
     → (walked_lines left page n ≡ flat_map (line_bytes all page) (range_with_len 1 n))
-    × IsLeft long page n (behind_lines left page n) all
-unfolding walked_lines behind_lines
+    × IsLeft long page n (left_after_lines left page n) all
+unfolding walked_lines left_after_lines
 lines_walked long page zero left all within is = (refl, is)
 lines_walked long page (suc n) left all within is =
     let before = lines_walked long page n left all (omega (arith, within)) is in
-    let step = one_line long page n (behind_lines left page n) all (omega (arith, within)) before.1 in
+    let step = one_line long page n (left_after_lines left page n) all (omega (arith, within)) before.1 in
     let after : suc n ≡ n + 1 = next n in (
       ap₂ (λ b t. b ++ (without_trailing_blanks t ++ 10 ∷ [])) before.0
-          (ap (first_text (behind_lines left page n) page) after ∙ step.0)
+          (ap (first_text (left_after_lines left page n) page) after ∙ step.0)
           ∙ sym (flat_map-range_more (line_bytes all page) n)
           ∙ ap (λ k. flat_map (line_bytes all page) (range_with_len 1 k)) (sym after),
-      subst (λ k. IsLeft long page k (behind (behind_lines left page n) page k) all) (sym after) step.1,
+      subst (λ k. IsLeft long page k (left_after (left_after_lines left page n) page k) all) (sym after) step.1,
     )
 
--- a line of a page or of one behind it is behind the page's place 0
-behind_page : (page p l : ℕ) → page ≤ p → 1 ≤ l → IsAfter page 0 p l
-behind_page page p l from low = by_test (eqb_tells page p)
+-- a line of a page or of one after it is after the page's place 0
+after_page : (page p l : ℕ) → page ≤ p → 1 ≤ l → IsAfter page 0 p l
+after_page page p l from low = by_test (eqb_tells page p)
   where
     by_test : (((page == p) ≡ true) × (page ≡ p)) ⊎ (((page == p) ≡ false) × (page ≢ p)) → IsAfter page 0 p l
     by_test (inl same) = inr (same.1, omega (arith, low))
     by_test (inr other) = inl (omega (arith, from, other.1))
 
--- what is behind the end of a page, on the form, is on a page behind it
+-- what is after the end of a page, on the form, is on a page after it
 new_page :
     (page line long p l : ℕ) → (page ≡ 0) ⊎ (line ≡ long) → IsAfter page line p l → 1 ≤ p → 1 ≤ l → l ≤ long
     → IsAfter (page + 1) 0 p l
 new_page page line long p l (inr end) (inr x) from low high = absurd (omega (arith, x.1, end, high))
-new_page page line long p l ended (inl x) from low high = behind_page (page + 1) p l (omega (arith, x)) low
+new_page page line long p l ended (inl x) from low high = after_page (page + 1) p l (omega (arith, x)) low
 new_page page line long p l (inl none) (inr x) from low high = absurd (omega (arith, x.0, none, from))
 
--- the page behind one that was walked to its end
+-- the page after one that was walked to its end
 to_next_page : (long page line : ℕ) (left all : List PlacedLine) → (page ≡ 0) ⊎ (line ≡ long)
     → IsLeft long page line left all → IsLeft long (page + 1) 0 left all
 to_next_page long page line left all ended is = record {
@@ -270,14 +270,14 @@ to_next_page long page line left all ended is = record {
 pages_walked :
     (long n : ℕ) (all : List PlacedLine) → IsInOrder long all
     → (walked_pages all long n ≡ flat_map (page_bytes all long) (range_with_len 1 n))
-    × IsLeft long (n + 1) 0 (behind_pages all long n) all
-unfolding walked_pages behind_pages
+    × IsLeft long (n + 1) 0 (left_after_pages all long n) all
+unfolding walked_pages left_after_pages
 pages_walked long zero all order = (refl, to_next_page long 0 0 all all (inl refl) (record { order = order; agree = λ p l after. refl }))
 pages_walked long (suc n) all order =
     let before = pages_walked long n all order in
     let after : suc n ≡ n + 1 = next n in
-    let walked = lines_walked long (suc n) long (behind_pages all long n) all (omega arith)
-    (subst (λ k. IsLeft long k 0 (behind_pages all long n) all) (sym after) before.1) in (
+    let walked = lines_walked long (suc n) long (left_after_pages all long n) all (omega arith)
+    (subst (λ k. IsLeft long k 0 (left_after_pages all long n) all) (sym after) before.1) in (
       ap₂ (λ b t. b ++ (t ++ 12 ∷ [])) before.0 walked.0
           ∙ ap (λ k. flat_map (page_bytes all long) (range_with_len 1 n) ++ page_bytes all long k) after
           ∙ sym (flat_map-range_more (page_bytes all long) n)

@@ -2,7 +2,7 @@
 use Rattle.std.proofs.Common.{◌≡◌, ◌∙◌, refl, sym, ap, ℕ, ◌+◌, ◌^◌, ◌<◌, ◌≤◌, ◌&&◌, ◌||◌, nat_lt, Bool, true, false, List, Some, None, is_some, arith}
 use Rattle.std.proofs.Math.Nat.{pow-le-pow_right}
 use Rattle.std.proofs.lemmas.Bool.Decides.{nat_tests}
-use Rattle.wanted.specs.ChartTotals.{names_signed, need_of, total_of}
+use Rattle.wanted.specs.ChartTotals.{names_signed, need_of, line_total}
 use Rattle.plans.specs.Plans.{Lists, IsFor}
 use Rattle.wanted.specs.declared.total.Total.{Total}
 use Rattle.field_rules.proofs.Places.{is_same_name-equal}
@@ -23,7 +23,7 @@ use Rattle.charts.specs.declared.statement.Statement.{Statement}
 use Rattle.charts.specs.declared.statement.Statement.TheVariants as says
 use Rattle.hubs.specs.declared.hub.Group.{Group}
 use Rattle.report.specs.Amounts.{digits_on, is_negated, number_in}
-use Rattle.totals.specs.Amounts.{IsOnCard, IsLawful as IsLawfulAmount, sign_positions}
+use Rattle.totals.specs.Amounts.{IsOnCard, HasGroups, sign_positions}
 use Rattle.wiring_table.specs.Figures.{IsAmount}
 use Rattle.wiring_table.specs.Parts.{HasTotal}
 use Rattle.panel_cycles.proofs.AmountFacts.{digits_are, group_is, has_from}
@@ -42,7 +42,7 @@ has_room chart plan name level group rise planned own =
 
 -- The amounts of a lawful chart with a plan are lawful.
 pub lawful_amount : (chart : Chart) (plan : Lists) (name : List ℕ) → IsLawful chart → NumbersRise chart.lines chart.end
-    → IsFor chart.lines plan → IsLawfulAmount (amount_of chart.lines plan name)
+    → IsFor chart.lines plan → HasGroups (amount_of chart.lines plan name)
 lawful_amount chart plan name lawful rise planned = record {
   room = λ level from has.
       let (number, total) = has_from chart.lines plan name level has in

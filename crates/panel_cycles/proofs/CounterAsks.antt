@@ -16,7 +16,7 @@ use Rattle.machine.specs.Machine.{MachineState}
 use Rattle.net.specs.Cycles.{level_number}
 use Rattle.net.specs.declared.cycle.Cycle.{Cycle}
 use Rattle.net.specs.declared.cycle.Cycle.TheVariants.{RunIn, Card, Prog, Head}
-use Rattle.net.specs.declared.cycle.Level.{Level}
+use Rattle.net.specs.declared.cycle.ProgramLevel.{ProgramLevel}
 use Rattle.net.specs.declared.cycle.Ordinal.{Ordinal}
 use Rattle.net.specs.declared.cycle.Ordinal.TheVariants.{First, Second, Third}
 use Rattle.net.specs.declared.cycle.Point.{Point}
@@ -130,7 +130,7 @@ module _ (chart : Chart) (plan : Lists) (wiring : Wiring) (rise : NumbersRise ch
       })
 
   -- In the first program cycle of its level a signed total tests its balance.
-  pub asks_first : (l : Level) → IsPanelCycle chart plan wiring old (Prog l First) pictures
+  pub asks_first : (l : ProgramLevel) → IsPanelCycle chart plan wiring old (Prog l First) pictures
       → Asks (act_of amount (ProgKind (level_number l) First) state level) (state level).number group pictures
   asks_first l at =
       let (field, is_amount) = total_field chart name level own.number at.panel.lawful own.total in
@@ -142,7 +142,7 @@ module _ (chart : Chart) (plan : Lists) (wiring : Wiring) (rise : NumbersRise ch
       })
 
   -- In the second a signed total with a set latch turns its balance.
-  pub asks_second : (l : Level) → IsPanelCycle chart plan wiring old (Prog l Second) pictures
+  pub asks_second : (l : ProgramLevel) → IsPanelCycle chart plan wiring old (Prog l Second) pictures
       → Asks (act_of amount (ProgKind (level_number l) Second) state level) (state level).number group pictures
   asks_second l at =
       let (field, is_amount) = total_field chart name level own.number at.panel.lawful own.total in
@@ -171,7 +171,7 @@ module _ (chart : Chart) (plan : Lists) (wiring : Wiring) (rise : NumbersRise ch
           (turn_spells chart plan wiring rise old pictures name level group own l at is_level rule its_sign out)
 
   -- In the third a total is shown, and the next higher one adds or subtracts what it holds, if that has no more digits than it may.
-  pub asks_third : (l : Level) → IsPanelCycle chart plan wiring old (Prog l Third) pictures
+  pub asks_third : (l : ProgramLevel) → IsPanelCycle chart plan wiring old (Prog l Third) pictures
       → IsSmall amount (ProgKind (level_number l) Third) state
       → Asks (act_of amount (ProgKind (level_number l) Third) state level) (state level).number group pictures
   asks_third l at small =
@@ -205,7 +205,7 @@ module _ (chart : Chart) (plan : Lists) (wiring : Wiring) (rise : NumbersRise ch
           (up_spells chart plan wiring rise old pictures name level group own l at under lower_group given few)
 
   -- in each program cycle
-  pub asks_step : (l : Level) (ordinal : Ordinal) → IsPanelCycle chart plan wiring old (Prog l ordinal) pictures
+  pub asks_step : (l : ProgramLevel) (ordinal : Ordinal) → IsPanelCycle chart plan wiring old (Prog l ordinal) pictures
       → IsSmall amount (ProgKind (level_number l) ordinal) state
       → Asks (act_of amount (ProgKind (level_number l) ordinal) state level) (state level).number group pictures
   asks_step l First at small = asks_first l at

@@ -31,7 +31,7 @@ use Rattle.machine.specs.Machine.{MachineState}
 use Rattle.net.specs.Cycles.{level_number}
 use Rattle.net.specs.declared.cycle.Cycle.{Cycle}
 use Rattle.net.specs.declared.cycle.Cycle.TheVariants.{Card, Prog}
-use Rattle.net.specs.declared.cycle.Level.{Level}
+use Rattle.net.specs.declared.cycle.ProgramLevel.{ProgramLevel}
 use Rattle.net.specs.declared.cycle.Ordinal.TheVariants.{Second, Third}
 use Rattle.net.specs.declared.cycle.Point.{Point}
 use Rattle.net.specs.declared.cycle.Point.TheVariants.{C, Row}
@@ -134,7 +134,7 @@ module _ (chart : Chart) (plan : Lists) (wiring : Wiring) (rise : NumbersRise ch
       by (turns_it rule is its_sign closed) = is
 
   -- in the second and third program cycles of a level no total of another level reads out
-  pub second_reads : (l : Level) → IsPanelCycle chart plan wiring old (Prog l Second) pictures → pictures C (RO group) ≡ true
+  pub second_reads : (l : ProgramLevel) → IsPanelCycle chart plan wiring old (Prog l Second) pictures → pictures C (RO group) ≡ true
       → level_number l ≡ level
   second_reads l at on = by (read_is chart plan wiring old (Prog l Second) pictures at rise name level group own on)
     where
@@ -142,7 +142,7 @@ module _ (chart : Chart) (plan : Lists) (wiring : Wiring) (rise : NumbersRise ch
       by (shows_it is) = is.0
       by (turns_it rule is its_sign closed) = is.0
 
-  pub third_reads : (l : Level) → IsPanelCycle chart plan wiring old (Prog l Third) pictures → pictures C (RO group) ≡ true
+  pub third_reads : (l : ProgramLevel) → IsPanelCycle chart plan wiring old (Prog l Third) pictures → pictures C (RO group) ≡ true
       → level_number l ≡ level
   third_reads l at on = by (read_is chart plan wiring old (Prog l Third) pictures at rise name level group own on)
     where
@@ -216,7 +216,7 @@ module _ (chart : Chart) (plan : Lists) (wiring : Wiring) (rise : NumbersRise ch
               (ap (λ o. is_punched_at o row (field.last + 1 - position)) read.second ∙ punched)
 
   -- in the second program cycle of its level a group enters its own number
-  pub turn_spells : (l : Level) → IsPanelCycle chart plan wiring old (Prog l Second) pictures → level_number l ≡ level
+  pub turn_spells : (l : ProgramLevel) → IsPanelCycle chart plan wiring old (Prog l Second) pictures → level_number l ≡ level
       → (rule : SignRule) → IsSigned chart.lines name rule → pictures C (RO group) ≡ true
       → Spells group (digit_of (number_at old.groups group)) pictures
   turn_spells l at is_level rule its_sign reads_out row some few position from to =
@@ -239,7 +239,7 @@ module _ (chart : Chart) (plan : Lists) (wiring : Wiring) (rise : NumbersRise ch
           (read_digit chart plan wiring old (Prog l Second) pictures at row group position own.number some from own.served reads_out same))
 
   -- in the third program cycle of a lower level a group enters the number of its total, if that has no more digits than it may
-  pub up_spells : (l : Level) → IsPanelCycle chart plan wiring old (Prog l Third) pictures
+  pub up_spells : (l : ProgramLevel) → IsPanelCycle chart plan wiring old (Prog l Third) pictures
       → (under : IsUnder chart.lines name (level_number l) level) (lower : Group)
       → IsGroupOf chart.lines plan name (level_number l) lower → number_at old.groups lower < 10 ^ under.total.digits
       → Spells group (digit_of (number_at old.groups lower)) pictures

@@ -18,7 +18,7 @@ use Rattle.machine.specs.Machine.{MachineState}
 use Rattle.net.specs.Cycles.{level_number}
 use Rattle.net.specs.declared.cycle.Cycle.{Cycle}
 use Rattle.net.specs.declared.cycle.Cycle.TheVariants.{Prog}
-use Rattle.net.specs.declared.cycle.Level.{Level}
+use Rattle.net.specs.declared.cycle.ProgramLevel.{ProgramLevel}
 use Rattle.net.specs.declared.cycle.Ordinal.TheVariants.{First, Second, Third}
 use Rattle.net.specs.declared.cycle.Point.{Point}
 use Rattle.net.specs.declared.cycle.Point.TheVariants.{C}
@@ -153,7 +153,7 @@ module _ (chart : Chart) (plan : Lists) (wiring : Wiring) (rise : NumbersRise ch
       no_test : Tests chart.lines cycle name level → ⊥
       no_test (tests_it rule is its_sign) = no_step 1 level is
 
-  module _ (l : Level) (field : Field) (is_amount : IsAmount chart.lines name field) where
+  module _ (l : ProgramLevel) (field : Field) (is_amount : IsAmount chart.lines name field) where
     pub first_controls : IsPanelCycle chart plan wiring old (Prog l First) pictures
         → IsControlled group (act_controls (test_act (signed && (level_number l == level)))) pictures
     first_controls at = record {

@@ -1,7 +1,7 @@
 -- The laws of the counter groups and of the carriage.
 use Rattle.panel_cycles.specs.CycleLaws.{CarriageDoesWhatIsAsked, GroupsAreAskedForTotals}
 use Rattle.panel_cycles.proofs.CounterAsks.{asks}
-use Rattle.panel_cycles.proofs.ToCarriage.{carriage-behind, carriage-behind-other}
+use Rattle.panel_cycles.proofs.ToCarriage.{carriage-after, carriage-after-other}
 
 pub groups-asked : GroupsAreAskedForTotals
 groups-asked chart plan wiring old pictures name level group cycle kind at rise own is small =
@@ -9,6 +9,6 @@ groups-asked chart plan wiring old pictures name level group cycle kind at rise 
 
 pub carriage-told : CarriageDoesWhatIsAsked
 carriage-told chart plan wiring cycle old new panel between whole = (
-  carriage-behind chart plan wiring cycle old new panel between whole,
-  carriage-behind-other chart plan wiring cycle old new panel between whole,
+  carriage-after chart plan wiring cycle old new panel between whole,
+  carriage-after-other chart plan wiring cycle old new panel between whole,
 )

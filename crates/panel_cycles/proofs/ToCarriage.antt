@@ -3,17 +3,17 @@
 use Rattle.std.proofs.Common.{◌≡◌, ◌≢◌, ◌∙◌, refl, sym, ap, subst, ℕ, zero, suc, ◌+◌, ◌≤◌, ◌<◌, Bool, true, false, List, Contains, Option, Some, None, ◌↔◌, arith, if◌then◌else◌}
 use Rattle.plans.specs.Plans.{Lists}
 use Rattle.carriage.specs.declared.asked.Asked.{Asked}
-use Rattle.line_places.specs.CarriageCycles.{carriage_behind}
+use Rattle.line_places.specs.CarriageCycles.{carriage_after}
 use Rattle.whole_cycles.specs.Between.{IsBetween}
 use Rattle.whole_cycles.specs.WholeCycles.{WholeCycle}
 use Rattle.wired_panels.specs.Panel.{IsPanel}
-use Rattle.wired_panels.proofs.BehindCycles.{cycle-of}
+use Rattle.wired_panels.proofs.AfterCycles.{cycle-of}
 use Rattle.carriage.specs.Asked.{asked_by, nothing_asked, lowest_from, channel_asked, lines_asked}
 use Rattle.charts.specs.Chart.{Chart}
 use Rattle.charts.specs.Levels.{level_number}
 use Rattle.charts.specs.Spacings.{spacing_number}
 use Rattle.charts.specs.declared.chart.Line.{Line}
-use Rattle.charts.specs.declared.level.Level.{Level as ChartLevel}
+use Rattle.charts.specs.declared.level.Level.{Level}
 use Rattle.charts.specs.declared.level.Level.TheVariants as its_level
 use Rattle.charts.specs.declared.spacing.Spacing.{Spacing}
 use Rattle.charts.specs.declared.spacing.Spacing.TheVariants as spacing
@@ -30,8 +30,8 @@ use Rattle.machine.specs.Machine.{MachineState}
 use Rattle.net.specs.Cycles as cycles
 use Rattle.net.specs.declared.cycle.Cycle.{Cycle}
 use Rattle.net.specs.declared.cycle.Cycle.TheVariants.{RunIn, Card, Prog, Head}
-use Rattle.net.specs.declared.cycle.Level.{Level}
-use Rattle.net.specs.declared.cycle.Level.TheVariants.{Minor, Intermediate, Major, Final}
+use Rattle.net.specs.declared.cycle.ProgramLevel.{ProgramLevel}
+use Rattle.net.specs.declared.cycle.ProgramLevel.TheVariants.{Minor, Intermediate, Major, Final}
 use Rattle.net.specs.declared.cycle.Ordinal.TheVariants.{First, Second, Third}
 use Rattle.net.specs.declared.cycle.Point.{Point}
 use Rattle.net.specs.declared.cycle.Point.TheVariants.{C}
@@ -69,7 +69,7 @@ kind-tells RunIn kind is = cc
 kind-tells Card body.Detail is = tells_card
 kind-tells Card (body.Total its) is = let e : 0 ≡ level_number its = cc in absurd (by its e)
   where
-    by : (its : ChartLevel) → 0 ≡ level_number its → ⊥
+    by : (its : Level) → 0 ≡ level_number its → ⊥
     by its_level.Minor e = omega (arith, e)
     by its_level.Intermediate e = omega (arith, e)
     by its_level.Major e = omega (arith, e)
@@ -78,7 +78,7 @@ kind-tells (Prog level First) kind is = cc
 kind-tells (Prog level Second) kind is = cc
 kind-tells (Prog level Third) body.Detail is = let e : cycles.level_number level ≡ 0 = cc in absurd (by level e)
   where
-    by : (level : Level) → cycles.level_number level ≡ 0 → ⊥
+    by : (level : ProgramLevel) → cycles.level_number level ≡ 0 → ⊥
     by Minor e = omega (arith, e)
     by Intermediate e = omega (arith, e)
     by Major e = omega (arith, e)
@@ -332,17 +332,17 @@ module _ (chart : Chart) (plan : Lists) (wiring : Wiring) (old : MachineState) (
 
 module _ (chart : Chart) (plan : Lists) (wiring : Wiring) (cycle : Cycle) (old new : MachineState)
     (panel : IsPanel chart plan wiring) (between : IsBetween old) (whole : WholeCycle wiring cycle old new) where
-  -- The carriage behind the cycle of a kind of body line has done what the chart asks for that kind.
-  pub carriage-behind : (kind : ℕ) → kind_of cycle ≡ Some kind
-      → new.carriage ≡ carriage_behind old.carriage (asked_of chart.lines kind) cycle
-  carriage-behind kind printed =
+  -- The carriage after the cycle of a kind of body line has done what the chart asks for that kind.
+  pub carriage-after : (kind : ℕ) → kind_of cycle ≡ Some kind
+      → new.carriage ≡ carriage_after old.carriage (asked_of chart.lines kind) cycle
+  carriage-after kind printed =
       whole.carriage
-      ∙ ap (λ (asked : Asked). carriage_behind old.carriage asked cycle)
+      ∙ ap (λ (asked : Asked). carriage_after old.carriage asked cycle)
       (carriage-asked chart plan wiring old cycle whole.pictures (cycle-of chart plan wiring cycle old new panel between whole) kind printed)
 
-  -- Behind another cycle it has done what the cycle itself makes it do.
-  pub carriage-behind-other : kind_of cycle ≡ None → new.carriage ≡ carriage_behind old.carriage nothing_asked cycle
-  carriage-behind-other none =
+  -- After another cycle it has done what the cycle itself makes it do.
+  pub carriage-after-other : kind_of cycle ≡ None → new.carriage ≡ carriage_after old.carriage nothing_asked cycle
+  carriage-after-other none =
       whole.carriage
-      ∙ ap (λ (asked : Asked). carriage_behind old.carriage asked cycle)
+      ∙ ap (λ (asked : Asked). carriage_after old.carriage asked cycle)
       (carriage-unasked chart plan wiring old cycle whole.pictures (cycle-of chart plan wiring cycle old new panel between whole) none)

@@ -18,12 +18,12 @@ use Rattle.print_rules.specs.declared.items.PrintedLine.TheVariants.{Heading, Bo
 use Rattle.charts.specs.Headings.{heading_number}
 use Rattle.charts.specs.Levels.{level_number as chart_number}
 use Rattle.charts.specs.declared.heading.HeadingLine.{HeadingLine}
-use Rattle.charts.specs.declared.level.Level.{Level as ChartLevel}
+use Rattle.charts.specs.declared.level.Level.{Level}
 use Rattle.charts.specs.declared.statement.BodyLine.TheVariants as body
 use Rattle.net.specs.Cycles.{level_number, ordinal_number}
 use Rattle.net.specs.declared.cycle.Cycle.{Cycle}
 use Rattle.net.specs.declared.cycle.Cycle.TheVariants.{Card, Head, Prog}
-use Rattle.net.specs.declared.cycle.Level.{Level}
+use Rattle.net.specs.declared.cycle.ProgramLevel.{ProgramLevel}
 use Rattle.net.specs.declared.cycle.Ordinal.{Ordinal}
 use Rattle.net.specs.declared.cycle.Ordinal.TheVariants.{Third}
 use Rattle.charts.specs.Chart.{Chart}
@@ -77,8 +77,8 @@ no_rows row.Nine = refl
 no_rows row.Eleven = refl
 no_rows row.Twelve = refl
 
-behind : (sends : Statement → Option Shown) (first : Line) (lines : List Line) (v row : ℕ) → Sent sends lines v row → Sent sends (first ∷ lines) v row
-behind sends first lines v row sent = record {
+after : (sends : Statement → Option Shown) (first : Line) (lines : List Line) (v row : ℕ) → Sent sends lines v row → Sent sends (first ∷ lines) v row
+after sends first lines v row sent = record {
   line = sent.line;
   place = suc sent.place;
   listed = sent.listed;
@@ -102,12 +102,12 @@ sent-from sends (line ∷ lines) v row on = by (sends line.statement) refl (sent
         → Sent sends (line ∷ lines) v (row_number row)
     covered shown true is stands rest there =
         record { line = line; place = 0; listed = refl; shown = shown; is_sent = is; there = stands; on = there }
-    covered shown false is stands rest there = behind sends line lines v (row_number row) (rest there)
+    covered shown false is stands rest there = after sends line lines v (row_number row) (rest there)
 
     by : (o : Option Shown) → sends line.statement ≡ o → Rest
         → has_row (set_on (cons_option o (filter_map (λ each. sends each.statement) lines)) v) (row_number row) ≡ true
         → Sent sends (line ∷ lines) v (row_number row)
-    by None is rest there = behind sends line lines v (row_number row) (rest there)
+    by None is rest there = after sends line lines v (row_number row) (rest there)
     by (Some shown) is rest there = covered shown (stands_on shown v) is refl rest there
 
 -- no two items that lines of the chart send stand on the wheel
@@ -152,7 +152,7 @@ sent-to sends (first ∷ lines) v row apart (suc place) line shown listed is the
 pub data IsLineOf : Cycle → PrintedLine → Type 0 where
   heading : (heading : Ordinal) (line : HeadingLine) → heading_number line ≡ ordinal_number heading → IsLineOf (Head heading) (Heading line)
   detail : IsLineOf Card (Body body.Detail)
-  total : (level : Level) (its : ChartLevel) → chart_number its ≡ level_number level → IsLineOf (Prog level Third) (Body (body.Total its))
+  total : (level : ProgramLevel) (its : Level) → chart_number its ≡ level_number level → IsLineOf (Prog level Third) (Body (body.Total its))
 
 same-line-of : {cycle : Cycle} {one other : PrintedLine} → IsLineOf cycle one → IsLineOf cycle other → is_same_line one other ≡ true
 same-line-of (heading h line is) (heading _ other are) = grind (arith, nat_tests, is, are)
@@ -197,7 +197,7 @@ contained : {X : Type 0} (list : List X) (x : X) (place : ℕ) → slice_get lis
 contained list x place at =
     (place, slice_get_within list place x at, get_or_from_slice_get list place x x at)
 
--- What lines send to a wheel is what arrives there: straight from an exit, or behind a contact; and all that they send arrives.
+-- What lines send to a wheel is what arrives there: straight from an exit, or after a contact; and all that they send arrives.
 pub record Shows (at : CycleRow) (sends : Statement → Option Shown) : Type 0 where
   pub direct : (line : Line) {statement : Statement} {x : Hub} {v : ℕ} → Contains at.chart.lines line → line.statement ≡ statement
       → Emits at x → WireAt at line.number statement x (W v) → SendsRow sends statement v (row_number at.row)

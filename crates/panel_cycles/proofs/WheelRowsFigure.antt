@@ -35,7 +35,7 @@ length-point : (decimals : ℕ) → length (point_sets decimals) ≡ point_width
 length-point zero = refl
 length-point (suc decimals) = let e : nat_lt 0 (suc decimals) ≡ true = grind (arith, nat_tests) in sym (ap (λ b. cond b 1 0) e)
 
--- the digits before the point, and those behind it
+-- the digits before the point, and those after it
 abbrev front : (digits decimals : ℕ) → List (Option ℕ) → List ℕ
 front digits decimals shown = map digit_set (take (digits - decimals) shown)
 
@@ -74,14 +74,14 @@ module _ (digits decimals : ℕ) (mark : Option Mark) (shown : List (Option ℕ)
       (subst (λ n. k < n) (sym (length-take-le (digits - decimals) shown (omega (arith, long)))) within)
       ∙ ap digit_set (get_or-take (digits - decimals) shown k None within)
 
-  -- what stands behind the digits before the point
+  -- what stands after the digits before the point
   at-rest : (k : ℕ) → get_or (figure_sets digits decimals mark shown negative) (digits - decimals + k) 0
       ≡ get_or (point_sets decimals ++ (back digits decimals shown ++ mark_sets mark negative)) k 0
   at-rest k =
       ap (λ n. get_or (figure_sets digits decimals mark shown negative) (n + k) 0) (sym length-front)
       ∙ get_or-append-add (front digits decimals shown) (point_sets decimals ++ (back digits decimals shown ++ mark_sets mark negative)) k 0
 
-  -- what stands behind the point
+  -- what stands after the point
   at-more : (k : ℕ) → get_or (figure_sets digits decimals mark shown negative) (digits - decimals + (point_width decimals + k)) 0
       ≡ get_or (back digits decimals shown ++ mark_sets mark negative) k 0
   at-more k =
@@ -153,9 +153,9 @@ wheel-before wheel digits decimals position few high most =
     let e : nat_lt decimals position ≡ true = grind (arith, nat_tests, high) in
     ap (λ b. cond b (wheel + digits - position) (wheel + digits + 1 - position)) e ∙ omega (arith, most)
 
-wheel-behind : (wheel digits decimals position : ℕ) → decimals ≤ digits → position ≤ decimals
+wheel-after : (wheel digits decimals position : ℕ) → decimals ≤ digits → position ≤ decimals
     → digit_wheel wheel digits decimals position ≡ wheel + (digits + 1 - position)
-wheel-behind wheel digits decimals position few low =
+wheel-after wheel digits decimals position few low =
     let e : nat_lt decimals position ≡ false = grind (arith, nat_tests, low) in
     ap (λ b. cond b (wheel + digits - position) (wheel + digits + 1 - position)) e ∙ omega (arith, low, few)
 
@@ -184,7 +184,7 @@ figure-sent wheel digits decimals mark shown negative row few long (digit positi
       (ap (λ n. get_or (figure_sets digits decimals mark shown negative) n 0) (sym place)
       ∙ at-back digits decimals mark shown negative few long (decimals - position) (omega (arith, low, right))
       ∙ ap (λ n. digit_set (get_or shown n None)) same)
-      (wheel-behind wheel digits decimals position few right) (omega (arith, low, right, one)) on
+      (wheel-after wheel digits decimals position few right) (omega (arith, low, right, one)) on
 ]
 figure-sent wheel digits decimals mark shown negative row few long (point some punch) =
     let one = one-point decimals some in
@@ -209,7 +209,7 @@ figure-of wheel digits decimals mark shown negative row v few long there on =
     let within : s.j < digits + point_width decimals + mark_width mark
     = subst (λ n. s.j < n) (length-sets digits decimals mark shown negative few long) s.within in
     let here : has_row (get_or (figure_sets digits decimals mark shown negative) s.j 0) (row_number row) ≡ true
-    = sym (ap (λ k. has_row (get_or (figure_sets digits decimals mark shown negative) k 0) (row_number row)) s.behind) ∙ on in
+    = sym (ap (λ k. has_row (get_or (figure_sets digits decimals mark shown negative) k 0) (row_number row)) s.after) ∙ on in
     by s.j s.is within here (cases_lt s.j (digits - decimals)) (cases_lt s.j (digits + point_width decimals))
   where
     at-digit : (position : ℕ) → 1 ≤ position → position ≤ digits → has_row (digit_set (get_or shown (digits - position) None)) (row_number row) ≡ true
@@ -251,7 +251,7 @@ figure-of wheel digits decimals mark shown negative row v few long there on =
         ∙ ap (λ n. digit_set (get_or shown n None)) same in
         at-digit (digits + 1 - j) (omega (arith, high)) (omega (arith, low, few, some))
         (sym (ap (λ s. has_row s (row_number row)) set) ∙ there)
-        (wheel-behind wheel digits decimals (digits + 1 - j) few (omega (arith, low, few)) ∙ omega (arith, is, high, low))
+        (wheel-after wheel digits decimals (digits + 1 - j) few (omega (arith, low, few)) ∙ omega (arith, is, high, low))
 
     of-middle : (j : ℕ) → v ≡ wheel + j → digits - decimals ≤ j → j < digits + point_width decimals
         → has_row (get_or (figure_sets digits decimals mark shown negative) j 0) (row_number row) ≡ true
@@ -273,10 +273,10 @@ figure-of wheel digits decimals mark shown negative row v few long there on =
         at-digit (digits - j) (omega (arith, left)) (omega arith) (sym (ap (λ s. has_row s (row_number row)) set) ∙ there)
         (wheel-before wheel digits decimals (digits - j) few (omega (arith, left)) (omega arith) ∙ omega (arith, is, left))
     by j is within there (inr right) (inl middle) = of-middle j is right middle there (cases_lt decimals 1) (cases_lt (digits - decimals) j)
-    by j is within there (inr right) (inr behind) =
-        let place : j ≡ digits + point_width decimals + (j - (digits + point_width decimals)) = omega (arith, behind) in
+    by j is within there (inr right) (inr after) =
+        let place : j ≡ digits + point_width decimals + (j - (digits + point_width decimals)) = omega (arith, after) in
         let set : get_or (figure_sets digits decimals mark shown negative) j 0 ≡ get_or (mark_sets mark negative) (j - (digits + point_width decimals)) 0
         = ap (λ n. get_or (figure_sets digits decimals mark shown negative) n 0) place
         ∙ at-mark digits decimals mark shown negative few long (j - (digits + point_width decimals)) in
-        of-mark (j - (digits + point_width decimals)) mark negative refl refl (omega (arith, within, behind)) (omega (arith, is, behind))
+        of-mark (j - (digits + point_width decimals)) mark negative refl refl (omega (arith, within, after)) (omega (arith, is, after))
         (sym (ap (λ s. has_row s (row_number row)) set) ∙ there)

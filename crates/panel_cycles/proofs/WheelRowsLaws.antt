@@ -14,7 +14,7 @@ use Rattle.charts.specs.declared.chart.Line.{Line}
 use Rattle.charts.specs.declared.heading.HeadingLine.TheVariants as heading
 use Rattle.charts.specs.declared.heading.HeadingLine.{HeadingLine}
 use Rattle.charts.specs.declared.level.Level.TheVariants as chart_level
-use Rattle.charts.specs.declared.level.Level.{Level as ChartLevel}
+use Rattle.charts.specs.declared.level.Level.{Level}
 use Rattle.charts.specs.declared.statement.DetailOption.TheVariants as shown
 use Rattle.charts.specs.declared.statement.SignRule.TheVariants as sign
 use Rattle.charts.specs.declared.statement.Statement.{Statement}
@@ -25,8 +25,8 @@ use Rattle.net.specs.Cycles.{level_number, ordinal_number}
 use Rattle.net.specs.Panel.{contact_of}
 use Rattle.net.specs.declared.cycle.Cycle.TheVariants.{RunIn, Card, Prog, Head}
 use Rattle.net.specs.declared.cycle.Cycle.{Cycle}
-use Rattle.net.specs.declared.cycle.Level.TheVariants as cycle_level
-use Rattle.net.specs.declared.cycle.Level.{Level}
+use Rattle.net.specs.declared.cycle.ProgramLevel.TheVariants as cycle_level
+use Rattle.net.specs.declared.cycle.ProgramLevel.{ProgramLevel}
 use Rattle.net.specs.declared.cycle.Ordinal.TheVariants.{First, Second, Third}
 use Rattle.net.specs.declared.cycle.Ordinal.{Ordinal}
 use Rattle.net.specs.declared.cycle.Point.TheVariants.{Row}
@@ -81,19 +81,19 @@ card_of (Prog its First) is = cc
 card_of (Prog its Second) is = cc
 card_of (Prog its Third) is = let e : 4 + level_number its ≡ 4 = cc in absurd (omega (arith, some its, e))
   where
-    some : (its : Level) → 1 ≤ level_number its
+    some : (its : ProgramLevel) → 1 ≤ level_number its
     some cycle_level.Minor = omega arith
     some cycle_level.Intermediate = omega arith
     some cycle_level.Major = omega arith
     some cycle_level.Final = omega arith
 card_of (Head h) is = let e : ordinal_number h ≡ 4 = cc in absurd (omega (arith, few_headings h, e))
 
-total_of : (cycle : Cycle) (its : ChartLevel) → emitter_of cycle ≡ Some (4 + chart_number its)
-    → (level : Level) × (cycle ≡ Prog level Third) × (chart_number its ≡ level_number level)
+total_of : (cycle : Cycle) (its : Level) → emitter_of cycle ≡ Some (4 + chart_number its)
+    → (level : ProgramLevel) × (cycle ≡ Prog level Third) × (chart_number its ≡ level_number level)
 total_of RunIn its is = cc
 total_of Card its is = let e : 4 ≡ 4 + chart_number its = cc in absurd (omega (arith, some its, e))
   where
-    some : (its : ChartLevel) → 1 ≤ chart_number its
+    some : (its : Level) → 1 ≤ chart_number its
     some chart_level.Minor = omega arith
     some chart_level.Intermediate = omega arith
     some chart_level.Major = omega arith
@@ -124,7 +124,7 @@ record IsPrintedRow (wiring : Wiring) (content : Content) (at : CycleRow) : Type
   rises : NumbersRise at.chart.lines at.chart.end
   prints : can_print at.cycle ≡ true
   cards : at.cycle ≡ Card → IsCardRow wiring content.card content.opens at
-  totals : (its : Level) → at.cycle ≡ Prog its Third → IsTotalRow wiring its content.held content.card at
+  totals : (its : ProgramLevel) → at.cycle ≡ Prog its Third → IsTotalRow wiring its content.held content.card at
   headings : (h : Ordinal) → at.cycle ≡ Head h → IsHeadingRow wiring h at
 
 module _ (wiring : Wiring) (content : Content) (at : CycleRow) (row : IsPrintedRow wiring content at) where
@@ -196,39 +196,39 @@ module _ (wiring : Wiring) (content : Content) (at : CycleRow) (row : IsPrintedR
   straight_sends line there says_it (detail_mark_out wheel name mark (sign.NX c) field pilot k r p0 p1 p2 p3) emits = silent at _ emits refl
   straight_sends line there says_it (total_mark_out its wheel name digits mark rule field group k r p0 p1 p2 p3) emits = silent at _ emits refl
 
-  -- what comes behind a contact
-  behind_sends : (line other : Line) {statement its : Statement} {x common contact : Hub} {v : ℕ}
+  -- what comes after a contact
+  after_sends : (line other : Line) {statement its : Statement} {x common contact : Hub} {v : ℕ}
       → Contains at.chart.lines line → Contains at.chart.lines other → line.statement ≡ statement → other.statement ≡ its
       → Emits at x → WireAt at other.number its x common → contact_of contact ≡ Some common → is_closed at contact ≡ true
       → WireAt at line.number statement contact (W v) → Sends statement v
-  behind_sends line other there among says_it says_its emits wire leads shut (indicated_text_out wheel name level field j x text within served) =
+  after_sends line other there among says_it says_its emits wire leads shut (indicated_text_out wheel name level field j x text within served) =
       let (is, read) = through_indicate wiring at row.on_panel row.rises line other level (field.first + j) x wire emits leads served in
       in_cycle Card is (card.indicated-sends wiring content.card content.opens at (row.cards is) wheel name level field j x text within read shut)
-  behind_sends line other there among says_it says_its emits wire leads shut (split_digit_out wheel name how field position split amount low high signed served) =
+  after_sends line other there among says_it says_its emits wire leads shut (split_digit_out wheel name how field position split amount low high signed served) =
       let (place, listed) = place_of line there in
       let (is, read) = through_split wiring at row.on_panel row.rises line other wheel split position name how field there among says_it says_its
       wire emits leads amount signed served in
       in_cycle Card is (card.split-sends wiring content.card content.opens at (row.cards is) line place wheel name how field position split listed
       says_it amount low high read shut)
-  behind_sends line other there among says_it says_its emits wire leads shut (detail_mark_out wheel name mark rule field pilot k _ signed named served punch) =
+  after_sends line other there among says_it says_its emits wire leads shut (detail_mark_out wheel name mark rule field pilot k _ signed named served punch) =
       let (punched, emitting) = through_pilot wiring at row.on_panel row.rises line other wheel k pilot name mark rule there among says_it says_its
       wire emits leads served in
       let is = card_of at.cycle emitting in
       in_cycle Card is (card.mark-sends wiring content.card content.opens at (row.cards is) wheel name mark rule field pilot k signed named served
       punched shut)
-  behind_sends line other there among says_it says_its emits wire leads shut (total_mark_out its wheel name digits mark rule field group k _ served signed named punch) =
+  after_sends line other there among says_it says_its emits wire leads shut (total_mark_out its wheel name digits mark rule field group k _ served signed named punch) =
       let (place, listed) = place_of line there in
       let (punched, emitting) = through_balance wiring at row.on_panel row.rises line other its wheel k digits group name mark there among says_it
       says_its wire emits leads served in
       let (level, is, same) = total_of at.cycle its emitting in
       in_cycle (Prog level Third) is (total.mark-sends wiring level content.held content.card at (row.totals level is) line place its wheel name
       digits mark field group k listed there says_it served named same punched shut)
-  behind_sends line other there among says_it says_its emits wire leads shut (detail_text wheel name field j text within) = cc
-  behind_sends line other there among says_it says_its emits wire leads shut (literal statement e wheel characters j r is punch) = cc
-  behind_sends line other there among says_it says_its emits wire leads shut (point statement e wheel figure r is some punch) = cc
-  behind_sends line other there among says_it says_its emits wire leads shut (detail_digit wheel name how field position is low high apart) = cc
-  behind_sends line other there among says_it says_its emits wire leads shut (total_digit its wheel name digits mark field group position is amount low high) = cc
-  behind_sends line other there among says_it says_its emits wire leads shut (total_text_out its wheel name field unit j text within served) = cc
+  after_sends line other there among says_it says_its emits wire leads shut (detail_text wheel name field j text within) = cc
+  after_sends line other there among says_it says_its emits wire leads shut (literal statement e wheel characters j r is punch) = cc
+  after_sends line other there among says_it says_its emits wire leads shut (point statement e wheel figure r is some punch) = cc
+  after_sends line other there among says_it says_its emits wire leads shut (detail_digit wheel name how field position is low high apart) = cc
+  after_sends line other there among says_it says_its emits wire leads shut (total_digit its wheel name digits mark field group position is amount low high) = cc
+  after_sends line other there among says_it says_its emits wire leads shut (total_text_out its wheel name field unit j text within served) = cc
 
   -- and all that lines send arrives
   all_arrives : (line : Line) (v : ℕ) → Contains at.chart.lines line → Sends line.statement v → ArrivesThere at (W v)
@@ -271,7 +271,7 @@ module _ (wiring : Wiring) (content : Content) (at : CycleRow) (row : IsPrintedR
       (record {
         direct = λ line there says_it emits wire. straight_sends line there says_it wire emits;
         by_contact = λ line other there among says_it says_its emits wire leads shut last.
-            behind_sends line other there among says_it says_its emits wire leads shut last;
+            after_sends line other there among says_it says_its emits wire leads shut last;
         all = λ line v there sent. all_arrives line v there sent;
       })
 
@@ -282,13 +282,13 @@ module _ (wiring : Wiring) (content : Content) (at : CycleRow) (row : IsPrintedR
       ∙ ap (λ c. has_row (set_on (filter_map (λ line. sends_in at.chart.lines content c line.statement) at.chart.lines) v) (row_number at.row)) is
 
 -- other kinds of cycles
-card_or_total : {its : Level} {cycle : Cycle} → cycle ≡ Card → cycle ≡ Prog its Third → ⊥
+card_or_total : {its : ProgramLevel} {cycle : Cycle} → cycle ≡ Card → cycle ≡ Prog its Third → ⊥
 card_or_total p q = cc
 
 card_or_heading : {h : Ordinal} {cycle : Cycle} → cycle ≡ Card → cycle ≡ Head h → ⊥
 card_or_heading p q = cc
 
-total_or_heading : {its : Level} {h : Ordinal} {cycle : Cycle} → cycle ≡ Prog its Third → cycle ≡ Head h → ⊥
+total_or_heading : {its : ProgramLevel} {h : Ordinal} {cycle : Cycle} → cycle ≡ Prog its Third → cycle ≡ Head h → ⊥
 total_or_heading p q = cc
 
 pub wheels-headings : WheelsReceiveHeadings
@@ -324,8 +324,8 @@ wheels-totals wiring level held card at v row =
       headings = λ h is. absurd (total_or_heading row.cycle is);
     }) (Prog level Third) row.cycle v
   where
-    its_row : (its : Level) → at.cycle ≡ Prog its Third → IsTotalRow wiring its held card at
+    its_row : (its : ProgramLevel) → at.cycle ≡ Prog its Third → IsTotalRow wiring its held card at
     its_row its is = let same : level ≡ its = one (sym row.cycle ∙ is) in subst (λ l. IsTotalRow wiring l held card at) same row
       where
-        one : {a b : Level} → Prog a Third ≡ Prog b Third → a ≡ b
+        one : {a b : ProgramLevel} → Prog a Third ≡ Prog b Third → a ≡ b
         one p = cc

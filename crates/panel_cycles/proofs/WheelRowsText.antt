@@ -21,7 +21,7 @@ pub record Standing (first many v : ℕ) : Type 0 where
   pub j : ℕ
   pub is : v ≡ first + j
   pub within : j < many
-  pub behind : v - first ≡ j
+  pub after : v - first ≡ j
 
 pub standing : (shown : Shown) (v : ℕ) → stands_on shown v ≡ true → Standing (wheel_of_shown shown) (length (sets_of shown)) v
 standing shown v is = of (wheel_of_shown shown) (length (sets_of shown)) is
@@ -30,7 +30,7 @@ standing shown v is = of (wheel_of_shown shown) (length (sets_of shown)) is
     of first many is =
         let low : first ≤ v = grind (arith, nat_tests, is) in
         let high : v < first + many = grind (arith, nat_tests, is) in
-        record { j = v - first; is = omega (arith, low); within = omega (arith, low, high); behind = refl }
+        record { j = v - first; is = omega (arith, low); within = omega (arith, low, high); after = refl }
 
 pub stand : (shown : Shown) (j : ℕ) → j < length (sets_of shown) → stands_on shown (wheel_of_shown shown + j) ≡ true
 stand shown j within = of (wheel_of_shown shown) (length (sets_of shown)) within
@@ -99,7 +99,7 @@ literal-of wheel text v row there on =
     let s = standing (Characters wheel (map set_of_character text)) v there in
     let within : s.j < length text = subst (λ n. s.j < n) (length-map text set_of_character) s.within in
     let here : has_row (get_or (map set_of_character text) s.j 0) (row_number row) ≡ true
-    = sym (ap (λ k. has_row (get_or (map set_of_character text) k 0) (row_number row)) s.behind) ∙ on in
+    = sym (ap (λ k. has_row (get_or (map set_of_character text) k 0) (row_number row)) s.after) ∙ on in
     record { j = s.j; is = s.is; punch = punch-at text s.j row within here }
 
 -- the columns of a field

@@ -16,7 +16,7 @@ use Rattle.charts.specs.Chart.{Chart}
 use Rattle.charts.specs.Field.{columns_of, decimals_of, is_amount, sign_column}
 use Rattle.charts.specs.Levels.{level_number as chart_number}
 use Rattle.charts.specs.declared.chart.Line.{Line}
-use Rattle.charts.specs.declared.level.Level.{Level as ChartLevel}
+use Rattle.charts.specs.declared.level.Level.{Level}
 use Rattle.charts.specs.declared.statement.Field.{Field}
 use Rattle.charts.specs.declared.statement.Mark.{Mark}
 use Rattle.charts.specs.declared.statement.Statement.TheVariants as says
@@ -30,7 +30,7 @@ use Rattle.net.specs.Cycles.{level_number}
 use Rattle.hubs.specs.declared.hub.Hub.{Hub}
 use Rattle.net.specs.declared.cycle.Cycle.{Cycle}
 use Rattle.net.specs.declared.cycle.Cycle.TheVariants.{Prog}
-use Rattle.net.specs.declared.cycle.Level.{Level}
+use Rattle.net.specs.declared.cycle.ProgramLevel.{ProgramLevel}
 use Rattle.net.specs.declared.cycle.Ordinal.TheVariants.{Third}
 use Rattle.net.specs.declared.cycle.Point.TheVariants.{C, Row}
 use Rattle.printed_lines.specs.Shown.Shown.{Characters}
@@ -45,7 +45,7 @@ use Rattle.wiring_table.specs.Parts.{group_for, unit_for}
 use Rattle.wired_panels.specs.Sources.{EmitsAtControl, digit_at}
 use Rattle.wired_panels.specs.Sources.EmitsAtControl.{card as emits_card, prog as emits_prog, head as emits_head}
 use Rattle.wired_panels.specs.CycleRows.{CycleRow, is_closed}
-use Rattle.panel_cycles.specs.PrintedRows.{IsTotalRow, HoldsTotal}
+use Rattle.panel_cycles.specs.PrintedRows.{IsTotalRow, GroupHoldsTotal}
 use Rattle.wired_panels.proofs.ReadingOut.{total-read, text-read}
 use Rattle.charts.proofs.Rising as rising
 use Rattle.chart_rules.proofs.Laws.{good-field}
@@ -62,7 +62,7 @@ use Rattle.panel_cycles.proofs.WheelRowsText.{columns-stand, columns-sent}
 use Rattle.panel_cycles.proofs.WheelRowsUnits.{group-named, group-own, digit-of, unit-own, last-at}
 
 -- a total in a chart that breaks no rule is of an amount, in as many digits as its field has columns at least
-pub total-amount : (chart : Chart) (place : ℕ) (line : Line) (its : ChartLevel) (wheel : ℕ) (name : List ℕ) (digits : ℕ) (mark : Option Mark)
+pub total-amount : (chart : Chart) (place : ℕ) (line : Line) (its : Level) (wheel : ℕ) (name : List ℕ) (digits : ℕ) (mark : Option Mark)
     (field : Field) → IsLawful chart → slice_get chart.lines place ≡ Some line → line.statement ≡ says.TotalAmount its wheel name digits mark
     → field_named chart.lines name ≡ Some field → is_amount field.kind ≡ true
 total-amount chart place line its wheel name digits mark field lawful at says_it named =
@@ -75,7 +75,7 @@ total-amount chart place line its wheel name digits mark field lawful at says_it
     by true h = refl
     by false h = cc
 
-pub total-digits : (chart : Chart) (place : ℕ) (line : Line) (its : ChartLevel) (wheel : ℕ) (name : List ℕ) (digits : ℕ) (mark : Option Mark)
+pub total-digits : (chart : Chart) (place : ℕ) (line : Line) (its : Level) (wheel : ℕ) (name : List ℕ) (digits : ℕ) (mark : Option Mark)
     (field : Field) → IsLawful chart → slice_get chart.lines place ≡ Some line → line.statement ≡ says.TotalAmount its wheel name digits mark
     → field_named chart.lines name ≡ Some field → decimals_of field.kind ≤ digits
 total-digits chart place line its wheel name digits mark field lawful at says_it named =
@@ -90,7 +90,7 @@ total-digits chart place line its wheel name digits mark field lawful at says_it
     first true b c h = cc
     first false b c h = refl
 
-module _ (wiring : Wiring) (its : Level) (held : List ℕ → Printed) (card : List ℕ) (at : CycleRow) (row : IsTotalRow wiring its held card at) where
+module _ (wiring : Wiring) (its : ProgramLevel) (held : List ℕ → Printed) (card : List ℕ) (at : CycleRow) (row : IsTotalRow wiring its held card at) where
   abbrev pub Sends : Statement → ℕ → Type 0
   Sends statement v = SendsRow (total_sends at.chart.lines (level_number its) held card) statement v (row_number at.row)
 
@@ -99,7 +99,7 @@ module _ (wiring : Wiring) (its : Level) (held : List ℕ → Printed) (card : L
   one-line one other here there same = rising.one-line at.chart.lines at.chart.end one other row.rises here there same
 
   -- a line of the level
-  pub tested : (level : ChartLevel) → chart_number level ≡ level_number its → (chart_number level == level_number its) ≡ true
+  pub tested : (level : Level) → chart_number level ≡ level_number its → (chart_number level == level_number its) ≡ true
   tested level same = grind (arith, nat_tests, same)
 
   -- the digits that a total shows
@@ -116,7 +116,7 @@ module _ (wiring : Wiring) (its : Level) (held : List ℕ → Printed) (card : L
       ∙ ap Some (last-at digits (held name).figure position from to))
       ∙ digit-row (digit_of (held name).figure position) r (digit_of-small (held name).figure position)
 
-  pub amount-row : (line : Line) (place : ℕ) (level : ChartLevel) (wheel : ℕ) (name : List ℕ) (digits : ℕ) (mark : Option Mark) (field : Field) {v : ℕ}
+  pub amount-row : (line : Line) (place : ℕ) (level : Level) (wheel : ℕ) (name : List ℕ) (digits : ℕ) (mark : Option Mark) (field : Field) {v : ℕ}
       → slice_get at.chart.lines place ≡ Some line → line.statement ≡ says.TotalAmount level wheel name digits mark
       → field_named at.chart.lines name ≡ Some field → chart_number level ≡ level_number its
       → FigureSends wheel digits (decimals_of field.kind) mark (map Some (last_digits digits (held name).figure)) (held name).latch (row_number at.row) v
@@ -136,7 +136,7 @@ module _ (wiring : Wiring) (its : Level) (held : List ℕ → Printed) (card : L
       shown_of each = amount_shown wheel digits (decimals_of each.kind) mark (map Some (last_digits digits (held name).figure)) (held name).latch
 
   -- the level of a total whose group reads out, and of a text whose unit does
-  group-level : (line : Line) (level : ChartLevel) (wheel : ℕ) (name : List ℕ) (digits : ℕ) (mark : Option Mark) (group : Group)
+  group-level : (line : Line) (level : Level) (wheel : ℕ) (name : List ℕ) (digits : ℕ) (mark : Option Mark) (group : Group)
       → Contains at.chart.lines line → line.statement ≡ says.TotalAmount level wheel name digits mark
       → group_for at.chart.lines at.plan line.number ≡ Some group → at.pictures C (RO group) ≡ true → chart_number level ≡ level_number its
   group-level line level wheel name digits mark group listed says_it served out =
@@ -147,11 +147,11 @@ module _ (wiring : Wiring) (its : Level) (held : List ℕ → Printed) (card : L
       by total.its_level total.wheel total.its_name total.digits total.mark (sym total.says_total ∙ ap (λ l. l.statement) e ∙ says_it)
       total.same_level
     where
-      by : (other : ChartLevel) (w : ℕ) (n : List ℕ) (d : ℕ) (m : Option Mark) → says.TotalAmount other w n d m ≡ says.TotalAmount level wheel name digits mark
+      by : (other : Level) (w : ℕ) (n : List ℕ) (d : ℕ) (m : Option Mark) → says.TotalAmount other w n d m ≡ says.TotalAmount level wheel name digits mark
           → chart_number other ≡ level_number its → chart_number level ≡ level_number its
       by other w n d m same is = let e : other ≡ level = cc in sym (ap chart_number e) ∙ is
 
-  unit-level : (line : Line) (level : ChartLevel) (wheel : ℕ) (name : List ℕ) (unit : ℕ)
+  unit-level : (line : Line) (level : Level) (wheel : ℕ) (name : List ℕ) (unit : ℕ)
       → Contains at.chart.lines line → line.statement ≡ says.TotalText level wheel name
       → unit_for at.plan line.number ≡ Some unit → at.pictures C (SO unit) ≡ true → chart_number level ≡ level_number its
   unit-level line level wheel name unit listed says_it served out =
@@ -166,12 +166,12 @@ module _ (wiring : Wiring) (its : Level) (held : List ℕ → Printed) (card : L
           let a : level ≡ its = cc in cc
       emits_third (emits_head heading) is there = cc
 
-      by : (other : ChartLevel) (w : ℕ) (n : List ℕ) → says.TotalText other w n ≡ says.TotalText level wheel name
+      by : (other : Level) (w : ℕ) (n : List ℕ) → says.TotalText other w n ≡ says.TotalText level wheel name
           → chart_number other ≡ level_number its → chart_number level ≡ level_number its
       by other w n same is = let e : other ≡ level = cc in sym (ap chart_number e) ∙ is
 
   -- the digit of a group is that of the total
-  pub held-digit : (group : Group) (name : List ℕ) (position : ℕ) → IsGroup group → HoldsTotal at group (held name) → 1 ≤ position
+  pub held-digit : (group : Group) (name : List ℕ) (position : ℕ) → IsGroup group → GroupHoldsTotal at group (held name) → 1 ≤ position
       → position ≤ length (group_at at.old group).digits → digit_at (group_at at.old group).digits position ≡ digit_of (held name).figure position
   held-digit group name position is holds from to =
       digit-of at.old row.on_panel.between group position is from to ∙ ap (λ n. digit_of n position) holds.figure
@@ -181,7 +181,7 @@ module _ (wiring : Wiring) (its : Level) (held : List ℕ → Printed) (card : L
       → is_closed at (BAT group position) ≡ (is_within position 4 && (group_at at.old group).latch)
   closed-BAT group position is = (units-by_name.groups at.old group row.on_panel.between is).transferred at.cycle (Row at.row) position
 
-  pub digit-sends : (line : Line) (place : ℕ) (level : ChartLevel) (wheel : ℕ) (name : List ℕ) (digits : ℕ) (mark : Option Mark) (field : Field)
+  pub digit-sends : (line : Line) (place : ℕ) (level : Level) (wheel : ℕ) (name : List ℕ) (digits : ℕ) (mark : Option Mark) (field : Field)
       (counter : Counter) (position : ℕ)
       → slice_get at.chart.lines place ≡ Some line → Contains at.chart.lines line → line.statement ≡ says.TotalAmount level wheel name digits mark
       → group_for at.chart.lines at.plan line.number ≡ Some counter.name → IsAmount at.chart.lines name field → 1 ≤ position → position ≤ digits
@@ -204,7 +204,7 @@ module _ (wiring : Wiring) (its : Level) (held : List ℕ → Printed) (card : L
       equal : (a b : ℕ) → a ≡ b → (a == b) ≡ true
       equal a b e = grind (arith, nat_tests, e)
 
-  pub mark-sends : (line : Line) (place : ℕ) (level : ChartLevel) (wheel : ℕ) (name : List ℕ) (digits : ℕ) (mark : Mark) (field : Field)
+  pub mark-sends : (line : Line) (place : ℕ) (level : Level) (wheel : ℕ) (name : List ℕ) (digits : ℕ) (mark : Mark) (field : Field)
       (group : Group) (k : ℕ)
       → slice_get at.chart.lines place ≡ Some line → Contains at.chart.lines line
       → line.statement ≡ says.TotalAmount level wheel name digits (Some mark) → group_for at.chart.lines at.plan line.number ≡ Some group
@@ -218,7 +218,7 @@ module _ (wiring : Wiring) (its : Level) (held : List ℕ → Printed) (card : L
       amount-row line place level wheel name digits (Some mark) field listed says_it named same
       (figure_marked mark k refl (sym holds.latch ∙ latch) punch)
 
-  pub text-sends : (line : Line) (level : ChartLevel) (wheel : ℕ) (name : List ℕ) (field : Field) (storage : StorageState) (j : ℕ)
+  pub text-sends : (line : Line) (level : Level) (wheel : ℕ) (name : List ℕ) (field : Field) (storage : StorageState) (j : ℕ)
       → Contains at.chart.lines line → line.statement ≡ says.TotalText level wheel name → IsText at.chart.lines name field → j < columns_of field
       → unit_for at.plan line.number ≡ Some storage.place → Contains at.old.storage storage
       → at.pictures C (SO storage.place) ≡ true → holds_row storage at.row (j + 1) ≡ true

@@ -4,7 +4,7 @@ use Rattle.std.proofs.lemmas.Bool.Decides.{nat_tests}
 use Rattle.std.proofs.lemmas.List.{length-map}
 use Rattle.std.proofs.lemmas.Option.{slice_get_within, get_or_from_slice_get}
 use Rattle.counter_cycles.specs.Acts.{digit_of}
-use Rattle.wanted.specs.ChartTotals.{total_of, need_of, names_signed}
+use Rattle.wanted.specs.ChartTotals.{line_total, need_of, names_signed}
 use Rattle.plans.specs.Plans.{Lists, IsFor}
 use Rattle.wanted.specs.declared.total.Total.{Total}
 use Rattle.card_code.specs.CardCode.{has_row}
@@ -23,7 +23,7 @@ use Rattle.charts.specs.Chart.{Chart, NumbersRise}
 use Rattle.charts.specs.Field.{columns_of, decimals_of, is_amount}
 use Rattle.charts.specs.Levels.{level_number as chart_number}
 use Rattle.charts.specs.declared.chart.Line.{Line}
-use Rattle.charts.specs.declared.level.Level.{Level as ChartLevel}
+use Rattle.charts.specs.declared.level.Level.{Level}
 use Rattle.charts.specs.declared.statement.BodyLine.TheVariants as body
 use Rattle.charts.specs.declared.statement.Field.{Field}
 use Rattle.charts.specs.declared.statement.FieldKind.TheVariants as holds
@@ -38,7 +38,7 @@ use Rattle.hubs.specs.declared.hub.Group.{Group}
 use Rattle.hubs.specs.declared.hub.Hub.TheVariants.{EM, W, PX, RO, SO}
 use Rattle.net.specs.Cycles.{level_number}
 use Rattle.net.specs.declared.cycle.Cycle.TheVariants.{Prog}
-use Rattle.net.specs.declared.cycle.Level.{Level}
+use Rattle.net.specs.declared.cycle.ProgramLevel.{ProgramLevel}
 use Rattle.net.specs.declared.cycle.Ordinal.TheVariants.{Third}
 use Rattle.net.specs.declared.cycle.Point.TheVariants.{C}
 use Rattle.print_unit.specs.Emitters.{emitter_of}
@@ -80,14 +80,14 @@ use Rattle.panel_cycles.proofs.WheelRowsUnits.{group-named, group-listed, counte
 use Rattle.report.proofs.EditLaws.{last_digits-length}
 
 -- what a total line's line sends
-pub record SendsTotal (lines : List Line) (number : ℕ) (held : List ℕ → Printed) (its : ChartLevel) (wheel : ℕ) (name : List ℕ) (digits : ℕ)
+pub record SendsTotal (lines : List Line) (number : ℕ) (held : List ℕ → Printed) (its : Level) (wheel : ℕ) (name : List ℕ) (digits : ℕ)
     (mark : Option Mark) (sent : Shown) : Type 0 where
   pub field : Field
   pub same : chart_number its ≡ number
   pub named : field_named lines name ≡ Some field
   pub is : sent ≡ amount_shown wheel digits (decimals_of field.kind) mark (map Some (last_digits digits (held name).figure)) (held name).latch
 
-pub total-tested : (lines : List Line) (number : ℕ) (held : List ℕ → Printed) (card : List ℕ) (its : ChartLevel) (wheel : ℕ) (name : List ℕ) (digits : ℕ)
+pub total-tested : (lines : List Line) (number : ℕ) (held : List ℕ → Printed) (card : List ℕ) (its : Level) (wheel : ℕ) (name : List ℕ) (digits : ℕ)
     (mark : Option Mark) (sent : Shown) → total_sends lines number held card (says.TotalAmount its wheel name digits mark) ≡ Some sent
     → SendsTotal lines number held its wheel name digits mark sent
 total-tested lines number held card its wheel name digits mark sent is = by (chart_number its == number) (field_named lines name) refl refl is
@@ -99,13 +99,13 @@ total-tested lines number held card its wheel name digits mark sent is = by (cha
     by true None same named there = cc
     by false o same named there = cc
 
-pub record SendsText (lines : List Line) (number : ℕ) (card : List ℕ) (its : ChartLevel) (wheel : ℕ) (name : List ℕ) (sent : Shown) : Type 0 where
+pub record SendsText (lines : List Line) (number : ℕ) (card : List ℕ) (its : Level) (wheel : ℕ) (name : List ℕ) (sent : Shown) : Type 0 where
   pub field : Field
   pub same : chart_number its ≡ number
   pub named : field_named lines name ≡ Some field
   pub is : sent ≡ Characters wheel (map (column_of card) (columns_in field))
 
-pub text-tested : (lines : List Line) (number : ℕ) (held : List ℕ → Printed) (card : List ℕ) (its : ChartLevel) (wheel : ℕ) (name : List ℕ) (sent : Shown)
+pub text-tested : (lines : List Line) (number : ℕ) (held : List ℕ → Printed) (card : List ℕ) (its : Level) (wheel : ℕ) (name : List ℕ) (sent : Shown)
     → total_sends lines number held card (says.TotalText its wheel name) ≡ Some sent → SendsText lines number card its wheel name sent
 text-tested lines number held card its wheel name sent is = by (chart_number its == number) (field_named lines name) refl refl is
   where
@@ -116,7 +116,7 @@ text-tested lines number held card its wheel name sent is = by (chart_number its
     by true None same named there = cc
     by false o same named there = cc
 
-literal-tested : (lines : List Line) (number : ℕ) (held : List ℕ → Printed) (card : List ℕ) (its : ChartLevel) (wheel : ℕ) (characters : List ℕ) (sent : Shown)
+literal-tested : (lines : List Line) (number : ℕ) (held : List ℕ → Printed) (card : List ℕ) (its : Level) (wheel : ℕ) (characters : List ℕ) (sent : Shown)
     → total_sends lines number held card (says.TotalLiteral its wheel characters) ≡ Some sent
     → (chart_number its ≡ number) × (sent ≡ Characters wheel (map set_of_character characters))
 literal-tested lines number held card its wheel characters sent is = by (chart_number its == number) refl is
@@ -127,7 +127,7 @@ literal-tested lines number held card its wheel characters sent is = by (chart_n
     by false same there = cc
 
 -- a total with a mark is of an amount with a sign rule
-total-ruled : (chart : Chart) (place : ℕ) (line : Line) (its : ChartLevel) (wheel : ℕ) (name : List ℕ) (digits : ℕ) (own : Mark) (field : Field)
+total-ruled : (chart : Chart) (place : ℕ) (line : Line) (its : Level) (wheel : ℕ) (name : List ℕ) (digits : ℕ) (own : Mark) (field : Field)
     → IsLawful chart → slice_get chart.lines place ≡ Some line → line.statement ≡ says.TotalAmount its wheel name digits (Some own)
     → field_named chart.lines name ≡ Some field → is_amount field.kind ≡ true → (r : SignRule) × (rule_of field.kind ≡ Some r)
 total-ruled chart place line its wheel name digits own field lawful at says_it named amount =
@@ -142,7 +142,7 @@ total-ruled chart place line its wheel name digits own field lawful at says_it n
     by (holds.Amount decimals (Some r)) amount kept = (r, refl)
 
 -- a group is as wide as its total has digits
-pub total-wide : (chart : Chart) (plan : Lists) (line : Line) (its : ChartLevel) (wheel : ℕ) (name : List ℕ) (digits : ℕ) (mark : Option Mark) (group : Group)
+pub total-wide : (chart : Chart) (plan : Lists) (line : Line) (its : Level) (wheel : ℕ) (name : List ℕ) (digits : ℕ) (mark : Option Mark) (group : Group)
     → NumbersRise chart.lines chart.end → IsFor chart.lines plan → Contains chart.lines line
     → line.statement ≡ says.TotalAmount its wheel name digits mark → group_for chart.lines plan line.number ≡ Some group → digits ≤ group.width
 total-wide chart plan line its wheel name digits mark group rises planned listed says_it served =
@@ -151,7 +151,7 @@ total-wide chart plan line its wheel name digits mark group rises planned listed
     omega (arith, room)
 
 -- a text on a total line is of a field of characters
-text-kind : (chart : Chart) (place : ℕ) (line : Line) (its : ChartLevel) (wheel : ℕ) (name : List ℕ) (field : Field) → IsLawful chart
+text-kind : (chart : Chart) (place : ℕ) (line : Line) (its : Level) (wheel : ℕ) (name : List ℕ) (field : Field) → IsLawful chart
     → slice_get chart.lines place ≡ Some line → line.statement ≡ says.TotalText its wheel name → field_named chart.lines name ≡ Some field
     → is_amount field.kind ≡ false
 text-kind chart place line its wheel name field lawful at says_it named =
@@ -159,11 +159,11 @@ text-kind chart place line its wheel name field lawful at says_it named =
     let e : names_amount (field_named chart.lines name) ≡ false = sym (ap (λ s. breaks rule.WrongKind chart.lines chart.lines s) says_it) ∙ kept in
     sym (ap names_amount named) ∙ e
 
-module _ (wiring : Wiring) (its : Level) (held : List ℕ → Printed) (card : List ℕ) (at : CycleRow) (row : IsTotalRow wiring its held card at) where
-  emits-its : (level : ChartLevel) → chart_number level ≡ level_number its → Emits at (EM (4 + chart_number level) (row_number at.row))
+module _ (wiring : Wiring) (its : ProgramLevel) (held : List ℕ → Printed) (card : List ℕ) (at : CycleRow) (row : IsTotalRow wiring its held card at) where
+  emits-its : (level : Level) → chart_number level ≡ level_number its → Emits at (EM (4 + chart_number level) (row_number at.row))
   emits-its level same = emitter (4 + chart_number level) (ap emitter_of row.cycle ∙ ap (λ n. Some (4 + n)) (sym same))
 
-  figure-arrives : (line : Line) (place : ℕ) (level : ChartLevel) (wheel : ℕ) (name : List ℕ) (digits : ℕ) (mark : Option Mark) (field : Field)
+  figure-arrives : (line : Line) (place : ℕ) (level : Level) (wheel : ℕ) (name : List ℕ) (digits : ℕ) (mark : Option Mark) (field : Field)
       (group : Group) {v : ℕ} → slice_get at.chart.lines place ≡ Some line → Contains at.chart.lines line
       → line.statement ≡ says.TotalAmount level wheel name digits mark → IsAmount at.chart.lines name field → chart_number level ≡ level_number its
       → group_for at.chart.lines at.plan line.number ≡ Some group
@@ -216,7 +216,7 @@ module _ (wiring : Wiring) (its : Level) (held : List ℕ → Printed) (card : L
       (total_mark_out level wheel name digits mark rule field group k (row_number at.row) served signed is.named its_punch)
 
   -- a text by its storage unit
-  text-arrives : (line : Line) (place : ℕ) (level : ChartLevel) (wheel : ℕ) (name : List ℕ) (field : Field) (j : ℕ)
+  text-arrives : (line : Line) (place : ℕ) (level : Level) (wheel : ℕ) (name : List ℕ) (field : Field) (j : ℕ)
       → slice_get at.chart.lines place ≡ Some line → Contains at.chart.lines line → line.statement ≡ says.TotalText level wheel name
       → IsText at.chart.lines name field → chart_number level ≡ level_number its → j < columns_of field
       → has_row (column_of card (field.first + j)) (row_number at.row) ≡ true → ArrivesThere at (W (wheel + j))
@@ -280,7 +280,7 @@ module _ (wiring : Wiring) (its : Level) (held : List ℕ → Printed) (card : L
       (sym (ap (λ x. has_row (sent_on x v) (row_number at.row)) t.is) ∙ sent.on))
   sends-arrives line place other v listed there says_it sent = let none = sent.is_sent in cc
 
-pub item-of : (chart : Chart) (its : Level) (held : List ℕ → Printed) (card : List ℕ) (v : ℕ) (place : ℕ) (line : Line) (statement : Statement) (sent : Shown)
+pub item-of : (chart : Chart) (its : ProgramLevel) (held : List ℕ → Printed) (card : List ℕ) (v : ℕ) (place : ℕ) (line : Line) (statement : Statement) (sent : Shown)
     → IsLawful chart → slice_get chart.lines place ≡ Some line → line.statement ≡ statement
     → total_sends chart.lines (level_number its) held card statement ≡ Some sent → stands_on sent v ≡ true
     → (item : Item) × (item_of (fields_of chart.lines) statement ≡ Some item) × HasWheel item v × IsLineOf (Prog its Third) item.line

@@ -8,7 +8,7 @@ use Rattle.std.proofs.lemmas.List.FromFn.{get_or-range_with_len}
 use Rattle.std.proofs.lemmas.List.Elements.{Contains-get_or}
 use Rattle.counter_cycles.proofs.ShownLemmas.{digits-tell}
 use Rattle.counter_cycles.specs.Acts.{digit_of}
-use Rattle.wanted.specs.ChartTotals.{total_of}
+use Rattle.wanted.specs.ChartTotals.{line_total}
 use Rattle.plans.specs.Plans.{Lists, IsFor}
 use Rattle.wanted.specs.declared.total.Total.{Total}
 use Rattle.capacity.specs.Capacities.{HasGroup, groups_of, standard}

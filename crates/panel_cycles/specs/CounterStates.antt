@@ -9,12 +9,12 @@ use Rattle.counters.specs.Counters.{Counter}
 use Rattle.counters.specs.Numbers.{number}
 use Rattle.hubs.specs.declared.hub.Group.{Group}
 use Rattle.machine.specs.Machine.{MachineState}
-use Rattle.machine.specs.Steady.{latches_of}
+use Rattle.machine.specs.Steady.{balance_latches}
 use Rattle.net.specs.Cycles.{level_number}
 use Rattle.net.specs.Panel.{unit_of}
 use Rattle.net.specs.declared.cycle.Cycle.{Cycle}
 use Rattle.net.specs.declared.cycle.Cycle.TheVariants.{Card, Head, Prog, RunIn}
-use Rattle.net.specs.declared.cycle.Level.{Level}
+use Rattle.net.specs.declared.cycle.ProgramLevel.{ProgramLevel}
 use Rattle.net.specs.declared.cycle.Ordinal.{Ordinal}
 use Rattle.report.specs.Amounts.{digits_on, is_negated, number_in}
 use Rattle.selectors.specs.Contacts.{is_balance_set}
@@ -31,7 +31,7 @@ number_at groups group = slice_index_or (map (λ (counter : Counter). number cou
 -- what a counter group of a machine holds, if there is one
 abbrev pub held_in : MachineState → Option Group → Held
 held_in machine (Some group) =
-    record { number = number_at machine.groups group; latch = is_balance_set (latches_of machine.groups) group }
+    record { number = number_at machine.groups group; latch = is_balance_set (balance_latches machine.groups) group }
 held_in machine None = record { number = 0; latch = false }
 
 -- what the counter group of the total of an amount at a level holds
@@ -43,6 +43,6 @@ state_of machine lines plan name level = held_in machine (total_group lines plan
 pub data IsKindOf (chart : Chart) (plan : Lists) (old : MachineState) (name : List ℕ) : Cycle → Kind → Type 0 where
   card : (card : List ℕ) (field : Field) → IsCardRead chart plan old card → IsAmount chart.lines name field
       → IsKindOf chart plan old name Card (Entry (is_negated field.kind card) (number_in (digits_on field card)))
-  program : (l : Level) (ordinal : Ordinal) → IsKindOf chart plan old name (Prog l ordinal) (ProgKind (level_number l) ordinal)
+  program : (l : ProgramLevel) (ordinal : Ordinal) → IsKindOf chart plan old name (Prog l ordinal) (ProgKind (level_number l) ordinal)
   run_in : IsKindOf chart plan old name RunIn Other
   heading : (ordinal : Ordinal) → IsKindOf chart plan old name (Head ordinal) Other

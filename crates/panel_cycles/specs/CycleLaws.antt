@@ -10,7 +10,7 @@ use Rattle.hubs.specs.declared.hub.Hub.{Hub}
 use Rattle.machine.specs.Machine.{MachineState}
 use Rattle.net.specs.declared.cycle.Cycle.{Cycle}
 use Rattle.net.specs.declared.cycle.Point.{Point}
-use Rattle.line_places.specs.CarriageCycles.{carriage_behind}
+use Rattle.line_places.specs.CarriageCycles.{carriage_after}
 use Rattle.line_places.specs.Placing.{asked_of, kind_of}
 use Rattle.totals.specs.Amounts.{IsSmall, Kind, act_of}
 use Rattle.whole_cycles.specs.Between.{IsBetween}
@@ -37,5 +37,5 @@ abbrev pub CarriageDoesWhatIsAsked : Type 0
 CarriageDoesWhatIsAsked =
     (chart : Chart) (plan : Lists) (wiring : Wiring) (cycle : Cycle) (old new : MachineState)
     → IsPanel chart plan wiring → IsBetween old → WholeCycle wiring cycle old new
-    → ((kind : ℕ) → kind_of cycle ≡ Some kind → new.carriage ≡ carriage_behind old.carriage (asked_of chart.lines kind) cycle)
-    × (kind_of cycle ≡ None → new.carriage ≡ carriage_behind old.carriage nothing_asked cycle)
+    → ((kind : ℕ) → kind_of cycle ≡ Some kind → new.carriage ≡ carriage_after old.carriage (asked_of chart.lines kind) cycle)
+    × (kind_of cycle ≡ None → new.carriage ≡ carriage_after old.carriage nothing_asked cycle)

@@ -8,7 +8,7 @@ use Rattle.charts.specs.Chart.{NumbersRise}
 use Rattle.charts.specs.Field.{columns_of}
 use Rattle.charts.specs.Levels.{level_number as chart_number}
 use Rattle.charts.specs.declared.chart.Line.{Line}
-use Rattle.charts.specs.declared.level.Level.{Level as ChartLevel}
+use Rattle.charts.specs.declared.level.Level.{Level}
 use Rattle.charts.specs.declared.statement.Field.{Field}
 use Rattle.charts.specs.declared.statement.Mark.{Mark}
 use Rattle.charts.specs.declared.statement.Statement.TheVariants as says
@@ -17,7 +17,7 @@ use Rattle.setups.specs.Wiring.{Wiring}
 use Rattle.hubs.specs.declared.hub.Group.{Group}
 use Rattle.net.specs.Cycles.{level_number}
 use Rattle.net.specs.declared.cycle.Cycle.TheVariants.{Card, Prog, Head}
-use Rattle.net.specs.declared.cycle.Level.{Level}
+use Rattle.net.specs.declared.cycle.ProgramLevel.{ProgramLevel}
 use Rattle.net.specs.declared.cycle.Ordinal.TheVariants.{Third}
 use Rattle.net.specs.declared.cycle.Ordinal.{Ordinal}
 use Rattle.printed_lines.specs.Shown.{Printed}
@@ -43,23 +43,23 @@ pub record IsCardRow (wiring : Wiring) (card : List ℕ) (opens : ℕ) (at : Cyc
   pub latches : AreSetTo at.old.indicate opens
 
 -- A counter group stands at the figure of a total, with its latch as the total has it.
-pub record HoldsTotal (at : CycleRow) (group : Group) (printed : Printed) : Type 0 where
+pub record GroupHoldsTotal (at : CycleRow) (group : Group) (printed : Printed) : Type 0 where
   pub figure : number (group_at at.old group).digits ≡ printed.figure
   pub latch : (group_at at.old group).latch ≡ printed.latch
 
 -- A row of the third program cycle of a level: the counter groups of its totals stand at the totals by name, and the storage units of its
 -- texts hold the columns of a card.
-pub record IsTotalRow (wiring : Wiring) (level : Level) (held : List ℕ → Printed) (card : List ℕ) (at : CycleRow) : Type 0 where
+pub record IsTotalRow (wiring : Wiring) (level : ProgramLevel) (held : List ℕ → Printed) (card : List ℕ) (at : CycleRow) : Type 0 where
   pub on_panel : IsPanelCycle at.chart at.plan wiring at.old at.cycle at.pictures
   pub rises : NumbersRise at.chart.lines at.chart.end
   pub cycle : at.cycle ≡ Prog level Third
   pub totals :
-      (line : Line) (its_level : ChartLevel) (wheel : ℕ) (name : List ℕ) (digits : ℕ) (mark : Option Mark) (group : Group)
+      (line : Line) (its_level : Level) (wheel : ℕ) (name : List ℕ) (digits : ℕ) (mark : Option Mark) (group : Group)
       → Contains at.chart.lines line → line.statement ≡ says.TotalAmount its_level wheel name digits mark
       → chart_number its_level ≡ level_number level → group_for at.chart.lines at.plan line.number ≡ Some group
-      → HoldsTotal at group (held name)
+      → GroupHoldsTotal at group (held name)
   pub texts :
-      (line : Line) (its_level : ChartLevel) (wheel : ℕ) (name : List ℕ) (field : Field) (unit j : ℕ)
+      (line : Line) (its_level : Level) (wheel : ℕ) (name : List ℕ) (field : Field) (unit j : ℕ)
       → Contains at.chart.lines line → line.statement ≡ says.TotalText its_level wheel name
       → chart_number its_level ≡ level_number level → unit_for at.plan line.number ≡ Some unit
       → field_named at.chart.lines name ≡ Some field → j < columns_of field

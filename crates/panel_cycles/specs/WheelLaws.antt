@@ -6,7 +6,7 @@ use Rattle.card_code.specs.Rows.{row_number}
 use Rattle.setups.specs.Wiring.{Wiring}
 use Rattle.hubs.specs.declared.hub.Hub.TheVariants.{W}
 use Rattle.net.specs.Cycles.{level_number, ordinal_number}
-use Rattle.net.specs.declared.cycle.Level.{Level}
+use Rattle.net.specs.declared.cycle.ProgramLevel.{ProgramLevel}
 use Rattle.net.specs.declared.cycle.Ordinal.{Ordinal}
 use Rattle.net.specs.declared.cycle.Point.TheVariants.{Row}
 use Rattle.printed_lines.specs.Shown.{Printed, set_on, sent_to_card, sent_to_heading, sent_to_total}
@@ -29,7 +29,7 @@ WheelsReceiveCards =
 -- In the third program cycle of a level each wheel receives what comes to the total line of the level.
 abbrev pub WheelsReceiveTotals : Type 0
 WheelsReceiveTotals =
-    (wiring : Wiring) (level : Level) (held : List ℕ → Printed) (card : List ℕ) (at : CycleRow) (v : ℕ)
+    (wiring : Wiring) (level : ProgramLevel) (held : List ℕ → Printed) (card : List ℕ) (at : CycleRow) (v : ℕ)
     → IsTotalRow wiring level held card at
     → at.pictures (Row at.row) (W v)
     ≡ has_row (set_on (sent_to_total at.chart.lines (level_number level) held card) v) (row_number at.row)

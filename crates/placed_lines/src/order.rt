@@ -28,7 +28,7 @@ pub fn in_order(lines: &[PlacedLine], form_lines: u32) -> bool
     form_lines <= MOST_LINES
 }
 
-// Whether a line stands behind a place.
+// Whether a line stands after a place.
 fn is_after(placed: &PlacedLine, page: u64, line: u32) -> bool
     ensures { IsTrue result ↔ IsAfter page line placed.now.page placed.now.line }
 {

@@ -8,7 +8,7 @@ ghost use Rattle.plans.specs.HelperEnough.{are_enough, IsLeftFor, AreThere, AreS
 
 use capacity::{CounterGroup, Profile};
 use chart_rules::Chart;
-use wanted::{Total, total_of};
+use wanted::{Total, line_total};
 
 /// Whether each total of a chart has a group of its own of the standard machine, with at least its need, and there are no
 /// more groups.
@@ -27,7 +27,7 @@ fn has_enough(groups: &[CounterGroup], chart: &Chart) -> bool
     let lines = chart.lines();
     let mut rest = groups;
     for line in lines {
-        if let Some(total) = total_of(chart, line) {
+        if let Some(total) = line_total(chart, line) {
             match left_for(total, rest) {
                 Some(left) => rest = left,
                 None => return false,

@@ -1,5 +1,5 @@
 -- A rule on marks and sign columns: an amount item has a mark exactly where the amount has a sign column.
-use Rattle.std.specs.Prelude.{Bool, true, false, List, Option, Some, None, not, is_some}
+use Rattle.std.specs.Prelude.{Bool, true, false, List, Option, Some, None}
 use Rattle.charts.specs.declared.statement.Field.{Field}
 use Rattle.charts.specs.declared.statement.FieldKind.{FieldKind}
 use Rattle.charts.specs.declared.statement.FieldKind.TheVariants as holds
@@ -9,15 +9,11 @@ use Rattle.charts.specs.declared.statement.Statement.TheVariants as says
 use Rattle.field_rules.specs.Fields.{first_named}
 use Rattle.print_rules.specs.Items.{mark_shown}
 
--- whether one of two is there without the other
-abbrev pub is_one_alone : Bool → Bool → Bool
-is_one_alone true other = not other
-is_one_alone false other = other
-
 -- whether an amount has a mark without a sign column, or the reverse; a text has neither
 abbrev pub is_mismatched_kind : FieldKind → Option Mark → Bool
-is_mismatched_kind (holds.Amount decimals rule) mark = is_one_alone (is_some mark) (is_some rule)
-is_mismatched_kind holds.Text mark = false
+is_mismatched_kind (holds.Amount decimals None) (Some mark) = true
+is_mismatched_kind (holds.Amount decimals (Some rule)) None = true
+is_mismatched_kind kind mark = false
 
 -- whether a field, if there is one, is an amount that has a mark without a sign column, or the reverse
 abbrev pub is_mismatched : Option Field → Option Mark → Bool

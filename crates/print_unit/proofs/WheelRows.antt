@@ -3,7 +3,7 @@ use Rattle.std.proofs.Common.{◌≡◌, ◌∙◌, refl, sym, ap, ℕ, suc, zer
 use Rattle.std.proofs.lemmas.Bool.Decides.{nat_tests}
 use Rattle.std.proofs.lemmas.List.{map-set, get_or-map}
 use Rattle.std.specs.List.{range_with_len}
-use Rattle.card_code.specs.Rows.{row_place}
+use Rattle.card_code.specs.Rows.{passing_place}
 use Rattle.card_code.specs.declared.row.Row.{Row as CardRow}
 use Rattle.hubs.specs.declared.hub.Hub.{Hub}
 use Rattle.hubs.specs.declared.hub.Hub.TheVariants.{W}
@@ -48,11 +48,11 @@ is_in_reach-W k below = grind (arith, nat_tests)
 
 -- a wheel of words at the point of a row: the row's word is joined with the picture's
 pub wheel_at-sensed : (words : inside.Inside) (row : CardRow) (impulsed : Bool) (word k : ℕ)
-    → row_place row < length words.rows → impulsed ≡ is_bit word k
+    → passing_place row < length words.rows → impulsed ≡ is_bit word k
     → wheel_sensed row impulsed (wheel_at words k)
-    ≡ wheel_at (record words { rows = slice_set words.rows (row_place row) (bit_or (slice_index_or words.rows (row_place row) 0) word) }) k
+    ≡ wheel_at (record words { rows = slice_set words.rows (passing_place row) (bit_or (slice_index_or words.rows (passing_place row) 0) word) }) k
 wheel_at-sensed words row impulsed word k below there =
-    let place = row_place row in
+    let place = passing_place row in
     let old = slice_index_or words.rows place 0 in
     let received : slice_set (rows_at words.rows k) place (slice_index_or (rows_at words.rows k) place false || impulsed)
     ≡ rows_at (slice_set words.rows place (bit_or old word)) k =
@@ -100,12 +100,12 @@ printed_from-words false words hidden count hiding =
 
 -- the state of wheels of words at the point of a row
 pub state-sensed : (words : inside.Inside) (cycle : Cycle) (row : CardRow) (picture : Hub → Bool) (word : ℕ)
-    → row_place row < length words.rows
+    → passing_place row < length words.rows
     → ((k : ℕ) → k < 120 → picture (W (k + 1)) ≡ is_bit word k)
-    → state_of (record words { rows = slice_set words.rows (row_place row) (bit_or (slice_index_or words.rows (row_place row) 0) word) })
+    → state_of (record words { rows = slice_set words.rows (passing_place row) (bit_or (slice_index_or words.rows (passing_place row) 0) word) })
     ≡ wheels_sensed (state_of words) cycle (Row row) picture
 state-sensed words cycle row picture word below there =
-    let new : inside.Inside = record words { rows = slice_set words.rows (row_place row) (bit_or (slice_index_or words.rows (row_place row) 0) word) } in
+    let new : inside.Inside = record words { rows = slice_set words.rows (passing_place row) (bit_or (slice_index_or words.rows (passing_place row) 0) word) } in
     ap (λ wheels. record { wheels = wheels; line = words.line }) (sym (collected-map row picture (wheel_at words) (wheel_at new) 0 120 (λ k low high. wheel_at-sensed words row (picture (W (k + 1))) word k below (there k (omega arith)))))
 
 -- the state of wheels of words at the end of a cycle

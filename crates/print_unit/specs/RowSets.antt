@@ -1,4 +1,4 @@
--- Sets of rows as numbers: bit p stands for the row that comes p rows behind row 9, in the order of the points. What is said
+-- Sets of rows as numbers: bit p stands for the row that comes p rows after row 9, in the order of the points. What is said
 -- here is for proofs: what wheels print stands in ZeroControl.
 use Rattle.std.specs.Prelude.{◌≡◌, ℕ, ◌<◌, ◌==◌, ◌&&◌, ◌||◌, not, nat_lt, length, slice_index_or, Bool, List, map}
 use Rattle.std.specs.List.{range_with_len}

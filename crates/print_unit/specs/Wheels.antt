@@ -2,7 +2,7 @@
 -- the cycle the line is made of that, and the wheels forget it. They emit nothing and have no contacts.
 use Rattle.std.specs.Prelude.{ℕ, ◌+◌, Bool, false, ◌||◌, List, [], ◌∷◌, map, replicate, slice_set, slice_index_or}
 use Rattle.std.specs.List.{range_with_len}
-use Rattle.card_code.specs.Rows.{row_place}
+use Rattle.card_code.specs.Rows.{passing_place}
 use Rattle.card_code.specs.declared.row.Row.{Row as CardRow}
 use Rattle.setups.specs.Wiring.{Wiring, is_plugged}
 use Rattle.hubs.specs.declared.hub.Hub.{Hub}
@@ -34,7 +34,7 @@ wheels_at_start wiring = record { wheels = map (wheel_at_start wiring) (range_wi
 -- the rows of a wheel with one more where the wheel is impulsed at its point
 abbrev pub with_impulse : CardRow → Bool → List Bool → List Bool
 with_impulse row impulsed received =
-    slice_set received (row_place row) (slice_index_or received (row_place row) false || impulsed)
+    slice_set received (passing_place row) (slice_index_or received (passing_place row) false || impulsed)
 
 -- a wheel at the point of a row
 abbrev pub wheel_sensed : CardRow → Bool → Wheel → Wheel

@@ -13,7 +13,7 @@ use Rattle.printed_lines.specs.Shown.{digit_set, point_sets, mark_sets}
 use Rattle.printed_lines.proofs.Characters.{received, IsDigitSet-digit, blank-prints}
 use Rattle.printed_lines.proofs.Numbers.{value, any_above_zero, AreDigits, IsNumeral, AreBlank, IsNumeral-digits}
 
--- a wheel of an amount behind its first: one whose zeros may be blank, one that always prints, and one of the mark
+-- a wheel of an amount after its first: one whose zeros may be blank, one that always prints, and one of the mark
 abbrev pub high_wheel : Option ℕ → Wheel
 high_wheel column = record { received = received (digit_set column); link = true; suppress = true; symbol = false }
 
@@ -30,12 +30,12 @@ amount_wheels free decimals mark columns negative =
     ++ (map plain_wheel (point_sets decimals)
     ++ (map (λ column. plain_wheel (digit_set column)) (drop free columns) ++ map mark_wheel (mark_sets mark negative)))
 
--- the significance that wheels give to what stands behind them
+-- the significance that wheels give to what stands after them
 given_after : Bool → List Wheel → Bool
 given_after given [] = given
 given_after given (wheel ∷ others) = given_after (gives (has_significance true given wheel) wheel) others
 
--- wheels print from the left, those behind with what those before give them
+-- wheels print from the left, those after with what those before give them
 printed-append : (given : Bool) (one other : List Wheel)
     → printed_from true given (one ++ other) ≡ printed_from true given one ++ printed_from true (given_after given one) other
 unfolding given_after
@@ -45,11 +45,11 @@ printed-append given (wheel ∷ others) other =
     (printed-append (gives (has_significance true given wheel) wheel) others other)
 
 -- wheels in two parts, where it is known what each of them prints
-printed-parts : (given after : Bool) (front behind : List Wheel) (one other : List ℕ) → printed_from true given front ≡ one
-    → given_after given front ≡ after → printed_from true after behind ≡ other → printed_from true given (front ++ behind) ≡ one ++ other
-printed-parts given after front behind one other is_one is_after is_other =
-    printed-append given front behind
-    ∙ ap₂ (λ xs ys. xs ++ ys) is_one (ap (λ g. printed_from true g behind) is_after ∙ is_other)
+printed-parts : (given after : Bool) (front tail : List Wheel) (one other : List ℕ) → printed_from true given front ≡ one
+    → given_after given front ≡ after → printed_from true after tail ≡ other → printed_from true given (front ++ tail) ≡ one ++ other
+printed-parts given after front tail one other is_one is_after is_other =
+    printed-append given front tail
+    ∙ ap₂ (λ xs ys. xs ++ ys) is_one (ap (λ g. printed_from true g tail) is_after ∙ is_other)
 
 -- the digits on the left, with significance
 high-significant : (columns : List (Option ℕ)) → AreDigits columns
@@ -161,27 +161,27 @@ mark-prints true (Some mark.Minus) false = refl
 mark-prints false (Some mark.Minus) true = refl
 mark-prints false (Some mark.Minus) false = refl
 
--- what stands behind the digits on the left
-behind : ℕ → Option Mark → Bool → List (Option ℕ) → List Wheel
-behind decimals mark negative low =
+-- what stands after the digits on the left
+tail : ℕ → Option Mark → Bool → List (Option ℕ) → List Wheel
+tail decimals mark negative low =
     map plain_wheel (point_sets decimals)
     ++ (map (λ column. plain_wheel (digit_set column)) low ++ map mark_wheel (mark_sets mark negative))
 
-behind-digits : (given : Bool) (decimals : ℕ) (mark : Option Mark) (negative : Bool) (low : List (Option ℕ)) → AreDigits low
-    → printed_from true given (behind decimals mark negative low)
+after-digits : (given : Bool) (decimals : ℕ) (mark : Option Mark) (negative : Bool) (low : List (Option ℕ)) → AreDigits low
+    → printed_from true given (tail decimals mark negative low)
     ≡ point decimals ++ (map figure (map value low) ++ marked mark ((given || any_above_zero (map value low)) && negative))
-unfolding behind
-behind-digits given decimals mark negative low are =
+unfolding tail
+after-digits given decimals mark negative low are =
     let points = point-prints given decimals in
     let digits = low-digits given low are in
     let marks = mark-prints (given || any_above_zero (map value low)) mark negative in
     printed-parts given given _ _ _ _ points.0 points.1 (printed-parts given _ _ _ _ _ digits.0 digits.1 marks)
 
-behind-blank : (decimals : ℕ) (mark : Option Mark) (negative : Bool) (low : List (Option ℕ)) → AreBlank low
-    → printed_from true false (behind decimals mark negative low)
+after-blank : (decimals : ℕ) (mark : Option Mark) (negative : Bool) (low : List (Option ℕ)) → AreBlank low
+    → printed_from true false (tail decimals mark negative low)
     ≡ point decimals ++ (replicate (length low) 32 ++ marked mark false)
-unfolding behind
-behind-blank decimals mark negative low are =
+unfolding tail
+after-blank decimals mark negative low are =
     let points = point-prints false decimals in
     let digits = low-blank low are in
     printed-parts false false _ _ _ _ points.0 points.1
@@ -228,7 +228,7 @@ pub amount-edited : (columns : List (Option ℕ)) (decimals : ℕ) (mark : Optio
     → marked mark (any_above_zero (map value columns) && negative) ≡ marked mark below
     → printed_from true false (amount_wheels (free_digits (length columns) decimals) decimals mark columns negative)
     ≡ edited_digits (map value columns) decimals mark below
-unfolding behind
+unfolding tail
 amount-edited columns decimals mark negative below is low same =
     let free = free_digits (length columns) decimals in
     let parts : List ℕ → List ℕ → List ℕ → List ℕ
@@ -236,14 +236,14 @@ amount-edited columns decimals mark negative below is low same =
     let front = high-numeral (take free columns) (IsNumeral-take free columns is) in
     let given = any_above_zero (map value (take free columns)) in
     let digits = map value columns in
-    printed-parts false given _ _ _ _ front.0 front.1 (behind-digits given decimals mark negative (drop free columns) low)
+    printed-parts false given _ _ _ _ front.0 front.1 (after-digits given decimals mark negative (drop free columns) low)
     ∙ ap (parts (map value (take free columns)) (map value (drop free columns)))
     (ap (λ b. marked mark (b && negative)) (any-cut free columns) ∙ same)
     ∙ sym (ap (λ n. parts (take (free_digits n decimals) digits) (drop (free_digits n decimals) digits) (marked mark below))
     (length-map columns value)
     ∙ ap₂ (λ one other. parts one other (marked mark below)) (take-map value free columns) (drop-map value free columns))
 
--- what is blank behind the point
+-- what is blank after the point
 blank-end : (count : ℕ) (mark : Option Mark) → replicate count 32 ++ marked mark false ≡ replicate (count + mark_width mark) 32
 blank-end count mark = ap (λ end. replicate count 32 ++ end) (blanks mark) ∙ replicate-append-replicate count (mark_width mark) 32
   where
@@ -255,15 +255,15 @@ blank-end count mark = ap (λ end. replicate count 32 ++ end) (blanks mark) ∙ 
 pub amount-blank : (columns : List (Option ℕ)) (decimals : ℕ) (mark : Option Mark) (negative : Bool) → AreBlank columns
     → printed_from true false (amount_wheels (free_digits (length columns) decimals) decimals mark columns negative)
     ≡ edited_blank (length columns) decimals mark
-unfolding behind
+unfolding tail
 amount-blank columns decimals mark negative are =
     let free = free_digits (length columns) decimals in
     let front = high-blank (take free columns) (AreBlank-take free columns are) in
     let short : free ≤ length columns = omega arith in
     let first : length (take free columns) ≡ free = length-take free columns ∙ omega (arith, short) in
-    printed-parts false false (map high_wheel (take free columns)) (behind decimals mark negative (drop free columns))
+    printed-parts false false (map high_wheel (take free columns)) (tail decimals mark negative (drop free columns))
     (replicate free 32) (point decimals ++ replicate (length columns - free + mark_width mark) 32)
     (front.0 ∙ ap (λ n. replicate n 32) first) front.1
-    (behind-blank decimals mark negative (drop free columns) (AreBlank-drop free columns are)
+    (after-blank decimals mark negative (drop free columns) (AreBlank-drop free columns are)
     ∙ ap (λ end. point decimals ++ end)
     (blank-end (length (drop free columns)) mark ∙ ap (λ n. replicate (n + mark_width mark) 32) (length-drop free columns)))

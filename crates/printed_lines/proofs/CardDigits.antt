@@ -82,7 +82,7 @@ IsNumeral-columns card start from (suc count) blank single =
     by (nat_lt from start) refl
     (IsNumeral-columns card start (from + 1) count
     (λ column low high before. blank column (omega (arith, low)) (omega (arith, high)) before)
-    (λ column low high behind. single column (omega (arith, low)) (omega (arith, high)) behind))
+    (λ column low high after. single column (omega (arith, low)) (omega (arith, high)) after))
   where
     rest : List (Option ℕ)
     rest = map (λ column. digit_in (column_of card column)) (range_with_len (from + 1) count)
@@ -92,8 +92,8 @@ IsNumeral-columns card start from (suc count) blank single =
         let below : from < start = grind (arith, nat_tests, before) in
         subst (λ o. IsNumeral (o ∷ rest))
         (sym (digit-none (column_of card from) (blank from (omega arith) (omega arith) below))) numeral
-    by false behind numeral =
-        let above : start ≤ from = grind (arith, nat_tests, behind) in
+    by false after numeral =
+        let above : start ≤ from = grind (arith, nat_tests, after) in
         let one = digit-one (column_of card from) (single from (omega arith) (omega arith) above) in
         subst (λ o. IsNumeral (o ∷ rest)) (sym one.2) (
           one.1,
@@ -101,7 +101,7 @@ IsNumeral-columns card start from (suc count) blank single =
               (λ column low high. single column (omega (arith, low)) (omega (arith, high)) (omega (arith, above, low))),
         )
 
--- the columns behind the first ones
+-- the columns after the first ones
 drop-columns : {X : Type 0} (f : ℕ → X) (from count skipped : ℕ)
     → drop skipped (map f (range_with_len from count)) ≡ map f (range_with_len (from + skipped) (count - skipped))
 drop-columns f from count zero =
@@ -122,7 +122,7 @@ no-digit [] are = refl
 no-digit (None ∷ columns) are = no-digit columns are
 no-digit (Some digit ∷ columns) are = absurd are
 
--- columns have a digit where there are digits behind the first ones
+-- columns have a digit where there are digits after the first ones
 some-digit : (count : ℕ) (columns : List (Option ℕ)) → AreDigits (drop count columns) → count < length columns
     → list_any is_some columns ≡ true
 some-digit count [] are some = absurd (omega (arith, some))
@@ -164,7 +164,7 @@ OnCard-valid field card good valid = by valid.digits.enough
         numeral
         (IsNumeral-columns card valid.digits.start field.first count
         (λ column low high before. valid.digits.blanks column low before)
-        (λ column low high behind. valid.digits.digits column behind (omega (arith, high, ends))))
+        (λ column low high after. valid.digits.digits column after (omega (arith, high, ends))))
         low (ap not (some-digit free (digits_on field card) low (omega (arith, order, long, ends))))
       where
         order : field.first ≤ field.last

@@ -22,14 +22,14 @@ use Rattle.printed_lines.proofs.Sending.{IsItems, item_for, sets_on, place-set}
 use Rattle.printed_lines.proofs.Significance.{given, printed_at, printed-wheels, IsBodyLine, first-alone}
 
 -- the digits of an amount may be cut anywhere
-cut-anywhere : (count : ℕ) (columns : List (Option ℕ)) (behind : List ℕ)
-    → map digit_set (take count columns) ++ (map digit_set (drop count columns) ++ behind) ≡ map digit_set columns ++ behind
-cut-anywhere count columns behind =
-    sym (append_assoc (map digit_set (take count columns)) (map digit_set (drop count columns)) behind)
-    ∙ ap (λ sets. sets ++ behind)
+cut-anywhere : (count : ℕ) (columns : List (Option ℕ)) (after : List ℕ)
+    → map digit_set (take count columns) ++ (map digit_set (drop count columns) ++ after) ≡ map digit_set columns ++ after
+cut-anywhere count columns after =
+    sym (append_assoc (map digit_set (take count columns)) (map digit_set (drop count columns)) after)
+    ∙ ap (λ sets. sets ++ after)
     (sym (map-append digit_set (take count columns) (drop count columns)) ∙ ap (map digit_set) (take-append-drop count columns))
 
--- the sets of an amount, cut behind the digits that may be blank
+-- the sets of an amount, cut after the digits that may be blank
 sets-by-free : (wheel : ℕ) (figure : Figure) (columns : List (Option ℕ)) (negative : Bool)
     → sets_of (Amount wheel figure columns negative)
     ≡ amount_sets (free_digits figure.digits figure.decimals) figure.decimals figure.mark columns negative
@@ -128,7 +128,7 @@ text-prints chart link suppress symbol kind sends wheel sets text is line there 
         ∙ ap (λ set. character_of (received set))
         (place-set chart is.lawful kind sends is.sending (Characters wheel sets) line there sent k below)
 
--- places behind the same wheel
+-- places after the same wheel
 free-place : (wheel place free : ℕ) → nat_lt (wheel + place) (wheel + free) ≡ nat_lt (0 + place) free
 free-place wheel place free = grind (arith, nat_tests)
 

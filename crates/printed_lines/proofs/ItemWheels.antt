@@ -32,7 +32,7 @@ wheels-places make wheel from place (set ∷ sets) each =
     let next_place : place + suc k ≡ suc place + k = omega arith in
     ap wheel next ∙ each (suc k) (omega (arith, below)) ∙ ap (λ p. make p (slice_index_or sets k 0)) next_place))
 
--- places go on behind the first sets
+-- places go on after the first sets
 by_places-append : {X : Type 0} (make : ℕ → ℕ → X) (place : ℕ) (one other : List ℕ)
     → by_places make place (one ++ other) ≡ by_places make place one ++ by_places make (place + length one) other
 unfolding by_places

@@ -4,7 +4,7 @@ use Rattle.std.specs.List.{list_any}
 use Rattle.std.proofs.lemmas.Bool.{eqb-true, and_parts}
 use Rattle.std.proofs.lemmas.Bool.Decides.{nat_tests}
 use Rattle.std.proofs.lemmas.List.Elements.{Contains-append_right}
-use Rattle.charts.proofs.Listed.{Order, is_one, goes_before, goes_behind, listed-first, listed-order, none-any}
+use Rattle.charts.proofs.Listed.{Order, is_one, goes_before, goes_after, listed-first, listed-order, none-any}
 use Rattle.charts.specs.Chart.{Chart}
 use Rattle.charts.specs.declared.chart.Line.{Line}
 use Rattle.charts.specs.declared.statement.Mark.{Mark}
@@ -126,7 +126,7 @@ one-line chart lawful line other_line one other wheel there there_other is is_ot
         let apart = (KeepApart-lines chart lawful line other_line a b c one other split is is_other).overlap
         (meet-wheel one other wheel on on_other) in
         cc
-    by (goes_behind a b c split) =
+    by (goes_after a b c split) =
         let apart = (KeepApart-lines chart lawful other_line line a b c other one split is_other is).overlap
         (meet-wheel other one wheel on_other on) in
         cc
@@ -147,7 +147,7 @@ same-or-agree chart lawful line other_line one other wheel there there_other is 
     by (goes_before a b c split) =
         inr ((KeepApart-lines chart lawful line other_line a b c one other split is is_other).clash first second
         (meet-wheel one other wheel on on_other))
-    by (goes_behind a b c split) =
+    by (goes_after a b c split) =
         inr (Agree-turned other one
         ((KeepApart-lines chart lawful other_line line a b c other one split is_other is).clash second first
         (meet-wheel other one wheel on_other on)))

@@ -87,14 +87,14 @@ number_in-small (Some digit ∷ columns) are =
     (one_more digit (10 ^ length columns) (number_in columns) are.0 (number_in-small columns are.1))
 
 -- the last digits don't tell of what stands before them
-pub last_digits-behind : (count before number : ℕ) → last_digits count (before * 10 ^ count + number) ≡ last_digits count number
-last_digits-behind zero before number = refl
-last_digits-behind (suc count) before number =
+pub last_digits-after : (count before number : ℕ) → last_digits count (before * 10 ^ count + number) ≡ last_digits count number
+last_digits-after zero before number = refl
+last_digits-after (suc count) before number =
     let tens : before * 10 ^ suc count + number ≡ (before * 10) * 10 ^ count + number = rw (pow-succ' 10 count) (omega arith) in
     let head : ((before * 10) * 10 ^ count + number) / 10 ^ count % 10 ≡ number / 10 ^ count % 10
     = ap (λ n. n % 10) (mul-add-div_right (ten_pow count) (before * 10) number)
     ∙ mul-add-mod_self_right before 10 (number / 10 ^ count) in
-    ap (last_digits (suc count)) tens ∙ ap₂ (λ d ds. d ∷ ds) head (last_digits-behind count (before * 10) number)
+    ap (last_digits (suc count)) tens ∙ ap₂ (λ d ds. d ∷ ds) head (last_digits-after count (before * 10) number)
 
 -- the digits of the number that columns spell are the columns' own, 0 where a column is blank
 pub last_digits-columns : (columns : List (Option ℕ)) → AreSmall columns
@@ -110,7 +110,7 @@ last_digits-columns (Some digit ∷ columns) are =
     let head : (digit * 10 ^ length columns + number_in columns) / 10 ^ length columns % 10 ≡ digit
     = ap (λ n. n % 10) (div-mul-add digit (10 ^ length columns) (number_in columns) below) ∙ mod-eq_of_lt are.0 in
     ap₂ (λ d ds. d ∷ ds) head
-    (last_digits-behind (length columns) digit (number_in columns) ∙ last_digits-columns columns are.1)
+    (last_digits-after (length columns) digit (number_in columns) ∙ last_digits-columns columns are.1)
 
 -- some digit is above 0 where the number is
 pub any_above_zero-number : (count number : ℕ) → number < 10 ^ count → any_above_zero (last_digits count number) ≡ not (number == 0)
@@ -125,7 +125,7 @@ any_above_zero-number (suc count) number below =
     let single : high < 10 = (div-lt_iff_lt-mul some).1 (rw (pow-succ' 10 count) at below) in
     let split : number ≡ high * power + low = sym parts ∙ omega arith in
     let below_it : any_above_zero (last_digits count number) ≡ not (low == 0)
-    = ap (λ n. any_above_zero (last_digits count n)) split ∙ ap any_above_zero (last_digits-behind count high low)
+    = ap (λ n. any_above_zero (last_digits count n)) split ∙ ap any_above_zero (last_digits-after count high low)
     ∙ any_above_zero-number count low short in
     ap₂ (λ d rest. not (d == 0) || rest) (mod-eq_of_lt single) below_it ∙ either power high low number some parts
   where

@@ -140,7 +140,7 @@ marks-within wheel figure = by figure.digits (point_width figure.decimals)
     by : (n p : ℕ) → wheel ≤ wheel + n + p
     by n p = omega arith
 
--- LINK is plugged on the wheels of an amount behind its first
+-- LINK is plugged on the wheels of an amount after its first
 pub own-link : (chart : Chart) → IsLawful chart → (link suppress symbol : ℕ → Bool) → HasJacksOf chart.lines link suppress symbol
     → (wheel : ℕ) (figure : Figure) (v : ℕ) → OwnAmount chart wheel figure → wheel < v → v < wheel + figure_width figure
     → link v ≡ true

@@ -4,7 +4,7 @@ use Rattle.placed_lines.specs.declared.placed_line.PlacedLine.{PlacedLine}
 use Rattle.charts.specs.Chart.{Chart}
 use Rattle.decks.proofs.Running.{feeds_begin_reports}
 use Rattle.decks.specs.FitBefore.{FitBefore}
-use Rattle.decks.specs.Runner.{Fed}
+use Rattle.decks.specs.Runner.{HasFedCards}
 use Rattle.decks.specs.Stands.{Stand}
 use Rattle.setups.specs.Wiring.{Wiring}
 use Rattle.machine.specs.Feeds.{FedLines}
@@ -19,7 +19,7 @@ use Rattle.chart_rules.specs.ValidCard.{IsValidCard}
 cards-fed :
     (chart : Chart) (wiring : Wiring) (Reads : List ℕ → Type 0) (Waits : Stand → List ℕ → MachineState → Type 0)
     (old : MachineState) (cards : List (List ℕ)) (left : MachineState) (lines : List PlacedLine)
-    → FedLines wiring old cards left lines → Fed (runner chart wiring Reads Waits) old cards left lines
+    → FedLines wiring old cards left lines → HasFedCards (runner chart wiring Reads Waits) old cards left lines
 unfolding FedLines
 cards-fed chart wiring Reads Waits old [] left lines fed = fed
 cards-fed chart wiring Reads Waits old (card ∷ cards) left lines (mid, first, others, feed, more, is) =

@@ -3,7 +3,7 @@ use Rattle.std.proofs.Common.{◌≡◌, ◌∙◌, refl, sym, ap, subst, ℕ, B
 use Rattle.placed_lines.specs.declared.placed_line.PlacedLine.{PlacedLine}
 use Rattle.chart_rules.specs.Rules.{IsLawful}
 use Rattle.charts.specs.Chart.{Chart}
-use Rattle.decks.specs.Left.{left_behind}
+use Rattle.decks.specs.Left.{left_after}
 use Rattle.setups.specs.Wiring.{Wiring}
 use Rattle.machine.specs.Cycles.{CycleRun, line_of}
 use Rattle.machine.specs.Feeds.{due_in, taken}
@@ -11,7 +11,7 @@ use Rattle.machine.specs.Machine.{MachineState}
 use Rattle.net.specs.declared.cycle.Cycle.{Cycle}
 use Rattle.line_places.proofs.BodyLines.{body-placed}
 use Rattle.line_places.proofs.UnprintedKinds.{unprinted-stays}
-use Rattle.line_places.specs.CarriageCycles.{carriage_behind, line_at}
+use Rattle.line_places.specs.CarriageCycles.{carriage_after, line_at}
 use Rattle.line_places.specs.FormFacts.{HasGoodForm}
 use Rattle.line_places.specs.Placing.{IsCarriageOf, IsAt, asked_of, kind_of, prints_kind}
 use Rattle.report.specs.Places.{BodyText, Left, page_of, line_below, left_by, headed, placed}
@@ -22,7 +22,7 @@ use Rattle.printed_reports.proofs.Steps.{fed_with, GoesFrom, stepped}
 abbrev pub bodies_for : Chart → ℕ → List ℕ → List BodyText
 bodies_for chart kind text = if prints_kind chart.lines kind then record { kind = kind; text = text } ∷ [] else []
 
--- The cycle of a kind of body line ran in a feed: the machine before it, which holds the same content, the one behind it, and the lines.
+-- The cycle of a kind of body line ran in a feed: the machine before it, which holds the same content, the one after it, and the lines.
 pub record BodyRan (chart : Chart) (wiring : Wiring) (Content : MachineState → Type 0) (cycle : Cycle) (kind : ℕ) (left : Left)
     (waits : Bool) (next : Option (List ℕ)) (old new : MachineState) (lines : List PlacedLine) : Type 0 where
   pub machine : MachineState
@@ -35,10 +35,10 @@ pub record BodyRan (chart : Chart) (wiring : Wiring) (Content : MachineState →
   pub ran : CycleRun wiring cycle (taken cycle (fed_with machine waits next)).machine mid
   pub goes : GoesFrom wiring (fed_with mid (taken cycle (fed_with machine waits next)).waits next) new others
   pub placed_so :
-      (text : List ℕ) → mid.carriage ≡ carriage_behind machine.carriage (asked_of chart.lines kind) cycle
+      (text : List ℕ) → mid.carriage ≡ carriage_after machine.carriage (asked_of chart.lines kind) cycle
       → (prints_kind chart.lines kind ≡ true → mid.wheels.line ≡ text)
       → (lines ≡ placed chart.lines left (bodies_for chart kind text) ++ others)
-      × IsAt chart.lines (left_behind chart.lines left (bodies_for chart kind text)) mid.carriage.spot
+      × IsAt chart.lines (left_after chart.lines left (bodies_for chart kind text)) mid.carriage.spot
       × IsCarriageOf chart.lines mid.carriage
 
 -- the cycle runs where its kind is printed
@@ -70,7 +70,7 @@ printed_ran chart wiring Content cycle kind left waits next old new lines good i
           ∙ ap (λ (t : List ℕ). record { page = page_of left; line = line_below chart.lines left.line kind; text = t } ∷ [])
           (is_text printed) in
           let P : List BodyText → Type 0 = λ b. (lines ≡ placed chart.lines left b ++ step.others)
-          × IsAt chart.lines (left_behind chart.lines left b) step.mid.carriage.spot
+          × IsAt chart.lines (left_after chart.lines left b) step.mid.carriage.spot
           × IsCarriageOf chart.lines step.mid.carriage in
           subst P (sym bodies) (
             ready.is_lines
@@ -112,7 +112,7 @@ silent_ran chart wiring Content cycle kind left waits next old new lines lawful 
           = ap (λ (b : Bool). if b then record { kind = kind; text = text } ∷ [] else []) silent in
           let line : line_of step.mid ≡ [] = ap (λ c. line_at c.printed step.mid.wheels.line) stays in
           let P : List BodyText → Type 0 = λ b. (lines ≡ placed chart.lines left b ++ step.others)
-          × IsAt chart.lines (left_behind chart.lines left b) step.mid.carriage.spot
+          × IsAt chart.lines (left_after chart.lines left b) step.mid.carriage.spot
           × IsCarriageOf chart.lines step.mid.carriage in
           subst P (sym bodies) (
             step.is_lines ∙ ap (λ l. l ++ step.others) line,

@@ -10,7 +10,7 @@ use Rattle.wired_panels.specs.PanelCycles.{IsCardRead}
 use Rattle.machine.specs.Machine.{MachineState}
 use Rattle.net.specs.declared.cycle.Cycle.{Cycle}
 use Rattle.net.specs.declared.cycle.Cycle.TheVariants.{RunIn, Card, Prog, Head}
-use Rattle.line_places.specs.CarriageCycles.{carriage_behind}
+use Rattle.line_places.specs.CarriageCycles.{carriage_after}
 use Rattle.report.specs.Edits.{is_below_zero}
 use Rattle.report.specs.Totals.{GroupFits, total_of}
 use Rattle.selectors.specs.Indicate.{indicate_ended}
@@ -21,7 +21,7 @@ use Rattle.printed_reports.proofs.Asked.{asked_in}
 pub record Cycled (chart : Chart) (wiring : Wiring) (cycle : Cycle) (old new : MachineState) : Type 0 where
   pub is_ready : IsReady wiring new
   pub stations : new.stations ≡ old.stations
-  pub carriage : new.carriage ≡ carriage_behind old.carriage (asked_in chart cycle) cycle
+  pub carriage : new.carriage ≡ carriage_after old.carriage (asked_in chart cycle) cycle
   pub indicate : new.indicate ≡ indicate_ended old.indicate cycle
   pub printing : new.program.printing ≡ old.program.printing
 

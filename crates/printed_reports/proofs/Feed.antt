@@ -3,9 +3,9 @@ use Rattle.std.proofs.Common.{◌≡◌, ◌∙◌, refl, sym, ap, subst, ℕ, z
 use Rattle.placed_lines.specs.declared.placed_line.PlacedLine.{PlacedLine}
 use Rattle.chart_rules.specs.Rules.{IsLawful}
 use Rattle.charts.specs.Chart.{Chart}
-use Rattle.decks.proofs.Pages.{behind-most}
+use Rattle.decks.proofs.Pages.{after-most}
 use Rattle.decks.proofs.Places.{places_split}
-use Rattle.decks.specs.Left.{bodies_of, left_behind}
+use Rattle.decks.specs.Left.{bodies_of, left_after}
 use Rattle.decks.specs.Stands.{Stand, card_bodies}
 use Rattle.setups.specs.Wiring.{Wiring}
 use Rattle.machine.specs.Feeds.{Feeds, FeedRuns, begun, due_in}
@@ -13,11 +13,11 @@ use Rattle.machine.specs.Machine.{MachineState}
 use Rattle.machine.specs.Runs.{has_more, moved_on}
 use Rattle.net.specs.Printing.{prints}
 use Rattle.net.specs.declared.cycle.Cycle.TheVariants.{Card, Head}
-use Rattle.net.specs.declared.cycle.Level.{Level}
+use Rattle.net.specs.declared.cycle.ProgramLevel.{ProgramLevel}
 use Rattle.net.specs.declared.cycle.Ordinal.TheVariants.{First}
 use Rattle.line_places.proofs.BodyLines.{jacks-print}
 use Rattle.line_places.proofs.CyclesDue.{cards-due, cards-wait, others-come}
-use Rattle.line_places.proofs.DueCycles.{due, is_between, stage_behind}
+use Rattle.line_places.proofs.DueCycles.{due, is_between, stage_after}
 use Rattle.line_places.proofs.LawfulForms.{form-lawful}
 use Rattle.line_places.specs.FormFacts.{HasGoodForm}
 use Rattle.line_places.specs.Placing.{IsCarriageOf, IsAt, prints_kind, printing_of_chart}
@@ -27,12 +27,12 @@ use Rattle.program_unit.specs.declared.stage.Stage.{Stage}
 use Rattle.program_unit.specs.declared.stage.Stage.TheVariants.{Fresh, BeforeCard}
 use Rattle.report.proofs.FewLines.{ended-few}
 use Rattle.report.specs.BodyLines.{card_line}
-use Rattle.report.specs.Breaks.{ended_behind, taking, totals_to}
+use Rattle.report.specs.Breaks.{ended_after, taking, totals_to}
 use Rattle.report.specs.Outline.{OutlineLine, Total}
 use Rattle.report.specs.Places.{BodyText, Left, placed}
 use Rattle.printed_reports.proofs.Bodies.{BodyRan, bodies_for, printed_ran, silent_ran}
 use Rattle.printed_reports.proofs.Headings.{CanWait, readied}
-use Rattle.printed_reports.proofs.Levels.{levels_ran, totals_behind}
+use Rattle.printed_reports.proofs.Levels.{levels_ran, totals_after}
 use Rattle.printed_reports.proofs.Steps.{fed_with, GoesFrom}
 use Rattle.printed_reports.specs.Goes.{CardGoes, HeadsKeep, LevelsGo}
 
@@ -47,15 +47,15 @@ pub record IsWaiting (chart : Chart) (Waits : MachineState → Type 0) (left : L
   pub carriage : IsCarriageOf chart.lines machine.carriage
   pub at : IsAt chart.lines left machine.carriage.spot
 
--- a card cycle waits behind heading cycles
+-- a card cycle waits after heading cycles
 card_waits : (more : Bool) → CanWait Card true more BeforeCard
 card_waits more = record {
   follows = λ program heading restore is. cards-wait program heading restore more is;
   stays = λ heading other. refl;
 }
 
--- the total lines up to a level are those up to a lower one, and those behind it
-totals-parts : (count k : ℕ) (groups : ℕ → List (List ℕ)) → totals_to (k + count) groups ≡ totals_to k groups ++ totals_behind count k groups
+-- the total lines up to a level are those up to a lower one, and those after it
+totals-parts : (count k : ℕ) (groups : ℕ → List (List ℕ)) → totals_to (k + count) groups ≡ totals_to k groups ++ totals_after count k groups
 totals-parts zero k groups =
     let same : k + 0 ≡ k = omega arith in
     ap (λ n. totals_to n groups) same ∙ end (totals_to k groups)
@@ -66,7 +66,7 @@ totals-parts zero k groups =
 totals-parts (suc count) k groups =
     let same : k + suc count ≡ suc k + count = omega arith in
     ap (λ n. totals_to n groups) same ∙ totals-parts count (suc k) groups
-    ∙ joined (totals_to k groups) (Total (suc k) (groups (suc k))) (totals_behind count (suc k) groups)
+    ∙ joined (totals_to k groups) (Total (suc k) (groups (suc k))) (totals_after count (suc k) groups)
   where
     joined : (a : List OutlineLine) (b : OutlineLine) (rest : List OutlineLine) → (a ++ (b ∷ [])) ++ rest ≡ a ++ (b ∷ rest)
     joined [] b rest = refl
@@ -100,16 +100,16 @@ card_ran chart wiring Waits left card next old new lines lawful good keeps is pa
         silent_ran chart wiring Waits Card 0 left true next old new lines lawful refl silent is.content is.carriage is.at
         (due_now ∙ ap Some (others-come old.program.printing old.carriage.spot.latch Card (kinds ∙ silent))) goes
 
--- The feed behind a waiting card placed the lines of the card, and left the machine behind the levels that ended.
-pub record CardFed (chart : Chart) (Behind : ℕ → MachineState → Type 0) (stand : Stand) (card : List ℕ) (next : Option (List ℕ))
+-- The feed after a waiting card placed the lines of the card, and left the machine after the levels that ended.
+pub record CardFed (chart : Chart) (After : ℕ → MachineState → Type 0) (stand : Stand) (card : List ℕ) (next : Option (List ℕ))
     (new : MachineState) (lines : List PlacedLine) : Type 0 where
-  pub content : Behind (ended_behind chart.lines card next) new
+  pub content : After (ended_after chart.lines card next) new
   pub first : new.stations.first ≡ next
   pub between : is_between new.program.stage ≡ true
   pub is_over : card_over new.program (is_some next) ≡ true
   pub printing : new.program.printing ≡ printing_of_chart chart.lines
   pub carriage : IsCarriageOf chart.lines new.carriage
-  pub at : IsAt chart.lines (left_behind chart.lines stand.left (card_bodies chart.lines stand card next)) new.carriage.spot
+  pub at : IsAt chart.lines (left_after chart.lines stand.left (card_bodies chart.lines stand card next)) new.carriage.spot
   pub is_lines : lines ≡ placed chart.lines stand.left (card_bodies chart.lines stand card next)
 
 -- stages between cards are not the first one
@@ -117,19 +117,19 @@ not_fresh : (stage : Stage) → is_between stage ≡ true → is_fresh stage ≡
 not_fresh Fresh between = cc
 not_fresh other between = refl
 
--- behind levels a card waits between cards
-stages_between : (done : Option Level) → is_between (stage_behind done) ≡ true
+-- after levels a card waits between cards
+stages_between : (done : Option ProgramLevel) → is_between (stage_after done) ≡ true
 stages_between None = refl
 stages_between (Some level) = refl
 
 pub card_fed :
     (chart : Chart) (wiring : Wiring) (stand : Stand) (card : List ℕ) (next : Option (List ℕ))
-    (Waits : MachineState → Type 0) (Behind : ℕ → MachineState → Type 0) (Tested Turned : Level → MachineState → Type 0)
+    (Waits : MachineState → Type 0) (After : ℕ → MachineState → Type 0) (Tested Turned : ProgramLevel → MachineState → Type 0)
     (old new : MachineState) (lines : List PlacedLine)
-    → IsLawful chart → CardGoes chart wiring stand card next Waits Behind → LevelsGo chart wiring stand card next Behind Tested Turned
+    → IsLawful chart → CardGoes chart wiring stand card next Waits After → LevelsGo chart wiring stand card next After Tested Turned
     → IsWaiting chart Waits stand.left card old → stand.left.page + 5 < 2 ^ 32 → Feeds wiring old next new lines
-    → CardFed chart Behind stand card next new lines
-card_fed chart wiring stand card next Waits Behind Tested Turned old new lines lawful goes levels is page feed =
+    → CardFed chart After stand card next new lines
+card_fed chart wiring stand card next Waits After Tested Turned old new lines lawful goes levels is page feed =
     let good = form-lawful chart lawful in
     let begins : begun old next ≡ fed_with old true next
     = ap (λ (b : Bool). if b then (record { machine = moved_on next old; waits = false; next = next }) else (record { machine = old; waits = true; next = next }))
@@ -143,20 +143,20 @@ card_fed chart wiring stand card next Waits Behind Tested Turned old new lines l
     let text = card_line chart.lines stand.opens card in
     let here = ran.placed_so text went.1.carriage went.1.line in
     let bodies = bodies_for chart 0 text in
-    let left_here = left_behind chart.lines stand.left bodies in
+    let left_here = left_after chart.lines stand.left bodies in
     let groups = taking card stand.so_far in
-    let ended = ended_behind chart.lines card next in
+    let ended = ended_after chart.lines card next in
     let more : has_more ran.mid ≡ is_some next = ap is_some went.1.first in
     let top : levels_to (top_level ran.mid.program (has_more ran.mid)) ≡ ended
     = ap (λ b. levels_to (top_level ran.mid.program b)) more ∙ went.1.levels in
     let few = ended-few chart.lines card next in
     let from_none : 0 + ended ≡ ended = omega arith in
     let pages = turned stand.left text in
-    let rest = levels_ran chart wiring stand card next Behind Tested Turned ended 0 None left_here ran.mid new ran.others lawful good levels
+    let rest = levels_ran chart wiring stand card next After Tested Turned ended 0 None left_here ran.mid new ran.others lawful good levels
     refl (sym from_none) went.0 went.1.stage (went.1.printing ∙ ran.printing ∙ is.printing) top here.2 here.1
     (omega (arith, page, few, pages)) ran.goes in
-    let split = places_split chart.lines stand.left bodies (bodies_of chart.lines (totals_behind ended 0 groups)) in
-    let all_bodies : bodies ++ bodies_of chart.lines (totals_behind ended 0 groups) ≡ card_bodies chart.lines stand card next
+    let split = places_split chart.lines stand.left bodies (bodies_of chart.lines (totals_after ended 0 groups)) in
+    let all_bodies : bodies ++ bodies_of chart.lines (totals_after ended 0 groups) ≡ card_bodies chart.lines stand card next
     = ap (λ l. bodies ++ bodies_of chart.lines l)
     (sym (totals-parts ended 0 groups) ∙ ap (λ n. totals_to n groups) from_none) in
     let first_new : new.stations.first ≡ next = ap (λ s. s.first) rest.stations ∙ went.1.first in
@@ -168,7 +168,7 @@ card_fed chart wiring stand card next Waits Behind Tested Turned old new lines l
       printing = rest.printing ∙ went.1.printing ∙ ran.printing ∙ is.printing;
       carriage = rest.carriage;
       at = subst (λ l. IsAt chart.lines l new.carriage.spot)
-          (sym split.1 ∙ ap (λ b. left_behind chart.lines stand.left b) all_bodies) rest.at;
+          (sym split.1 ∙ ap (λ b. left_after chart.lines stand.left b) all_bodies) rest.at;
       is_lines = here.0 ∙ ap (λ l. placed chart.lines stand.left bodies ++ l) rest.is_lines ∙ sym split.0
           ∙ ap (λ b. placed chart.lines stand.left b) all_bodies;
     }
@@ -177,8 +177,8 @@ card_fed chart wiring stand card next Waits Behind Tested Turned old new lines l
     by_test true body = omega arith
     by_test false body = omega arith
 
-    turned : (from : Left) (text : List ℕ) → (left_behind chart.lines from (bodies_for chart 0 text)).page ≤ from.page + 1
+    turned : (from : Left) (text : List ℕ) → (left_after chart.lines from (bodies_for chart 0 text)).page ≤ from.page + 1
     turned from text =
-        let most = behind-most chart.lines from (bodies_for chart 0 text) in
+        let most = after-most chart.lines from (bodies_for chart 0 text) in
         let one = by_test (prints_kind chart.lines 0) (record { kind = 0; text = text }) in
         omega (arith, most, one)

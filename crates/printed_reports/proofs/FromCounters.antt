@@ -25,7 +25,7 @@ use Rattle.panel_cycles.proofs.Rings.{ring_is}
 use Rattle.panel_cycles.proofs.WheelRowsUnits.{group-own}
 use Rattle.wired_panels.proofs.Ways.{fed_alone, leads}
 use Rattle.wired_panels.proofs.CounterUnits.{at_unit, counter_there, planned_unit}
-use Rattle.wired_panels.proofs.BehindCycles.{cycle-of}
+use Rattle.wired_panels.proofs.AfterCycles.{cycle-of}
 use Rattle.wired_panels.specs.Groups.{IsGroupOf}
 use Rattle.panel_cycles.specs.ChartAmounts.{amount_of, positions_of, total_group, total_line}
 use Rattle.panel_cycles.specs.CounterStates.{held_in}
@@ -83,10 +83,10 @@ group_done wiring cycle old new group act signed is is_new all there ring fits a
     (subst (λ (h : Held). Asks act h.number group all.pictures) holds asks) in
     let room : IsWithinGroup counter.name.width act = subst (λ (g : Group). IsWithinGroup g.width act) (sym named) fits in
     let done = acts-done signed act counter cycle all.pictures (record { is_counter = idle.lawful; entered = idle.entered }) room asked round in
-    let behind = after_cycle cycle all.pictures counter in
-    let listed_new : Contains new.groups behind
-    = subst (λ (gs : List Counter). Contains gs behind) (sym all.groups) (listed-map (after_cycle cycle all.pictures) old.groups counter listed) in
-    held_there new behind group is_new.between listed_new (done.name ∙ named)
+    let after = after_cycle cycle all.pictures counter in
+    let listed_new : Contains new.groups after
+    = subst (λ (gs : List Counter). Contains gs after) (sym all.groups) (listed-map (after_cycle cycle all.pictures) old.groups counter listed) in
+    held_there new after group is_new.between listed_new (done.name ∙ named)
     ∙ done.held
     ∙ ap (λ (g : Group). held_after signed g.width act (held_by counter)) named
     ∙ ap (λ (h : Held). held_after signed group.width act h) (sym holds)
@@ -145,7 +145,7 @@ module _ (chart : Chart) (plan : Lists) (wiring : Wiring) (panel : IsPanel chart
         from_one : IsGroupOf chart.lines plan name level group → 1 ≤ level
         from_one o = subst (λ n. 1 ≤ n) o.total.same_level (some_level o.total.its_level)
 
-    -- the totals of an amount behind a cycle
+    -- the totals of an amount after a cycle
     pub totals :
         (cycle : Cycle) (card : List ℕ) (old new : MachineState) → IsReady wiring old → CycleRun wiring cycle old new
         → IsRead chart plan cycle card old → (name : List ℕ) (field : Field) → IsAmount chart.lines name field

@@ -4,8 +4,8 @@ use Rattle.plans.specs.Plans.{Lists}
 use Rattle.chart_rules.specs.ValidCard.{IsValidCard}
 use Rattle.charts.specs.Chart.{Chart, NumbersRise}
 use Rattle.setups.specs.Wiring.{Wiring}
-use Rattle.panel_cycles.proofs.ToCarriage.{carriage-behind, carriage-behind-other}
-use Rattle.wired_panels.proofs.BehindCycles.{pilots-behind, pilots-behind-other, program-behind, units-behind, units-behind-other}
+use Rattle.panel_cycles.proofs.ToCarriage.{carriage-after, carriage-after-other}
+use Rattle.wired_panels.proofs.AfterCycles.{pilots-after, pilots-after-other, program-after, units-after, units-after-other}
 use Rattle.wired_panels.proofs.Contacts.{is_card_cycle}
 use Rattle.wired_panels.specs.Panel.{IsPanel}
 use Rattle.wired_panels.specs.PanelCycles.{PilotsTellSigns, UnitsHold}
@@ -13,10 +13,10 @@ use Rattle.machine.specs.Cycles.{CycleRun}
 use Rattle.machine.specs.Machine.{MachineState}
 use Rattle.net.specs.declared.cycle.Cycle.{Cycle}
 use Rattle.net.specs.declared.cycle.Cycle.TheVariants.{Card}
-use Rattle.line_places.specs.CarriageCycles.{carriage_behind}
+use Rattle.line_places.specs.CarriageCycles.{carriage_after}
 use Rattle.line_places.specs.Placing.{kind_of}
 use Rattle.program_unit.specs.CycleOrder.{levels_to, top_level}
-use Rattle.report.specs.Breaks.{ended_behind}
+use Rattle.report.specs.Breaks.{ended_after}
 use Rattle.selectors.specs.Pilots.{moves_pilots}
 use Rattle.whole_cycles.proofs.Ready.{machines-ready}
 use Rattle.whole_cycles.specs.Between.{IsReady}
@@ -25,15 +25,15 @@ use Rattle.printed_reports.proofs.Facts.{Cycled}
 use Rattle.printed_reports.proofs.FromCycles.{whole, printing_stays}
 
 module _ (chart : Chart) (plan : Lists) (wiring : Wiring) (panel : IsPanel chart plan wiring) where
-  -- the carriage behind any cycle
+  -- the carriage after any cycle
   asked :
       (cycle : Cycle) (old new : MachineState) → IsReady wiring old → CycleRun wiring cycle old new
-      → new.carriage ≡ carriage_behind old.carriage (asked_in chart cycle) cycle
+      → new.carriage ≡ carriage_after old.carriage (asked_in chart cycle) cycle
   asked cycle old new is run = by (kind_of cycle) refl
     where
-      by : (kind : Option ℕ) → kind_of cycle ≡ kind → new.carriage ≡ carriage_behind old.carriage (asked_for chart kind) cycle
-      by None none = carriage-behind-other chart plan wiring cycle old new panel is.between (whole wiring cycle old new is run) none
-      by (Some kind) some = carriage-behind chart plan wiring cycle old new panel is.between (whole wiring cycle old new is run) kind some
+      by : (kind : Option ℕ) → kind_of cycle ≡ kind → new.carriage ≡ carriage_after old.carriage (asked_for chart kind) cycle
+      by None none = carriage-after-other chart plan wiring cycle old new panel is.between (whole wiring cycle old new is run) none
+      by (Some kind) some = carriage-after chart plan wiring cycle old new panel is.between (whole wiring cycle old new is run) kind some
 
   pub cycled :
       (cycle : Cycle) (old new : MachineState) → IsReady wiring old → CycleRun wiring cycle old new → Cycled chart wiring cycle old new
@@ -51,32 +51,32 @@ module _ (chart : Chart) (plan : Lists) (wiring : Wiring) (panel : IsPanel chart
       (cycle : Cycle) (old new : MachineState) → IsReady wiring old → CycleRun wiring cycle old new → moves_pilots cycle ≡ true
       → PilotsTellSigns chart.lines plan old.stations.first new.pilots
   picked_up cycle old new is run moves =
-      pilots-behind chart plan wiring cycle old new panel is.between (whole wiring cycle old new is run) moves
+      pilots-after chart plan wiring cycle old new panel is.between (whole wiring cycle old new is run) moves
 
   pub kept :
       (cycle : Cycle) (old new : MachineState) (signs : Option (List ℕ)) → IsReady wiring old → CycleRun wiring cycle old new
       → moves_pilots cycle ≡ false → PilotsTellSigns chart.lines plan signs old.pilots → PilotsTellSigns chart.lines plan signs new.pilots
   kept cycle old new signs is run stays tell =
-      pilots-behind-other chart plan wiring cycle old new panel is.between (whole wiring cycle old new is run) signs stays tell
+      pilots-after-other chart plan wiring cycle old new panel is.between (whole wiring cycle old new is run) signs stays tell
 
   pub levels :
       (old new : MachineState) (card : List ℕ) (next : Option (List ℕ)) → IsReady wiring old → CycleRun wiring Card old new
       → old.stations.second ≡ Some card → old.stations.first ≡ next → IsValidCard chart card
       → ((d : List ℕ) → next ≡ Some d → IsValidCard chart d)
-      → levels_to (top_level new.program (is_some next)) ≡ ended_behind chart.lines card next
+      → levels_to (top_level new.program (is_some next)) ≡ ended_after chart.lines card next
   levels old new card None is run second first reads reads_next = refl
   levels old new card (Some next) is run second first reads reads_next =
-      program-behind chart plan wiring old new card next panel is.between (whole wiring Card old new is run) second first
+      program-after chart plan wiring old new card next panel is.between (whole wiring Card old new is run) second first
       reads (reads_next next refl)
 
   pub stores :
       (old new : MachineState) (card : List ℕ) → NumbersRise chart.lines chart.end → IsReady wiring old → CycleRun wiring Card old new
       → old.stations.second ≡ Some card → UnitsHold chart.lines plan card new.storage
   stores old new card rise is run second =
-      units-behind chart plan wiring Card old new panel is.between (whole wiring Card old new is run) card rise refl second
+      units-after chart plan wiring Card old new panel is.between (whole wiring Card old new is run) card rise refl second
 
   pub keeps_stored :
       (cycle : Cycle) (old new : MachineState) (card : List ℕ) → IsReady wiring old → CycleRun wiring cycle old new
       → is_card_cycle cycle ≡ false → UnitsHold chart.lines plan card old.storage → UnitsHold chart.lines plan card new.storage
   keeps_stored cycle old new card is run other held =
-      units-behind-other chart plan wiring cycle old new panel is.between (whole wiring cycle old new is run) card other held
+      units-after-other chart plan wiring cycle old new panel is.between (whole wiring cycle old new is run) card other held

@@ -17,7 +17,7 @@ use Rattle.charts.specs.Field.{columns_of, is_amount, sign_column}
 use Rattle.charts.specs.Levels as levels
 use Rattle.charts.specs.Literals.{HaveLiteralTexts}
 use Rattle.charts.specs.declared.chart.Line.{Line}
-use Rattle.charts.specs.declared.level.Level.{Level as ChartLevel}
+use Rattle.charts.specs.declared.level.Level.{Level}
 use Rattle.charts.specs.declared.statement.Field.{Field}
 use Rattle.charts.specs.declared.statement.FieldKind.{FieldKind}
 use Rattle.charts.specs.declared.statement.FieldKind.TheVariants as holds
@@ -45,7 +45,7 @@ use Rattle.machine.specs.Cycles.{CycleRun}
 use Rattle.machine.specs.Machine.{MachineState}
 use Rattle.net.specs.Cycles.{level_number}
 use Rattle.net.specs.declared.cycle.Cycle.TheVariants.{Prog}
-use Rattle.net.specs.declared.cycle.Level.{Level}
+use Rattle.net.specs.declared.cycle.ProgramLevel.{ProgramLevel}
 use Rattle.net.specs.declared.cycle.Ordinal.TheVariants.{Third}
 use Rattle.printed_lines.proofs.Premises.{total_texts}
 use Rattle.printed_lines.proofs.TotalLines.{total_lines}
@@ -88,27 +88,27 @@ printed_held chart plan machine level name = record {
 module _ (chart : Chart) (plan : Lists) (wiring : Wiring) (panel : IsPanel chart plan wiring) (rise : NumbersRise chart.lines chart.end)
     (literals : HaveLiteralTexts chart.lines) where
   -- the line of a total, as one of the chart's
-  line_is : (line : Line) (its : ChartLevel) (wheel : ℕ) (name : List ℕ) (digits : ℕ) (mark : Option Mark) → Contains chart.lines line
+  line_is : (line : Line) (its : Level) (wheel : ℕ) (name : List ℕ) (digits : ℕ) (mark : Option Mark) → Contains chart.lines line
       → line.statement ≡ says.TotalAmount its wheel name digits mark
       → IsLine chart.lines line.number (says.TotalAmount its wheel name digits mark)
   line_is line its wheel name digits mark there is = record { line = line; listed = there; numbered = refl; says_it = is }
 
   -- the group on the line of a total is that of the amount's total
-  own_group : (line : Line) (its : ChartLevel) (wheel : ℕ) (name : List ℕ) (digits : ℕ) (mark : Option Mark) (group : Group) (level : ℕ)
+  own_group : (line : Line) (its : Level) (wheel : ℕ) (name : List ℕ) (digits : ℕ) (mark : Option Mark) (group : Group) (level : ℕ)
       → Contains chart.lines line → line.statement ≡ says.TotalAmount its wheel name digits mark → levels.level_number its ≡ level
       → group_for chart.lines plan line.number ≡ Some group → IsGroupOf chart.lines plan name level group
   own_group line its wheel name digits mark group level there is same served =
       subst (λ n. IsGroupOf chart.lines plan name n group) same
       (with_group chart.lines plan its wheel name digits mark line.number group (line_is line its wheel name digits mark there is) served)
 
-  module _ (old new : MachineState) (level : Level) (card : List ℕ) (so_far : ℕ → List (List ℕ)) (is : IsReady wiring old)
+  module _ (old new : MachineState) (level : ProgramLevel) (card : List ℕ) (so_far : ℕ → List (List ℕ)) (is : IsReady wiring old)
       (all : WholeCycle wiring (Prog level Third) old new) (row : CardRow) where
     -- what the groups hold
     groups_hold :
-        (line : Line) (its : ChartLevel) (wheel : ℕ) (name : List ℕ) (digits : ℕ) (mark : Option Mark) (group : Group)
+        (line : Line) (its : Level) (wheel : ℕ) (name : List ℕ) (digits : ℕ) (mark : Option Mark) (group : Group)
         → Contains chart.lines line → line.statement ≡ says.TotalAmount its wheel name digits mark
         → levels.level_number its ≡ level_number level → group_for chart.lines plan line.number ≡ Some group
-        → rows.HoldsTotal (row_of chart plan wiring panel rise literals (Prog level Third) old new all row) group
+        → rows.GroupHoldsTotal (row_of chart plan wiring panel rise literals (Prog level Third) old new all row) group
         (printed_held chart plan old (level_number level) name)
     groups_hold line its wheel name digits mark group there says same served =
         let own = own_group line its wheel name digits mark group (level_number level) there says same served in
@@ -120,7 +120,7 @@ module _ (chart : Chart) (plan : Lists) (wiring : Wiring) (panel : IsPanel chart
         record { figure = sym (ap (λ h. h.number) holds); latch = sym (ap (λ h. h.latch) holds) }
 
     -- a text on a total line is a text
-    is_text_field : (line : Line) (its : ChartLevel) (wheel : ℕ) (name : List ℕ) (field : Field) → Contains chart.lines line
+    is_text_field : (line : Line) (its : Level) (wheel : ℕ) (name : List ℕ) (field : Field) → Contains chart.lines line
         → line.statement ≡ says.TotalText its wheel name → field_named chart.lines name ≡ Some field → IsText chart.lines name field
     is_text_field line its wheel name field there says named =
         let (earlier, right) = kept-line chart panel.lawful line there rule.WrongKind in
@@ -144,7 +144,7 @@ module _ (chart : Chart) (plan : Lists) (wiring : Wiring) (panel : IsPanel chart
     -- what the units hold
     units_hold :
         UnitsHold chart.lines plan card old.storage
-        → (line : Line) (its : ChartLevel) (wheel : ℕ) (name : List ℕ) (field : Field) (unit j : ℕ)
+        → (line : Line) (its : Level) (wheel : ℕ) (name : List ℕ) (field : Field) (unit j : ℕ)
         → Contains chart.lines line → line.statement ≡ says.TotalText its wheel name
         → levels.level_number its ≡ level_number level → unit_for plan line.number ≡ Some unit
         → field_named chart.lines name ≡ Some field → j < columns_of field
@@ -192,7 +192,7 @@ module _ (chart : Chart) (plan : Lists) (wiring : Wiring) (panel : IsPanel chart
   }
     where
       by_level :
-          (line : Line) (its : ChartLevel) (wheel : ℕ) (name : List ℕ) (digits : ℕ) (mark : Option Mark) (field : Field)
+          (line : Line) (its : Level) (wheel : ℕ) (name : List ℕ) (digits : ℕ) (mark : Option Mark) (field : Field)
           → Contains chart.lines line → line.statement ≡ says.TotalAmount its wheel name digits mark
           → field_named chart.lines name ≡ Some field → (n : ℕ) → levels.level_number its ≡ n
           → ((name : List ℕ) (field : Field) → IsAmount chart.lines name field → (amount_of chart.lines plan name).has n ≡ true
@@ -242,7 +242,7 @@ module _ (chart : Chart) (plan : Lists) (wiring : Wiring) (panel : IsPanel chart
 
   -- The third program cycle of a level prints the total line of its group.
   pub total_prints :
-      (old new : MachineState) (level : Level) (card : List ℕ) (so_far : ℕ → List (List ℕ)) → IsReady wiring old
+      (old new : MachineState) (level : ProgramLevel) (card : List ℕ) (so_far : ℕ → List (List ℕ)) → IsReady wiring old
       → CycleRun wiring (Prog level Third) old new → UnitsHold chart.lines plan card old.storage → IsValidCard chart card
       → AlikeWith chart.lines so_far card
       → ((name : List ℕ) (field : Field) → IsAmount chart.lines name field

@@ -6,7 +6,7 @@ use Rattle.charts.specs.Chart.{Chart, NumbersRise}
 use Rattle.charts.specs.Literals.{HaveLiteralTexts}
 use Rattle.setups.specs.Wiring.{Wiring}
 use Rattle.panel_cycles.proofs.JacksAndTape.{wheel_jacks-are}
-use Rattle.wired_panels.proofs.BehindCycles.{cycle-of}
+use Rattle.wired_panels.proofs.AfterCycles.{cycle-of}
 use Rattle.panel_cycles.proofs.WheelRowsLaws.{wheels-cards, wheels-headings}
 use Rattle.wired_panels.specs.PanelCycles.{IsCardRead}
 use Rattle.wired_panels.specs.Panel.{IsPanel}

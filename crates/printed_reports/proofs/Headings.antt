@@ -1,4 +1,4 @@
--- Where a printing cycle is due, the heading cycles come before it where its line starts a page. Behind them, or at once, the carriage stands
+-- Where a printing cycle is due, the heading cycles come before it where its line starts a page. After them, or at once, the carriage stands
 -- ready for the line.
 use Rattle.std.proofs.Common.{◌≡◌, ◌∙◌, refl, sym, ap, subst, ℕ, zero, suc, ◌≤◌, ◌<◌, ◌^◌, Bool, true, List, [], ◌++◌, Option, Some, None, arith}
 use Rattle.std.proofs.lemmas.List.{append_assoc}
@@ -20,11 +20,11 @@ use Rattle.line_places.proofs.CyclesDue.{headings-come}
 use Rattle.line_places.proofs.DueCycles.{due}
 use Rattle.line_places.proofs.HeadingLines.{headings-placed}
 use Rattle.line_places.proofs.Placements.{ready-within}
-use Rattle.line_places.specs.CarriageCycles.{begun_by, carriage_behind, line_at, heading_cycles, lines_placed}
+use Rattle.line_places.specs.CarriageCycles.{begun_by, carriage_after, line_at, heading_cycles, lines_placed}
 use Rattle.line_places.specs.FormFacts.{HasGoodForm}
 use Rattle.line_places.specs.Laws.{AreHeadingTexts}
-use Rattle.line_places.specs.Placing.{IsCarriageOf, IsAt, IsReady}
-use Rattle.program_unit.specs.CycleOrder.{headed as headed_by, behind_heading}
+use Rattle.line_places.specs.Placing.{IsCarriageOf, IsAt, AwaitsBody}
+use Rattle.program_unit.specs.CycleOrder.{headed as headed_by, after_heading}
 use Rattle.program_unit.specs.Program.{ProgramState, stage_ended}
 use Rattle.program_unit.specs.declared.stage.Stage.{Stage}
 use Rattle.report.specs.BodyLines.{heading_line}
@@ -34,10 +34,10 @@ use Rattle.printed_reports.proofs.Steps.{fed_with, GoesFrom, Stepped, stepped}
 use Rattle.printed_reports.specs.Goes.{HeadsKeep}
 use Rattle.printed_reports.specs.Steps.{Heads}
 
--- A printing cycle can wait behind heading cycles: the stages in which it waits.
+-- A printing cycle can wait after heading cycles: the stages in which it waits.
 pub record CanWait (cycle : Cycle) (waits more : Bool) (before : Ordinal → Stage) : Type 0 where
   pub follows : (program : ProgramState) (heading : Ordinal) (restore : Bool) → program.stage ≡ before heading
-      → due program waits restore more ≡ Some (behind_heading heading cycle)
+      → due program waits restore more ≡ Some (after_heading heading cycle)
   pub stays : (heading other : Ordinal) → stage_ended (before heading) (Head other) ≡ before other
 
 -- The machine stands ready for a line, and the cycle that prints it is due.
@@ -48,7 +48,7 @@ pub record IsReadyFor (chart : Chart) (wiring : Wiring) (Content : MachineState 
   pub goes : GoesFrom wiring (fed_with machine waits next) new others
   pub is_due : due_in (fed_with machine waits next) ≡ Some cycle
   pub content : Content machine
-  pub ready : IsReady chart.lines left machine.carriage.spot
+  pub ready : AwaitsBody chart.lines left machine.carriage.spot
   pub carriage : IsCarriageOf chart.lines machine.carriage
   pub stations : machine.stations ≡ old.stations
   pub printing : machine.program.printing ≡ old.program.printing
@@ -62,8 +62,8 @@ texts_of one two three (suc zero) = one
 texts_of one two three (suc (suc zero)) = two
 texts_of one two three (suc (suc (suc more))) = three
 
--- A machine behind a heading cycle: it holds the cards of the one before all headings, and is in the stage in which the cycle waits.
-record StandsBehind (old : MachineState) (before : Ordinal → Stage) (heading : Ordinal) (machine : MachineState) : Type 0 where
+-- A machine after a heading cycle: it holds the cards of the one before all headings, and is in the stage in which the cycle waits.
+record StandsAfter (old : MachineState) (before : Ordinal → Stage) (heading : Ordinal) (machine : MachineState) : Type 0 where
   stations : machine.stations ≡ old.stations
   printing : machine.program.printing ≡ old.program.printing
   highest : machine.program.highest ≡ old.program.highest
@@ -78,17 +78,17 @@ module _ (chart : Chart) (wiring : Wiring) (Content : MachineState → Type 0) (
   abbrev ItsReady : Type 0
   ItsReady = IsReadyFor chart wiring Content cycle left waits next old new lines
 
-  -- what is due behind a heading cycle
-  next_due : (heading : Ordinal) (machine : MachineState) → StandsBehind old before heading machine
-      → due_in (fed_with machine waits next) ≡ Some (behind_heading heading cycle)
+  -- what is due after a heading cycle
+  next_due : (heading : Ordinal) (machine : MachineState) → StandsAfter old before heading machine
+      → due_in (fed_with machine waits next) ≡ Some (after_heading heading cycle)
   next_due heading machine stands =
       ap (λ s. due machine.program waits machine.carriage.spot.latch (has_more (record old { stations = s }))) stands.stations
       ∙ wait.follows machine.program heading machine.carriage.spot.latch stands.stage
 
-  -- how the machine stands behind the next one
-  behind_next : (heading other : Ordinal) (one two : MachineState) → StandsBehind old before heading one → Heads chart other one two
-      → StandsBehind old before other two
-  behind_next heading other one two stands ran = record {
+  -- how the machine stands after the next one
+  after_next : (heading other : Ordinal) (one two : MachineState) → StandsAfter old before heading one → Heads chart other one two
+      → StandsAfter old before other two
+  after_next heading other one two stands ran = record {
     stations = ran.goes.stations ∙ stands.stations;
     printing = ap (λ p. p.printing) ran.goes.program ∙ stands.printing;
     highest = ap (λ p. p.highest) ran.goes.program ∙ stands.highest;
@@ -112,11 +112,11 @@ module _ (chart : Chart) (wiring : Wiring) (Content : MachineState → Type 0) (
   joined a b c rest = simp (append_assoc)
 
   same : (one two three : MachineState)
-      → one.carriage ≡ carriage_behind old.carriage nothing_asked (Head First)
-      → two.carriage ≡ carriage_behind (carriage_behind old.carriage nothing_asked (Head First)) nothing_asked (Head Second)
+      → one.carriage ≡ carriage_after old.carriage nothing_asked (Head First)
+      → two.carriage ≡ carriage_after (carriage_after old.carriage nothing_asked (Head First)) nothing_asked (Head Second)
       → three.carriage
-      ≡ carriage_behind
-      (carriage_behind (carriage_behind old.carriage nothing_asked (Head First)) nothing_asked (Head Second))
+      ≡ carriage_after
+      (carriage_after (carriage_after old.carriage nothing_asked (Head First)) nothing_asked (Head Second))
       nothing_asked (Head Third)
       → line_of one ++ (line_of two ++ (line_of three ++ []))
       ≡ lines_placed old.carriage (heading_cycles (texts_of one.wheels.line two.wheels.line three.wheels.line))
@@ -128,12 +128,12 @@ module _ (chart : Chart) (wiring : Wiring) (Content : MachineState → Type 0) (
   all_ran : (one : Stepped wiring (Head First) (fed_with old waits next) new lines) → Heads chart First old one.mid
       → (two : Stepped wiring (Head Second) (fed_with one.mid waits next) new one.others) → Heads chart Second one.mid two.mid
       → (three : Stepped wiring (Head Third) (fed_with two.mid waits next) new two.others) → Heads chart Third two.mid three.mid
-      → Content three.mid → StandsBehind old before Third three.mid → ItsReady
+      → Content three.mid → StandsAfter old before Third three.mid → ItsReady
   all_ran one first two second three third held stands =
-      let behind_second : CarriageState → CarriageState = λ c. carriage_behind c nothing_asked (Head Second) in
-      let behind_third : CarriageState → CarriageState = λ c. carriage_behind c nothing_asked (Head Third) in
-      let carriage_two = second.goes.carriage ∙ ap behind_second first.goes.carriage in
-      let carriage_three = third.goes.carriage ∙ ap behind_third carriage_two in
+      let after_second : CarriageState → CarriageState = λ c. carriage_after c nothing_asked (Head Second) in
+      let after_third : CarriageState → CarriageState = λ c. carriage_after c nothing_asked (Head Third) in
+      let carriage_two = second.goes.carriage ∙ ap after_second first.goes.carriage in
+      let carriage_three = third.goes.carriage ∙ ap after_third carriage_two in
       let are_texts : AreHeadingTexts chart.lines (texts_of one.mid.wheels.line two.mid.wheels.line three.mid.wheels.line)
       = λ number from to. text number from to first.line second.line third.line in
       let heads = headings-placed chart.lines left old.carriage
@@ -144,7 +144,7 @@ module _ (chart : Chart) (wiring : Wiring) (Content : MachineState → Type 0) (
         goes = three.goes;
         is_due = next_due Third three.mid stands;
         content = held;
-        ready = subst (λ c. IsReady chart.lines left c.spot) (sym carriage_three) heads.ready;
+        ready = subst (λ c. AwaitsBody chart.lines left c.spot) (sym carriage_three) heads.ready;
         carriage = subst (λ c. IsCarriageOf chart.lines c) (sym carriage_three) heads.keeps;
         stations = stands.stations;
         printing = stands.printing;
@@ -157,28 +157,28 @@ module _ (chart : Chart) (wiring : Wiring) (Content : MachineState → Type 0) (
   -- two of them ran
   two_ran : (one : Stepped wiring (Head First) (fed_with old waits next) new lines) → Heads chart First old one.mid
       → (two : Stepped wiring (Head Second) (fed_with one.mid waits next) new one.others) → Heads chart Second one.mid two.mid
-      → Content two.mid → StandsBehind old before Second two.mid → ItsReady
+      → Content two.mid → StandsAfter old before Second two.mid → ItsReady
   two_ran one first two second held stands =
       step (stepped wiring (Head Third) (fed_with two.mid waits next) new two.others (next_due Second two.mid stands) two.goes)
     where
       kept : (three : Stepped wiring (Head Third) (fed_with two.mid waits next) new two.others)
           → Content three.mid × Heads chart Third two.mid three.mid → ItsReady
       kept three (content_three, third) =
-          all_ran one first two second three third content_three (behind_next Second Third two.mid three.mid stands third)
+          all_ran one first two second three third content_three (after_next Second Third two.mid three.mid stands third)
 
       step : Stepped wiring (Head Third) (fed_with two.mid waits next) new two.others → ItsReady
       step three = kept three (keeps Third two.mid three.mid held three.ran)
 
   -- the first ran
   one_ran : (one : Stepped wiring (Head First) (fed_with old waits next) new lines) → Heads chart First old one.mid
-      → Content one.mid → StandsBehind old before First one.mid → ItsReady
+      → Content one.mid → StandsAfter old before First one.mid → ItsReady
   one_ran one first held stands =
       step (stepped wiring (Head Second) (fed_with one.mid waits next) new one.others (next_due First one.mid stands) one.goes)
     where
       kept : (two : Stepped wiring (Head Second) (fed_with one.mid waits next) new one.others)
           → Content two.mid × Heads chart Second one.mid two.mid → ItsReady
       kept two (content_two, second) =
-          two_ran one first two second content_two (behind_next First Second one.mid two.mid stands second)
+          two_ran one first two second content_two (after_next First Second one.mid two.mid stands second)
 
       step : Stepped wiring (Head Second) (fed_with one.mid waits next) new one.others → ItsReady
       step two = kept two (keeps Second one.mid two.mid held two.ran)

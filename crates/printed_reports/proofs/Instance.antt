@@ -26,10 +26,10 @@ use Rattle.machine.specs.Runs.{moved_on}
 use Rattle.net.specs.Cycles.{level_number}
 use Rattle.net.specs.declared.cycle.Cycle.{Cycle}
 use Rattle.net.specs.declared.cycle.Cycle.TheVariants.{RunIn, Card, Prog, Head}
-use Rattle.net.specs.declared.cycle.Level.{Level}
+use Rattle.net.specs.declared.cycle.ProgramLevel.{ProgramLevel}
 use Rattle.net.specs.declared.cycle.Ordinal.{Ordinal}
 use Rattle.net.specs.declared.cycle.Ordinal.TheVariants.{First, Second, Third}
-use Rattle.report.specs.Breaks.{cleared, ended_behind, taking}
+use Rattle.report.specs.Breaks.{cleared, ended_after, taking}
 use Rattle.report.specs.Edits as edit
 use Rattle.report.specs.Totals.{total_of}
 use Rattle.selectors.specs.Indicate.{Latches, indicate_ended}
@@ -37,14 +37,14 @@ use Rattle.selectors.specs.Pilots.{moves_pilots}
 use Rattle.totals.proofs.Cards.{zeros}
 use Rattle.totals.proofs.GroupEnds.{total_shows}
 use Rattle.totals.proofs.Passing.{other_passes}
-use Rattle.totals.specs.Amounts.{IsLawful as IsLawfulAmount, IsSmall, state_after}
+use Rattle.totals.specs.Amounts.{HasGroups, IsSmall, state_after}
 use Rattle.totals.specs.Amounts.Kind.{Prog as Ends}
 use Rattle.totals.specs.Laws.{IsGroupEnd, ready}
 use Rattle.totals.specs.Standing.{StandsAll}
 use Rattle.whole_cycles.specs.Between.{IsReady}
 use Rattle.whole_cycles.proofs.Ready.{machines-ready, ready-moved}
 use Rattle.wiring_table.specs.Figures.{IsAmount}
-use Rattle.printed_reports.specs.Content.{AllStand, Behind, Holds, Waits, Within, by_first, by_second, held, kind_for, sums_of}
+use Rattle.printed_reports.specs.Content.{AllStand, After, Holds, Waits, Within, by_first, by_second, held, kind_for, sums_of}
 use Rattle.printed_reports.proofs.Asked.{asked_in}
 use Rattle.printed_reports.proofs.Facts.{IsRead, ShowsTotal}
 use Rattle.printed_reports.proofs.FromCharts.{fits, never_negated, start_zero}
@@ -61,16 +61,16 @@ use Rattle.printed_reports.specs.Steps.{GoesOn, Heads, RunsCard, Totals}
 module _ (chart : Chart) (plan : Lists) (wiring : Wiring) (panel : IsPanel chart plan wiring) (rise : NumbersRise chart.lines chart.end)
     (literals : HaveLiteralTexts chart.lines) where
   -- the amounts of the chart
-  lawful : (name : List ℕ) (field : Field) → IsAmount chart.lines name field → IsLawfulAmount (amount_of chart.lines plan name)
+  lawful : (name : List ℕ) (field : Field) → IsAmount chart.lines name field → HasGroups (amount_of chart.lines plan name)
   lawful name field amount = lawful_amount chart plan name panel.lawful rise panel.planned
 
   -- what a cycle leaves of their totals
-  totals_behind :
+  totals_after :
       (cycle : Cycle) (card : List ℕ) (old new : MachineState) → IsReady wiring old → CycleRun wiring cycle old new
       → IsRead chart plan cycle card old → (name : List ℕ) (field : Field) → IsAmount chart.lines name field
       → IsSmall (amount_of chart.lines plan name) (kind_for cycle card field) (held chart plan old name)
       → held chart plan new name ≡ state_after (amount_of chart.lines plan name) (kind_for cycle card field) (held chart plan old name)
-  totals_behind cycle card old new is run read name field amount small =
+  totals_after cycle card old new is run read name field amount small =
       totals chart plan wiring panel rise cycle card old new is run read name field amount small
 
   -- a cycle that is no card cycle goes on
@@ -122,7 +122,7 @@ module _ (chart : Chart) (plan : Lists) (wiring : Wiring) (panel : IsPanel chart
   heads_same : (heading : Ordinal) (card : List ℕ) (old new : MachineState) → IsReady wiring old → CycleRun wiring (Head heading) old new
       → (name : List ℕ) (field : Field) → IsAmount chart.lines name field → held chart plan new name ≡ held chart plan old name
   heads_same heading card old new is run name field amount =
-      totals_behind (Head heading) card old new is run tt name field amount tt
+      totals_after (Head heading) card old new is run tt name field amount tt
       ∙ other_passes (amount_of chart.lines plan name) (held chart plan old name)
 
   -- the totals stand for the same sums where they hold the same
@@ -141,7 +141,7 @@ module _ (chart : Chart) (plan : Lists) (wiring : Wiring) (panel : IsPanel chart
       let is = ready-moved wiring (Some card) (machine_at_start wiring) (machines-ready.start wiring) in
       let same : (name : List ℕ) (field : Field) → IsAmount chart.lines name field
       → held chart plan new name ≡ held chart plan (machine_at_start wiring) name
-      = λ name field amount. totals_behind RunIn card start new is run tt name field amount tt
+      = λ name field amount. totals_after RunIn card start new is run tt name field amount tt
       ∙ other_passes (amount_of chart.lines plan name) (held chart plan start name) in
       let zero_sums : AllStand chart plan at_first.so_far (held chart plan (machine_at_start wiring))
       = λ name field amount. zeros (amount_of chart.lines plan name) (held chart plan (machine_at_start wiring) name)
@@ -163,7 +163,7 @@ module _ (chart : Chart) (plan : Lists) (wiring : Wiring) (panel : IsPanel chart
       (stand : Stand) (card : List ℕ) (next : Option (List ℕ)) → IsDue chart (IsValidCard chart) stand card next
       → (old new : MachineState) → Waits chart plan wiring stand card old → old.stations.first ≡ Some card
       → CycleRun wiring Card (moved_on next old) new
-      → Behind chart plan wiring stand card next 0 new × RunsCard chart stand card next (moved_on next old) new
+      → After chart plan wiring stand card next 0 new × RunsCard chart stand card next (moved_on next old) new
   card_runs stand card next due old new waits first run =
       let start : MachineState = moved_on next old in
       let is = ready-moved wiring next old waits.holds.is_ready in
@@ -178,7 +178,7 @@ module _ (chart : Chart) (plan : Lists) (wiring : Wiring) (panel : IsPanel chart
               (lawful name field amount) on_card (waits.totals name field amount) in
               subst
               (λ s. StandsAll (amount_of chart.lines plan name) (sums_of field (cleared 0 (taking card stand.so_far))) s)
-              (sym (totals_behind Card card start new is run read name field amount on_card)) after;
+              (sym (totals_after Card card start new is run read name field amount on_card)) after;
           stored = stores chart plan wiring panel start new card rise is run first;
         },
         record {
@@ -193,7 +193,7 @@ module _ (chart : Chart) (plan : Lists) (wiring : Wiring) (panel : IsPanel chart
 
   cards :
       (stand : Stand) (card : List ℕ) (next : Option (List ℕ)) → IsDue chart (IsValidCard chart) stand card next
-      → CardGoes chart wiring stand card next (Waits chart plan wiring stand card) (Behind chart plan wiring stand card next)
+      → CardGoes chart wiring stand card next (Waits chart plan wiring stand card) (After chart plan wiring stand card next)
   cards stand card next due = record {
     heads = λ heading old new waits run. (
       record {
@@ -208,27 +208,27 @@ module _ (chart : Chart) (plan : Lists) (wiring : Wiring) (panel : IsPanel chart
 
   -- the first cycle of a level
   first_runs :
-      (stand : Stand) (card : List ℕ) (next : Option (List ℕ)) (k : ℕ) (level : Level) (old new : MachineState)
-      → level_number level ≡ suc k → suc k ≤ ended_behind chart.lines card next
-      → Behind chart plan wiring stand card next k old → CycleRun wiring (Prog level First) old new
+      (stand : Stand) (card : List ℕ) (next : Option (List ℕ)) (k : ℕ) (level : ProgramLevel) (old new : MachineState)
+      → level_number level ≡ suc k → suc k ≤ ended_after chart.lines card next
+      → After chart plan wiring stand card next k old → CycleRun wiring (Prog level First) old new
       → Within chart plan wiring stand card next (by_first chart plan level) level new × GoesOn (Prog level First) nothing_asked old new
-  first_runs stand card next k level old new number within behind run = (
+  first_runs stand card next k level old new number within later run = (
     record {
       k = k;
       is_level = number;
       within = within;
-      holds = holds_on (Prog level First) old new k k next behind.holds run refl (latches-left old.indicate level k behind.holds.are_set).0;
-      stored = keeps_stored chart plan wiring panel (Prog level First) old new card behind.holds.is_ready run refl behind.stored;
+      holds = holds_on (Prog level First) old new k k next later.holds run refl (latches-left old.indicate level k later.holds.are_set).0;
+      stored = keeps_stored chart plan wiring panel (Prog level First) old new card later.holds.is_ready run refl later.stored;
       before = held chart plan old;
-      totals = behind.totals;
-      is = λ name field amount. totals_behind (Prog level First) card old new behind.holds.is_ready run tt name field amount tt;
+      totals = later.totals;
+      is = λ name field amount. totals_after (Prog level First) card old new later.holds.is_ready run tt name field amount tt;
     },
-    goes_on (Prog level First) old new behind.holds.is_ready run refl,
+    goes_on (Prog level First) old new later.holds.is_ready run refl,
   )
 
   -- the second
   second_runs :
-      (stand : Stand) (card : List ℕ) (next : Option (List ℕ)) (level : Level) (old new : MachineState)
+      (stand : Stand) (card : List ℕ) (next : Option (List ℕ)) (level : ProgramLevel) (old new : MachineState)
       → Within chart plan wiring stand card next (by_first chart plan level) level old → CycleRun wiring (Prog level Second) old new
       → Within chart plan wiring stand card next (by_second chart plan level) level new × GoesOn (Prog level Second) nothing_asked old new
   second_runs stand card next level old new was run = (
@@ -241,7 +241,7 @@ module _ (chart : Chart) (plan : Lists) (wiring : Wiring) (panel : IsPanel chart
       stored = keeps_stored chart plan wiring panel (Prog level Second) old new card was.holds.is_ready run refl was.stored;
       before = was.before;
       totals = was.totals;
-      is = λ name field amount. totals_behind (Prog level Second) card old new was.holds.is_ready run tt name field amount tt
+      is = λ name field amount. totals_after (Prog level Second) card old new was.holds.is_ready run tt name field amount tt
           ∙ ap (λ s. state_after (amount_of chart.lines plan name) (Ends (level_number level) Second) s) (was.is name field amount);
     },
     goes_on (Prog level Second) old new was.holds.is_ready run refl,
@@ -249,7 +249,7 @@ module _ (chart : Chart) (plan : Lists) (wiring : Wiring) (panel : IsPanel chart
 
   -- heading cycles between the second and the third
   within_heads :
-      (stand : Stand) (card : List ℕ) (next : Option (List ℕ)) (level : Level)
+      (stand : Stand) (card : List ℕ) (next : Option (List ℕ)) (level : ProgramLevel)
       → HeadsKeep chart wiring (Within chart plan wiring stand card next (by_second chart plan level) level)
   within_heads stand card next level heading old new was run = (
     record {
@@ -268,7 +268,7 @@ module _ (chart : Chart) (plan : Lists) (wiring : Wiring) (panel : IsPanel chart
   -- a group ends with what its total may show
   ends_so :
       (stand : Stand) (card : List ℕ) (next : Option (List ℕ)) → IsDue chart (IsValidCard chart) stand card next
-      → (k : ℕ) → suc k ≤ ended_behind chart.lines card next → (name : List ℕ) (field : Field) → IsAmount chart.lines name field
+      → (k : ℕ) → suc k ≤ ended_after chart.lines card next → (name : List ℕ) (field : Field) → IsAmount chart.lines name field
       → (amount_of chart.lines plan name).has (suc k) ≡ true
       → IsGroupEnd (amount_of chart.lines plan name) (suc k) (sums_of field (cleared k (taking card stand.so_far)))
   ends_so stand card next due k within name field amount has =
@@ -279,7 +279,7 @@ module _ (chart : Chart) (plan : Lists) (wiring : Wiring) (panel : IsPanel chart
   -- the total of a level that has one, as it is shown
   shows_so :
       (stand : Stand) (card : List ℕ) (next : Option (List ℕ)) → IsDue chart (IsValidCard chart) stand card next
-      → (k : ℕ) → suc k ≤ ended_behind chart.lines card next → (name : List ℕ) (field : Field) → IsAmount chart.lines name field
+      → (k : ℕ) → suc k ≤ ended_after chart.lines card next → (name : List ℕ) (field : Field) → IsAmount chart.lines name field
       → (state : ℕ → Held)
       → StandsAll (amount_of chart.lines plan name) (sums_of field (cleared k (taking card stand.so_far))) state
       → (amount_of chart.lines plan name).has (suc k) ≡ true
@@ -313,7 +313,7 @@ module _ (chart : Chart) (plan : Lists) (wiring : Wiring) (panel : IsPanel chart
   -- what goes up from a level with a total has room
   room_of :
       (stand : Stand) (card : List ℕ) (next : Option (List ℕ)) → IsDue chart (IsValidCard chart) stand card next
-      → (k : ℕ) → suc k ≤ ended_behind chart.lines card next → (name : List ℕ) (field : Field) → IsAmount chart.lines name field
+      → (k : ℕ) → suc k ≤ ended_after chart.lines card next → (name : List ℕ) (field : Field) → IsAmount chart.lines name field
       → (state : ℕ → Held)
       → StandsAll (amount_of chart.lines plan name) (sums_of field (cleared k (taking card stand.so_far))) state
       → (amount_of chart.lines plan name).has (suc k) ≡ true
@@ -325,10 +325,10 @@ module _ (chart : Chart) (plan : Lists) (wiring : Wiring) (panel : IsPanel chart
   -- the third cycle of a level
   third_runs :
       (stand : Stand) (card : List ℕ) (next : Option (List ℕ)) → IsDue chart (IsValidCard chart) stand card next
-      → (k : ℕ) (level : Level) (old new : MachineState) → level_number level ≡ suc k → suc k ≤ ended_behind chart.lines card next
+      → (k : ℕ) (level : ProgramLevel) (old new : MachineState) → level_number level ≡ suc k → suc k ≤ ended_after chart.lines card next
       → Within chart plan wiring stand card next (by_second chart plan level) level old
       → CycleRun wiring (Prog level Third) old new
-      → Behind chart plan wiring stand card next (suc k) new × Totals chart stand card level old new
+      → After chart plan wiring stand card next (suc k) new × Totals chart stand card level old new
   third_runs stand card next due k level old new number within was run =
       let groups = taking card stand.so_far in
       let same_k : was.k ≡ k = let its = was.is_level in omega (arith, its, number) in
@@ -355,7 +355,7 @@ module _ (chart : Chart) (plan : Lists) (wiring : Wiring) (panel : IsPanel chart
               let comes : held chart plan new name
               ≡ state_after (amount_of chart.lines plan name) (Ends (suc k) Third)
               (ready (amount_of chart.lines plan name) (suc k) (was.before name))
-              = totals_behind (Prog level Third) card old new was.holds.is_ready run tt name field amount (small name field amount)
+              = totals_after (Prog level Third) card old new was.holds.is_ready run tt name field amount (small name field amount)
               ∙ ap (λ n. state_after (amount_of chart.lines plan name) (Ends n Third) (held chart plan old name)) number
               ∙ ap (λ s. state_after (amount_of chart.lines plan name) (Ends (suc k) Third) s) (is_held name field amount) in
               subst (λ s. StandsAll (amount_of chart.lines plan name) (sums_of field (cleared (suc k) groups)) s) (sym comes) after;
@@ -383,7 +383,7 @@ module _ (chart : Chart) (plan : Lists) (wiring : Wiring) (panel : IsPanel chart
 
   -- Between its cycles the machine holds what the chart wants.
   pub machine_goes :
-      MachineGoes chart wiring (IsValidCard chart) (Waits chart plan wiring) (Behind chart plan wiring)
+      MachineGoes chart wiring (IsValidCard chart) (Waits chart plan wiring) (After chart plan wiring)
       (λ stand card next level machine. Within chart plan wiring stand card next (by_first chart plan level) level machine)
       (λ stand card next level machine. Within chart plan wiring stand card next (by_second chart plan level) level machine)
   machine_goes = record {
@@ -392,12 +392,12 @@ module _ (chart : Chart) (plan : Lists) (wiring : Wiring) (panel : IsPanel chart
     starts = λ card new valid run. starts card new valid run;
     cards = λ stand card next due. cards stand card next due;
     levels = λ stand card next due. record {
-      first = λ k level old new number within behind run. first_runs stand card next k level old new number within behind run;
+      first = λ k level old new number within later run. first_runs stand card next k level old new number within later run;
       second = λ level old new was run. second_runs stand card next level old new was run;
       heads = λ level. within_heads stand card next level;
       third = λ k level old new number within was run. third_runs stand card next due k level old new number within was run;
     };
-    arrives = λ stand card next machine due behind. record { holds = behind.holds; totals = behind.totals };
+    arrives = λ stand card next machine due later. record { holds = later.holds; totals = later.totals };
   }
 
 pub machines_go : MachinesGoAsChartsWant

@@ -1,4 +1,4 @@
--- The program cycles behind a card cycle: level by level, from the lowest on, three cycles each. The third places the total line of its
+-- The program cycles after a card cycle: level by level, from the lowest on, three cycles each. The third places the total line of its
 -- level where the report does.
 use Rattle.std.proofs.Common.{◌≡◌, ◌∙◌, refl, sym, ap, subst, ℕ, zero, suc, ◌+◌, ◌≤◌, ◌<◌, ◌^◌, not, Bool, true, false, List, [], ◌∷◌, ◌++◌, Option, Some, None, length, if◌then◌else◌, arith}
 use Rattle.std.proofs.lemmas.Bool.Decides.{nat_tests}
@@ -6,9 +6,9 @@ use Rattle.carriage.specs.Asked.{nothing_asked}
 use Rattle.placed_lines.specs.declared.placed_line.PlacedLine.{PlacedLine}
 use Rattle.chart_rules.specs.Rules.{IsLawful}
 use Rattle.charts.specs.Chart.{Chart}
-use Rattle.decks.proofs.Pages.{behind-most}
+use Rattle.decks.proofs.Pages.{after-most}
 use Rattle.decks.proofs.Places.{places_split}
-use Rattle.decks.specs.Left.{bodies_of, left_behind}
+use Rattle.decks.specs.Left.{bodies_of, left_after}
 use Rattle.decks.specs.Stands.{Stand}
 use Rattle.setups.specs.Wiring.{Wiring}
 use Rattle.machine.specs.Cycles.{line_of}
@@ -19,21 +19,21 @@ use Rattle.net.specs.Cycles.{level_number}
 use Rattle.net.specs.Printing.{prints}
 use Rattle.net.specs.declared.cycle.Cycle.{Cycle}
 use Rattle.net.specs.declared.cycle.Cycle.TheVariants.{Prog, Head}
-use Rattle.net.specs.declared.cycle.Level.{Level}
-use Rattle.net.specs.declared.cycle.Level.TheVariants.{Final}
+use Rattle.net.specs.declared.cycle.ProgramLevel.{ProgramLevel}
+use Rattle.net.specs.declared.cycle.ProgramLevel.TheVariants.{Final}
 use Rattle.net.specs.declared.cycle.Ordinal.TheVariants.{First, Second, Third}
 use Rattle.line_places.proofs.BodyLines.{jacks-print}
 use Rattle.line_places.proofs.CyclesDue.{levels-due, levels-rise, seconds-due, thirds-due, totals-wait, others-come}
-use Rattle.line_places.proofs.DueCycles.{due, stage_behind}
+use Rattle.line_places.proofs.DueCycles.{due, stage_after}
 use Rattle.line_places.proofs.Placements.{quiet-stays}
-use Rattle.line_places.specs.CarriageCycles.{begins_page, carriage_behind, line_at}
+use Rattle.line_places.specs.CarriageCycles.{begins_page, carriage_after, line_at}
 use Rattle.line_places.specs.FormFacts.{HasGoodForm}
 use Rattle.line_places.specs.Placing.{IsCarriageOf, IsAt, prints_kind, printing_of_chart}
 use Rattle.program_unit.specs.CycleOrder.{card_over, has_level_left, level_above, levels_to, top_level, headed as headed_by}
 use Rattle.program_unit.specs.Program.{ProgramState, stage_ended}
 use Rattle.program_unit.specs.declared.stage.Stage.TheVariants.{RanProg, BeforeTotal}
 use Rattle.report.specs.BodyLines.{total_line}
-use Rattle.report.specs.Breaks.{ended_behind, taking}
+use Rattle.report.specs.Breaks.{ended_after, taking}
 use Rattle.report.specs.Outline.{OutlineLine, Total}
 use Rattle.report.specs.Places.{BodyText, Left, placed}
 use Rattle.report.specs.ChartForm.{prints_totals}
@@ -43,38 +43,38 @@ use Rattle.printed_reports.proofs.Steps.{fed_with, GoesFrom, Stepped, stepped, o
 use Rattle.printed_reports.specs.Goes.{HeadsKeep, LevelsGo}
 use Rattle.printed_reports.specs.Steps.{GoesOn, Totals}
 
--- the total lines of so many levels behind a number of levels
-abbrev pub totals_behind : (count k : ℕ) → (ℕ → List (List ℕ)) → List OutlineLine
-totals_behind zero k groups = []
-totals_behind (suc count) k groups = Total (suc k) (groups (suc k)) ∷ totals_behind count (suc k) groups
+-- the total lines of so many levels after a number of levels
+abbrev pub totals_after : (count k : ℕ) → (ℕ → List (List ℕ)) → List OutlineLine
+totals_after zero k groups = []
+totals_after (suc count) k groups = Total (suc k) (groups (suc k)) ∷ totals_after count (suc k) groups
 
 -- the levels that are left ran, and the feed is over
-pub record LevelsRan (chart : Chart) (Behind : ℕ → MachineState → Type 0) (ended : ℕ) (left : Left) (bodies : List BodyText)
+pub record LevelsRan (chart : Chart) (After : ℕ → MachineState → Type 0) (ended : ℕ) (left : Left) (bodies : List BodyText)
     (old new : MachineState) (lines : List PlacedLine) : Type 0 where
-  pub content : Behind ended new
-  pub done : Option Level
+  pub content : After ended new
+  pub done : Option ProgramLevel
   pub all_done : levels_to done ≡ ended
-  pub stage : new.program.stage ≡ stage_behind done
+  pub stage : new.program.stage ≡ stage_after done
   pub printing : new.program.printing ≡ old.program.printing
   pub is_over : card_over new.program (has_more new) ≡ true
   pub stations : new.stations ≡ old.stations
   pub carriage : IsCarriageOf chart.lines new.carriage
-  pub at : IsAt chart.lines (left_behind chart.lines left bodies) new.carriage.spot
+  pub at : IsAt chart.lines (left_after chart.lines left bodies) new.carriage.spot
   pub is_lines : lines ≡ placed chart.lines left bodies
 
--- a third cycle waits behind heading cycles
-third_waits : (level : Level) (more : Bool) → CanWait (Prog level Third) false more (BeforeTotal level)
+-- a third cycle waits after heading cycles
+third_waits : (level : ProgramLevel) (more : Bool) → CanWait (Prog level Third) false more (BeforeTotal level)
 third_waits level more = record {
   follows = λ program heading restore is. totals-wait program level heading false restore more is;
   stays = λ heading other. refl;
 }
 
 -- where the levels that run are as many as have run, none is left
-none_left : (program : ProgramState) (done : Option Level) (more : Bool) → levels_to (top_level program more) ≡ levels_to done
+none_left : (program : ProgramState) (done : Option ProgramLevel) (more : Bool) → levels_to (top_level program more) ≡ levels_to done
     → has_level_left program done more ≡ false
 none_left program level more same = grind (arith, nat_tests, same)
 
-some_left : (program : ProgramState) (done : Option Level) (more : Bool) (n : ℕ)
+some_left : (program : ProgramState) (done : Option ProgramLevel) (more : Bool) (n : ℕ)
     → levels_to (top_level program more) ≡ levels_to done + suc n → has_level_left program done more ≡ true
 some_left program level more n same = grind (arith, nat_tests, same)
 
@@ -88,7 +88,7 @@ pub quietly :
     (chart : Chart) (left : Left) (cycle : Cycle) (old new : MachineState)
     → prints old.carriage.printing cycle ≡ false → begins_page cycle ≡ false
     → IsCarriageOf chart.lines old.carriage → IsAt chart.lines left old.carriage.spot
-    → new.carriage ≡ carriage_behind old.carriage nothing_asked cycle → StaysQuiet chart left new
+    → new.carriage ≡ carriage_after old.carriage nothing_asked cycle → StaysQuiet chart left new
 quietly chart left cycle old new quiet no_page is at goes =
     let stays = goes ∙ quiet-stays old.carriage cycle quiet no_page in
     record {
@@ -99,7 +99,7 @@ quietly chart left cycle old new quiet no_page is at goes =
 
 -- the third cycle of a level, with the heading cycles before it
 third_ran :
-    (chart : Chart) (wiring : Wiring) (Turned : MachineState → Type 0) (level : Level) (left : Left) (next : Option (List ℕ))
+    (chart : Chart) (wiring : Wiring) (Turned : MachineState → Type 0) (level : ProgramLevel) (left : Left) (next : Option (List ℕ))
     (old new : MachineState) (lines : List PlacedLine)
     → IsLawful chart → HasGoodForm chart.lines → HeadsKeep chart wiring Turned → Turned old
     → old.program.printing ≡ printing_of_chart chart.lines → old.program.stage ≡ RanProg level Second
@@ -127,18 +127,18 @@ third_ran chart wiring Turned level left next old new lines lawful good keeps co
         (is_due ∙ ap Some (others-come old.program.printing old.carriage.spot.latch (Prog level Third) (kinds ∙ silent))) goes
 
 -- One level ran: what its three program cycles leave and place, with the heading cycles before its total line.
-record LevelRan (chart : Chart) (wiring : Wiring) (Behind : ℕ → MachineState → Type 0) (k : ℕ) (level : Level) (left : Left)
+record LevelRan (chart : Chart) (wiring : Wiring) (After : ℕ → MachineState → Type 0) (k : ℕ) (level : ProgramLevel) (left : Left)
     (bodies : List BodyText) (next : Option (List ℕ)) (old new : MachineState) (lines : List PlacedLine) : Type 0 where
   mid : MachineState
   others : List PlacedLine
   goes : GoesFrom wiring (fed_with mid false next) new others
-  content : Behind (suc k) mid
-  stage : mid.program.stage ≡ stage_behind (Some level)
+  content : After (suc k) mid
+  stage : mid.program.stage ≡ stage_after (Some level)
   printing : mid.program.printing ≡ old.program.printing
   highest : mid.program.highest ≡ old.program.highest
   stations : mid.stations ≡ old.stations
   carriage : IsCarriageOf chart.lines mid.carriage
-  at : IsAt chart.lines (left_behind chart.lines left bodies) mid.carriage.spot
+  at : IsAt chart.lines (left_after chart.lines left bodies) mid.carriage.spot
   is_lines : lines ≡ placed chart.lines left bodies ++ others
 
 -- the bodies of the total line of a level
@@ -147,13 +147,13 @@ total_bodies chart stand card level = bodies_for chart level (total_line chart.l
 
 -- a level runs
 module _ (chart : Chart) (wiring : Wiring) (stand : Stand) (card : List ℕ) (next : Option (List ℕ))
-    (Behind : ℕ → MachineState → Type 0) (Tested Turned : Level → MachineState → Type 0) (k : ℕ) (level : Level) (left : Left)
+    (After : ℕ → MachineState → Type 0) (Tested Turned : ProgramLevel → MachineState → Type 0) (k : ℕ) (level : ProgramLevel) (left : Left)
     (old new : MachineState) (lines : List PlacedLine) (lawful : IsLawful chart) (good : HasGoodForm chart.lines)
-    (go : LevelsGo chart wiring stand card next Behind Tested Turned) (number : level_number level ≡ suc k)
-    (within : suc k ≤ ended_behind chart.lines card next) (printing : old.program.printing ≡ printing_of_chart chart.lines)
+    (go : LevelsGo chart wiring stand card next After Tested Turned) (number : level_number level ≡ suc k)
+    (within : suc k ≤ ended_after chart.lines card next) (printing : old.program.printing ≡ printing_of_chart chart.lines)
     (is : IsCarriageOf chart.lines old.carriage) (at : IsAt chart.lines left old.carriage.spot) (page : left.page < 2 ^ 32) where
   abbrev ItsRun : Type 0
-  ItsRun = LevelRan chart wiring Behind k level left (total_bodies chart stand card (level_number level)) next old new lines
+  ItsRun = LevelRan chart wiring After k level left (total_bodies chart stand card (level_number level)) next old new lines
 
   kind_printed : (n m : ℕ) → n ≡ suc m → prints_kind chart.lines n ≡ true → prints_totals chart.lines n ≡ true
   kind_printed zero m is printed = absurd (omega (arith, is))
@@ -166,15 +166,15 @@ module _ (chart : Chart) (wiring : Wiring) (stand : Stand) (card : List ℕ) (ne
       → (two : Stepped wiring (Prog level Second) (fed_with one.mid false next) new one.others)
       → GoesOn (Prog level Second) nothing_asked one.mid two.mid → StaysQuiet chart left two.mid
       → (ran : BodyRan chart wiring (Turned level) (Prog level Third) (level_number level) left false next two.mid new two.others)
-      → Behind (suc k) ran.mid × Totals chart stand card level ran.machine ran.mid → ItsRun
-  third_over one first quiet_one two second quiet_two ran (behind, third) =
+      → After (suc k) ran.mid × Totals chart stand card level ran.machine ran.mid → ItsRun
+  third_over one first quiet_one two second quiet_two ran (after, third) =
       let text = total_line chart.lines (level_number level) (taking card stand.so_far (level_number level)) in
       let places = ran.placed_so text third.goes.carriage (λ printed. third.line (kind_printed (level_number level) k number printed)) in
       record {
         mid = ran.mid;
         others = ran.others;
         goes = ran.goes;
-        content = behind;
+        content = after;
         stage = ap (λ p. p.stage) third.goes.program;
         printing = ap (λ p. p.printing) third.goes.program ∙ ran.printing ∙ ap (λ p. p.printing) second.program
             ∙ ap (λ p. p.printing) first.program;
@@ -218,7 +218,7 @@ module _ (chart : Chart) (wiring : Wiring) (stand : Stand) (card : List ℕ) (ne
           (go.second level one.mid two.mid tested two.ran)
 
   level_ran :
-      due_in (fed_with old false next) ≡ Some (Prog level First) → Behind k old → GoesFrom wiring (fed_with old false next) new lines → ItsRun
+      due_in (fed_with old false next) ≡ Some (Prog level First) → After k old → GoesFrom wiring (fed_with old false next) new lines → ItsRun
   level_ran is_due content goes =
       first (stepped wiring (Prog level First) (fed_with old false next) new lines is_due goes)
     where
@@ -235,26 +235,26 @@ module _ (chart : Chart) where
   one_body kind text = by_test (prints_kind chart.lines kind) (record { kind = kind; text = text })
 
   turned_pages : (kind : ℕ) (text : List ℕ) (from : Left)
-      → (left_behind chart.lines from (bodies_for chart kind text)).page ≤ from.page + 1
+      → (left_after chart.lines from (bodies_for chart kind text)).page ≤ from.page + 1
   turned_pages kind text from =
-      let most = behind-most chart.lines from (bodies_for chart kind text) in
+      let most = after-most chart.lines from (bodies_for chart kind text) in
       let one = one_body kind text in
       omega (arith, most, one)
 
 -- the levels that are left run, one after another
 pub levels_ran :
     (chart : Chart) (wiring : Wiring) (stand : Stand) (card : List ℕ) (next : Option (List ℕ))
-    (Behind : ℕ → MachineState → Type 0) (Tested Turned : Level → MachineState → Type 0)
-    (count k : ℕ) (done : Option Level) (left : Left) (old new : MachineState) (lines : List PlacedLine)
-    → IsLawful chart → HasGoodForm chart.lines → LevelsGo chart wiring stand card next Behind Tested Turned
-    → levels_to done ≡ k → ended_behind chart.lines card next ≡ k + count
-    → Behind k old → old.program.stage ≡ stage_behind done → old.program.printing ≡ printing_of_chart chart.lines
-    → levels_to (top_level old.program (has_more old)) ≡ ended_behind chart.lines card next
+    (After : ℕ → MachineState → Type 0) (Tested Turned : ProgramLevel → MachineState → Type 0)
+    (count k : ℕ) (done : Option ProgramLevel) (left : Left) (old new : MachineState) (lines : List PlacedLine)
+    → IsLawful chart → HasGoodForm chart.lines → LevelsGo chart wiring stand card next After Tested Turned
+    → levels_to done ≡ k → ended_after chart.lines card next ≡ k + count
+    → After k old → old.program.stage ≡ stage_after done → old.program.printing ≡ printing_of_chart chart.lines
+    → levels_to (top_level old.program (has_more old)) ≡ ended_after chart.lines card next
     → IsCarriageOf chart.lines old.carriage → IsAt chart.lines left old.carriage.spot → left.page + count < 2 ^ 32
     → GoesFrom wiring (fed_with old false next) new lines
-    → LevelsRan chart Behind (ended_behind chart.lines card next) left
-    (bodies_of chart.lines (totals_behind count k (taking card stand.so_far))) old new lines
-levels_ran chart wiring stand card next Behind Tested Turned zero k done left old new lines lawful good go is_k all content stage printing top is at page goes =
+    → LevelsRan chart After (ended_after chart.lines card next) left
+    (bodies_of chart.lines (totals_after count k (taking card stand.so_far))) old new lines
+levels_ran chart wiring stand card next After Tested Turned zero k done left old new lines lawful good go is_k all content stage printing top is at page goes =
     let same : levels_to (top_level old.program (has_more old)) ≡ levels_to done = omega (arith, top, all, is_k) in
     let none = none_left old.program done (has_more old) same in
     let due_now = levels-due old.program done old.carriage.spot.latch (has_more old) stage in
@@ -262,9 +262,9 @@ levels_ran chart wiring stand card next Behind Tested Turned zero k done left ol
     = due_now.0 ∙ ap (λ (b : Bool). if b then Some (Prog (level_above done) First) else None) none in
     let finished = over wiring (fed_with old false next) new lines no_more goes in
     let is_new : new ≡ old = finished.0 in
-    let ended : k ≡ ended_behind chart.lines card next = omega (arith, all) in
+    let ended : k ≡ ended_after chart.lines card next = omega (arith, all) in
     record {
-      content = subst (λ m. Behind (ended_behind chart.lines card next) m) (sym is_new) (subst (λ n. Behind n old) ended content);
+      content = subst (λ m. After (ended_after chart.lines card next) m) (sym is_new) (subst (λ n. After n old) ended content);
       done = done;
       all_done = is_k ∙ ended;
       stage = ap (λ m. m.program.stage) is_new ∙ stage;
@@ -275,19 +275,19 @@ levels_ran chart wiring stand card next Behind Tested Turned zero k done left ol
       at = subst (λ m. IsAt chart.lines left m.carriage.spot) (sym is_new) at;
       is_lines = finished.1;
     }
-levels_ran chart wiring stand card next Behind Tested Turned (suc count) k done left old new lines lawful good go is_k all content stage printing top is at page goes =
+levels_ran chart wiring stand card next After Tested Turned (suc count) k done left old new lines lawful good go is_k all content stage printing top is at page goes =
     let left_over : levels_to (top_level old.program (has_more old)) ≡ levels_to done + suc count = omega (arith, top, all, is_k) in
     let some = some_left old.program done (has_more old) count left_over in
     let number : level_number (level_above done) ≡ suc k
     = levels-rise old.program done (has_more old) some ∙ ap (λ n. n + 1) is_k ∙ plus_one k in
-    let within : suc k ≤ ended_behind chart.lines card next = omega (arith, all) in
+    let within : suc k ≤ ended_after chart.lines card next = omega (arith, all) in
     let due_now = levels-due old.program done old.carriage.spot.latch (has_more old) stage in
     let due_first : due_in (fed_with old false next) ≡ Some (Prog (level_above done) First)
     = due_now.0 ∙ ap (λ (b : Bool). if b then Some (Prog (level_above done) First) else None) some in
     with_level (level_above done) number
-    (level_ran chart wiring stand card next Behind Tested Turned k (level_above done) left old new lines lawful good go number within printing
+    (level_ran chart wiring stand card next After Tested Turned k (level_above done) left old new lines lawful good go number within printing
     is at (omega (arith, page)) due_first content goes)
-    (λ from mid others. levels_ran chart wiring stand card next Behind Tested Turned count (suc k) (Some (level_above done)) from mid new others
+    (λ from mid others. levels_ran chart wiring stand card next After Tested Turned count (suc k) (Some (level_above done)) from mid new others
     lawful good go)
   where
     plus_one : (n : ℕ) → n + 1 ≡ suc n
@@ -300,23 +300,23 @@ levels_ran chart wiring stand card next Behind Tested Turned (suc count) k done 
         → levels_to (top_level one a) ≡ levels_to (top_level other b)
     same_top one other a b high same = λ i. levels_to (if same i then high i else Some Final)
 
-    Ran : Level → Type 0
-    Ran level = LevelRan chart wiring Behind k level left (total_bodies chart stand card (level_number level)) next old new lines
+    Ran : ProgramLevel → Type 0
+    Ran level = LevelRan chart wiring After k level left (total_bodies chart stand card (level_number level)) next old new lines
 
-    Rest : (level : Level) → Ran level → Type 0
+    Rest : (level : ProgramLevel) → Ran level → Type 0
     Rest level ran =
-        LevelsRan chart Behind (ended_behind chart.lines card next)
-        (left_behind chart.lines left (total_bodies chart stand card (level_number level)))
-        (bodies_of chart.lines (totals_behind count (suc k) (taking card stand.so_far))) ran.mid new ran.others
+        LevelsRan chart After (ended_after chart.lines card next)
+        (left_after chart.lines left (total_bodies chart stand card (level_number level)))
+        (bodies_of chart.lines (totals_after count (suc k) (taking card stand.so_far))) ran.mid new ran.others
 
-    together : (level : Level) → level_number level ≡ suc k → (ran : Ran level) → Rest level ran
-        → LevelsRan chart Behind (ended_behind chart.lines card next) left
-        (bodies_of chart.lines (totals_behind (suc count) k (taking card stand.so_far))) old new lines
+    together : (level : ProgramLevel) → level_number level ≡ suc k → (ran : Ran level) → Rest level ran
+        → LevelsRan chart After (ended_after chart.lines card next) left
+        (bodies_of chart.lines (totals_after (suc count) k (taking card stand.so_far))) old new lines
     together level number ran rest =
         let bodies = total_bodies chart stand card (level_number level) in
-        let others = bodies_of chart.lines (totals_behind count (suc k) (taking card stand.so_far)) in
+        let others = bodies_of chart.lines (totals_after count (suc k) (taking card stand.so_far)) in
         let split = places_split chart.lines left bodies others in
-        let all_bodies : bodies ++ others ≡ bodies_of chart.lines (totals_behind (suc count) k (taking card stand.so_far))
+        let all_bodies : bodies ++ others ≡ bodies_of chart.lines (totals_after (suc count) k (taking card stand.so_far))
         = ap (λ n. total_bodies chart stand card n ++ others) number in
         record {
           content = rest.content;
@@ -328,32 +328,32 @@ levels_ran chart wiring stand card next Behind Tested Turned (suc count) k done 
           stations = rest.stations ∙ ran.stations;
           carriage = rest.carriage;
           at = subst (λ l. IsAt chart.lines l new.carriage.spot)
-              (sym split.1 ∙ ap (λ b. left_behind chart.lines left b) all_bodies) rest.at;
+              (sym split.1 ∙ ap (λ b. left_after chart.lines left b) all_bodies) rest.at;
           is_lines = ran.is_lines ∙ ap (λ l. placed chart.lines left bodies ++ l) rest.is_lines
               ∙ sym split.0 ∙ ap (λ b. placed chart.lines left b) all_bodies;
         }
 
-    -- the levels above, behind any machine
-    Above : Level → Type 0
+    -- the levels above, after any machine
+    Above : ProgramLevel → Type 0
     Above level =
         (from : Left) (mid : MachineState) (others : List PlacedLine) → level_number level ≡ suc k
-        → ended_behind chart.lines card next ≡ suc k + count → Behind (suc k) mid → mid.program.stage ≡ stage_behind (Some level)
+        → ended_after chart.lines card next ≡ suc k + count → After (suc k) mid → mid.program.stage ≡ stage_after (Some level)
         → mid.program.printing ≡ printing_of_chart chart.lines
-        → levels_to (top_level mid.program (has_more mid)) ≡ ended_behind chart.lines card next
+        → levels_to (top_level mid.program (has_more mid)) ≡ ended_after chart.lines card next
         → IsCarriageOf chart.lines mid.carriage → IsAt chart.lines from mid.carriage.spot → from.page + count < 2 ^ 32
         → GoesFrom wiring (fed_with mid false next) new others
-        → LevelsRan chart Behind (ended_behind chart.lines card next) from
-        (bodies_of chart.lines (totals_behind count (suc k) (taking card stand.so_far))) mid new others
+        → LevelsRan chart After (ended_after chart.lines card next) from
+        (bodies_of chart.lines (totals_after count (suc k) (taking card stand.so_far))) mid new others
 
-    with_level : (level : Level) → level_number level ≡ suc k → Ran level → Above level
-        → LevelsRan chart Behind (ended_behind chart.lines card next) left
-        (bodies_of chart.lines (totals_behind (suc count) k (taking card stand.so_far))) old new lines
+    with_level : (level : ProgramLevel) → level_number level ≡ suc k → Ran level → Above level
+        → LevelsRan chart After (ended_after chart.lines card next) left
+        (bodies_of chart.lines (totals_after (suc count) k (taking card stand.so_far))) old new lines
     with_level level number ran above =
         let few = turned_pages chart (level_number level)
         (total_line chart.lines (level_number level) (taking card stand.so_far (level_number level))) left in
         let more : has_more ran.mid ≡ has_more old = ap (λ s. has_more (record old { stations = s })) ran.stations in
         together level number ran
-        (above (left_behind chart.lines left (total_bodies chart stand card (level_number level))) ran.mid ran.others number
+        (above (left_after chart.lines left (total_bodies chart stand card (level_number level))) ran.mid ran.others number
         (all ∙ shifted k count) ran.content ran.stage (ran.printing ∙ printing)
         (same_top ran.mid.program old.program (has_more ran.mid) (has_more old) ran.highest more ∙ top) ran.carriage ran.at
         (omega (arith, page, few)) ran.goes)

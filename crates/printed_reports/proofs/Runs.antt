@@ -5,7 +5,7 @@ use Rattle.placed_lines.specs.declared.placed_line.PlacedLine.{PlacedLine}
 use Rattle.chart_rules.specs.Rules.{IsLawful}
 use Rattle.charts.specs.Chart.{Chart}
 use Rattle.decks.specs.Runner.{Runner, GoesByCards, FollowsNext, Runs}
-use Rattle.decks.specs.Stands.{Stand, at_first, card_bodies, stand_behind}
+use Rattle.decks.specs.Stands.{Stand, at_first, card_bodies, stand_after}
 use Rattle.setups.specs.Wiring.{Wiring}
 use Rattle.machine.specs.Cycles.{CycleRun}
 use Rattle.machine.specs.Feeds.{Feeds, LinesFrom, begun, due_in}
@@ -13,7 +13,7 @@ use Rattle.machine.specs.Machine.{MachineState, machine_at_start}
 use Rattle.machine.specs.Runs.{has_more, moved_on}
 use Rattle.net.specs.Printing.{printing_of}
 use Rattle.net.specs.declared.cycle.Cycle.TheVariants.{RunIn}
-use Rattle.net.specs.declared.cycle.Level.{Level}
+use Rattle.net.specs.declared.cycle.ProgramLevel.{ProgramLevel}
 use Rattle.line_places.proofs.DueCycles.{due, is_between}
 use Rattle.line_places.proofs.Placements.{starts}
 use Rattle.line_places.specs.Placing.{IsCarriageOf, IsFormOf, printing_of_chart}
@@ -75,11 +75,11 @@ first_fed chart wiring Waits card new lines printing form runs feed =
 -- a machine whose cycles go so goes by cards
 pub goes_by_cards :
     (chart : Chart) (wiring : Wiring) {Reads : List ℕ → Type 0} {Waits : Stand → List ℕ → MachineState → Type 0}
-    {Behind : Stand → List ℕ → Option (List ℕ) → ℕ → MachineState → Type 0}
-    {Tested Turned : Stand → List ℕ → Option (List ℕ) → Level → MachineState → Type 0}
-    → IsLawful chart → MachineGoes chart wiring Reads Waits Behind Tested Turned
+    {After : Stand → List ℕ → Option (List ℕ) → ℕ → MachineState → Type 0}
+    {Tested Turned : Stand → List ℕ → Option (List ℕ) → ProgramLevel → MachineState → Type 0}
+    → IsLawful chart → MachineGoes chart wiring Reads Waits After Tested Turned
     → GoesByCards (runner chart wiring Reads Waits)
-goes_by_cards chart wiring {Reads} {Waits} {Behind} {Tested} {Turned} lawful goes = record {
+goes_by_cards chart wiring {Reads} {Waits} {After} {Tested} {Turned} lawful goes = record {
   ends = λ new lines feed. ends wiring new lines feed;
   starts = λ card new lines reads feed.
       first_fed chart wiring (Waits at_first card) card new lines goes.printing goes.form (λ mid ran. goes.starts card mid reads ran) feed;
@@ -92,13 +92,13 @@ goes_by_cards chart wiring {Reads} {Waits} {Behind} {Tested} {Turned} lawful goe
         → IsDue chart Reads stand card next → stand.left.page + 5 < 2 ^ 32
         → IsWaiting chart (Waits stand card) stand.left card old → Feeds wiring old next new lines
         → (lines ≡ placed chart.lines stand.left (card_bodies chart.lines stand card next))
-        × FollowsNext (λ s c m. IsWaiting chart (Waits s c) s.left c m) (stand_behind chart.lines stand card next) next new
+        × FollowsNext (λ s c m. IsWaiting chart (Waits s c) s.left c m) (stand_after chart.lines stand card next) next new
     one_card stand card None old new lines due page is feed =
-        let done = card_fed chart wiring stand card None (Waits stand card) (Behind stand card None) (Tested stand card None)
+        let done = card_fed chart wiring stand card None (Waits stand card) (After stand card None) (Tested stand card None)
         (Turned stand card None) old new lines lawful (goes.cards stand card None due) (goes.levels stand card None due) is page feed in
         (done.is_lines, tt)
     one_card stand card (Some next) old new lines due page is feed =
-        let done = card_fed chart wiring stand card (Some next) (Waits stand card) (Behind stand card (Some next))
+        let done = card_fed chart wiring stand card (Some next) (Waits stand card) (After stand card (Some next))
         (Tested stand card (Some next)) (Turned stand card (Some next)) old new lines lawful (goes.cards stand card (Some next) due)
         (goes.levels stand card (Some next) due) is page feed in (
           done.is_lines,

@@ -16,7 +16,7 @@ pub record GoesFrom (wiring : Wiring) (fed : Fed) (new : MachineState) (lines : 
   pub cycles : List Cycle
   pub runs : FeedRuns wiring cycles fed new lines
 
--- A cycle of a feed ran, and the feed goes on behind it.
+-- A cycle of a feed ran, and the feed goes on after it.
 pub record Stepped (wiring : Wiring) (cycle : Cycle) (fed : Fed) (new : MachineState) (lines : List PlacedLine) : Type 0 where
   pub mid : MachineState
   pub others : List PlacedLine

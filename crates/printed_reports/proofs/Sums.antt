@@ -13,7 +13,7 @@ use Rattle.report.specs.Totals.{total_of}
 use Rattle.totals.proofs.Cards.{equal_sums, card_goes}
 use Rattle.totals.proofs.GroupEnds.{total_shows, empty_ends}
 use Rattle.totals.proofs.Passing.{empty_passes}
-use Rattle.totals.specs.Amounts.{Amount, IsLawful, IsOnCard, state_after}
+use Rattle.totals.specs.Amounts.{Amount, HasGroups, IsOnCard, state_after}
 use Rattle.totals.specs.Amounts.Kind.{Entry, Prog}
 use Rattle.totals.specs.Laws.{IsGroupEnd, ready}
 use Rattle.totals.specs.Standing.{StandsAll}
@@ -26,10 +26,10 @@ total-more : (field : Field) (cards : List (List ℕ)) (card : List ℕ)
 total-more field [] card = omega (arith, ints)
 total-more field (first ∷ cards) card = let more = total-more field cards card in omega (arith, ints, more)
 
--- Behind a card no group has ended yet, and the card is added to each level's sum.
+-- After a card no group has ended yet, and the card is added to each level's sum.
 pub card_sums :
     (amount : Amount) (field : Field) (card : List ℕ) (so_far : ℕ → List (List ℕ)) (state : ℕ → Held)
-    → IsLawful amount → IsOnCard amount (is_negated field.kind card) (number_in (digits_on field card))
+    → HasGroups amount → IsOnCard amount (is_negated field.kind card) (number_in (digits_on field card))
     → StandsAll amount (sums_of field so_far) state
     → StandsAll amount (sums_of field (cleared 0 (taking card so_far)))
     (state_after amount (Entry (is_negated field.kind card) (number_in (digits_on field card))) state)
@@ -85,16 +85,16 @@ cleared-more field groups k level = by (nat_le level (suc k)) (nat_le level k) r
     by false true is was = absurd (grind (arith, nat_tests, is, was))
     by false false is was = refl
 
--- Behind the three cycles of a level with a total the totals stand for the sums that are left.
+-- After the three cycles of a level with a total the totals stand for the sums that are left.
 pub shown_sums :
     (amount : Amount) (field : Field) (groups : ℕ → List (List ℕ)) (k : ℕ) (state : ℕ → Held)
-    → IsLawful amount → amount.has (suc k) ≡ true → IsGroupEnd amount (suc k) (sums_of field (cleared k groups))
+    → HasGroups amount → amount.has (suc k) ≡ true → IsGroupEnd amount (suc k) (sums_of field (cleared k groups))
     → StandsAll amount (sums_of field (cleared k groups)) state
     → StandsAll amount (sums_of field (cleared (suc k) groups)) (state_after amount (Prog (suc k) Third) (ready amount (suc k) state))
 shown_sums amount field groups k state lawful has end stands =
     let shown = total_shows amount (suc k) (sums_of field (cleared k groups)) state lawful has end stands in
     equal_sums amount (sums.cleared (suc k) (sums_of field (cleared k groups))) (sums_of field (cleared (suc k) groups))
-    (state_after amount (Prog (suc k) Third) (ready amount (suc k) state)) (λ level from. cleared-more field groups k level) shown.behind
+    (state_after amount (Prog (suc k) Third) (ready amount (suc k) state)) (λ level from. cleared-more field groups k level) shown.after
 
 -- The same where the level has no total: nothing changes.
 passed_sums :
@@ -117,10 +117,10 @@ passed_sums amount field groups k state has stands =
         let within : nat_le level k ≡ true = grind (arith, nat_tests, below) in
         ap (λ (b : Bool). total_of field (if b then [] else groups level)) within
 
--- Behind the three cycles of a level the totals stand for the sums that are left.
+-- After the three cycles of a level the totals stand for the sums that are left.
 pub level_sums :
     (amount : Amount) (field : Field) (groups : ℕ → List (List ℕ)) (k : ℕ) (state : ℕ → Held)
-    → IsLawful amount → (amount.has (suc k) ≡ true → IsGroupEnd amount (suc k) (sums_of field (cleared k groups)))
+    → HasGroups amount → (amount.has (suc k) ≡ true → IsGroupEnd amount (suc k) (sums_of field (cleared k groups)))
     → StandsAll amount (sums_of field (cleared k groups)) state
     → StandsAll amount (sums_of field (cleared (suc k) groups)) (state_after amount (Prog (suc k) Third) (ready amount (suc k) state))
 level_sums amount field groups k state lawful end stands = by (amount.has (suc k)) refl

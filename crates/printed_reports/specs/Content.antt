@@ -14,7 +14,7 @@ use Rattle.machine.specs.Machine.{MachineState}
 use Rattle.net.specs.Cycles.{level_number}
 use Rattle.net.specs.declared.cycle.Cycle.{Cycle}
 use Rattle.net.specs.declared.cycle.Cycle.TheVariants.{RunIn, Card, Prog, Head}
-use Rattle.net.specs.declared.cycle.Level.{Level}
+use Rattle.net.specs.declared.cycle.ProgramLevel.{ProgramLevel}
 use Rattle.net.specs.declared.cycle.Ordinal.TheVariants.{First}
 use Rattle.report.specs.Amounts.{digits_on, is_negated, number_in}
 use Rattle.totals.specs.Amounts.{Kind, state_after}
@@ -23,7 +23,7 @@ use Rattle.totals.specs.Laws.{ready}
 use Rattle.totals.specs.Standing.{StandsAll}
 use Rattle.whole_cycles.specs.Between.{IsReady}
 use Rattle.wiring_table.specs.Figures.{IsAmount}
-use Rattle.report.specs.Breaks.{cleared, ended_behind, taking}
+use Rattle.report.specs.Breaks.{cleared, ended_after, taking}
 use Rattle.report.specs.Totals.{total_of}
 
 -- the latches, the pilots and the units of a machine between cycles
@@ -57,8 +57,8 @@ pub record Waits (chart : Chart) (plan : Lists) (wiring : Wiring) (stand : Stand
   pub holds : Holds chart plan wiring stand.opens (Some card) machine
   pub totals : AllStand chart plan stand.so_far (held chart plan machine)
 
--- So many levels have run behind the card.
-pub record Behind (chart : Chart) (plan : Lists) (wiring : Wiring) (stand : Stand) (card : List ℕ) (next : Option (List ℕ)) (k : ℕ)
+-- So many levels have run after the card.
+pub record After (chart : Chart) (plan : Lists) (wiring : Wiring) (stand : Stand) (card : List ℕ) (next : Option (List ℕ)) (k : ℕ)
     (machine : MachineState) : Type 0 where
   pub holds : Holds chart plan wiring k next machine
   pub totals : AllStand chart plan (cleared k (taking card stand.so_far)) (held chart plan machine)
@@ -66,10 +66,10 @@ pub record Behind (chart : Chart) (plan : Lists) (wiring : Wiring) (stand : Stan
 
 -- Some cycles of a level have run: the totals have come from what stood for the sums before it.
 pub record Within (chart : Chart) (plan : Lists) (wiring : Wiring) (stand : Stand) (card : List ℕ) (next : Option (List ℕ))
-    (came : List ℕ → (ℕ → Held) → ℕ → Held) (level : Level) (machine : MachineState) : Type 0 where
+    (came : List ℕ → (ℕ → Held) → ℕ → Held) (level : ProgramLevel) (machine : MachineState) : Type 0 where
   pub k : ℕ
   pub is_level : level_number level ≡ suc k
-  pub within : suc k ≤ ended_behind chart.lines card next
+  pub within : suc k ≤ ended_after chart.lines card next
   pub holds : Holds chart plan wiring k next machine
   pub stored : Stores chart plan card machine
   pub before : List ℕ → ℕ → Held
@@ -77,10 +77,10 @@ pub record Within (chart : Chart) (plan : Lists) (wiring : Wiring) (stand : Stan
   pub is : (name : List ℕ) (field : Field) → IsAmount chart.lines name field → held chart plan machine name ≡ came name (before name)
 
 -- what the first cycle of a level makes of the totals of an amount, and what the first two make
-abbrev pub by_first : Chart → Lists → Level → List ℕ → (ℕ → Held) → ℕ → Held
+abbrev pub by_first : Chart → Lists → ProgramLevel → List ℕ → (ℕ → Held) → ℕ → Held
 by_first chart plan level name state = state_after (amount_of chart.lines plan name) (Ends (level_number level) First) state
 
-abbrev pub by_second : Chart → Lists → Level → List ℕ → (ℕ → Held) → ℕ → Held
+abbrev pub by_second : Chart → Lists → ProgramLevel → List ℕ → (ℕ → Held) → ℕ → Held
 by_second chart plan level name state = ready (amount_of chart.lines plan name) (level_number level) state
 
 -- a cycle as the totals of an amount tell it

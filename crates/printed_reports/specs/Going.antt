@@ -5,7 +5,7 @@ use Rattle.charts.specs.Chart.{Chart, NumbersRise}
 use Rattle.charts.specs.Literals.{HaveLiteralTexts}
 use Rattle.setups.specs.Wiring.{Wiring}
 use Rattle.wired_panels.specs.Panel.{IsPanel}
-use Rattle.printed_reports.specs.Content.{Behind, Waits, Within, by_first, by_second}
+use Rattle.printed_reports.specs.Content.{After, Waits, Within, by_first, by_second}
 use Rattle.printed_reports.specs.Goes.{MachineGoes}
 
 -- Every machine that is wired for a chart does with each card, cycle by cycle, what the chart wants: between its cycles its totals stand for
@@ -15,6 +15,6 @@ abbrev pub MachinesGoAsChartsWant : Type 0
 MachinesGoAsChartsWant =
     (chart : Chart) (plan : Lists) (wiring : Wiring)
     → IsPanel chart plan wiring → NumbersRise chart.lines chart.end → HaveLiteralTexts chart.lines
-    → MachineGoes chart wiring (IsValidCard chart) (Waits chart plan wiring) (Behind chart plan wiring)
+    → MachineGoes chart wiring (IsValidCard chart) (Waits chart plan wiring) (After chart plan wiring)
     (λ stand card next level machine. Within chart plan wiring stand card next (by_first chart plan level) level machine)
     (λ stand card next level machine. Within chart plan wiring stand card next (by_second chart plan level) level machine)

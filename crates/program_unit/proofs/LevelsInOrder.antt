@@ -3,11 +3,11 @@ use Rattle.std.proofs.Common.{◌≡◌, Bool, true, false, ◌&&◌, List, [], 
 use Rattle.net.specs.Printing.{prints}
 use Rattle.net.specs.declared.cycle.Cycle.{Cycle}
 use Rattle.net.specs.declared.cycle.Cycle.TheVariants.{Card, Prog, Head}
-use Rattle.net.specs.declared.cycle.Level.{Level}
-use Rattle.net.specs.declared.cycle.Level.TheVariants.{Minor, Intermediate, Major, Final}
+use Rattle.net.specs.declared.cycle.ProgramLevel.{ProgramLevel}
+use Rattle.net.specs.declared.cycle.ProgramLevel.TheVariants.{Minor, Intermediate, Major, Final}
 use Rattle.net.specs.declared.cycle.Ordinal.TheVariants.{First, Third}
 use Rattle.net.specs.declared.printing.Printing.{Printing}
-use Rattle.program_unit.specs.CycleOrder.{cycle_behind, headed, levels_to}
+use Rattle.program_unit.specs.CycleOrder.{cycle_after, headed, levels_to}
 use Rattle.program_unit.specs.Laws.{AreNext, LevelsRunInOrder, levels, program_cycles}
 use Rattle.program_unit.specs.Program.{called_for}
 use Rattle.program_unit.specs.declared.stage.Stage.{Stage}
@@ -21,20 +21,20 @@ reset printing cycle = by (prints printing cycle)
     by true = refl
     by false = refl
 
-module _ (printing : Printing) (highest : Option Level) (more : Bool) (last : Option Cycle) where
+module _ (printing : Printing) (highest : Option ProgramLevel) (more : Bool) (last : Option Cycle) where
   -- what follows where these levels are left
-  abbrev Follow : Stage → List Level → Type 0
+  abbrev Follow : Stage → List ProgramLevel → Type 0
   Follow stage left =
       AreNext (record { printing = printing; stage = stage; highest = highest }) more (flat_map program_cycles left) last
 
   -- the three cycles of a level, and then what follows them
-  three : (stage : Stage) (level : Level) (left : List Level)
-      → cycle_behind (record { printing = printing; stage = stage; highest = highest }) stage false more ≡ Some (Prog level First)
+  three : (stage : Stage) (level : ProgramLevel) (left : List ProgramLevel)
+      → cycle_after (record { printing = printing; stage = stage; highest = highest }) stage false more ≡ Some (Prog level First)
       → Follow (RanProg level Third) left → Follow stage (level ∷ left)
   three stage level left first after = (first, (refl, (reset printing (Prog level Third), after)))
 
--- behind a card cycle, by the highest level that runs with the card
-levels-next : (printing : Printing) (more : Bool) (highest : Option Level)
+-- after a card cycle, by the highest level that runs with the card
+levels-next : (printing : Printing) (more : Bool) (highest : Option ProgramLevel)
     → Follow printing highest more (if more then Some Card else None) RanCard
     (take (levels_to (if more then highest else Some Final)) levels)
 levels-next printing true None = reset printing Card

@@ -1,5 +1,5 @@
 -- The order of cycles. The run-in comes first, and then for each card its card cycle with three program cycles for each
--- level that ends with it, from the lowest on: up to the highest level called for at the card cycle, or all four behind the
+-- level that ends with it, from the lowest on: up to the highest level called for at the card cycle, or all four after the
 -- last card. A printing card or program cycle that is due while the restore latch is set is preceded by the three heading
 -- cycles, once.
 use Rattle.std.specs.Prelude.{ℕ, ◌&&◌, not, nat_lt, Bool, true, false, Option, Some, None, if◌then◌else◌}
@@ -7,8 +7,8 @@ use Rattle.net.specs.Cycles.{level_number}
 use Rattle.net.specs.Printing.{prints}
 use Rattle.net.specs.declared.cycle.Cycle.{Cycle}
 use Rattle.net.specs.declared.cycle.Cycle.TheVariants.{RunIn, Card, Prog, Head}
-use Rattle.net.specs.declared.cycle.Level.{Level}
-use Rattle.net.specs.declared.cycle.Level.TheVariants.{Minor, Intermediate, Major, Final}
+use Rattle.net.specs.declared.cycle.ProgramLevel.{ProgramLevel}
+use Rattle.net.specs.declared.cycle.ProgramLevel.TheVariants.{Minor, Intermediate, Major, Final}
 use Rattle.net.specs.declared.cycle.Ordinal.{Ordinal}
 use Rattle.net.specs.declared.cycle.Ordinal.TheVariants.{First, Second, Third}
 use Rattle.net.specs.declared.printing.Printing.{Printing}
@@ -22,24 +22,24 @@ is_fresh Fresh = true
 is_fresh stage = false
 
 -- how many levels run up to this one; none runs without a level
-abbrev pub levels_to : Option Level → ℕ
+abbrev pub levels_to : Option ProgramLevel → ℕ
 levels_to None = 0
 levels_to (Some level) = level_number level
 
--- the level that runs behind another, the lowest behind none; no level runs behind the final one
-abbrev pub level_above : Option Level → Level
+-- the level that runs after another, the lowest after none; no level runs after the final one
+abbrev pub level_above : Option ProgramLevel → ProgramLevel
 level_above None = Minor
 level_above (Some Minor) = Intermediate
 level_above (Some Intermediate) = Major
 level_above (Some Major) = Final
 level_above (Some Final) = Final
 
--- the highest level that runs with a card: the highest called for, and behind the last card the final one
-abbrev pub top_level : ProgramState → Bool → Option Level
+-- the highest level that runs with a card: the highest called for, and after the last card the final one
+abbrev pub top_level : ProgramState → Bool → Option ProgramLevel
 top_level program more = if more then program.highest else Some Final
 
 -- whether a level is still to run where these have run
-abbrev pub has_level_left : ProgramState → Option Level → Bool → Bool
+abbrev pub has_level_left : ProgramState → Option ProgramLevel → Bool → Bool
 has_level_left program done more = nat_lt (levels_to done) (levels_to (top_level program more))
 
 -- a cycle is due: it runs, or the first heading cycle in its place, where it prints and the restore latch is set
@@ -47,36 +47,36 @@ abbrev pub headed : Printing → Bool → Cycle → Cycle
 headed printing restore cycle = if prints printing cycle && restore then Head First else cycle
 
 -- what follows a card's cycles where these levels have run: the next level, or the next card
-abbrev pub behind : ProgramState → Option Level → Bool → Bool → Option Cycle
-behind program done restore more =
+abbrev pub after : ProgramState → Option ProgramLevel → Bool → Bool → Option Cycle
+after program done restore more =
     if has_level_left program done more
     then Some (Prog (level_above done) First)
     else if more then Some (headed program.printing restore Card) else None
 
 -- what follows a program cycle of a level
-abbrev pub behind_prog : ProgramState → Level → Ordinal → Bool → Bool → Option Cycle
-behind_prog program level First restore more = Some (Prog level Second)
-behind_prog program level Second restore more = Some (headed program.printing restore (Prog level Third))
-behind_prog program level Third restore more = behind program (Some level) restore more
+abbrev pub after_prog : ProgramState → ProgramLevel → Ordinal → Bool → Bool → Option Cycle
+after_prog program level First restore more = Some (Prog level Second)
+after_prog program level Second restore more = Some (headed program.printing restore (Prog level Third))
+after_prog program level Third restore more = after program (Some level) restore more
 
--- what follows a heading cycle: the next one, and behind the third the cycle that waits
-abbrev pub behind_heading : Ordinal → Cycle → Cycle
-behind_heading First waiting = Head Second
-behind_heading Second waiting = Head Third
-behind_heading Third waiting = waiting
+-- what follows a heading cycle: the next one, and after the third the cycle that waits
+abbrev pub after_heading : Ordinal → Cycle → Cycle
+after_heading First waiting = Head Second
+after_heading Second waiting = Head Third
+after_heading Third waiting = waiting
 
 -- which cycle follows a stage, if any: restore is the restore latch, and more says that a card stands at first reading
-abbrev pub cycle_behind : ProgramState → Stage → Bool → Bool → Option Cycle
-cycle_behind program Fresh restore more = if more then Some RunIn else None
-cycle_behind program RanIn restore more = Some (headed program.printing restore Card)
-cycle_behind program RanCard restore more = behind program None restore more
-cycle_behind program (RanProg level ordinal) restore more = behind_prog program level ordinal restore more
-cycle_behind program (BeforeCard heading) restore more = Some (behind_heading heading Card)
-cycle_behind program (BeforeTotal level heading) restore more = Some (behind_heading heading (Prog level Third))
+abbrev pub cycle_after : ProgramState → Stage → Bool → Bool → Option Cycle
+cycle_after program Fresh restore more = if more then Some RunIn else None
+cycle_after program RanIn restore more = Some (headed program.printing restore Card)
+cycle_after program RanCard restore more = after program None restore more
+cycle_after program (RanProg level ordinal) restore more = after_prog program level ordinal restore more
+cycle_after program (BeforeCard heading) restore more = Some (after_heading heading Card)
+cycle_after program (BeforeTotal level heading) restore more = Some (after_heading heading (Prog level Third))
 
 -- which cycle follows, if any
 abbrev pub next_cycle : ProgramState → Bool → Bool → Option Cycle
-next_cycle program restore more = cycle_behind program program.stage restore more
+next_cycle program restore more = cycle_after program program.stage restore more
 
 -- whether the cycles of a card are over at a stage: none is left, or none before the next card cycle and its heading cycles
 abbrev pub is_over_at : ProgramState → Stage → Bool → Bool

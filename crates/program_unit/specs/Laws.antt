@@ -3,14 +3,14 @@ use Rattle.std.specs.Prelude.{◌≡◌, Bool, false, List, [], ◌∷◌, Optio
 use Rattle.hubs.specs.declared.hub.Hub.{Hub}
 use Rattle.net.specs.declared.cycle.Cycle.{Cycle}
 use Rattle.net.specs.declared.cycle.Cycle.TheVariants.{Card, Prog, Head}
-use Rattle.net.specs.declared.cycle.Level.{Level}
-use Rattle.net.specs.declared.cycle.Level.TheVariants.{Minor, Intermediate, Major, Final}
+use Rattle.net.specs.declared.cycle.ProgramLevel.{ProgramLevel}
+use Rattle.net.specs.declared.cycle.ProgramLevel.TheVariants.{Minor, Intermediate, Major, Final}
 use Rattle.net.specs.declared.cycle.Ordinal.TheVariants.{First, Second, Third}
 use Rattle.net.specs.declared.cycle.Point.TheVariants.{K}
 use Rattle.program_unit.specs.CycleOrder.{levels_to, next_cycle}
 use Rattle.program_unit.specs.Program.{ProgramState, called_for, program_ended, program_sensed}
 
--- the program unit behind the first heading cycle, the second and the third
+-- the program unit after the first heading cycle, the second and the third
 abbrev pub first_headed : ProgramState → ProgramState
 first_headed program = program_ended program (Head First)
 
@@ -30,30 +30,30 @@ HeadingsComeOnce =
     × (next_cycle (second_headed program) by_then more ≡ Some (Head Third))
     × (next_cycle (third_headed program) by_then more ≡ next_cycle program false more)
 
--- These cycles follow one after the other where the restore latch stays reset, and behind them this one, or none.
+-- These cycles follow one after the other where the restore latch stays reset, and after them this one, or none.
 abbrev pub AreNext : ProgramState → Bool → List Cycle → Option Cycle → Type 0
 AreNext program more [] last = next_cycle program false more ≡ last
 AreNext program more (cycle ∷ cycles) last =
     (next_cycle program false more ≡ Some cycle) × AreNext (program_ended program cycle) more cycles last
 
--- the program unit behind a card cycle at whose closing point it sensed this picture
+-- the program unit after a card cycle at whose closing point it sensed this picture
 abbrev pub after_card : ProgramState → (Hub → Bool) → ProgramState
 after_card program picture = program_ended (program_sensed program Card K picture) Card
 
 -- the levels, from the lowest on
-abbrev pub levels : List Level
+abbrev pub levels : List ProgramLevel
 levels = Minor ∷ Intermediate ∷ Major ∷ Final ∷ []
 
 -- the levels that run with a card: those up to the highest that is called for, and all four with the last card
-abbrev pub levels_with : (Hub → Bool) → Bool → List Level
+abbrev pub levels_with : (Hub → Bool) → Bool → List ProgramLevel
 levels_with picture more = take (levels_to (if more then called_for picture else Some Final)) levels
 
 -- the three program cycles of a level
-abbrev pub program_cycles : Level → List Cycle
+abbrev pub program_cycles : ProgramLevel → List Cycle
 program_cycles level = Prog level First ∷ Prog level Second ∷ Prog level Third ∷ []
 
--- Behind a card cycle the three program cycles of each level that runs with the card follow, level by level from the lowest on, and then
--- the next card's cycle, or none behind the last card.
+-- After a card cycle the three program cycles of each level that runs with the card follow, level by level from the lowest on, and then
+-- the next card's cycle, or none after the last card.
 abbrev pub LevelsRunInOrder : Type 0
 LevelsRunInOrder =
     (program : ProgramState) (picture : Hub → Bool) (more : Bool)

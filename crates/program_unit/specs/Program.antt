@@ -10,8 +10,8 @@ use Rattle.net.specs.HubSets.{is_hub}
 use Rattle.net.specs.Printing.{printing_of}
 use Rattle.net.specs.declared.cycle.Cycle.{Cycle}
 use Rattle.net.specs.declared.cycle.Cycle.TheVariants.{RunIn, Card, Prog, Head}
-use Rattle.net.specs.declared.cycle.Level.{Level}
-use Rattle.net.specs.declared.cycle.Level.TheVariants.{Minor, Intermediate, Major}
+use Rattle.net.specs.declared.cycle.ProgramLevel.{ProgramLevel}
+use Rattle.net.specs.declared.cycle.ProgramLevel.TheVariants.{Minor, Intermediate, Major}
 use Rattle.net.specs.declared.cycle.Ordinal.{Ordinal}
 use Rattle.net.specs.declared.cycle.Ordinal.TheVariants.{Second}
 use Rattle.net.specs.declared.cycle.Point.{Point}
@@ -25,7 +25,7 @@ use Rattle.program_unit.specs.declared.stage.Stage.TheVariants.{Fresh, RanIn, Ra
 pub record ProgramState : Type 0 where
   pub printing : Printing
   pub stage : Stage
-  pub highest : Option Level
+  pub highest : Option ProgramLevel
 
 -- its number among the units
 abbrev pub program_number : ProgramState → ℕ
@@ -49,7 +49,7 @@ program_emits program cycle (Row row) hub = false
 program_emits program cycle K hub = false
 
 -- the highest level that is called for
-abbrev pub called_for : (Hub → Bool) → Option Level
+abbrev pub called_for : (Hub → Bool) → Option ProgramLevel
 called_for picture =
     if picture (ST 3)
     then Some Major
@@ -60,7 +60,7 @@ abbrev pub program_sensed : ProgramState → Cycle → Point → (Hub → Bool) 
 program_sensed program Card K picture = record program { highest = called_for picture }
 program_sensed program cycle point picture = program
 
--- the stage at the end of a heading cycle: what waits is the third program cycle behind the second, else a card cycle
+-- the stage at the end of a heading cycle: what waits is the third program cycle after the second, else a card cycle
 abbrev pub waiting : Stage → Ordinal → Stage
 waiting (RanProg level Second) heading = BeforeTotal level heading
 waiting (BeforeTotal level before) heading = BeforeTotal level heading

@@ -9,7 +9,7 @@ pub fn headings_come_once()
 {}
 
 /// Where the restore latch is reset, a card cycle is followed by the three program cycles of each level up to the highest
-/// that is called for, of all four levels behind the last card, from the lowest on, and then by the next card's cycle, if
+/// that is called for, of all four levels after the last card, from the lowest on, and then by the next card's cycle, if
 /// there is one.
 pub fn levels_run_in_order()
     ensures { LevelsRunInOrder }

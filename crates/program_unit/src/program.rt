@@ -1,13 +1,13 @@
 //! The program unit.
 
 ghost use Rattle.std.specs.Prelude.{◌≡◌};
-ghost use Rattle.program_unit.specs.CycleOrder.{behind_heading, level_above, levels_to};
+ghost use Rattle.program_unit.specs.CycleOrder.{after_heading, level_above, levels_to};
 ghost use Rattle.program_unit.specs.Program.{called_for, waiting, stage_ended, tells};
 ghost use Rattle.net.specs.HubSets.{GainsHubs, has_hub};
 
 use crate::stage::Stage;
 use hubs::Hub;
-use net::{Cycle, Level, Ordinal, Picture, Point, Printing, Unit};
+use net::{Cycle, Ordinal, Picture, Point, Printing, ProgramLevel, Unit};
 use setups::Setup;
 use std::marker::Model;
 
@@ -18,7 +18,7 @@ use std::marker::Model;
 pub struct Program {
     printing: Printing,
     stage: Stage,
-    highest: Option<Level>,
+    highest: Option<ProgramLevel>,
 }
 
 impl Model for Program {
@@ -41,7 +41,7 @@ impl Model for Program {
 
 impl Program {
     ghost use Rattle.std.specs.Prelude.{◌≡◌, Option};
-    ghost use Rattle.net.specs.declared.cycle.Level.{Level};
+    ghost use Rattle.net.specs.declared.cycle.ProgramLevel.{ProgramLevel};
     ghost use Rattle.program_unit.specs.Program.{program_at_start};
     ghost use Rattle.program_unit.specs.CycleOrder.{
       is_fresh,
@@ -49,8 +49,8 @@ impl Program {
       card_over,
       has_level_left,
       headed,
-      behind,
-      behind_prog,
+      after,
+      after_prog,
     };
 
     /// The program unit of a setup, before any cycle.
@@ -79,10 +79,10 @@ impl Program {
         match self.stage {
             Stage::Fresh => more.then_some(Cycle::RunIn),
             Stage::RanIn => Some(self.headed(restore, Cycle::Card)),
-            Stage::RanCard => self.behind(None, restore, more),
-            Stage::RanProg(level, ordinal) => self.behind_prog(level, ordinal, restore, more),
-            Stage::BeforeCard(heading) => Some(behind_heading(heading, Cycle::Card)),
-            Stage::BeforeTotal(level, heading) => Some(behind_heading(
+            Stage::RanCard => self.after(None, restore, more),
+            Stage::RanProg(level, ordinal) => self.after_prog(level, ordinal, restore, more),
+            Stage::BeforeCard(heading) => Some(after_heading(heading, Cycle::Card)),
+            Stage::BeforeTotal(level, heading) => Some(after_heading(
                 heading,
                 Cycle::Prog(level, Ordinal::Third),
             )),
@@ -104,13 +104,13 @@ impl Program {
     }
 
     // Whether a level is still to run with a card where these have run.
-    fn has_level_left(&self, done: Option<Level>, more: bool) -> bool
+    fn has_level_left(&self, done: Option<ProgramLevel>, more: bool) -> bool
         ensures { result ≡ has_level_left self.now done more }
     {
         let top = if more {
             self.highest
         } else {
-            Some(Level::Final)
+            Some(ProgramLevel::Final)
         };
         levels_to(done) < levels_to(top)
     }
@@ -127,8 +127,8 @@ impl Program {
     }
 
     // What follows a card's cycles where these levels have run.
-    fn behind(&self, done: Option<Level>, restore: bool, more: bool) -> Option<Cycle>
-        ensures { result ≡ behind self.now done restore more }
+    fn after(&self, done: Option<ProgramLevel>, restore: bool, more: bool) -> Option<Cycle>
+        ensures { result ≡ after self.now done restore more }
     {
         if self.has_level_left(done, more) {
             Some(Cycle::Prog(level_above(done), Ordinal::First))
@@ -140,19 +140,19 @@ impl Program {
     }
 
     // What follows a program cycle of a level.
-    fn behind_prog(
+    fn after_prog(
         &self,
-        level: Level,
+        level: ProgramLevel,
         ordinal: Ordinal,
         restore: bool,
         more: bool,
     ) -> Option<Cycle>
-        ensures { result ≡ behind_prog self.now level ordinal restore more }
+        ensures { result ≡ after_prog self.now level ordinal restore more }
     {
         match ordinal {
             Ordinal::First => Some(Cycle::Prog(level, Ordinal::Second)),
             Ordinal::Second => Some(self.headed(restore, Cycle::Prog(level, Ordinal::Third))),
-            Ordinal::Third => self.behind(Some(level), restore, more),
+            Ordinal::Third => self.after(Some(level), restore, more),
         }
     }
 }
@@ -206,22 +206,22 @@ fn tell(cycle: Cycle, exits: &mut Picture)
 }
 
 // The highest level that is called for.
-fn called_for(picture: &Picture) -> Option<Level>
+fn called_for(picture: &Picture) -> Option<ProgramLevel>
     ensures { result ≡ called_for (has_hub picture.now) }
 {
     if picture.has(Hub::ST(3)) {
-        Some(Level::Major)
+        Some(ProgramLevel::Major)
     } else if picture.has(Hub::ST(2)) {
-        Some(Level::Intermediate)
+        Some(ProgramLevel::Intermediate)
     } else if picture.has(Hub::ST(1)) {
-        Some(Level::Minor)
+        Some(ProgramLevel::Minor)
     } else {
         None
     }
 }
 
 // How many levels run up to this one.
-fn levels_to(level: Option<Level>) -> u8
+fn levels_to(level: Option<ProgramLevel>) -> u8
     ensures { result ≡ levels_to level }
 {
     match level {
@@ -230,21 +230,21 @@ fn levels_to(level: Option<Level>) -> u8
     }
 }
 
-// The level that runs behind another, the lowest behind none.
-fn level_above(level: Option<Level>) -> Level
+// The level that runs after another, the lowest after none.
+fn level_above(level: Option<ProgramLevel>) -> ProgramLevel
     ensures { result ≡ level_above level }
 {
     match level {
-        None => Level::Minor,
-        Some(Level::Minor) => Level::Intermediate,
-        Some(Level::Intermediate) => Level::Major,
-        Some(Level::Major | Level::Final) => Level::Final,
+        None => ProgramLevel::Minor,
+        Some(ProgramLevel::Minor) => ProgramLevel::Intermediate,
+        Some(ProgramLevel::Intermediate) => ProgramLevel::Major,
+        Some(ProgramLevel::Major | ProgramLevel::Final) => ProgramLevel::Final,
     }
 }
 
 // What follows a heading cycle.
-fn behind_heading(heading: Ordinal, waiting: Cycle) -> Cycle
-    ensures { result ≡ behind_heading heading waiting }
+fn after_heading(heading: Ordinal, waiting: Cycle) -> Cycle
+    ensures { result ≡ after_heading heading waiting }
 {
     match heading {
         Ordinal::First => Cycle::Head(Ordinal::Second),

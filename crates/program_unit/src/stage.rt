@@ -1,8 +1,8 @@
 //! How far a card has come through its cycles.
 
-use net::{Level, Ordinal};
+use net::{Ordinal, ProgramLevel};
 
-/// How far a card has come through its cycles: what ran last, and behind a heading cycle also what waits for it.
+/// How far a card has come through its cycles: what ran last, and after a heading cycle also what waits for it.
 #[derive(Clone, Copy, Debug, PartialEq, Eq)]
 pub enum Stage {
     /// No cycle has run.
@@ -12,9 +12,9 @@ pub enum Stage {
     /// The card cycle has run.
     RanCard,
     /// A program cycle of a level has run.
-    RanProg(Level, Ordinal),
+    RanProg(ProgramLevel, Ordinal),
     /// A heading cycle has run, and the card cycle waits for the third.
     BeforeCard(Ordinal),
     /// A heading cycle has run, and the third program cycle of a level waits for the third.
-    BeforeTotal(Level, Ordinal),
+    BeforeTotal(ProgramLevel, Ordinal),
 }

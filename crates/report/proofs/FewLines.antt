@@ -2,7 +2,7 @@
 use Rattle.std.proofs.Common.{◌≡◌, refl, ap, ℕ, zero, suc, ◌*◌, ◌≤◌, Bool, true, false, Option, Some, None, List, [], ◌∷◌, length, if◌then◌else◌, length-append, arith}
 use Rattle.std.specs.List.{flat_map}
 use Rattle.charts.specs.declared.chart.Line.{Line}
-use Rattle.report.specs.Breaks.{ended_behind, no_cards, taking, cleared, totals_to, chunk_of, flat}
+use Rattle.report.specs.Breaks.{ended_after, no_cards, taking, cleared, totals_to, chunk_of, flat}
 use Rattle.report.specs.ChartForm.{prints_details, prints_totals}
 use Rattle.report.specs.Outline.{OutlineLine, Detail, Total, outline_of}
 use Rattle.report.specs.Places.{BodyText}
@@ -32,22 +32,22 @@ totals-length (suc level) groups =
     let more = totals-length level groups in
     let both = length-append (totals_to level groups) (Total (suc level) (groups (suc level)) ∷ []) in omega (arith, more, both)
 
-pub ended-few : (lines : List Line) (card : List ℕ) (next : Option (List ℕ)) → ended_behind lines card next ≤ 4
+pub ended-few : (lines : List Line) (card : List ℕ) (next : Option (List ℕ)) → ended_after lines card next ≤ 4
 ended-few lines card None = omega arith
 ended-few lines card (Some next) = let few = break-within lines 3 card next in omega (arith, few)
 
 -- a card has at most five lines of the outline
 pub chunk-few : (lines : List Line) (opens : ℕ) (so_far : ℕ → List (List ℕ)) (card : List ℕ) (next : Option (List ℕ))
-    → length (chunk_of opens so_far card (ended_behind lines card next)) ≤ 5
+    → length (chunk_of opens so_far card (ended_after lines card next)) ≤ 5
 chunk-few lines opens so_far card next =
     let few = ended-few lines card next in
-    let long = totals-length (ended_behind lines card next) (taking card so_far) in omega (arith, few, long)
+    let long = totals-length (ended_after lines card next) (taking card so_far) in omega (arith, few, long)
 
 outline-few : (lines : List Line) (so_far : ℕ → List (List ℕ)) (opens : ℕ) (card : List ℕ) (cards : List (List ℕ))
     → length (flat lines so_far opens card cards) ≤ 5 * length (card ∷ cards)
 outline-few lines so_far opens card [] = let few = chunk-few lines opens so_far card None in omega (arith, few)
 outline-few lines so_far opens card (next ∷ cards) =
-    let ended = ended_behind lines card (Some next) in
+    let ended = ended_after lines card (Some next) in
     let few = chunk-few lines opens so_far card (Some next) in
     let more = outline-few lines (cleared ended (taking card so_far)) ended next cards in
     let both = length-append (chunk_of opens so_far card ended) (flat lines (cleared ended (taking card so_far)) ended next cards) in

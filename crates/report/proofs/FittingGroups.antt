@@ -1,4 +1,4 @@
--- The groups that end behind some cards fit, by the total lines of an outline, by groups within groups, and by misfits.
+-- The groups that end after some cards fit, by the total lines of an outline, by groups within groups, and by misfits.
 use Rattle.std.proofs.Common.{◌≡◌, ◌∙◌, refl, sym, ap, subst, ℕ, zero, suc, ◌+◌, ◌≤◌, inl, inr, List, [], ◌∷◌, ◌++◌, length, arith}
 use Rattle.std.specs.List.{All}
 use Rattle.std.proofs.lemmas.List.{length-append}
@@ -6,7 +6,7 @@ use Rattle.std.proofs.lemmas.List.Elements.{All-nil, All-cons, All-head, All-tai
 use Rattle.charts.specs.declared.chart.Line.{Line}
 use Rattle.report.specs.Groups.{cards_of, groups_in, groups_within}
 use Rattle.report.specs.Outline.{OutlineLine, Detail, Total, by_parts, details, outline}
-use Rattle.report.specs.Misfits.{Misfit, misfits_behind, misfits_in}
+use Rattle.report.specs.Misfits.{Misfit, misfits_after, misfits_in}
 use Rattle.report.specs.Totals.{GroupFits}
 use Rattle.report.proofs.GroupLaws.{cards_in, either, groups_whole, in_parts, lower, own}
 use Rattle.report.proofs.GroupMisfits.{group_fits, misfits_numbered, no_misfit_in}
@@ -55,50 +55,50 @@ outline-cards lines (suc above) opens group =
         ∙ sym (length-append part (cards_of more))
 
 module _ (lines : List Line) (Counts : ℕ → Type 0) where
-  -- the groups of the total lines of an outline fit that end behind a number of cards that counts
+  -- the groups of the total lines of an outline fit that end after a number of cards that counts
   abbrev pub FitOn : ℕ → List OutlineLine → Type 0
   FitOn cards [] = Unit {0}
   FitOn cards (Detail opens card ∷ others) = FitOn (cards + 1) others
   FitOn cards (Total level group ∷ others) = (Counts cards → GroupFits lines level group) × FitOn cards others
 
-  FitOn-join : (cards behind : ℕ) (one other : List OutlineLine) → behind ≡ cards + details_in one → FitOn cards one → FitOn behind other
+  FitOn-join : (cards after : ℕ) (one other : List OutlineLine) → after ≡ cards + details_in one → FitOn cards one → FitOn after other
       → FitOn cards (one ++ other)
-  FitOn-join cards behind [] other far fit more = subst (λ n. FitOn n other) (omega (arith, far)) more
-  FitOn-join cards behind (Detail opens card ∷ one) other far fit more =
-      FitOn-join (cards + 1) behind one other (omega (arith, far)) fit more
-  FitOn-join cards behind (Total level group ∷ one) other far fit more = (fit.0, FitOn-join cards behind one other far fit.1 more)
+  FitOn-join cards after [] other far fit more = subst (λ n. FitOn n other) (omega (arith, far)) more
+  FitOn-join cards after (Detail opens card ∷ one) other far fit more =
+      FitOn-join (cards + 1) after one other (omega (arith, far)) fit more
+  FitOn-join cards after (Total level group ∷ one) other far fit more = (fit.0, FitOn-join cards after one other far fit.1 more)
 
-  FitOn-parts : (cards behind : ℕ) (one other : List OutlineLine) → behind ≡ cards + details_in one → FitOn cards (one ++ other)
-      → FitOn cards one × FitOn behind other
-  FitOn-parts cards behind [] other far fit = (tt, subst (λ n. FitOn n other) (omega (arith, far)) fit)
-  FitOn-parts cards behind (Detail opens card ∷ one) other far fit =
-      FitOn-parts (cards + 1) behind one other (omega (arith, far)) fit
-  FitOn-parts cards behind (Total level group ∷ one) other far fit =
-      let more = FitOn-parts cards behind one other far fit.1 in ((fit.0, more.0), more.1)
+  FitOn-parts : (cards after : ℕ) (one other : List OutlineLine) → after ≡ cards + details_in one → FitOn cards (one ++ other)
+      → FitOn cards one × FitOn after other
+  FitOn-parts cards after [] other far fit = (tt, subst (λ n. FitOn n other) (omega (arith, far)) fit)
+  FitOn-parts cards after (Detail opens card ∷ one) other far fit =
+      FitOn-parts (cards + 1) after one other (omega (arith, far)) fit
+  FitOn-parts cards after (Total level group ∷ one) other far fit =
+      let more = FitOn-parts cards after one other far fit.1 in ((fit.0, more.0), more.1)
 
   FitOn-details : (cards opens : ℕ) (group : List (List ℕ)) → FitOn cards (details opens group)
   FitOn-details cards opens [] = tt
   FitOn-details cards opens (card ∷ group) = FitOn-details (cards + 1) 0 group
 
-  -- the groups of a level fit that end behind a number of cards that counts
+  -- the groups of a level fit that end after a number of cards that counts
   abbrev pub FitIn : (level cards : ℕ) → List (List (List ℕ)) → Type 0
   FitIn level cards [] = Unit {0}
   FitIn level cards (group ∷ groups) =
       (Counts (cards + length group) → GroupFits lines level group) × FitIn level (cards + length group) groups
 
-  FitIn-join : (level cards behind : ℕ) (one other : List (List (List ℕ))) → behind ≡ cards + length (cards_of one)
-      → FitIn level cards one → FitIn level behind other → FitIn level cards (one ++ other)
-  FitIn-join level cards behind [] other far fit more = subst (λ n. FitIn level n other) (omega (arith, far)) more
-  FitIn-join level cards behind (group ∷ one) other far fit more =
+  FitIn-join : (level cards after : ℕ) (one other : List (List (List ℕ))) → after ≡ cards + length (cards_of one)
+      → FitIn level cards one → FitIn level after other → FitIn level cards (one ++ other)
+  FitIn-join level cards after [] other far fit more = subst (λ n. FitIn level n other) (omega (arith, far)) more
+  FitIn-join level cards after (group ∷ one) other far fit more =
       let long = length-append group (cards_of one) in
-      (fit.0, FitIn-join level (cards + length group) behind one other (omega (arith, far, long)) fit.1 more)
+      (fit.0, FitIn-join level (cards + length group) after one other (omega (arith, far, long)) fit.1 more)
 
-  FitIn-parts : (level cards behind : ℕ) (one other : List (List (List ℕ))) → behind ≡ cards + length (cards_of one)
-      → FitIn level cards (one ++ other) → FitIn level cards one × FitIn level behind other
-  FitIn-parts level cards behind [] other far fit = (tt, subst (λ n. FitIn level n other) (omega (arith, far)) fit)
-  FitIn-parts level cards behind (group ∷ one) other far fit =
+  FitIn-parts : (level cards after : ℕ) (one other : List (List (List ℕ))) → after ≡ cards + length (cards_of one)
+      → FitIn level cards (one ++ other) → FitIn level cards one × FitIn level after other
+  FitIn-parts level cards after [] other far fit = (tt, subst (λ n. FitIn level n other) (omega (arith, far)) fit)
+  FitIn-parts level cards after (group ∷ one) other far fit =
       let long = length-append group (cards_of one) in
-      let more = FitIn-parts level (cards + length group) behind one other (omega (arith, far, long)) fit.1 in
+      let more = FitIn-parts level (cards + length group) after one other (omega (arith, far, long)) fit.1 in
       ((fit.0, more.0), more.1)
 
   -- the groups in a group fit, of the levels from 1 to its own
@@ -186,11 +186,11 @@ module _ (lines : List Line) (Counts : ℕ → Type 0) where
   IsLate misfit = Counts misfit.card → ⊥
 
   -- where groups fit, each misfit is such a one
-  fit_late : (cards : ℕ) (some : List OutlineLine) → FitOn cards some → All IsLate (misfits_behind lines cards some)
+  fit_late : (cards : ℕ) (some : List OutlineLine) → FitOn cards some → All IsLate (misfits_after lines cards some)
   fit_late cards [] fit = All-nil IsLate
   fit_late cards (Detail opens card ∷ others) fit = fit_late (cards + 1) others fit
   fit_late cards (Total level group ∷ others) fit =
-      All-append IsLate (misfits_in lines level cards group) (misfits_behind lines cards others)
+      All-append IsLate (misfits_in lines level cards group) (misfits_after lines cards others)
       (by (misfits_in lines level cards group) (misfits_numbered lines level cards group)
       (λ counts. no_misfit_in lines level cards group (fit.0 counts)))
       (fit_late cards others fit.1)
@@ -204,11 +204,11 @@ module _ (lines : List Line) (Counts : ℕ → Type 0) where
           some_none is = cc
 
   -- and conversely
-  late_fit : (cards : ℕ) (some : List OutlineLine) → All IsLate (misfits_behind lines cards some) → FitOn cards some
+  late_fit : (cards : ℕ) (some : List OutlineLine) → All IsLate (misfits_after lines cards some) → FitOn cards some
   late_fit cards [] late = tt
   late_fit cards (Detail opens card ∷ others) late = late_fit (cards + 1) others late
   late_fit cards (Total level group ∷ others) late =
-      let both = All-parts IsLate (misfits_in lines level cards group) (misfits_behind lines cards others) late in (
+      let both = All-parts IsLate (misfits_in lines level cards group) (misfits_after lines cards others) late in (
         λ counts. group_fits lines level cards group
             (by (misfits_in lines level cards group) (misfits_numbered lines level cards group) both.0 counts),
         late_fit cards others both.1,
@@ -221,8 +221,8 @@ module _ (lines : List Line) (Counts : ℕ → Type 0) where
           (subst Counts (sym (All-head (λ (one : Misfit). one.card ≡ cards) misfit more all)) counts))
 
   -- so the groups of a group of level 4 fit where each misfit is such a one
-  pub within_late : (group : List (List ℕ)) → FitWithin 4 0 group → All IsLate (misfits_behind lines 0 (outline lines 4 4 group))
+  pub within_late : (group : List (List ℕ)) → FitWithin 4 0 group → All IsLate (misfits_after lines 0 (outline lines 4 4 group))
   within_late group fit = fit_late 0 (outline lines 4 4 group) (outline_fits 4 0 4 group fit)
 
-  pub late_within : (group : List (List ℕ)) → All IsLate (misfits_behind lines 0 (outline lines 4 4 group)) → FitWithin 4 0 group
+  pub late_within : (group : List (List ℕ)) → All IsLate (misfits_after lines 0 (outline lines 4 4 group)) → FitWithin 4 0 group
   late_within group late = groups_fit 4 0 4 group (late_fit 0 (outline lines 4 4 group) late)

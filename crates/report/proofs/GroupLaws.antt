@@ -9,7 +9,7 @@ use Rattle.report.specs.Groups.{cards_of, rest_of_run, later_runs, groups_in, gr
 use Rattle.report.specs.Laws.{totals_of, GroupsMakeTheDeck, GroupsMakeTheWhole, TotalsAddUp}
 use Rattle.report.specs.Totals.{total_of}
 
--- a run and the runs behind it are all cards behind a card
+-- a run and the runs after it are all cards after a card
 run_and_rest : (same : List ℕ → List ℕ → Bool) (card : List ℕ) (cards : List (List ℕ))
     → rest_of_run same card cards ++ cards_of (later_runs same card cards) ≡ cards
 run_and_rest same card [] = refl
@@ -47,7 +47,7 @@ module _ (lines : List Line) (above level : ℕ) (group : List (List ℕ)) where
   pub either : level ≤ suc above → (level ≤ above) ⊎ (level ≡ suc above)
   either few = grind (arith, few)
 
--- groups one behind the other
+-- groups one after the other
 cards_of-append : (one other : List (List (List ℕ))) → cards_of (one ++ other) ≡ cards_of one ++ cards_of other
 cards_of-append [] other = refl
 cards_of-append (group ∷ one) other =
@@ -76,7 +76,7 @@ pub groups_deck : GroupsMakeTheDeck
 groups_deck lines level [] = refl
 groups_deck lines level (card ∷ cards) = cards_in lines 4 level (card ∷ cards)
 
--- the total of two groups, one behind the other
+-- the total of two groups, one after the other
 pub total-append : (field : Field) (one other : List (List ℕ))
     → total_of field (one ++ other) ≡ total_of field one +ℤ total_of field other
 total-append field [] other = omega (arith, ints)

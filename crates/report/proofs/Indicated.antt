@@ -24,7 +24,7 @@ second b one other fails = ap (λ t. if t then one else other) fails
 first : {X : Type 0} (b : Bool) (one other : X) → b ≡ true → (if b then one else other) ≡ one
 first b one other passes = ap (λ t. if t then one else other) passes
 
--- outlines one behind the other
+-- outlines one after the other
 pieces-append : (lines : List Line) (item : Statement) (one other : List OutlineLine)
     → pieces_on lines item (one ++ other) ≡ pieces_on lines item one ++ pieces_on lines item other
 pieces-append lines item [] other = refl
@@ -83,7 +83,7 @@ module _ (lines : List Line) (wheel : ℕ) (name : List ℕ) (level : ControlLev
       let more = nothing_opened cards in
       λ i. none i ∷ more i
 
-  -- the parts of a group of a level that is no higher, behind the first part
+  -- the parts of a group of a level that is no higher, after the first part
   parts_none : (above : ℕ) → above < control_number level
       → ((opens : ℕ) (group : List (List ℕ)) → pieces_on lines item (outline lines above opens group) ≡ on_first_card (on_opening opens) group)
       → (parts : List (List (List ℕ)))

@@ -6,7 +6,7 @@ use Rattle.charts.specs.declared.statement.After.{After}
 use Rattle.charts.specs.declared.statement.After.TheVariants as action
 use Rattle.print_rules.specs.Tapes.{rise_above}
 use Rattle.report.specs.ChartForm.{form_of, heading_count, spacing_of, after_of, stops_of}
-use Rattle.report.specs.PlaceLaws.{ComesTo, stays, skips, EndsPage, full, asked, no_stop, standing, headings_on, first_body_line, Follow, no_more, on_its_page, on_the_next, Stand, nothing, from_page_1, LinesStandByTheLineBefore}
+use Rattle.report.specs.PlaceLaws.{ComesTo, stays, skips, EndsPage, full, asked, no_stop, standing, headings_on, first_body_line, Follow, no_more, on_its_page, on_the_next, ArePlaced, nothing, from_page_1, LinesStandByTheLineBefore}
 use Rattle.report.specs.Places.{BodyText, before_all, top_line, next_stop, after_action, above_overflow, placed}
 use Rattle.report.specs.Report.{body_lines}
 use Rattle.report.proofs.LawfulForms.{stops_rise}
@@ -83,10 +83,10 @@ module _ (lines : List Line) (rise : (channel : ℕ) → rise_above 0 (stops_of 
       by (Some to) comes more =
           on_its_page kind page line to body bodies _ comes.0 comes.1 (more page (to + spacing_of lines body.kind))
 
-  stand : (bodies : List BodyText) → Stand lines bodies (placed lines before_all bodies)
+  stand : (bodies : List BodyText) → ArePlaced lines bodies (placed lines before_all bodies)
   stand [] = nothing
   stand (body ∷ bodies) =
-      subst (Stand lines (body ∷ bodies)) (sym (begin 0 body bodies))
+      subst (ArePlaced lines (body ∷ bodies)) (sym (begin 0 body bodies))
       (from_page_1 body bodies _ (follow bodies body.kind 1 (first_body_line lines body.kind)))
 
 pub lines_stand : LinesStandByTheLineBefore

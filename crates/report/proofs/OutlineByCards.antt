@@ -6,7 +6,7 @@ use Rattle.charts.specs.declared.chart.Line.{Line}
 use Rattle.charts.specs.declared.level.ControlLevel.TheVariants as control
 use Rattle.charts.specs.declared.statement.Statement.{Statement}
 use Rattle.charts.specs.declared.statement.Statement.TheVariants as says
-use Rattle.report.specs.Breaks.{break_up_to, ended_behind, no_cards, taking, cleared, totals_to, chunk_of, flat}
+use Rattle.report.specs.Breaks.{break_up_to, ended_after, no_cards, taking, cleared, totals_to, chunk_of, flat}
 use Rattle.report.specs.Groups.{control_field, is_same_at, rest_of_run, later_runs}
 use Rattle.report.specs.Outline.{OutlineLine, Detail, Total, details, by_parts, outline}
 use Rattle.report.specs.OutlineLaws.{OutlineIsByCards}
@@ -36,7 +36,7 @@ break-within lines (suc cuts) one other = by (is_same_at lines (suc cuts) one ot
     by true more = omega (arith, more)
     by false more = omega arith
 
--- The lines of a card and of the cards behind it, where breaks of the levels up to `cuts` alone end groups, and behind the last card
+-- The lines of a card and of the cards after it, where breaks of the levels up to `cuts` alone end groups, and after the last card
 -- those of the levels up to `last` end.
 abbrev by_cards : List Line → (cuts last : ℕ) → (ℕ → List (List ℕ)) → (opens : ℕ) → List ℕ → List (List ℕ) → List OutlineLine
 by_cards lines cuts last so_far opens card [] = chunk_of opens so_far card last
@@ -59,13 +59,13 @@ ended-new level so_far lower low =
     ap (λ b. if b then [] else so_far lower) test
 
 -- one group more at the end
-total_behind : (lines : List Line) (level : ℕ) (so_far : ℕ → List (List ℕ)) (opens : ℕ) (card : List ℕ) (cards : List (List ℕ))
+total_after : (lines : List Line) (level : ℕ) (so_far : ℕ → List (List ℕ)) (opens : ℕ) (card : List ℕ) (cards : List (List ℕ))
     → by_cards lines level (suc level) so_far opens card cards
     ≡ by_cards lines level level so_far opens card cards ++ (Total (suc level) (so_far (suc level) ++ card ∷ cards) ∷ [])
-total_behind lines level so_far opens card [] = refl
-total_behind lines level so_far opens card (next ∷ cards) =
+total_after lines level so_far opens card [] = refl
+total_after lines level so_far opens card (next ∷ cards) =
     ap (λ l. Detail opens card ∷ (totals_to ended taken ++ l))
-    (total_behind lines level (cleared ended taken) ended next cards
+    (total_after lines level (cleared ended taken) ended next cards
     ∙ ap (λ g. by_cards lines level level (cleared ended taken) ended next cards ++ (Total (suc level) g ∷ []))
     (kept ∙ append_assoc (so_far (suc level)) (card ∷ []) (next ∷ cards)))
     ∙ ap (λ l. Detail opens card ∷ l)
@@ -103,7 +103,7 @@ run_of_all same all card (next ∷ cards) =
           ∙ more.1,
     )
 
--- behind the run of a card each later run begins anew
+-- after the run of a card each later run begins anew
 cuts_and_runs : (lines : List Line) (level : ℕ)
     → ((so_far : ℕ → List (List ℕ)) (opens : ℕ) (card : List ℕ) (cards : List (List ℕ)) → AreNew level so_far
     → outline lines level opens (card ∷ cards) ≡ of_group lines level so_far opens card cards)
@@ -132,15 +132,15 @@ cuts_and_runs lines (suc level) each so_far opens card (next ∷ cards) =
     later : List (List (List ℕ)) → List OutlineLine
     later = by_parts (outline lines (suc level)) (suc level) (suc level)
 
-    behind : ℕ → List OutlineLine
-    behind ended = by_cards lines (suc level) (suc level) (cleared ended taken) ended next cards
+    after : ℕ → List OutlineLine
+    after ended = by_cards lines (suc level) (suc level) (cleared ended taken) ended next cards
 
     by : (b : Bool)
         → ((some : ℕ → List (List ℕ)) (opened : ℕ) → by_cards lines (suc level) (suc level) some opened next cards
         ≡ by_cards lines level (suc level) some opened next (rest_of_run same next cards) ++ later (later_runs same next cards))
         → Detail opens card
         ∷ (totals_to (if b then break_up_to lines level card next else suc level) taken
-        ++ behind (if b then break_up_to lines level card next else suc level))
+        ++ after (if b then break_up_to lines level card next else suc level))
         ≡ by_cards lines level (suc level) so_far opens card (if b then next ∷ rest_of_run same next cards else [])
         ++ later (if b then later_runs same next cards else (next ∷ rest_of_run same next cards) ∷ later_runs same next cards)
     by true more =
@@ -170,14 +170,14 @@ group_by_cards lines (suc level) so_far opens card cards new =
     so_far opens card cards))
     ∙ ap (λ g. by_cards lines level level so_far opens card cards ++ (Total (suc level) (g ++ card ∷ cards) ∷ []))
     (sym (new (suc level) (omega arith)))
-    ∙ sym (total_behind lines level so_far opens card cards)
+    ∙ sym (total_after lines level so_far opens card cards)
 
 -- the deck, whose last card ends the groups of all levels
 all_levels : (lines : List Line) (so_far : ℕ → List (List ℕ)) (opens : ℕ) (card : List ℕ) (cards : List (List ℕ))
     → by_cards lines 3 4 so_far opens card cards ≡ flat lines so_far opens card cards
 all_levels lines so_far opens card [] = refl
 all_levels lines so_far opens card (next ∷ cards) =
-    let ended = ended_behind lines card (Some next) in
+    let ended = ended_after lines card (Some next) in
     ap (λ l. chunk_of opens so_far card ended ++ l) (all_levels lines (cleared ended (taking card so_far)) ended next cards)
 
 pub deck_by_cards : OutlineIsByCards

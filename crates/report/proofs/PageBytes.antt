@@ -55,7 +55,7 @@ line-count byte none lines page line texts =
     let both = count-append byte (without_trailing_blanks (text_at lines page line)) (10 ∷ []) in
     omega (arith, cut, text, both)
 
--- texts one behind the other, each with a byte equally often
+-- texts one after the other, each with a byte equally often
 texts-count : (byte : ℕ) (text : ℕ → List ℕ) (from long each : ℕ) → ((n : ℕ) → count_of byte (text n) ≡ each)
     → count_of byte (flat_map text (range_with_len from long)) ≡ long * each
 texts-count byte text from zero each all = omega arith

@@ -127,11 +127,11 @@ digits-print : (digits : List ℕ) (decimals : ℕ) (mark : Option Mark) (negati
     → Prints (edited_digits digits decimals mark negative)
 digits-print digits decimals mark negative small =
     let free = free_digits (length digits) decimals in
-    let behind = All-append IsPrinted (map figure (drop free digits)) (marked mark negative)
+    let after = All-append IsPrinted (map figure (drop free digits)) (marked mark negative)
     (figures-print (drop free digits) (All-drop (λ digit. digit < 10) free digits small)) (marked-prints mark negative) in
     All-append IsPrinted (without_leading_zeros (take free digits)) (point decimals ++ (map figure (drop free digits) ++ marked mark negative))
     (zeros-print (take free digits) (All-take (λ digit. digit < 10) free digits small))
-    (All-append IsPrinted (point decimals) (map figure (drop free digits) ++ marked mark negative) (point-prints decimals) behind)
+    (All-append IsPrinted (point decimals) (map figure (drop free digits) ++ marked mark negative) (point-prints decimals) after)
 
 blanks-print : (digits decimals : ℕ) (mark : Option Mark) → Prints (edited_blank digits decimals mark)
 blanks-print digits decimals mark =
@@ -212,7 +212,7 @@ heading-piece number (says.Head line wheel literal) prints =
     if-prints (heading_number line == number) (Some (piece_at wheel literal)) (prints literal refl)
 heading-piece number other prints = tt
 
--- a character of a text, or a blank behind it
+-- a character of a text, or a blank after it
 character-prints : (text : List ℕ) (place : ℕ) → Prints text → IsPrinted (get_or text place 32)
 character-prints [] place prints = blank
 character-prints (character ∷ text) zero prints = All-head IsPrinted character text prints

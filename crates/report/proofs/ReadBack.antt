@@ -10,7 +10,7 @@ use Rattle.card_code.specs.CardCode.{has_row}
 use Rattle.charts.specs.declared.statement.Mark.{Mark}
 use Rattle.charts.specs.declared.statement.Mark.TheVariants as mark
 use Rattle.chart_rules.specs.ValidCard.{column_of}
-use Rattle.report.specs.AmountLaws.{is_digit, spelled_behind, is_of_mark, EditsReadBack, SignByPunch, SignByAbsence, SizesAreOfDigits}
+use Rattle.report.specs.AmountLaws.{is_digit, spelled_after, is_of_mark, EditsReadBack, SignByPunch, SignByAbsence, SizesAreOfDigits}
 use Rattle.report.specs.Amounts.{digits_on, number_in, is_negated, signed}
 use Rattle.report.specs.Edits.{last_digits, figure, without_leading_zeros, free_digits, point, marked, is_below_zero, edited, edited_digits}
 
@@ -19,7 +19,7 @@ abbrev AreSmall : List ℕ → Type 0
 AreSmall [] = Unit {0}
 AreSmall (digit ∷ digits) = (digit < 10) × AreSmall digits
 
--- the number of digits behind those of a number so far
+-- the number of digits after those of a number so far
 abbrev joined : ℕ → List ℕ → ℕ
 joined so_far [] = so_far
 joined so_far (digit ∷ digits) = joined (so_far * 10 + digit) digits
@@ -40,17 +40,17 @@ drop-small (suc count) (digit ∷ digits) small = drop-small count digits small.
 
 -- a text in two parts is read part by part
 spelled-append : (so_far : ℕ) (one other : List ℕ)
-    → spelled_behind so_far (one ++ other) ≡ spelled_behind (spelled_behind so_far one) other
+    → spelled_after so_far (one ++ other) ≡ spelled_after (spelled_after so_far one) other
 spelled-append so_far [] other = refl
 spelled-append so_far (character ∷ one) other =
     by (is_digit character) (spelled-append (so_far * 10 + (character - 48)) one other) (spelled-append so_far one other)
   where
     by : (b : Bool)
-        → spelled_behind (so_far * 10 + (character - 48)) (one ++ other)
-        ≡ spelled_behind (spelled_behind (so_far * 10 + (character - 48)) one) other
-        → spelled_behind so_far (one ++ other) ≡ spelled_behind (spelled_behind so_far one) other
-        → (if b then spelled_behind (so_far * 10 + (character - 48)) (one ++ other) else spelled_behind so_far (one ++ other))
-        ≡ spelled_behind (if b then spelled_behind (so_far * 10 + (character - 48)) one else spelled_behind so_far one) other
+        → spelled_after (so_far * 10 + (character - 48)) (one ++ other)
+        ≡ spelled_after (spelled_after (so_far * 10 + (character - 48)) one) other
+        → spelled_after so_far (one ++ other) ≡ spelled_after (spelled_after so_far one) other
+        → (if b then spelled_after (so_far * 10 + (character - 48)) (one ++ other) else spelled_after so_far (one ++ other))
+        ≡ spelled_after (if b then spelled_after (so_far * 10 + (character - 48)) one else spelled_after so_far one) other
     by true taken passed = taken
     by false taken passed = passed
 
@@ -59,26 +59,26 @@ figure-digit : (digit : ℕ) → digit < 10 → is_digit (figure digit) ≡ true
 figure-digit digit small = grind (arith, nat_tests, small)
 
 -- the characters of digits spell their number
-spelled-figures : (so_far : ℕ) (digits : List ℕ) → AreSmall digits → spelled_behind so_far (map figure digits) ≡ joined so_far digits
+spelled-figures : (so_far : ℕ) (digits : List ℕ) → AreSmall digits → spelled_after so_far (map figure digits) ≡ joined so_far digits
 spelled-figures so_far [] small = refl
 spelled-figures so_far (digit ∷ digits) small =
     ap
-    (λ b. if b then spelled_behind (so_far * 10 + (figure digit - 48)) (map figure digits) else spelled_behind so_far (map figure digits))
+    (λ b. if b then spelled_after (so_far * 10 + (figure digit - 48)) (map figure digits) else spelled_after so_far (map figure digits))
     (figure-digit digit small.0)
-    ∙ ap (λ n. spelled_behind n (map figure digits)) same
+    ∙ ap (λ n. spelled_after n (map figure digits)) same
     ∙ spelled-figures (so_far * 10 + digit) digits small.1
   where
     same : so_far * 10 + (48 + digit - 48) ≡ so_far * 10 + digit
     same = omega arith
 
 -- blank zeros in front count nothing
-spelled-blanks : (digits : List ℕ) → AreSmall digits → spelled_behind 0 (without_leading_zeros digits) ≡ joined 0 digits
+spelled-blanks : (digits : List ℕ) → AreSmall digits → spelled_after 0 (without_leading_zeros digits) ≡ joined 0 digits
 spelled-blanks [] small = refl
 spelled-blanks (digit ∷ digits) small =
     by (digit == 0) refl (spelled-blanks digits small.1)
   where
-    by : (b : Bool) → (digit == 0) ≡ b → spelled_behind 0 (without_leading_zeros digits) ≡ joined 0 digits
-        → spelled_behind 0 (if b then 32 ∷ without_leading_zeros digits else map figure (digit ∷ digits)) ≡ joined 0 (digit ∷ digits)
+    by : (b : Bool) → (digit == 0) ≡ b → spelled_after 0 (without_leading_zeros digits) ≡ joined 0 digits
+        → spelled_after 0 (if b then 32 ∷ without_leading_zeros digits else map figure (digit ∷ digits)) ≡ joined 0 (digit ∷ digits)
     by true is more = let none : 0 ≡ 0 * 10 + digit = grind (arith, nat_tests, is) in more ∙ ap (λ n. joined n digits) none
     by false is more = spelled-figures 0 (digit ∷ digits) small
 
@@ -93,7 +93,7 @@ one_more count number =
     ap (λ n. n * 10 + number / 10 ^ count % 10) (ap (λ n. number / n) (pow-suc 10 count) ∙ sym (div-div-eq-div-mul number (10 ^ count) 10))
     ∙ div-add-mod' (number / 10 ^ count) 10
 
--- the last digits behind the front ones are the number
+-- the last digits after the front ones are the number
 joined-last : (count number : ℕ) → joined (number / 10 ^ count) (last_digits count number) ≡ number
 joined-last zero number = div-one number
 joined-last (suc count) number =
@@ -108,12 +108,12 @@ joined-whole count number room =
     none = sym (div-eq_of_lt room)
 
 -- the point is passed over
-spelled-point : (so_far decimals : ℕ) → spelled_behind so_far (point decimals) ≡ so_far
+spelled-point : (so_far decimals : ℕ) → spelled_after so_far (point decimals) ≡ so_far
 spelled-point so_far zero = refl
 spelled-point so_far (suc decimals) = refl
 
 -- and so is a mark
-spelled-mark : (so_far : ℕ) (mark : Option Mark) (negative : Bool) → spelled_behind so_far (marked mark negative) ≡ so_far
+spelled-mark : (so_far : ℕ) (mark : Option Mark) (negative : Bool) → spelled_after so_far (marked mark negative) ≡ so_far
 spelled-mark so_far None negative = refl
 spelled-mark so_far (Some mark.Credit) true = refl
 spelled-mark so_far (Some mark.Credit) false = refl
@@ -122,17 +122,17 @@ spelled-mark so_far (Some mark.Minus) false = refl
 
 -- the digits of an edited amount spell its number
 spelled-edit : (digits : List ℕ) (decimals : ℕ) (mark : Option Mark) (negative : Bool) → AreSmall digits
-    → spelled_behind 0 (edited_digits digits decimals mark negative) ≡ joined 0 digits
+    → spelled_after 0 (edited_digits digits decimals mark negative) ≡ joined 0 digits
 spelled-edit digits decimals mark negative small =
     let free = free_digits (length digits) decimals in
     let front = without_leading_zeros (take free digits) in
     let back = map figure (drop free digits) in
     spelled-append 0 front (point decimals ++ (back ++ marked mark negative))
-    ∙ spelled-append (spelled_behind 0 front) (point decimals) (back ++ marked mark negative)
-    ∙ ap (λ n. spelled_behind n (back ++ marked mark negative)) (spelled-point (spelled_behind 0 front) decimals)
-    ∙ spelled-append (spelled_behind 0 front) back (marked mark negative)
-    ∙ spelled-mark (spelled_behind (spelled_behind 0 front) back) mark negative
-    ∙ ap (λ n. spelled_behind n back) (spelled-blanks (take free digits) (take-small free digits small))
+    ∙ spelled-append (spelled_after 0 front) (point decimals) (back ++ marked mark negative)
+    ∙ ap (λ n. spelled_after n (back ++ marked mark negative)) (spelled-point (spelled_after 0 front) decimals)
+    ∙ spelled-append (spelled_after 0 front) back (marked mark negative)
+    ∙ spelled-mark (spelled_after (spelled_after 0 front) back) mark negative
+    ∙ ap (λ n. spelled_after n back) (spelled-blanks (take free digits) (take-small free digits small))
     ∙ spelled-figures (joined 0 (take free digits)) (drop free digits) (drop-small free digits small)
     ∙ joined-append 0 (take free digits) (drop free digits)
     ∙ ap (joined 0) (take-append-drop free digits)
@@ -191,7 +191,7 @@ sign_and_size (negsuc number) = refl
 pub edits_read : EditsReadBack
 edits_read number digits decimals mark some few room shown =
     let small = last_digits-small digits (unsigned_abs number) in
-    ap (λ b. signed b (spelled_behind 0 (edited number digits decimals mark)))
+    ap (λ b. signed b (spelled_after 0 (edited number digits decimals mark)))
     (edit-marked (last_digits digits (unsigned_abs number)) decimals mark (is_below_zero number) small shown)
     ∙ ap (signed (is_below_zero number))
     (spelled-edit (last_digits digits (unsigned_abs number)) decimals mark (is_below_zero number) small

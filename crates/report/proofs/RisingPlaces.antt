@@ -6,7 +6,7 @@ use Rattle.placed_lines.specs.InOrder.{IsAfter, FollowInOrder, IsInOrder}
 use Rattle.placed_lines.specs.declared.placed_line.PlacedLine.{PlacedLine}
 use Rattle.charts.specs.declared.chart.Line.{Line}
 use Rattle.report.specs.ChartForm.{form_of, heading_count, spacing_of}
-use Rattle.report.specs.PlaceLaws.{ComesTo, stays, skips, standing, headings_on, first_body_line, Follow, no_more, on_its_page, on_the_next, Stand, nothing, from_page_1, PlacesRise}
+use Rattle.report.specs.PlaceLaws.{ComesTo, stays, skips, standing, headings_on, first_body_line, Follow, no_more, on_its_page, on_the_next, ArePlaced, nothing, from_page_1, PlacesRise}
 use Rattle.report.specs.Places.{BodyText, heading_on}
 use Rattle.report.proofs.FewLines.{body_lines-few}
 use Rattle.report.proofs.LawfulForms.{HasRoom, room_of, spacing-range}
@@ -60,7 +60,7 @@ module _ (lines : List Line) (room : HasRoom (heading_count lines) (form_of line
         (inr (refl, omega (arith, some))),
   )
 
-  -- a page begins behind all lines of the page before it
+  -- a page begins after all lines of the page before it
   turn : (page line : ℕ) (body : BodyText) (others : List PlacedLine) → page < 2 ^ 32
       → FollowInOrder long (page + 1) (first_body_line lines body.kind) others
       → FollowInOrder long page line (headings_on lines (page + 1) ++ (standing body (page + 1) (first_body_line lines body.kind) ∷ others))
@@ -94,11 +94,11 @@ module _ (lines : List Line) (room : HasRoom (heading_count lines) (form_of line
       turn page line body others (omega (arith, most))
       (rises more (omega arith) (below_headings body.kind).0 (omega (arith, most)))
 
-  all_rise : {bodies : List BodyText} {others : List PlacedLine} → Stand lines bodies others → length bodies ≤ 2 ^ 32
+  all_rise : {bodies : List BodyText} {others : List PlacedLine} → ArePlaced lines bodies others → length bodies ≤ 2 ^ 32
       → IsInOrder long others
   all_rise nothing most = tt
-  all_rise (from_page_1 body bodies behind more) most =
-      turn 0 0 body behind (omega (arith, most)) (rises more (omega arith) (below_headings body.kind).0 (omega (arith, most)))
+  all_rise (from_page_1 body bodies those more) most =
+      turn 0 0 body those (omega (arith, most)) (rises more (omega arith) (below_headings body.kind).0 (omega (arith, most)))
 
 pub places_rise : PlacesRise
 places_rise chart cards lawful few =

@@ -30,7 +30,7 @@ module _ (lines : List Line) (level : ℕ) where
       by true more = more
       by false more = All-cons (AreAlike lines level) (next ∷ rest_of_run same next cards) _ (run_alike next cards) more
 
-  -- runs are cut where cards differ, behind a group that ends in the card of the first run
+  -- runs are cut where cards differ, after a group that ends in the card of the first run
   runs_cut : (card : List ℕ) (cards : List (List ℕ)) → AreCutAt lines level ((card ∷ rest_of_run same card cards) ∷ later_runs same card cards)
   runs_cut card [] = tt
   runs_cut card (next ∷ cards) = by (same card next) refl (runs_cut next cards)

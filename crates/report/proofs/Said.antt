@@ -10,7 +10,7 @@ use Rattle.charts.specs.declared.statement.After.{After}
 use Rattle.charts.specs.declared.statement.BodyLine.{BodyLine}
 use Rattle.charts.specs.declared.statement.Statement.{Statement}
 use Rattle.charts.specs.declared.statement.Statement.TheVariants as says
-use Rattle.charts.proofs.Listed.{listed-first, listed-behind, any-passing}
+use Rattle.charts.proofs.Listed.{listed-first, listed-after, any-passing}
 use Rattle.print_rules.specs.Forms.{has_form, is_form}
 use Rattle.report.specs.ChartForm.{after_from, after_of, form_from, form_of, kind_number, spacing_from, spacing_of, stops_from, stops_of}
 
@@ -35,12 +35,12 @@ pub record SaysAfter (lines : List Line) (kind : ℕ) (follows : After) : Type 0
 -- a spacing that isn't single is said
 pub space-said : (lines : List Line) (kind many : ℕ) → 2 ≤ many → spacing_of lines kind ≡ many → SaysSpace lines kind many
 space-said [] kind many more is = absurd (omega (arith, more, is))
-space-said (line ∷ lines) kind many more is = by line.statement refl is (λ found. behind (space-said lines kind many more found))
+space-said (line ∷ lines) kind many more is = by line.statement refl is (λ found. after (space-said lines kind many more found))
   where
-    behind : SaysSpace lines kind many → SaysSpace (line ∷ lines) kind many
-    behind s = record {
+    after : SaysSpace lines kind many → SaysSpace (line ∷ lines) kind many
+    after s = record {
       line = s.line;
-      listed = listed-behind line lines s.listed;
+      listed = listed-after line lines s.listed;
       its_kind = s.its_kind;
       its_spacing = s.its_spacing;
       is_space = s.is_space;
@@ -70,12 +70,12 @@ space-said (line ∷ lines) kind many more is = by line.statement refl is (λ fo
 -- what follows a kind is said
 pub after-said : (lines : List Line) (kind : ℕ) (follows : After) → after_of lines kind ≡ Some follows → SaysAfter lines kind follows
 after-said [] kind follows is = cc
-after-said (line ∷ lines) kind follows is = by line.statement refl is (λ found. behind (after-said lines kind follows found))
+after-said (line ∷ lines) kind follows is = by line.statement refl is (λ found. after (after-said lines kind follows found))
   where
-    behind : SaysAfter lines kind follows → SaysAfter (line ∷ lines) kind follows
-    behind s = record {
+    after : SaysAfter lines kind follows → SaysAfter (line ∷ lines) kind follows
+    after s = record {
       line = s.line;
-      listed = listed-behind line lines s.listed;
+      listed = listed-after line lines s.listed;
       its_kind = s.its_kind;
       is_after = s.is_after;
       same_kind = s.same_kind;
@@ -109,14 +109,14 @@ pub record SaysTape (lines : List Line) (channel : ℕ) (stops : List ℕ) : Typ
 -- stops are said
 pub tape-said : (lines : List Line) (channel : ℕ) → (stops_of lines channel ≡ []) ⊎ SaysTape lines channel (stops_of lines channel)
 tape-said [] channel = inl refl
-tape-said (line ∷ lines) channel = by line.statement refl (behind (tape-said lines channel))
+tape-said (line ∷ lines) channel = by line.statement refl (after (tape-said lines channel))
   where
-    behind : {stops : List ℕ} → (stops ≡ []) ⊎ SaysTape lines channel stops → (stops ≡ []) ⊎ SaysTape (line ∷ lines) channel stops
-    behind (inl none) = inl none
-    behind (inr s) =
+    after : {stops : List ℕ} → (stops ≡ []) ⊎ SaysTape lines channel stops → (stops ≡ []) ⊎ SaysTape (line ∷ lines) channel stops
+    after (inl none) = inl none
+    after (inr s) =
         inr (record {
           line = s.line;
-          listed = listed-behind line lines s.listed;
+          listed = listed-after line lines s.listed;
           its_channel = s.its_channel;
           is_tape = s.is_tape;
           same_channel = s.same_channel;
@@ -157,4 +157,4 @@ form-said (line ∷ lines) some = by line.statement refl some (form-said lines)
         (form_from statement (form_of lines)).overflow)
     by (says.Form long first overflow) says_it there below = (line, listed-first line lines, says_it)
     by other says_it there below =
-        let (each, listed, is) = below there in (each, listed-behind line lines listed, is)
+        let (each, listed, is) = below there in (each, listed-after line lines listed, is)

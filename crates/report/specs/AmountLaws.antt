@@ -14,14 +14,14 @@ use Rattle.report.specs.Edits.{edited, is_below_zero}
 abbrev pub is_digit : ℕ → Bool
 is_digit character = nat_le 48 character && nat_le character 57
 
--- The number that the digits of a text spell behind those that spelled a number so far. A blank in front counts 0, and the point and
+-- The number that the digits of a text spell after those that spelled a number so far. A blank in front counts 0, and the point and
 -- a mark are passed over.
-abbrev pub spelled_behind : ℕ → List ℕ → ℕ
-spelled_behind so_far [] = so_far
-spelled_behind so_far (character ∷ characters) =
+abbrev pub spelled_after : ℕ → List ℕ → ℕ
+spelled_after so_far [] = so_far
+spelled_after so_far (character ∷ characters) =
     if is_digit character
-    then spelled_behind (so_far * 10 + (character - 48)) characters
-    else spelled_behind so_far characters
+    then spelled_after (so_far * 10 + (character - 48)) characters
+    else spelled_after so_far characters
 
 -- whether a character is one of a mark: `C`, `R` or `-`
 abbrev pub is_of_mark : ℕ → Bool
@@ -29,7 +29,7 @@ is_of_mark character = character == 67 || character == 82 || character == 45
 
 -- the amount that a text tells: below 0 where it has a mark
 abbrev pub read_amount : List ℕ → ℤ
-read_amount text = signed (list_any is_of_mark text) (spelled_behind 0 text)
+read_amount text = signed (list_any is_of_mark text) (spelled_after 0 text)
 
 -- An edited amount with room for its digits and for its sign reads back as the number.
 abbrev pub EditsReadBack : Type 0

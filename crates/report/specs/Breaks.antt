@@ -15,10 +15,10 @@ break_up_to lines (suc level) card next =
 abbrev pub highest : List Line → (card next : List ℕ) → ℕ
 highest lines card next = break_up_to lines 3 card next
 
--- the highest level whose group ends behind a card: that of the break before the next card, and 4 behind the last card
-abbrev pub ended_behind : List Line → List ℕ → Option (List ℕ) → ℕ
-ended_behind lines card None = 4
-ended_behind lines card (Some next) = highest lines card next
+-- the highest level whose group ends after a card: that of the break before the next card, and 4 after the last card
+abbrev pub ended_after : List Line → List ℕ → Option (List ℕ) → ℕ
+ended_after lines card None = 4
+ended_after lines card (Some next) = highest lines card next
 
 -- For each level the cards of its unfinished group: none before the first card.
 abbrev pub no_cards : ℕ → List (List ℕ)
@@ -37,15 +37,15 @@ abbrev pub totals_to : ℕ → (ℕ → List (List ℕ)) → List OutlineLine
 totals_to zero groups = []
 totals_to (suc level) groups = totals_to level groups ++ (Total (suc level) (groups (suc level)) ∷ [])
 
--- the lines of one card: its detail line, and the total lines of the groups that end behind it
+-- the lines of one card: its detail line, and the total lines of the groups that end after it
 abbrev pub chunk_of : (opens : ℕ) → (ℕ → List (List ℕ)) → List ℕ → (ended : ℕ) → List OutlineLine
 chunk_of opens so_far card ended = Detail opens card ∷ totals_to ended (taking card so_far)
 
--- The lines of a card and of the cards behind it. A card opens groups of the levels that ended behind the card before it.
+-- The lines of a card and of the cards after it. A card opens groups of the levels that ended after the card before it.
 abbrev pub flat : List Line → (ℕ → List (List ℕ)) → (opens : ℕ) → List ℕ → List (List ℕ) → List OutlineLine
-flat lines so_far opens card [] = chunk_of opens so_far card (ended_behind lines card None)
+flat lines so_far opens card [] = chunk_of opens so_far card (ended_after lines card None)
 flat lines so_far opens card (next ∷ cards) =
-    let ended = ended_behind lines card (Some next) in
+    let ended = ended_after lines card (Some next) in
     chunk_of opens so_far card ended ++ flat lines (cleared ended (taking card so_far)) ended next cards
 
 -- the lines of a deck, card by card; its first card opens groups of all levels

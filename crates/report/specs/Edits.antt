@@ -1,5 +1,5 @@
 -- The edited amount. Its digits stand with leading zeros blank, left of the point, or left of the units where there are no
--- decimals; the point and the decimals always stand; the mark stands behind them exactly where the number is below 0.
+-- decimals; the point and the decimals always stand; the mark stands after them exactly where the number is below 0.
 use Rattle.std.specs.Prelude.{ℕ, ◌+◌, ◌-◌, ◌^◌, ◌/◌, ◌%◌, ◌==◌, zero, suc, max, Bool, List, [], ◌∷◌, ◌++◌, Option, Some, None, length, map, take, drop, replicate, codes, if◌then◌else◌, unsigned_abs}
 use Rattle.std.specs.Prelude.{ℤ, pos, negsuc, true, false}
 use Rattle.charts.specs.declared.statement.Mark.{Mark}
@@ -45,7 +45,7 @@ abbrev pub marked : Option Mark → Bool → List ℕ
 marked None negative = []
 marked (Some mark) negative = if negative then mark_text mark else replicate (mark_width (Some mark)) 32
 
--- digits with the point among them and the mark behind
+-- digits with the point among them and the mark after
 abbrev pub edited_digits : List ℕ → ℕ → Option Mark → Bool → List ℕ
 edited_digits digits decimals mark negative =
     let free = free_digits (length digits) decimals in

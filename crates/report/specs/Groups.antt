@@ -29,12 +29,12 @@ is_same_on field one other = list_all (λ column. column_of one column == column
 abbrev pub is_same_at : List Line → ℕ → List ℕ → List ℕ → Bool
 is_same_at lines level one other = list_all (λ field. is_same_on field one other) (control_fields lines level)
 
--- the cards behind a card that go on with its run
+-- the cards after a card that go on with its run
 abbrev pub rest_of_run : (List ℕ → List ℕ → Bool) → List ℕ → List (List ℕ) → List (List ℕ)
 rest_of_run same card [] = []
 rest_of_run same card (next ∷ cards) = if same card next then next ∷ rest_of_run same next cards else []
 
--- the runs behind that of a card
+-- the runs after that of a card
 abbrev pub later_runs : (List ℕ → List ℕ → Bool) → List ℕ → List (List ℕ) → List (List (List ℕ))
 later_runs same card [] = []
 later_runs same card (next ∷ cards) =

@@ -38,16 +38,16 @@ misfit_on lines level card group other = None
 abbrev pub misfits_in : List Line → ℕ → ℕ → List (List ℕ) → List Misfit
 misfits_in lines level card group = filter_map (λ line. misfit_on lines level card group line.statement) lines
 
--- The misfits of lines of an outline behind so many cards, in order: by the last card of the group, then by level, then by line.
-abbrev pub misfits_behind : List Line → ℕ → List OutlineLine → List Misfit
-misfits_behind lines cards [] = []
-misfits_behind lines cards (Detail opens card ∷ others) = misfits_behind lines (cards + 1) others
-misfits_behind lines cards (Total level group ∷ others) =
-    misfits_in lines level cards group ++ misfits_behind lines cards others
+-- The misfits of lines of an outline after so many cards, in order: by the last card of the group, then by level, then by line.
+abbrev pub misfits_after : List Line → ℕ → List OutlineLine → List Misfit
+misfits_after lines cards [] = []
+misfits_after lines cards (Detail opens card ∷ others) = misfits_after lines (cards + 1) others
+misfits_after lines cards (Total level group ∷ others) =
+    misfits_in lines level cards group ++ misfits_after lines cards others
 
 -- the misfits of a deck, in order
 abbrev pub misfits : List Line → List (List ℕ) → List Misfit
-misfits lines cards = misfits_behind lines 0 (outline_of lines cards)
+misfits lines cards = misfits_after lines 0 (outline_of lines cards)
 
 -- the first misfit of a deck, if it has one
 abbrev pub first_of : List Misfit → Option Misfit

@@ -38,7 +38,7 @@ GroupsAreLongestRuns =
     → All (AreAlike lines level) (groups_within lines level whole) × AreCutAt lines level (groups_within lines level whole)
 
 -- The outline of a deck, told by groups within groups, is the one told by the breaks between its cards: a change of a level ends the
--- groups of the lower ones, the totals behind a card stand from the lowest to the highest level that ends there, and each total's group
+-- groups of the lower ones, the totals after a card stand from the lowest to the highest level that ends there, and each total's group
 -- is all cards since the last total of its level or a higher one.
 abbrev pub OutlineIsByCards : Type 0
 OutlineIsByCards = (lines : List Line) (cards : List (List ℕ)) → outline_of lines cards ≡ flat_outline lines cards

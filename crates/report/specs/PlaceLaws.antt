@@ -54,7 +54,7 @@ abbrev pub first_body_line : List Line → ℕ → ℕ
 first_body_line lines kind =
     (if heading_count lines == 0 then (form_of lines).first else (form_of lines).first + heading_count lines - 1) + spacing_of lines kind
 
--- Body lines stand behind a line of a kind on a page and a line: each its spacing below where the line before it comes to, above the
+-- Body lines stand after a line of a kind on a page and a line: each its spacing below where the line before it comes to, above the
 -- overflow line, or first on the next page where the line before it ends its page.
 pub data Follow (lines : List Line) : (kind page line : ℕ) → List BodyText → List PlacedLine → Type 0 where
   no_more : (kind page line : ℕ) → Follow lines kind page line [] []
@@ -62,15 +62,15 @@ pub data Follow (lines : List Line) : (kind page line : ℕ) → List BodyText �
   on_the_next : (kind page line : ℕ) (body : BodyText) (bodies : List BodyText) (others : List PlacedLine) → EndsPage lines kind line → Follow lines body.kind (page + 1) (first_body_line lines body.kind) bodies others → Follow lines kind page line (body ∷ bodies) (headings_on lines (page + 1) ++ (standing body (page + 1) (first_body_line lines body.kind) ∷ others))
 
 -- Body lines at their places: the first one is the first of page 1, and the others follow.
-pub data Stand (lines : List Line) : List BodyText → List PlacedLine → Type 0 where
-  nothing : Stand lines [] []
-  from_page_1 : (body : BodyText) (bodies : List BodyText) (others : List PlacedLine) → Follow lines body.kind 1 (first_body_line lines body.kind) bodies others → Stand lines (body ∷ bodies) (headings_on lines 1 ++ (standing body 1 (first_body_line lines body.kind) ∷ others))
+pub data ArePlaced (lines : List Line) : List BodyText → List PlacedLine → Type 0 where
+  nothing : ArePlaced lines [] []
+  from_page_1 : (body : BodyText) (bodies : List BodyText) (others : List PlacedLine) → Follow lines body.kind 1 (first_body_line lines body.kind) bodies others → ArePlaced lines (body ∷ bodies) (headings_on lines 1 ++ (standing body 1 (first_body_line lines body.kind) ∷ others))
 
 -- In the report of a lawful chart each line stands by the line before it.
 abbrev pub LinesStandByTheLineBefore : Type 0
 LinesStandByTheLineBefore =
     (chart : Chart) (cards : List (List ℕ)) → IsLawful chart
-    → Stand chart.lines (body_lines chart.lines cards) (report_lines chart cards)
+    → ArePlaced chart.lines (body_lines chart.lines cards) (report_lines chart cards)
 
 -- In the report of a lawful chart, of at most 999,999 cards, places rise, and stand on the form.
 abbrev pub PlacesRise : Type 0

@@ -1,4 +1,4 @@
--- The places of lines. Spacing comes before a line, a skip or a page turn behind it. A line starts a page where the line before it, with
+-- The places of lines. Spacing comes before a line, a skip or a page turn after it. A line starts a page where the line before it, with
 -- its skip, came to the overflow line or past it, where it asked for a page, or where its skip had no further stop on the form. The
 -- first body line of a page stands below the last heading line, or below the form's first line where there is none.
 use Rattle.std.specs.Prelude.{ℕ, ◌+◌, ◌-◌, List, [], ◌∷◌, ◌++◌, Option, Some, None, map, max, nat_le, nat_lt, if◌then◌else◌}

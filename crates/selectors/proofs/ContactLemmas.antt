@@ -19,7 +19,7 @@ use Rattle.hub_table.specs.declared.shape.Numbers.TheVariants.{Two}
 use Rattle.hub_table.specs.declared.shape.Shape.TheVariants.{Groups}
 use Rattle.net.specs.HubSets.{is_bit, is_bit_from, is_in_row}
 use Rattle.net.specs.Cycles.{is_closing}
-use Rattle.net.specs.Panel.{unit_behind, unit_of}
+use Rattle.net.specs.Panel.{unit_after, unit_of}
 use Rattle.net.specs.declared.cycle.Cycle.{Cycle}
 use Rattle.net.specs.declared.cycle.Cycle.TheVariants.{Card}
 use Rattle.net.specs.declared.cycle.Point.{Point}
@@ -127,7 +127,7 @@ group_side value latches group position =
   where
     by : (found : Option ℕ) → ((t : ℕ) → found ≡ Some t → (1 ≤ t) × (t ≤ 32)) → (is_part : Bool)
         → side value latches found (if is_part then Some position else None)
-        ≡ ((nat_le 3 (unit_behind 2 found) && is_part) && is_same value (slice_index_or latches (unit_behind 2 found - 3) false))
+        ≡ ((nat_le 3 (unit_after 2 found) && is_part) && is_same value (slice_index_or latches (unit_after 2 found - 3) false))
     by None range is_part = refl
     by (Some t) range is_part =
         let there : nat_le 3 (2 + t) ≡ true = let from = (range t refl).0 in grind (arith, nat_tests, from) in
@@ -168,7 +168,7 @@ carry_row nines (CO group) long =
   where
     by : (found : Option ℕ) → ((t : ℕ) → found ≡ Some t → (1 ≤ t) × (t ≤ 32))
         → is_bit_from (Some 359) (spread true 1 nines) (option_map (λ place. 358 + place) found)
-        ≡ (nat_le 3 (unit_behind 2 found) && slice_index_or nines (unit_behind 2 found - 3) false)
+        ≡ (nat_le 3 (unit_after 2 found) && slice_index_or nines (unit_after 2 found - 3) false)
     by None range = refl
     by (Some t) range =
         let within = range t refl in

@@ -24,8 +24,8 @@ no_bit_from bits width k small far = ap (λ b. b == 1) (bit_at_above bits width 
 pub before_row : (first bits n : ℕ) → n < first → is_bit_from (Some first) bits (Some n) ≡ false
 before_row first bits n before = grind (arith, nat_tests)
 
-pub behind_row : (first width bits n : ℕ) → bits < 2 ^ width → first + width ≤ n → is_bit_from (Some first) bits (Some n) ≡ false
-behind_row first width bits n small behind =
+pub after_row : (first width bits n : ℕ) → bits < 2 ^ width → first + width ≤ n → is_bit_from (Some first) bits (Some n) ≡ false
+after_row first width bits n small after =
     let off = no_bit_from bits width (n - first) small (omega arith) in grind (arith, nat_tests, off)
 
 -- a row that ends with its kind has no hub of other letters
@@ -38,9 +38,9 @@ in_no_row letters first width bits hub other from to small = by_number (number_o
     by_number None is = refl
     by_number (Some n) is = elim (le_or_lt first n) [
       | inr before ↦ before_row first bits n before
-      | inl behind ↦ elim (le_or_lt (first + width) n) [
-        | inl past ↦ behind_row first width bits n small past
-        | inr inside ↦ let has : HasNumber letters n = (omega (arith, from, behind), omega (arith, to, inside)) in
+      | inl after ↦ elim (le_or_lt (first + width) n) [
+        | inl past ↦ after_row first width bits n small past
+        | inr inside ↦ let has : HasNumber letters n = (omega (arith, from, after), omega (arith, to, inside)) in
             absurd (other (HasNumber-same (letters_of hub) letters n (number_of-kind hub n is) has))
       ]
     ]

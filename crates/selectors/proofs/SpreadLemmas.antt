@@ -53,7 +53,7 @@ spread-below value parts (thing ∷ things) =
     moved_below (spread value parts things) parts (length things) (parts_of parts (is_same value thing))
     (spread-below value parts things) (parts_of-below parts (is_same value thing))
 
--- behind the last thing there is no bit
+-- after the last thing there is no bit
 pub spread-none : (value : Bool) (parts : ℕ) (things : List Bool) → 0 ≡ spread value parts (drop (length things - 0) things)
 unfolding spread
 spread-none value parts things = let e : length things - 0 ≡ length things = omega arith in
@@ -65,15 +65,15 @@ spread-none value parts things = let e : length things - 0 ≡ length things = o
 
 -- one more thing's bits fit
 pub has_room :
-    (value : Bool) (parts behind bits : ℕ) (things : List Bool) → bits ≡ spread value parts (drop (length things - behind) things)
-    → behind < length things → parts * length things ≤ 128 → bits * 2 ^ parts + 2 ^ parts ≤ 2 ^ 128
-has_room value parts behind bits things is within all =
-    let long : length (drop (length things - behind) things) ≡ behind = length-drop (length things - behind) things ∙ omega (arith, within) in
-    let small = as_many bits (spread value parts (drop (length things - behind) things)) (length (drop (length things - behind) things)) behind
-    is long (spread-below value parts (drop (length things - behind) things)) in
-    let fits = moved_fits bits parts behind small in
-    let more : parts * (behind + 1) ≤ 128 = at_most parts (behind + 1) (length things) (omega (arith, within)) all in
-    let power : 2 ^ (parts * (behind + 1)) ≤ 2 ^ 128 = pow-le-pow_right {n = 2} (omega arith) more in
+    (value : Bool) (parts after bits : ℕ) (things : List Bool) → bits ≡ spread value parts (drop (length things - after) things)
+    → after < length things → parts * length things ≤ 128 → bits * 2 ^ parts + 2 ^ parts ≤ 2 ^ 128
+has_room value parts after bits things is within all =
+    let long : length (drop (length things - after) things) ≡ after = length-drop (length things - after) things ∙ omega (arith, within) in
+    let small = as_many bits (spread value parts (drop (length things - after) things)) (length (drop (length things - after) things)) after
+    is long (spread-below value parts (drop (length things - after) things)) in
+    let fits = moved_fits bits parts after small in
+    let more : parts * (after + 1) ≤ 128 = at_most parts (after + 1) (length things) (omega (arith, within)) all in
+    let power : 2 ^ (parts * (after + 1)) ≤ 2 ^ 128 = pow-le-pow_right {n = 2} (omega arith) more in
     omega (arith, fits, power)
   where
     as_many : (a b m n : ℕ) → a ≡ b → m ≡ n → b < 2 ^ (parts * m) → a < 2 ^ (parts * n)
@@ -84,10 +84,10 @@ has_room value parts behind bits things is within all =
 
 -- all things are done
 pub spread-all :
-    (value : Bool) (parts behind bits : ℕ) (things : List Bool) → length things ≤ behind
-    → bits ≡ spread value parts (drop (length things - behind) things) → bits ≡ spread value parts things
-spread-all value parts behind bits things done is =
-    let none : length things - behind ≡ 0 = omega (arith, done) in
+    (value : Bool) (parts after bits : ℕ) (things : List Bool) → length things ≤ after
+    → bits ≡ spread value parts (drop (length things - after) things) → bits ≡ spread value parts things
+spread-all value parts after bits things done is =
+    let none : length things - after ≡ 0 = omega (arith, done) in
     is ∙ ap (λ n. spread value parts (drop n things)) none
 
 -- the bits of those that are set and of those that aren't are all bits
@@ -117,21 +117,21 @@ others_of parts all word things is_all is =
 
 -- one more thing, from the last one to the first
 pub spread-more :
-    (parts behind bits new : ℕ) (things : List Bool) (d : Bool) → behind < length things
-    → bits ≡ spread true parts (drop (length things - behind) things)
-    → new ≡ bits * 2 ^ parts + parts_of parts (get_or things (length things - 1 - behind) d)
-    → new ≡ spread true parts (drop (length things - (behind + 1)) things)
+    (parts after bits new : ℕ) (things : List Bool) (d : Bool) → after < length things
+    → bits ≡ spread true parts (drop (length things - after) things)
+    → new ≡ bits * 2 ^ parts + parts_of parts (get_or things (length things - 1 - after) d)
+    → new ≡ spread true parts (drop (length things - (after + 1)) things)
 unfolding spread
-spread-more parts behind bits new things d within is is_new =
+spread-more parts after bits new things d within is is_new =
     is_new
-    ∙ ap (λ n. n * 2 ^ parts + parts_of parts (get_or things (length things - 1 - behind) d)) is
+    ∙ ap (λ n. n * 2 ^ parts + parts_of parts (get_or things (length things - 1 - after) d)) is
     ∙ sym (ap (spread true parts) cut)
   where
-    cut : drop (length things - (behind + 1)) things ≡ get_or things (length things - 1 - behind) d ∷ drop (length things - behind) things
-    cut = let e : length things - (behind + 1) ≡ length things - 1 - behind = omega arith in
-        let f : suc (length things - 1 - behind) ≡ length things - behind = omega (arith, within) in
-        ap (λ n. drop n things) e ∙ drop-cons things (length things - 1 - behind) d (omega (arith, within))
-        ∙ ap (λ n. get_or things (length things - 1 - behind) d ∷ drop n things) f
+    cut : drop (length things - (after + 1)) things ≡ get_or things (length things - 1 - after) d ∷ drop (length things - after) things
+    cut = let e : length things - (after + 1) ≡ length things - 1 - after = omega arith in
+        let f : suc (length things - 1 - after) ≡ length things - after = omega (arith, within) in
+        ap (λ n. drop n things) e ∙ drop-cons things (length things - 1 - after) d (omega (arith, within))
+        ∙ ap (λ n. get_or things (length things - 1 - after) d ∷ drop n things) f
 
 -- the bits of a part of a thing
 pub spread-bit : (value : Bool) (parts : ℕ) (things : List Bool) (thing part : ℕ) → part < parts → thing < length things

@@ -9,5 +9,5 @@ abbrev pub pilots_of : pilots.Inside → PilotStates
 pilots_of p = record { transferred = p.transferred; picked_up = p.picked_up }
 
 -- the latches by their fields
-abbrev pub latches_of : indicate.Inside → Latches
-latches_of l = record { minor = l.minor; intermediate = l.intermediate; major = l.major }
+abbrev pub indicate_latches : indicate.Inside → Latches
+indicate_latches l = record { minor = l.minor; intermediate = l.intermediate; major = l.major }

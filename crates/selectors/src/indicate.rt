@@ -2,7 +2,7 @@
 
 use crate::spread::spread;
 use hubs::Hub;
-use net::{Contacts, Cycle, Level, Ordinal, Picture, Point, Unit};
+use net::{Contacts, Cycle, Ordinal, Picture, Point, ProgramLevel, Unit};
 use std::marker::Model;
 
 /// Group indication: 30 positions on each of the levels 1 to 3, which lead on in the first card cycle of a group.
@@ -21,9 +21,9 @@ impl Model for Indicate {
 
     ghost Value = { Latches };
 
-    ghost use Rattle.selectors.specs.Fields.{latches_of};
+    ghost use Rattle.selectors.specs.Fields.{indicate_latches};
 
-    ghost view = { latches_of };
+    ghost view = { indicate_latches };
 
     ghost inverse = { λ l. record { minor = l.minor; intermediate = l.intermediate; major = l.major } };
 }
@@ -95,9 +95,9 @@ impl Unit for Indicate {
                 self.intermediate = false;
                 self.major = false;
             }
-            Cycle::Prog(Level::Minor, Ordinal::Third) => self.minor = true,
-            Cycle::Prog(Level::Intermediate, Ordinal::Third) => self.intermediate = true,
-            Cycle::Prog(Level::Major, Ordinal::Third) => self.major = true,
+            Cycle::Prog(ProgramLevel::Minor, Ordinal::Third) => self.minor = true,
+            Cycle::Prog(ProgramLevel::Intermediate, Ordinal::Third) => self.intermediate = true,
+            Cycle::Prog(ProgramLevel::Major, Ordinal::Third) => self.major = true,
             _ => {}
         }
     }

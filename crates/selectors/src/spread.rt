@@ -11,8 +11,8 @@ pub(crate) fn spread(things: &[bool], parts: usize) -> u128
     ensures below { result < 2 ^ (parts * length things.now) }
 {
     let mut bits = 0;
-    for behind in 0..things.len() {
-        let at = things.len() - 1 - behind;
+    for after in 0..things.len() {
+        let at = things.len() - 1 - after;
         bits = with_parts(bits, parts, things[at]);
     }
     bits

@@ -2,7 +2,7 @@
 use Rattle.std.proofs.Common.{◌≡◌, ◌∙◌, sym, subst, ℕ, ◌<◌, Bool, false, List, [], length, get_or}
 use Rattle.std.proofs.lemmas.List.{ext_get_or}
 use Rattle.std.proofs.lemmas.List.Elements.{All-get_or}
-use Rattle.setups.specs.Tapes.{Form, IsForm, SameTape}
+use Rattle.setups.specs.Tapes.{CarriageTape, IsCarriageTape, SameTape}
 
 -- rows with as many places are the same where they have the same stops
 same_row : (one other : List Bool) → length one ≡ 145 → length other ≡ 145
@@ -10,14 +10,14 @@ same_row : (one other : List Bool) → length one ≡ 145 → length other ≡ 1
 same_row one other long also same = ext_get_or false one other (long ∙ sym also) (λ line _. same line)
 
 -- the same tapes are equal
-pub SameTape-same : (one other : Form) → IsForm one → IsForm other → SameTape one other → one ≡ other
+pub SameTape-same : (one other : CarriageTape) → IsCarriageTape one → IsCarriageTape other → SameTape one other → one ≡ other
 SameTape-same one other first second same = λ i. record {
   lines = sym same.lines i;
   first = sym same.first i;
   overflow = sym same.overflow i;
   stops = rows i;
 } where
-  long_row : (form : Form) → IsForm form → (channel : ℕ) → channel < length form.stops → length (get_or form.stops channel []) ≡ 145
+  long_row : (form : CarriageTape) → IsCarriageTape form → (channel : ℕ) → channel < length form.stops → length (get_or form.stops channel []) ≡ 145
   long_row form is channel within = All-get_or (λ (r : List Bool). length r ≡ 145) form.stops channel [] within is.places.lines
 
   rows : one.stops ≡ other.stops

@@ -8,7 +8,7 @@ use Rattle.std.proofs.lemmas.List.{get_or_default, get_or-take, length-set, leng
 use Rattle.std.proofs.lemmas.List.Elements.{All-from_get_or, All-get_or, All-push, Contains-get_or, Contains-append_left}
 use Rattle.std.proofs.lemmas.List.Elements.{Contains-push, Contains-push_cases}
 use Rattle.std.proofs.lemmas.List.Quantifiers.{all_pairs_push}
-use Rattle.setups.specs.Tapes.{Form, has_stop, IsForm, IsStop, IsTape, HasStops, AddsStop}
+use Rattle.setups.specs.Tapes.{CarriageTape, has_stop, IsCarriageTape, IsStop, IsTape, HasStops, AddsStop}
 use Rattle.std.proofs.lemmas.Grind.{common_steps}
 use Rattle.std.proofs.lemmas.Bool.Decides.{nat_tests}
 
@@ -34,7 +34,7 @@ blank_rows (row ∷ rows) blank zero l = blank_row row (and_parts _ _ blank).0 l
 blank_rows (row ∷ rows) blank (suc c) l = blank_rows rows (and_parts _ _ blank).1 c l
 
 -- the tape's stops are still exactly the holes, with one more on both sides
-pub HasStops-push : (old new : Form) (holes : List (ℕ × ℕ)) (channel line : ℕ) → HasStops old holes
+pub HasStops-push : (old new : CarriageTape) (holes : List (ℕ × ℕ)) (channel line : ℕ) → HasStops old holes
     → AddsStop old new channel line → HasStops new (holes ++ (channel, line) ∷ [])
 HasStops-push old new holes channel line held adds c l = (listed, stands) where
   listed : has_stop new c l ≡ true → Contains (holes ++ (channel, line) ∷ []) (c, l)
@@ -59,7 +59,7 @@ HasStops-push old new holes channel line held adds c l = (listed, stands) where
       (Contains-push_cases holes (channel, line) (c, l) there)
 
 -- a stop of the form that is not there may join the stops of a tape
-pub IsTape-push : (lines first overflow : ℕ) (form : Form) (holes : List (ℕ × ℕ)) (channel line : ℕ)
+pub IsTape-push : (lines first overflow : ℕ) (form : CarriageTape) (holes : List (ℕ × ℕ)) (channel line : ℕ)
     → HasStops form holes → IsTape lines first overflow holes → IsStop lines channel line
     → has_stop form channel line ≡ false → IsTape lines first overflow (holes ++ (channel, line) ∷ [])
 IsTape-push lines first overflow form holes channel line held tape stop free =
@@ -74,7 +74,7 @@ IsTape-push lines first overflow form holes channel line held tape stop free =
     }
 
 -- a stop that a tape can't take spoils each list of stops that it stands in
-pub refused : (lines first overflow : ℕ) (form : Form) (stops : List (ℕ × ℕ)) (i : ℕ) (d : ℕ × ℕ) → i < length stops
+pub refused : (lines first overflow : ℕ) (form : CarriageTape) (stops : List (ℕ × ℕ)) (i : ℕ) (d : ℕ × ℕ) → i < length stops
     → HasStops form (take i stops)
     → (IsStop lines (get_or stops i d).0 (get_or stops i d).1
     → has_stop form (get_or stops i d).0 (get_or stops i d).1 ≡ false → ⊥)
@@ -102,11 +102,11 @@ lines-set stops row channel within long all =
         grind (arith, nat_tests, common_steps)
 
 -- a stop punched into a tape leaves a tape
-pub IsForm-punched : (form : Form) (row : List Bool) (channel line : ℕ) → IsForm form → IsStop form.lines channel line
+pub IsCarriageTape-punched : (form : CarriageTape) (row : List Bool) (channel line : ℕ) → IsCarriageTape form → IsStop form.lines channel line
     → length row ≡ 145 → ((l : ℕ) → get_or row l false ≡ (get_or (get_or form.stops channel []) l false || eqb l line))
-    → IsForm
+    → IsCarriageTape
     (record { lines = form.lines; first = form.first; overflow = form.overflow; stops = set form.stops channel row })
-IsForm-punched form row channel line is stop long in_row = record {
+IsCarriageTape-punched form row channel line is stop long in_row = record {
   formed = is.formed;
   places = record {
     channels = length-set form.stops channel row ∙ is.places.channels;

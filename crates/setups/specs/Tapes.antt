@@ -4,14 +4,14 @@ use Rattle.std.specs.Prelude.{List, [], All, AllPairs, Contains, length, slice_i
 
 -- A carriage tape: the lines of a form, its first line (channel 1), its overflow line (channel 12), and the stops of
 -- channels 2 to 11. Read the stops through has_stop alone.
-pub record Form : Type 0 where
+pub record CarriageTape : Type 0 where
   pub lines : ℕ
   pub first : ℕ
   pub overflow : ℕ
   pub stops : List (List Bool)
 
 -- whether a channel has a stop at a line
-abbrev pub has_stop : Form → ℕ → ℕ → Bool
+abbrev pub has_stop : CarriageTape → ℕ → ℕ → Bool
 has_stop form channel line = slice_index_or (slice_index_or form.stops channel []) line false
 
 -- a stop of a form of so many lines: channel 2 to 11, and a line of the form
@@ -31,12 +31,12 @@ pub record IsFormed (lines first overflow : ℕ) : Type 0 where
   pub overflow_to : overflow ≤ lines
 
 -- Every tape keeps places for 12 channels, and in each for 145 lines, from 0 on: a channel and a line stand at their own numbers.
-pub record HasPlaces (form : Form) : Type 0 where
+pub record HasPlaces (form : CarriageTape) : Type 0 where
   pub channels : length form.stops ≡ 12
   pub lines : All (λ row. length row ≡ 145) form.stops
 
 -- a form that a tape can have
-pub record IsForm (form : Form) : Type 0 where
+pub record IsCarriageTape (form : CarriageTape) : Type 0 where
   pub formed : IsFormed form.lines form.first form.overflow
   pub places : HasPlaces form
   pub stops : (channel line : ℕ) → has_stop form channel line ≡ true → IsStop form.lines channel line
@@ -48,18 +48,18 @@ pub record IsTape (lines first overflow : ℕ) (holes : List (ℕ × ℕ)) : Typ
   pub once : AllPairs (λ one other. one ≢ other) holes
 
 -- the tape has exactly these stops
-abbrev pub HasStops : Form → List (ℕ × ℕ) → Type 0
+abbrev pub HasStops : CarriageTape → List (ℕ × ℕ) → Type 0
 HasStops form holes = (channel line : ℕ) → (has_stop form channel line ≡ true) ↔ Contains holes (channel, line)
 
 -- new is old with a stop more
-pub record AddsStop (old new : Form) (channel line : ℕ) : Type 0 where
+pub record AddsStop (old new : CarriageTape) (channel line : ℕ) : Type 0 where
   pub lines : new.lines ≡ old.lines
   pub first : new.first ≡ old.first
   pub overflow : new.overflow ≡ old.overflow
   pub stops : (c l : ℕ) → has_stop new c l ≡ (has_stop old c l || (nat_eq c channel && nat_eq l line))
 
 -- two tapes are the same: the same lines, first line and overflow line, and the same stops
-pub record SameTape (one other : Form) : Type 0 where
+pub record SameTape (one other : CarriageTape) : Type 0 where
   pub lines : other.lines ≡ one.lines
   pub first : other.first ≡ one.first
   pub overflow : other.overflow ≡ one.overflow

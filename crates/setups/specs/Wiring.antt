@@ -4,7 +4,7 @@ use Rattle.std.specs.List.{list_any}
 use Rattle.hubs.specs.Carries.{do_wires_agree, keeps_carry}
 use Rattle.hubs.specs.Hubs.{number_of, is_exit_hub, is_entry_hub}
 use Rattle.hubs.specs.Jacks.{jack_place, is_jack_in_range, is_same_jack}
-use Rattle.setups.specs.Tapes.{Form}
+use Rattle.setups.specs.Tapes.{CarriageTape}
 use Rattle.hubs.specs.declared.hub.Hub.{Hub}
 use Rattle.hubs.specs.declared.jack.Jack.{Jack}
 
@@ -12,7 +12,7 @@ use Rattle.hubs.specs.declared.jack.Jack.{Jack}
 pub record Wiring : Type 0 where
   pub wires : List (List ℕ)
   pub jacks : List Bool
-  pub tape : Form
+  pub tape : CarriageTape
 
 -- A wire leads from the exit to the entry: the entry's number stands among those at the exit's number.
 pub record HasWire (wiring : Wiring) (exit entry : Hub) : Type 0 where

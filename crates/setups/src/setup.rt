@@ -46,7 +46,7 @@ impl Setup {
     ghost use Rattle.hubs.specs.declared.hub.Hub.TheVariants.{CO};
     ghost use Rattle.setups.specs.CarryWires.{stands_beside, stands_with};
     ghost use Rattle.hubs.specs.Jacks.{is_jack_in_range};
-    ghost use Rattle.setups.specs.Tapes.{has_stop, IsStop, AddsStop, IsForm};
+    ghost use Rattle.setups.specs.Tapes.{has_stop, IsStop, AddsStop, IsCarriageTape};
     ghost use Rattle.setups.specs.Wiring.{CanJoin, HasWire, is_plugged, IsEntryNumber, IsLawfulWiring, SameWires, SameJacks, AddsWire, AddsJack};
     ghost use Rattle.hubs.specs.declared.hub.Hub.{Hub};
     ghost use Rattle.hubs.specs.declared.jack.Jack.{Jack};
@@ -174,7 +174,7 @@ impl Setup {
     pub fn known(&self) -> &Setup
         ensures value { result.now ≡ self.now }
         ensures wires { IsLawfulWiring self.now }
-        ensures form { IsForm self.now.tape }
+        ensures form { IsCarriageTape self.now.tape }
     {
         let _tape = self.tape.known();
         self
@@ -240,7 +240,7 @@ impl Setup {
     /// The carriage tape.
     pub fn tape(&self) -> &Tape
         ensures value { result.now ≡ self.now.tape }
-        ensures form { IsForm self.now.tape }
+        ensures form { IsCarriageTape self.now.tape }
     {
         self.tape.known()
     }

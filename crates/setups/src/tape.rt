@@ -24,22 +24,22 @@ pub struct Tape {
 }
 
 impl Model for Tape {
-    ghost use Rattle.setups.specs.Tapes.{Form, IsForm};
+    ghost use Rattle.setups.specs.Tapes.{CarriageTape, IsCarriageTape};
 
-    ghost Value = { Form };
+    ghost Value = { CarriageTape };
 
-    ghost use Rattle.setups.specs.Fields.{form_of};
+    ghost use Rattle.setups.specs.Fields.{carriage_tape};
 
-    ghost view = { form_of };
+    ghost view = { carriage_tape };
 
-    ghost invariant = { λ tape. IsForm (form_of tape) };
+    ghost invariant = { λ tape. IsCarriageTape (carriage_tape tape) };
 
     ghost inverse = { λ f. record { lines = f.lines; first = f.first; overflow = f.overflow; stops = f.stops } };
 }
 
 impl Tape {
     ghost use Rattle.std.specs.Prelude.{◌≡◌, ◌↔◌, true, false, IsTrue, Ok, IsOk, IfOk, IfErr, OnOk, OnErr};
-    ghost use Rattle.setups.specs.Tapes.{has_stop, IsForm, IsStop, IsTape, AddsStop, HasStops};
+    ghost use Rattle.setups.specs.Tapes.{has_stop, IsCarriageTape, IsStop, IsTape, AddsStop, HasStops};
     ghost use Rattle.setups.specs.declared.fault.SetupFault.{SetupFault};
     ghost use Rattle.std.specs.Bool.{OnTrue, OnFalse};
 
@@ -55,7 +55,7 @@ impl Tape {
         ensures first { IfOk result (λ tape. tape.first ≡ first) }
         ensures overflow { IfOk result (λ tape. tape.overflow ≡ overflow) }
         ensures stops { IfOk result (λ tape. HasStops tape stops.now) }
-        ensures form { IfOk result IsForm }
+        ensures form { IfOk result IsCarriageTape }
     {
         if !is_formed(lines, first, overflow) {
             return Err(SetupFault::TapeFault);
@@ -93,7 +93,7 @@ impl Tape {
     // The tape, and what is known of every tape.
     pub(crate) fn known(&self) -> &Tape
         ensures value { result.now ≡ self.now }
-        ensures form { IsForm self.now }
+        ensures form { IsCarriageTape self.now }
     {
         let _lines = self.lines;
         self
@@ -106,7 +106,7 @@ impl Tape {
             ↔ (IsStop self.old.lines channel line × (has_stop self.old channel line ≡ false)) }
         ensures added { OnTrue result (AddsStop self.old self.new channel line) }
         ensures refused { OnFalse result (self.new ≡ self.old) }
-        ensures form { IsForm self.new }
+        ensures form { IsCarriageTape self.new }
     {
         if !is_stop(self.lines, channel, line) || self.has_stop(channel, line) {
             return false;
@@ -118,7 +118,7 @@ impl Tape {
     /// The lines of a form, 3 to 144.
     pub fn lines(&self) -> u8
         ensures value { result ≡ self.now.lines }
-        ensures form { IsForm self.now }
+        ensures form { IsCarriageTape self.now }
     {
         self.lines
     }
@@ -126,7 +126,7 @@ impl Tape {
     /// The first line that is printed on a page, 1 to `lines`.
     pub fn first(&self) -> u8
         ensures value { result ≡ self.now.first }
-        ensures form { IsForm self.now }
+        ensures form { IsCarriageTape self.now }
     {
         self.first
     }
@@ -134,7 +134,7 @@ impl Tape {
     /// The overflow line, 1 to `lines`.
     pub fn overflow(&self) -> u8
         ensures value { result ≡ self.now.overflow }
-        ensures form { IsForm self.now }
+        ensures form { IsCarriageTape self.now }
     {
         self.overflow
     }
@@ -142,7 +142,7 @@ impl Tape {
     /// Whether a channel 2 to 11 has a stop at a line of the form; false for any other channel or line.
     pub fn has_stop(&self, channel: u8, line: u8) -> bool
         ensures value { result ≡ has_stop self.now channel line }
-        ensures form { IsForm self.now }
+        ensures form { IsCarriageTape self.now }
     {
         (channel as usize) < CHANNELS
             && (line as usize) < LINES

@@ -2,7 +2,7 @@
 use Rattle.std.proofs.Common.{◌≡◌, ◌∙◌, ◌&&◌, ◌||◌, ℕ, ◌-◌, suc, Bool, true, false, List, [], ◌∷◌, map, Option, refl, ap, arith, bit_or, nat_lt, slice_set}
 use Rattle.std.specs.List.{list_any}
 use Rattle.std.proofs.lemmas.Bool.Decides.{nat_tests}
-use Rattle.card_code.specs.Rows.{rows, row_place}
+use Rattle.card_code.specs.Rows.{rows, passing_place}
 use Rattle.card_code.specs.declared.row.Row.{Row as CardRow}
 use Rattle.hub_table.specs.Ranges.{is_within}
 use Rattle.hubs.specs.declared.hub.Hub.{Hub}
@@ -14,7 +14,7 @@ use Rattle.net.specs.declared.cycle.Cycle.TheVariants.{RunIn, Card}
 use Rattle.net.specs.declared.cycle.Point.{Point}
 use Rattle.net.specs.declared.cycle.Point.TheVariants.{Row, K}
 use Rattle.stations.specs.Comparing.{Compared, comparing_emits, comparing_sensed, comparing_at_start, differences_emit, are_unlike, is_in_one, joined, positions, sets_at}
-use Rattle.stations.specs.Laws.{ComparingTellsDifferences, KeepsToOwn, compared_behind}
+use Rattle.stations.specs.Laws.{ComparingTellsDifferences, KeepsToOwn, compared_after}
 use Rattle.stations.specs.Stations.{StationCards, stations_emits, first_emits, second_emits}
 use Rattle.stations.proofs.PositionWords.{is_bit-or, is_bit-positions}
 use Rattle.stations.proofs.RowWords.{no_bit}
@@ -57,8 +57,8 @@ senses-own compared Card (Row row) one other agree =
     λ i. positions 30 (λ p. agree (CA p) refl i) in
     let second : positions 30 (λ p. one (CB p)) ≡ positions 30 (λ p. other (CB p)) =
     λ i. positions 30 (λ p. agree (CB p) refl i) in
-    let pair : ℕ × ℕ = sets_at (row_place row) compared.sets in
-    λ i. record { sets = slice_set compared.sets (row_place row) (bit_or pair.0 (first i), bit_or pair.1 (second i)) }
+    let pair : ℕ × ℕ = sets_at (passing_place row) compared.sets in
+    λ i. record { sets = slice_set compared.sets (passing_place row) (bit_or pair.0 (first i), bit_or pair.1 (second i)) }
 senses-own compared cycle point one other agree = refl
 
 pub keeps_to_own : KeepsToOwn
@@ -89,14 +89,14 @@ any_map test f (x ∷ xs) = ap (λ (b : Bool). test (f x) || b) (any_map test f 
 
 -- what is collected over a card cycle
 collected : (pictures : CardRow → Hub → Bool)
-    → (compared_behind rows pictures comparing_at_start).sets ≡ map (λ row. joined (0, 0) (pictures row)) rows
+    → (compared_after rows pictures comparing_at_start).sets ≡ map (λ row. joined (0, 0) (pictures row)) rows
 collected pictures = refl
 
 pub tells_differences : ComparingTellsDifferences
 tells_differences pictures p = by (is_within p 30) refl
   where
     by : (within : Bool) → is_within p 30 ≡ within
-        → (within && list_any (is_in_one (p - 1)) (compared_behind rows pictures comparing_at_start).sets)
+        → (within && list_any (is_in_one (p - 1)) (compared_after rows pictures comparing_at_start).sets)
         ≡ (within && list_any (λ row. are_unlike (pictures row (CA p)) (pictures row (CB p))) rows)
     by false is = refl
     by true is =

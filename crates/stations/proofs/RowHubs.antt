@@ -2,7 +2,7 @@
 use Rattle.std.proofs.Common.{◌≡◌, ◌∙◌, ◌⊎◌, ℕ, suc, ◌+◌, ◌-◌, ◌<◌, ◌≤◌, arith, refl, sym, inr, Bool, true, false, ◌&&◌, List, slice_index, nat_lt, nat_le, Option, Some, None}
 use Rattle.std.specs.Prelude.{option_map, if◌then◌else◌}
 use Rattle.std.proofs.lemmas.Bool.Decides.{nat_tests}
-use Rattle.card_code.specs.Rows.{row_place}
+use Rattle.card_code.specs.Rows.{passing_place}
 use Rattle.card_code.specs.declared.row.Row.{Row}
 use Rattle.hub_table.specs.Ranges.{is_within}
 use Rattle.hub_table.specs.HubTable.{HasNumber}
@@ -29,31 +29,31 @@ other_kind first last bits hub (Some n) is none apart = off_row first n last bit
 own_kind :
     (card : Option (List ℕ)) (words : List ℕ) (row : Row) (column before : ℕ) (test : Bool) → AreRowsAt card words
     → is_within column 80 ≡ test
-    → is_bit_from (Some (before + 1)) (slice_index words (row_place row))
+    → is_bit_from (Some (before + 1)) (slice_index words (passing_place row))
     (option_map (λ (place : ℕ). before + place) (if test then Some column else None))
     ≡ is_punched_at card row column
 own_kind card words row column before true are within =
-    let behind : nat_le (before + 1) (before + column) ≡ true = grind (arith, nat_tests, within) in
+    let after : nat_le (before + 1) (before + column) ≡ true = grind (arith, nat_tests, within) in
     let bit : before + column - (before + 1) ≡ column - 1 = grind (arith, nat_tests, within) in
-    rw (behind, bit) (column_bit card words row column are within)
+    rw (after, bit) (column_bit card words row column are within)
 own_kind card words row column before false are within = sym (not_punched card row column within)
 
 -- the row of first reading
 pub first_row :
     (card : Option (List ℕ)) (words : List ℕ) (row : Row) (hub : Hub) → AreRowsAt card words
-    → is_in_row (FR 1) (slice_index words (row_place row)) hub ≡ first_emits card row hub
+    → is_in_row (FR 1) (slice_index words (passing_place row)) hub ≡ first_emits card row hub
 first_row card words row (FR column) are = own_kind card words row column 0 (is_within column 80) are refl
 first_row card words row other are =
-    other_kind 1 80 (slice_index words (row_place row)) other (number_of other) refl (no_bit_past card words row are)
+    other_kind 1 80 (slice_index words (passing_place row)) other (number_of other) refl (no_bit_past card words row are)
     (λ n has. inr (omega (arith, has)))
 
 -- the row of second reading
 pub second_row :
     (card : Option (List ℕ)) (words : List ℕ) (row : Row) (hub : Hub) → AreRowsAt card words
-    → is_in_row (SR 1) (slice_index words (row_place row)) hub ≡ second_emits card row hub
+    → is_in_row (SR 1) (slice_index words (passing_place row)) hub ≡ second_emits card row hub
 second_row card words row (SR column) are = own_kind card words row column 80 (is_within column 80) are refl
 second_row card words row other are =
-    other_kind 81 80 (slice_index words (row_place row)) other (number_of other) refl (no_bit_past card words row are)
+    other_kind 81 80 (slice_index words (passing_place row)) other (number_of other) refl (no_bit_past card words row are)
     (λ n has. grind (arith, has))
 
 -- the bit of a position, in a row of 30
@@ -63,16 +63,16 @@ position_bit :
     → is_bit_from (Some (before + 1)) bits (option_map (λ (place : ℕ). before + place) (if test then Some p else None))
     ≡ (test && there (p - 1))
 position_bit before bits p true within there are =
-    let behind : nat_le (before + 1) (before + p) ≡ true = grind (arith, nat_tests, within) in
+    let after : nat_le (before + 1) (before + p) ≡ true = grind (arith, nat_tests, within) in
     let bit : before + p - (before + 1) ≡ p - 1 = grind (arith, nat_tests, within) in
     let below : nat_lt (p - 1) 30 ≡ true = grind (arith, nat_tests, within) in
-    rw (behind, bit, are (p - 1), below) refl
+    rw (after, bit, are (p - 1), below) refl
 position_bit before bits p false within there are = refl
 
--- a row of 30 bits has none behind them
-none_behind : (bits : ℕ) (there : ℕ → Bool) → ((k : ℕ) → is_bit bits k ≡ (nat_lt k 30 && there k))
+-- a row of 30 bits has none after them
+none_after : (bits : ℕ) (there : ℕ → Bool) → ((k : ℕ) → is_bit bits k ≡ (nat_lt k 30 && there k))
     → (k : ℕ) → 30 ≤ k → is_bit bits k ≡ false
-none_behind bits there are k past = let off : nat_lt k 30 ≡ false = grind (arith, nat_tests) in are k ∙ (rw off refl)
+none_after bits there are k past = let off : nat_lt k 30 ≡ false = grind (arith, nat_tests) in are k ∙ (rw off refl)
 
 -- the row of the positions that differ
 pub difference_row :
@@ -82,7 +82,7 @@ pub difference_row :
 difference_row sets word (CX p) are =
     position_bit 160 word p (is_within p 30) refl (λ k. list_any (is_in_one k) sets) are
 difference_row sets word other are =
-    other_kind 161 30 word other (number_of other) refl (none_behind word (λ k. list_any (is_in_one k) sets) are)
+    other_kind 161 30 word other (number_of other) refl (none_after word (λ k. list_any (is_in_one k) sets) are)
     (λ n has. grind (arith, has))
 
 -- the bits of the entries of a position, read in one row from the first entry on
@@ -94,9 +94,9 @@ first_entry row hubs reads k below =
     let within : is_within (suc k) 30 ≡ true = grind (arith, nat_tests, below) in
     let number : number_of (CA (suc k)) ≡ Some (1040 + suc k) = rw within refl in
     let near : is_in_reach (CA 1) (CA (suc k)) ≡ true = rw number (grind (arith, nat_tests, below)) in
-    let behind : nat_le 1041 (1040 + suc k) ≡ true = grind (arith, nat_tests) in
+    let after : nat_le 1041 (1040 + suc k) ≡ true = grind (arith, nat_tests) in
     let bit : 1040 + suc k - 1041 ≡ k = omega arith in
-    let found : is_in_row (CA 1) row (CA (suc k)) ≡ is_bit row k = rw (number, behind, bit) refl in
+    let found : is_in_row (CA 1) row (CA (suc k)) ≡ is_bit row k = rw (number, after, bit) refl in
     sym found ∙ reads (CA (suc k)) near
 
 pub second_entry :
@@ -107,7 +107,7 @@ second_entry row hubs reads k below =
     let within : is_within (suc k) 30 ≡ true = grind (arith, nat_tests, below) in
     let number : number_of (CB (suc k)) ≡ Some (1070 + suc k) = rw within refl in
     let near : is_in_reach (CA 1) (CB (suc k)) ≡ true = rw number (grind (arith, nat_tests, below)) in
-    let behind : nat_le 1041 (1070 + suc k) ≡ true = grind (arith, nat_tests) in
+    let after : nat_le 1041 (1070 + suc k) ≡ true = grind (arith, nat_tests) in
     let bit : 1070 + suc k - 1041 ≡ 30 + k = omega arith in
-    let found : is_in_row (CA 1) row (CB (suc k)) ≡ is_bit row (30 + k) = rw (number, behind, bit) refl in
+    let found : is_in_row (CA 1) row (CB (suc k)) ≡ is_bit row (30 + k) = rw (number, after, bit) refl in
     sym found ∙ reads (CB (suc k)) near

@@ -6,7 +6,7 @@ use Rattle.std.proofs.lemmas.Nat.{and_le_l}
 use Rattle.std.proofs.lemmas.Nat.Bits.{bit_at_clear_same, bit_at_clear_other, bit_at_above, bit_at-lt, bit_at-trailing_zeros, bit_at-zero}
 use Rattle.std.specs.Int.{bit_at, trailing_zeros}
 use Rattle.card_code.specs.CardCode.{has_row}
-use Rattle.card_code.specs.Rows.{row_number, row_place, is_row_set}
+use Rattle.card_code.specs.Rows.{row_number, passing_place, is_row_set}
 use Rattle.card_code.specs.declared.row.Row.{Row}
 use Rattle.card_code.specs.declared.row.Row.TheVariants.{Zero}
 use Rattle.net.specs.HubSets.{is_bit}
@@ -103,7 +103,7 @@ lowest set row lawful some is =
 -- a row has the place of its number, and no other row has
 place_tells :
     (row : Row) (n : ℕ) → n < 13 → n ≢ 10
-    → ((row_number row ≡ n) × (row_place row ≡ place_of n)) ⊎ ((row_number row ≢ n) × (row_place row ≢ place_of n))
+    → ((row_number row ≡ n) × (passing_place row ≡ place_of n)) ⊎ ((row_number row ≢ n) × (passing_place row ≢ place_of n))
 place_tells Zero n low other = grind (arith, nat_tests)
 place_tells row n low other = grind (arith, nat_tests)
 
@@ -127,11 +127,11 @@ punch-more left rest n column bit word old now long is lost gained before row k 
     whole : (b : Bool) → row_number row ≢ n → (b && not (row_number row == n)) ≡ b
     whole b differ = grind (arith, nat_tests, differ)
 
-    by : ((row_number row ≡ n) × (row_place row ≡ place_of n)) ⊎ ((row_number row ≢ n) × (row_place row ≢ place_of n))
+    by : ((row_number row ≡ n) × (passing_place row ≡ place_of n)) ⊎ ((row_number row ≢ n) × (passing_place row ≢ place_of n))
         → (is_row_bit (slice_set now (place_of n) word) row k || (has_row rest (row_number row) && (k == bit)))
         ≡ (is_row_bit old row k || (has_row column (row_number row) && (k == bit)))
     by (inl same) =
-        let found : slice_index (slice_set now (place_of n) word) (row_place row) ≡ word =
+        let found : slice_index (slice_set now (place_of n) word) (passing_place row) ≡ word =
         ap (λ (at : ℕ). slice_index (slice_set now (place_of n) word) at) same.1
         ∙ get_or-set_same {A = ℕ} now (place_of n) word 0 (omega (arith, place_below row, same.1)) in
         let bit_now : is_bit word k ≡ (is_row_bit now row k || (k == bit)) = rw same.1 (gained k) in
@@ -142,8 +142,8 @@ punch-more left rest n column bit word old now long is lost gained before row k 
         ∙ done_here (is_row_bit now row k) (is_bit word k) (has_row left (row_number row)) (has_row rest (row_number row))
         (k == bit) _ bit_now on off (before row k)
     by (inr other) =
-        let found : slice_index (slice_set now (place_of n) word) (row_place row) ≡ slice_index now (row_place row) =
-        get_or-set_other {A = ℕ} now (place_of n) (row_place row) word 0 other.1 in
+        let found : slice_index (slice_set now (place_of n) word) (passing_place row) ≡ slice_index now (passing_place row) =
+        get_or-set_other {A = ℕ} now (place_of n) (passing_place row) word 0 other.1 in
         let kept : has_row rest (row_number row) ≡ has_row left (row_number row) =
         lost (row_number row) ∙ whole (has_row left (row_number row)) other.0 in
         rw (found, kept) (before row k)

@@ -5,7 +5,7 @@ use Rattle.std.proofs.lemmas.Bool.Decides.{eqb_tells, nat_tests}
 use Rattle.std.proofs.lemmas.List.{get_or-replicate}
 use Rattle.std.proofs.lemmas.Nat.Bits.{bit_at-zero}
 use Rattle.std.proofs.lemmas.Bool.{and_left}
-use Rattle.card_code.specs.Rows.{row_place, rows}
+use Rattle.card_code.specs.Rows.{passing_place, rows}
 use Rattle.card_code.specs.declared.row.Row.{Row}
 use Rattle.card_code.specs.declared.row.Row.TheVariants.{Zero}
 use Rattle.hub_table.specs.Ranges.{is_within}
@@ -19,18 +19,18 @@ unfolding is_bit
 no_bit k = rw (bit_at-zero k) refl
 
 -- at its place among the rows stands the row, whatever stands for none
-pub row_at_place : (row other : Row) → get_or rows (row_place row) other ≡ row
+pub row_at_place : (row other : Row) → get_or rows (passing_place row) other ≡ row
 row_at_place Zero other = refl
 row_at_place row other = refl
 
 -- a row's place is one of twelve
-pub place_below : (row : Row) → row_place row < 12
+pub place_below : (row : Row) → passing_place row < 12
 place_below Zero = omega arith
 place_below other = omega arith
 
 -- twelve words without a bit
 pub no_row_bit : (row : Row) (k : ℕ) → is_row_bit (replicate 12 0) row k ≡ false
-no_row_bit row k = rw (get_or-replicate {A = ℕ} 12 (row_place row) 0 0 (place_below row)) (no_bit k)
+no_row_bit row k = rw (get_or-replicate {A = ℕ} 12 (passing_place row) 0 0 (place_below row)) (no_bit k)
 
 -- the rows of no card
 pub no_card : AreRowsAt None (replicate 12 0)
@@ -86,12 +86,12 @@ columns-all card words count all long before = record {
       ∙ narrower (nat_lt bit count) (is_within (bit + 1) 80) _ (λ inside. grind (arith, nat_tests, inside));
 }
 
--- a word without bits from a place on, in a row from the first number on, has no number before or behind the row
+-- a word without bits from a place on, in a row from the first number on, has no number before or after the row
 pub off_row :
     (first n last bits : ℕ) → ((k : ℕ) → last ≤ k → is_bit bits k ≡ false) → (n < first) ⊎ (first + last ≤ n)
     → (nat_le first n && is_bit bits (n - first)) ≡ false
 off_row first n last bits none (inl before) = let off : nat_le first n ≡ false = grind (arith, nat_tests, before) in rw off refl
-off_row first n last bits none (inr behind) =
+off_row first n last bits none (inr after) =
     let off : is_bit bits (n - first) ≡ false = none (n - first) (omega arith) in
     rw off (and-false (nat_le first n))
   where
@@ -101,7 +101,7 @@ off_row first n last bits none (inr behind) =
 
 -- a card has no column past 80
 pub no_bit_past : (card : Option (List ℕ)) (words : List ℕ) (row : Row) → AreRowsAt card words
-    → (k : ℕ) → 80 ≤ k → is_bit (slice_index words (row_place row)) k ≡ false
+    → (k : ℕ) → 80 ≤ k → is_bit (slice_index words (passing_place row)) k ≡ false
 no_bit_past None words row are k past = are.punched row k
 no_bit_past (Some card) words row are k past =
     let off : is_within (k + 1) 80 ≡ false = grind (arith, nat_tests) in
@@ -110,7 +110,7 @@ no_bit_past (Some card) words row are k past =
 -- the bit of a column, where it is one
 pub column_bit : (card : Option (List ℕ)) (words : List ℕ) (row : Row) (column : ℕ) → AreRowsAt card words
     → is_within column 80 ≡ true
-    → is_bit (slice_index words (row_place row)) (column - 1) ≡ is_punched_at card row column
+    → is_bit (slice_index words (passing_place row)) (column - 1) ≡ is_punched_at card row column
 column_bit card words row column are within =
     let same : column - 1 + 1 ≡ column = grind (arith, nat_tests, within) in
     are.punched row (column - 1) ∙ ap (λ (c : ℕ). is_punched_at card row c) same

@@ -2,7 +2,7 @@
 -- the closing point it emits where the two sets of points differ. The end of every cycle makes it forget them.
 use Rattle.std.specs.Prelude.{ℕ, zero, suc, ◌-◌, ◌^◌, ◌&&◌, not, Bool, true, false, List, replicate, if◌then◌else◌, slice_index_or, slice_set, bit_or}
 use Rattle.std.specs.List.{list_any}
-use Rattle.card_code.specs.Rows.{row_place}
+use Rattle.card_code.specs.Rows.{passing_place}
 use Rattle.hub_table.specs.Ranges.{is_within}
 use Rattle.hubs.specs.declared.hub.Hub.{Hub}
 use Rattle.hubs.specs.declared.hub.Hub.TheVariants.{CX, CA, CB}
@@ -58,10 +58,10 @@ abbrev pub comparing_emits : Compared → Cycle → Point → Hub → Bool
 comparing_emits compared Card K hub = differences_emit compared.sets hub
 comparing_emits compared cycle point hub = false
 
--- what comparing has collected behind a point
+-- what comparing has collected after a point
 abbrev pub comparing_sensed : Compared → Cycle → Point → (Hub → Bool) → Compared
 comparing_sensed compared Card (Row row) picture = record {
-  sets = slice_set compared.sets (row_place row) (joined (sets_at (row_place row) compared.sets) picture);
+  sets = slice_set compared.sets (passing_place row) (joined (sets_at (passing_place row) compared.sets) picture);
 }
 comparing_sensed compared cycle point picture = compared
 

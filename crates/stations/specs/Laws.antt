@@ -14,18 +14,18 @@ use Rattle.net.specs.declared.cycle.Point.TheVariants.{Row, K}
 use Rattle.stations.specs.Comparing.{Compared, comparing_at_start, comparing_emits, comparing_sensed, comparing_number, are_unlike}
 use Rattle.stations.specs.Stations.{StationCards, stations_emits, stations_number}
 
--- comparing behind the points of some rows of a card cycle, one after the other, each with its picture
-abbrev pub compared_behind : List CardRow → (CardRow → Hub → Bool) → Compared → Compared
-compared_behind [] pictures compared = compared
-compared_behind (row ∷ others) pictures compared =
-    compared_behind others pictures (comparing_sensed compared Card (Row row) (pictures row))
+-- comparing after the points of some rows of a card cycle, one after the other, each with its picture
+abbrev pub compared_after : List CardRow → (CardRow → Hub → Bool) → Compared → Compared
+compared_after [] pictures compared = compared
+compared_after (row ∷ others) pictures compared =
+    compared_after others pictures (comparing_sensed compared Card (Row row) (pictures row))
 
 -- At the closing point of a card cycle a position emits exactly where at some row one of its entries was impulsed and the
 -- other was not.
 abbrev pub ComparingTellsDifferences : Type 0
 ComparingTellsDifferences =
     (pictures : CardRow → Hub → Bool) (p : ℕ)
-    → comparing_emits (compared_behind rows pictures comparing_at_start) Card K (CX p)
+    → comparing_emits (compared_after rows pictures comparing_at_start) Card K (CX p)
     ≡ (is_within p 30 && list_any (λ row. are_unlike (pictures row (CA p)) (pictures row (CB p))) rows)
 
 -- The stations and comparing emit at exits of their own alone, and comparing senses entries of its own alone: pictures that

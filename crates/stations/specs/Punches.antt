@@ -1,7 +1,7 @@
 -- The punches of a card: whether a row is punched in a column, and a card as one word for each of its rows.
 use Rattle.std.specs.Prelude.{◌≡◌, ℕ, ◌+◌, ◌-◌, ◌&&◌, Bool, false, List, length, Option, Some, None, slice_index}
 use Rattle.card_code.specs.CardCode.{has_row}
-use Rattle.card_code.specs.Rows.{row_number, row_place}
+use Rattle.card_code.specs.Rows.{row_number, passing_place}
 use Rattle.card_code.specs.declared.row.Row.{Row}
 use Rattle.hub_table.specs.Ranges.{is_within}
 use Rattle.net.specs.HubSets.{is_bit}
@@ -20,4 +20,4 @@ is_punched_at (Some card) row column = is_punched card row column
 pub record AreRowsAt (card : Option (List ℕ)) (words : List ℕ) : Type 0 where
   pub twelve : length words ≡ 12
   pub punched :
-      (row : Row) (bit : ℕ) → is_bit (slice_index words (row_place row)) bit ≡ is_punched_at card row (bit + 1)
+      (row : Row) (bit : ℕ) → is_bit (slice_index words (passing_place row)) bit ≡ is_punched_at card row (bit + 1)

@@ -1,14 +1,14 @@
 -- Helper words for loops over the words of rows and positions.
 use Rattle.std.specs.Prelude.{◌≡◌, ℕ, ◌+◌, ◌-◌, ◌==◌, ◌&&◌, ◌||◌, not, nat_lt, Bool, List, slice_index, if◌then◌else◌}
 use Rattle.card_code.specs.CardCode.{has_row}
-use Rattle.card_code.specs.Rows.{row_number, row_place}
+use Rattle.card_code.specs.Rows.{row_number, passing_place}
 use Rattle.card_code.specs.declared.row.Row.{Row}
 use Rattle.net.specs.HubSets.{is_bit}
 use Rattle.stations.specs.Punches.{is_punched}
 
 -- whether a bit of the word of a row is set
 abbrev pub is_row_bit : List ℕ → Row → ℕ → Bool
-is_row_bit words row bit = is_bit (slice_index words (row_place row)) bit
+is_row_bit words row bit = is_bit (slice_index words (passing_place row)) bit
 
 -- the new words of rows have what the old ones have, and the bit in each row that the column has
 abbrev pub GainsColumn : ℕ → ℕ → List ℕ → List ℕ → Type 0

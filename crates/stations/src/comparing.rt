@@ -98,7 +98,7 @@ fn received(picture: &Picture) -> (u32, u32)
     ensures second { result.1 ≡ positions 30 (λ p. has_hub picture.now (CB p)) }
 {
     let row = picture.row(Hub::CA(1));
-    (low_thirty(row), low_thirty(behind_thirty(row)))
+    (low_thirty(row), low_thirty(after_thirty(row)))
 }
 
 // The bits 0 to 29.
@@ -109,7 +109,7 @@ fn low_thirty(bits: u128) -> u32
 }
 
 // The bits from 30 on.
-fn behind_thirty(bits: u128) -> u128
+fn after_thirty(bits: u128) -> u128
     ensures { (k : ℕ) → is_bit result k ≡ is_bit bits (30 + k) }
 {
     bits >> 30

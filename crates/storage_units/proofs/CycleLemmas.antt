@@ -2,7 +2,7 @@
 use Rattle.std.proofs.Common.{◌≡◌, ◌<◌, ◌+◌, ◌-◌, ◌∙◌, ap, refl, arith, ℕ, Bool, true, false, ◌&&◌, ◌==◌, List, [], ◌∷◌, slice_index, slice_set}
 use Rattle.std.specs.Prelude.{map}
 use Rattle.std.proofs.lemmas.Bool.Decides.{nat_tests}
-use Rattle.card_code.specs.Rows.{row_place}
+use Rattle.card_code.specs.Rows.{passing_place}
 use Rattle.card_code.specs.declared.row.Row.{Row as CardRow}
 use Rattle.card_code.specs.declared.row.Row.TheVariants.{Zero, One, Two, Three, Four, Five, Six, Seven, Eight, Nine, Eleven, Twelve}
 use Rattle.hub_table.specs.Ranges.{is_within}
@@ -26,7 +26,7 @@ written words =
     8 (words One)) 9 (words Zero)) 10 (words Eleven)) 11 (words Twelve)
 
 -- each of twelve words is the one that was written
-written-at : (words : CardRow → ℕ) (row : CardRow) → slice_index (written words) (row_place row) ≡ words row
+written-at : (words : CardRow → ℕ) (row : CardRow) → slice_index (written words) (passing_place row) ≡ words row
 written-at words Nine = refl
 written-at words Eight = refl
 written-at words Seven = refl

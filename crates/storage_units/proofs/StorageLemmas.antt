@@ -2,7 +2,7 @@
 use Rattle.std.proofs.Common.{◌≡◌, ◌≤◌, ◌<◌, ◌+◌, ◌-◌, ◌*◌, ◌^◌, ◌∙◌, inl, inr, ap, refl, sym, arith, ℕ, Bool, true, false, ◌&&◌, ◌==◌, bit_and}
 use Rattle.std.specs.Prelude.{slice_index}
 use Rattle.std.proofs.lemmas.Bool.Decides.{eqb_tells, nat_tests}
-use Rattle.card_code.specs.Rows.{row_place}
+use Rattle.card_code.specs.Rows.{passing_place}
 use Rattle.card_code.specs.declared.row.Row.{Row as CardRow}
 use Rattle.hub_table.specs.Ranges.{is_within}
 use Rattle.hubs.specs.declared.hub.Hub.{Hub}
@@ -46,7 +46,7 @@ row_of_columns place bits other from to small =
 -- the row of a unit that reads out is what it emits at the row
 pub reads_out_row : (storage : StorageState) (cycle : Cycle) (point : Point) (row : CardRow) (place bits : ℕ) (hub : Hub)
     → point ≡ Row row → storage.reads_out ≡ true → 1 ≤ place → place ≤ 4 → place ≡ storage.place
-    → bits ≡ slice_index storage.held (row_place row) → bits < 2 ^ 16
+    → bits ≡ slice_index storage.held (passing_place row) → bits < 2 ^ 16
     → is_in_row (SX place 1) bits hub ≡ storage_emits storage cycle point hub
 reads_out_row storage cycle point row place bits hub at on from to is_place are small =
     row_of_columns place bits hub from to small ∙ rw at (own hub)

@@ -3,7 +3,7 @@
 -- Reading in, it holds at the end what its entries received in the cycle, in all columns, and is blank where nothing came.
 -- Else it keeps what it held.
 use Rattle.std.specs.Prelude.{ℕ, ◌+◌, ◌-◌, ◌&&◌, ◌==◌, Bool, false, List, replicate, slice_index, slice_set, if◌then◌else◌}
-use Rattle.card_code.specs.Rows.{row_place}
+use Rattle.card_code.specs.Rows.{passing_place}
 use Rattle.card_code.specs.declared.row.Row.{Row as CardRow}
 use Rattle.hubs.specs.declared.hub.Hub.{Hub}
 use Rattle.hubs.specs.declared.hub.Hub.TheVariants.{SX, SE, SI, SO}
@@ -32,7 +32,7 @@ storage_at_start unit = record { place = unit - 34; held = blank; received = bla
 
 -- whether a column holds a row
 abbrev pub holds : StorageState → CardRow → ℕ → Bool
-holds storage row column = has_column (slice_index storage.held (row_place row)) column
+holds storage row column = has_column (slice_index storage.held (passing_place row)) column
 
 -- Reading out, it emits at the point of a row at each of its exits whose column holds the row.
 abbrev pub storage_emits : StorageState → Cycle → Point → Hub → Bool
@@ -47,7 +47,7 @@ columns_in picture unit = word_of (λ column. picture (SE unit column)) 16
 -- with a row as its columns received it, where it reads in
 abbrev pub received_at : CardRow → ℕ → StorageState → StorageState
 received_at row columns storage = record storage {
-  received = if storage.reads_in then slice_set storage.received (row_place row) columns else storage.received;
+  received = if storage.reads_in then slice_set storage.received (passing_place row) columns else storage.received;
 }
 
 -- What it senses: its controls at the control point, and each row at its point. What it receives begins blank.

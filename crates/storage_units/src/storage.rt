@@ -49,7 +49,7 @@ impl Model for Storage {
 
 impl Storage {
     ghost use Rattle.std.specs.Prelude.{◌≡◌, ◌≤◌, slice_index};
-    ghost use Rattle.card_code.specs.Rows.{row_place};
+    ghost use Rattle.card_code.specs.Rows.{passing_place};
     ghost use Rattle.storage_units.specs.Storage.{storage_at_start, holds};
 
     /// The storage unit with this number among the units, 35 to 38. It holds nothing.
@@ -76,7 +76,7 @@ impl Storage {
 
     // The columns that hold a row.
     fn held_at(&self, row: Row) -> u16
-        ensures { result ≡ slice_index self.now.held (row_place row) }
+        ensures { result ≡ slice_index self.now.held (passing_place row) }
     {
         self.held[row.place()]
     }

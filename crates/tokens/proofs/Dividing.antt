@@ -29,7 +29,7 @@ byte_first b token true None = refl
 byte_first b token true (Some others) = refl
 byte_first b token false others = refl
 
--- a token of this length, where what stands behind it is apart
+-- a token of this length, where what stands after it is apart
 abbrev pub apart_then : ℕ → List ℕ → Option (List (List ℕ))
 apart_then n line = cond (is_apart (drop n line)) (option_map (before (take n line)) (tokens_of (drop n line))) None
 
@@ -57,7 +57,7 @@ unfolding tokens_from
 by_closed b bs true e = rw e refl
 by_closed b bs false e = refl
 
--- what stands behind a literal
+-- what stands after a literal
 tokens_from-closed : (bs : List ℕ) → tokens_from closed bs ≡ cond (is_apart bs)
     (option_map (before []) (tokens_of bs)) None
 unfolding tokens_from
@@ -119,13 +119,13 @@ unfolding tokens_from
 tokens_of-plain b bs e f = let same : tokens_of (b ∷ bs) ≡ tokens_from in_plain (b ∷ bs) = rw (e, f) refl in same
     ∙ tokens_from-plain (b ∷ bs)
 
--- the tokens of a line that is cut behind a plain token
-pub tokens_of-cut_plain : (line token behind : List ℕ) (n : ℕ) (apart : Bool) → 0 < length line
+-- the tokens of a line that is cut after a plain token
+pub tokens_of-cut_plain : (line token after : List ℕ) (n : ℕ) (apart : Bool) → 0 < length line
     → (get_or line 0 0 ≡ 32 → ⊥) → (get_or line 0 0 ≡ 39 → ⊥)
-    → n ≡ prefix_len is_plain line → token ≡ take n line → behind ≡ drop n line → apart ≡ is_apart behind
-    → tokens_of line ≡ cond apart (option_map (before token) (tokens_of behind)) None
-tokens_of-cut_plain [] token behind n apart some no_space no_apostrophe counted front rest test = absurd (omega arith)
-tokens_of-cut_plain (b ∷ bs) token behind n apart some no_space no_apostrophe counted front rest test =
+    → n ≡ prefix_len is_plain line → token ≡ take n line → after ≡ drop n line → apart ≡ is_apart after
+    → tokens_of line ≡ cond apart (option_map (before token) (tokens_of after)) None
+tokens_of-cut_plain [] token after n apart some no_space no_apostrophe counted front rest test = absurd (omega arith)
+tokens_of-cut_plain (b ∷ bs) token after n apart some no_space no_apostrophe counted front rest test =
     rw (test, front, rest, counted) (tokens_of-plain b bs (ne_eqb b 32 no_space) (ne_eqb b 39 no_apostrophe))
 
 -- a plain token is not empty
@@ -135,13 +135,13 @@ prefix_len-plain [] some no_space no_apostrophe = absurd (omega arith)
 prefix_len-plain (b ∷ bs) some no_space no_apostrophe = rw (ne_eqb b 32 no_space, ne_eqb b 39 no_apostrophe)
     (omega arith)
 
--- the tokens of a line that is cut behind a literal
-pub tokens_of-cut_literal : (line token behind : List ℕ) (n : ℕ) (apart : Bool) → 0 < length line → get_or line 0 0 ≡ 39
+-- the tokens of a line that is cut after a literal
+pub tokens_of-cut_literal : (line token after : List ℕ) (n : ℕ) (apart : Bool) → 0 < length line → get_or line 0 0 ≡ 39
     → n ≡ prefix_len is_inside (drop 1 line) → n + 2 ≤ length line → token ≡ take (n + 2) line
-    → behind ≡ drop (n + 2) line → apart ≡ is_apart behind
-    → tokens_of line ≡ cond apart (option_map (before token) (tokens_of behind)) None
-tokens_of-cut_literal [] token behind n apart some apostrophe counted room front rest test = absurd (omega arith)
-tokens_of-cut_literal (b ∷ bs) token behind n apart some apostrophe counted room front rest test =
+    → after ≡ drop (n + 2) line → apart ≡ is_apart after
+    → tokens_of line ≡ cond apart (option_map (before token) (tokens_of after)) None
+tokens_of-cut_literal [] token after n apart some apostrophe counted room front rest test = absurd (omega arith)
+tokens_of-cut_literal (b ∷ bs) token after n apart some apostrophe counted room front rest test =
     tokens_of-apostrophe b bs (ne_eqb b 32 (λ is. absurd (omega (arith, is, apostrophe)))) (eq-eqb b 39 apostrophe)
     ∙ ap (cut_at b bs) (sym counted)
     ∙ (rw (lt-ltb n (length bs) (omega arith), test, front, rest, two_more n) refl)
@@ -185,7 +185,7 @@ pub led_by-no_token : (front : List (List ℕ)) (rest line : List ℕ) → token
     → led_by front (tokens_of rest) ≡ tokens_of line → None ≡ tokens_of line
 led_by-no_token front rest line read same = sym (ap (led_by front) read) ∙ same
 
--- what stands behind the spaces that a line begins with is no space
+-- what stands after the spaces that a line begins with is no space
 by_no_space : (b : ℕ) (bs : List ℕ) (x : Bool) → eqb b 32 ≡ x
     → (0 < length (drop (prefix_len is_space bs) bs) → get_or (drop (prefix_len is_space bs) bs) 0 0 ≡ 32 → ⊥)
     → 0 < length (drop (cond x (1 + prefix_len is_space bs) 0) (b ∷ bs))
@@ -198,9 +198,9 @@ spaces_stop : (line : List ℕ) → 0 < length (drop (prefix_len is_space line) 
 spaces_stop [] some space = absurd (omega arith)
 spaces_stop (b ∷ bs) some space = by_no_space b bs (eqb b 32) refl (spaces_stop bs) some space
 
-pub no_space_behind : (line behind : List ℕ) (n : ℕ) → n ≡ prefix_len is_space line → behind ≡ drop n line
-    → 0 < length behind → get_or behind 0 0 ≡ 32 → ⊥
-no_space_behind line behind n counted rest some space =
-    let here : behind ≡ drop (prefix_len is_space line) line = rest ∙ ap (λ k. drop k line) counted in
+pub no_space_after : (line after : List ℕ) (n : ℕ) → n ≡ prefix_len is_space line → after ≡ drop n line
+    → 0 < length after → get_or after 0 0 ≡ 32 → ⊥
+no_space_after line after n counted rest some space =
+    let here : after ≡ drop (prefix_len is_space line) line = rest ∙ ap (λ k. drop k line) counted in
     spaces_stop line (let P : List ℕ → Type 0 = λ xs. 0 < length xs in subst P here some)
     (ap (λ xs. get_or xs 0 0) (sym here) ∙ space)

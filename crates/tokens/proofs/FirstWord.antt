@@ -20,7 +20,7 @@ no_byte : {line : List ℕ} {tokens : List (List ℕ)} → HasTokens line tokens
     → (0 < length line → get_or line 0 0 ≢ 32) → line ≡ []
 no_byte ended none first = refl
 no_byte (spaced line tokens has) none first = absurd (first (omega arith) refl)
-no_byte (led token behind tokens is apart has) none first = cc
+no_byte (led token after tokens is apart has) none first = cc
 
 -- what is read of nothing
 tokens_of-nothing : tokens_of [] ≡ Some []
@@ -55,12 +55,12 @@ pub no_word-undivided : (line rest word : List ℕ) (tokens : List (List ℕ)) �
     → tokens_of rest ≡ None → HasTokens line (word ∷ tokens) → ⊥
 no_word-undivided line rest word tokens same none has = none-some _ (sym none ∙ same ∙ read_what_it_has has)
 
--- the first token and what is behind it, where the first of the tokens is known
-first_is : (token behind word : List ℕ) (tokens : List (List ℕ))
-    → option_map (before token) (tokens_of behind) ≡ Some (word ∷ tokens)
-    → (token ≡ word) × (tokens_of behind ≡ Some tokens)
-first_is token behind word tokens read =
-    let (others, is, same) = mapped (before token) (tokens_of behind) (word ∷ tokens) read in
+-- the first token and what is after it, where the first of the tokens is known
+first_is : (token after word : List ℕ) (tokens : List (List ℕ))
+    → option_map (before token) (tokens_of after) ≡ Some (word ∷ tokens)
+    → (token ≡ word) × (tokens_of after ≡ Some tokens)
+first_is token after word tokens read =
+    let (others, is, same) = mapped (before token) (tokens_of after) (word ∷ tokens) read in
     (one same, is ∙ ap Some (rest same))
   where
     one : {others : List (List ℕ)} → before token others ≡ word ∷ tokens → token ≡ word
@@ -70,24 +70,24 @@ first_is token behind word tokens read =
     rest e = cc
 
 -- a line that another token begins
-pub no_word-other : (line rest token behind word : List ℕ) (tokens : List (List ℕ)) → tokens_of rest ≡ tokens_of line
-    → tokens_of rest ≡ option_map (before token) (tokens_of behind) → bytes_eq token word ≡ false
+pub no_word-other : (line rest token after word : List ℕ) (tokens : List (List ℕ)) → tokens_of rest ≡ tokens_of line
+    → tokens_of rest ≡ option_map (before token) (tokens_of after) → bytes_eq token word ≡ false
     → HasTokens line (word ∷ tokens) → ⊥
-no_word-other line rest token behind word tokens same begun other has =
-    let first = (first_is token behind word tokens (sym begun ∙ same ∙ read_what_it_has has)).0 in
+no_word-other line rest token after word tokens same begun other has =
+    let first = (first_is token after word tokens (sym begun ∙ same ∙ read_what_it_has has)).0 in
     false≢true (sym other ∙ (bytes_eq-Decides token word).1 first)
 
 -- a line that the word begins
-pub word_by : (line rest token behind word : List ℕ) (tokens : List (List ℕ)) → tokens_of rest ≡ tokens_of line
-    → tokens_of rest ≡ option_map (before token) (tokens_of behind) → bytes_eq token word ≡ true
-    → HasTokens line (word ∷ tokens) ↔ HasTokens behind tokens
-word_by line rest token behind word tokens same begun is = (come, gone)
+pub word_by : (line rest token after word : List ℕ) (tokens : List (List ℕ)) → tokens_of rest ≡ tokens_of line
+    → tokens_of rest ≡ option_map (before token) (tokens_of after) → bytes_eq token word ≡ true
+    → HasTokens line (word ∷ tokens) ↔ HasTokens after tokens
+word_by line rest token after word tokens same begun is = (come, gone)
   where
-    come : HasTokens line (word ∷ tokens) → HasTokens behind tokens
-    come has = has_what_is_read behind tokens
-        (first_is token behind word tokens (sym begun ∙ same ∙ read_what_it_has has)).1
+    come : HasTokens line (word ∷ tokens) → HasTokens after tokens
+    come has = has_what_is_read after tokens
+        (first_is token after word tokens (sym begun ∙ same ∙ read_what_it_has has)).1
 
-    gone : HasTokens behind tokens → HasTokens line (word ∷ tokens)
+    gone : HasTokens after tokens → HasTokens line (word ∷ tokens)
     gone has =
         let read = ap (option_map (before token)) (read_what_it_has has) in
         has_what_is_read line (word ∷ tokens)

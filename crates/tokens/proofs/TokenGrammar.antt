@@ -16,26 +16,26 @@ has_same {line} {other} {tokens} {others} same_line same_tokens has =
 -- the rest of a line from within a plain token on
 record PlainRest (line : List ℕ) (tokens : List (List ℕ)) : Type 0 where
   token : List ℕ
-  behind : List ℕ
+  after : List ℕ
   others : List (List ℕ)
   tokens_are : tokens ≡ token ∷ others
-  line_is : line ≡ token ++ behind
+  line_is : line ≡ token ++ after
   plain : list_all is_plain token ≡ true
-  apart : IsApart behind
-  left : HasTokens behind others
+  apart : IsApart after
+  left : HasTokens after others
 
 -- the rest of a line from within a literal on
 record LiteralRest (line : List ℕ) (tokens : List (List ℕ)) : Type 0 where
   inside : List ℕ
-  behind : List ℕ
+  after : List ℕ
   others : List (List ℕ)
   tokens_are : tokens ≡ (inside ++ 39 ∷ []) ∷ others
-  line_is : line ≡ inside ++ 39 ∷ behind
+  line_is : line ≡ inside ++ 39 ∷ after
   no_apostrophe : list_all is_inside inside ≡ true
-  apart : IsApart behind
-  left : HasTokens behind others
+  apart : IsApart after
+  left : HasTokens after others
 
--- the rest of a line behind a literal
+-- the rest of a line after a literal
 record ClosedRest (line : List ℕ) (tokens : List (List ℕ)) : Type 0 where
   others : List (List ℕ)
   tokens_are : tokens ≡ [] ∷ others
@@ -69,7 +69,7 @@ plain_more : (b : ℕ) (bs : List ℕ) (tokens rest : List (List ℕ)) → eqb b
     → onto_first b rest ≡ tokens → PlainRest bs rest → PlainRest (b ∷ bs) tokens
 plain_more b bs tokens rest e f same is = record {
   token = b ∷ is.token;
-  behind = is.behind;
+  after = is.after;
   others = is.others;
   tokens_are = sym same ∙ ap (onto_first b) is.tokens_are;
   line_is = ap (λ l. b ∷ l) is.line_is;
@@ -84,27 +84,27 @@ plain_has b bs tokens rest e f same is =
     let token : List ℕ = b ∷ is.token in
     let plain : IsPlainToken token = record { some = omega arith; plain = plain_byte b is.token e f is.plain } in
     has_same (ap (λ l. b ∷ l) (sym is.line_is)) (ap (onto_first b) (sym is.tokens_are) ∙ same)
-    (led token is.behind is.others (inl plain) is.apart is.left)
+    (led token is.after is.others (inl plain) is.apart is.left)
 
 literal_has : (b : ℕ) (bs : List ℕ) (tokens rest : List (List ℕ)) → eqb b 39 ≡ true → onto_first b rest ≡ tokens
     → LiteralRest bs rest → HasTokens (b ∷ bs) tokens
 literal_has b bs tokens rest f same is =
     let is_apostrophe : b ≡ 39 = eqb-true b 39 f in
     let token : List ℕ = 39 ∷ (is.inside ++ 39 ∷ []) in
-    let line_is : token ++ is.behind ≡ b ∷ bs =
-    ap (λ l. 39 ∷ l) (append_assoc is.inside (39 ∷ []) is.behind ∙ sym is.line_is)
+    let line_is : token ++ is.after ≡ b ∷ bs =
+    ap (λ l. 39 ∷ l) (append_assoc is.inside (39 ∷ []) is.after ∙ sym is.line_is)
     ∙ ap (λ c. c ∷ bs) (sym is_apostrophe) in
     let tokens_are : token ∷ is.others ≡ tokens =
     ap (λ c. (c ∷ (is.inside ++ 39 ∷ [])) ∷ is.others) (sym is_apostrophe) ∙ ap (onto_first b) (sym is.tokens_are) ∙ same in
     has_same line_is tokens_are
-    (led token is.behind is.others
+    (led token is.after is.others
     (inr (record { inside = is.inside; no_apostrophe = is.no_apostrophe; spelled = refl })) is.apart is.left)
 
 literal_more : (b : ℕ) (bs : List ℕ) (tokens rest : List (List ℕ)) → eqb b 39 ≡ false → onto_first b rest ≡ tokens
     → LiteralRest bs rest → LiteralRest (b ∷ bs) tokens
 literal_more b bs tokens rest f same is = record {
   inside = b ∷ is.inside;
-  behind = is.behind;
+  after = is.after;
   others = is.others;
   tokens_are = sym same ∙ ap (onto_first b) is.tokens_are;
   line_is = ap (λ l. b ∷ l) is.line_is;
@@ -117,7 +117,7 @@ literal_end : (b : ℕ) (bs : List ℕ) (tokens rest : List (List ℕ)) → eqb 
     → ClosedRest bs rest → LiteralRest (b ∷ bs) tokens
 literal_end b bs tokens rest f same is = record {
   inside = [];
-  behind = bs;
+  after = bs;
   others = is.others;
   tokens_are = sym same ∙ ap (onto_first b) is.tokens_are ∙ ap (λ c. (c ∷ []) ∷ is.others) (eqb-true b 39 f);
   line_is = ap (λ c. c ∷ bs) (eqb-true b 39 f);
@@ -139,7 +139,7 @@ ends_before b bs tokens rest e same has = record {
 plain_end : (line : List ℕ) (tokens : List (List ℕ)) → ClosedRest line tokens → PlainRest line tokens
 plain_end line tokens is = record {
   token = [];
-  behind = line;
+  after = line;
   others = is.others;
   tokens_are = is.tokens_are;
   line_is = refl;
@@ -225,17 +225,17 @@ onto_read : (b : ℕ) (token : List ℕ) (others : Option (List (List ℕ)))
 onto_read b token None = refl
 onto_read b token (Some others) = refl
 
-closed_ahead : (behind : List ℕ) → IsApart behind → tokens_from closed behind
-    ≡ option_map (before []) (tokens_of behind)
+closed_ahead : (after : List ℕ) → IsApart after → tokens_from closed after
+    ≡ option_map (before []) (tokens_of after)
 unfolding tokens_from
 closed_ahead [] apart = refl
-closed_ahead (c ∷ behind) apart = rw (eq-eqb c 32 apart) refl
+closed_ahead (c ∷ after) apart = rw (eq-eqb c 32 apart) refl
 
-plain_apart : (behind : List ℕ) → IsApart behind → tokens_from in_plain behind
-    ≡ option_map (before []) (tokens_of behind)
+plain_apart : (after : List ℕ) → IsApart after → tokens_from in_plain after
+    ≡ option_map (before []) (tokens_of after)
 unfolding tokens_from
 plain_apart [] apart = refl
-plain_apart (c ∷ behind) apart = rw (eq-eqb c 32 apart) refl
+plain_apart (c ∷ after) apart = rw (eq-eqb c 32 apart) refl
 
 -- the tests of a plain byte
 plain_tests : (b : ℕ) → is_plain b ≡ true → (eqb b 32 ≡ false) × (eqb b 39 ≡ false)
@@ -243,55 +243,55 @@ plain_tests b plain =
     let p = and_parts (not (eqb b 32)) (not (eqb b 39)) plain in
     (not-true (eqb b 32) p.0, not-true (eqb b 39) p.1)
 
-plain_ahead : (token behind : List ℕ) → list_all is_plain token ≡ true → IsApart behind
-    → tokens_from in_plain (token ++ behind) ≡ option_map (before token) (tokens_of behind)
+plain_ahead : (token after : List ℕ) → list_all is_plain token ≡ true → IsApart after
+    → tokens_from in_plain (token ++ after) ≡ option_map (before token) (tokens_of after)
 unfolding tokens_from
-plain_ahead [] behind plain apart = plain_apart behind apart
-plain_ahead (b ∷ token) behind plain apart =
+plain_ahead [] after plain apart = plain_apart after apart
+plain_ahead (b ∷ token) after plain apart =
     let parts = and_parts (is_plain b) (list_all is_plain token) plain in
     let tests = plain_tests b parts.0 in
-    rw (tests.0, tests.1, plain_ahead token behind parts.1 apart) (onto_read b token (tokens_of behind))
+    rw (tests.0, tests.1, plain_ahead token after parts.1 apart) (onto_read b token (tokens_of after))
 
-literal_ahead : (inside behind : List ℕ) → list_all is_inside inside ≡ true → IsApart behind
-    → tokens_from in_literal (inside ++ 39 ∷ behind) ≡ option_map (before (inside ++ 39 ∷ [])) (tokens_of behind)
+literal_ahead : (inside after : List ℕ) → list_all is_inside inside ≡ true → IsApart after
+    → tokens_from in_literal (inside ++ 39 ∷ after) ≡ option_map (before (inside ++ 39 ∷ [])) (tokens_of after)
 unfolding tokens_from
-literal_ahead [] behind no_apostrophe apart = rw (closed_ahead behind apart) (onto_read 39 [] (tokens_of behind))
-literal_ahead (b ∷ inside) behind no_apostrophe apart =
+literal_ahead [] after no_apostrophe apart = rw (closed_ahead after apart) (onto_read 39 [] (tokens_of after))
+literal_ahead (b ∷ inside) after no_apostrophe apart =
     let parts = and_parts (is_inside b) (list_all is_inside inside) no_apostrophe in
     let test = not-true (eqb b 39) parts.0 in
-    rw (test, literal_ahead inside behind parts.1 apart) (onto_read b (inside ++ 39 ∷ []) (tokens_of behind))
+    rw (test, literal_ahead inside after parts.1 apart) (onto_read b (inside ++ 39 ∷ []) (tokens_of after))
 
-plain_token_ahead : (token behind : List ℕ) → IsPlainToken token → IsApart behind
-    → tokens_of (token ++ behind) ≡ option_map (before token) (tokens_of behind)
+plain_token_ahead : (token after : List ℕ) → IsPlainToken token → IsApart after
+    → tokens_of (token ++ after) ≡ option_map (before token) (tokens_of after)
 unfolding tokens_from
-plain_token_ahead [] behind is apart = absurd (omega (arith, is.some))
-plain_token_ahead (b ∷ token) behind is apart =
+plain_token_ahead [] after is apart = absurd (omega (arith, is.some))
+plain_token_ahead (b ∷ token) after is apart =
     let parts = and_parts (is_plain b) (list_all is_plain token) is.plain in
     let tests = plain_tests b parts.0 in
-    rw (tests.0, tests.1, plain_ahead token behind parts.1 apart) (onto_read b token (tokens_of behind))
+    rw (tests.0, tests.1, plain_ahead token after parts.1 apart) (onto_read b token (tokens_of after))
 
-literal_token_ahead : (inside behind : List ℕ) → list_all is_inside inside ≡ true → IsApart behind
-    → tokens_of ((39 ∷ (inside ++ 39 ∷ [])) ++ behind) ≡ option_map (before (39 ∷ (inside ++ 39 ∷ [])))
-    (tokens_of behind)
+literal_token_ahead : (inside after : List ℕ) → list_all is_inside inside ≡ true → IsApart after
+    → tokens_of ((39 ∷ (inside ++ 39 ∷ [])) ++ after) ≡ option_map (before (39 ∷ (inside ++ 39 ∷ [])))
+    (tokens_of after)
 unfolding tokens_from
-literal_token_ahead inside behind no_apostrophe apart =
-    rw (append_assoc inside (39 ∷ []) behind, literal_ahead inside behind no_apostrophe apart)
-    (onto_read 39 (inside ++ 39 ∷ []) (tokens_of behind))
+literal_token_ahead inside after no_apostrophe apart =
+    rw (append_assoc inside (39 ∷ []) after, literal_ahead inside after no_apostrophe apart)
+    (onto_read 39 (inside ++ 39 ∷ []) (tokens_of after))
 
-token_ahead : (token behind : List ℕ) → IsToken token → IsApart behind
-    → tokens_of (token ++ behind) ≡ option_map (before token) (tokens_of behind)
-token_ahead token behind (inl is) apart = plain_token_ahead token behind is apart
-token_ahead token behind (inr is) apart =
-    subst (λ (t : List ℕ). tokens_of (t ++ behind) ≡ option_map (before t) (tokens_of behind)) (sym is.spelled)
-    (literal_token_ahead is.inside behind is.no_apostrophe apart)
+token_ahead : (token after : List ℕ) → IsToken token → IsApart after
+    → tokens_of (token ++ after) ≡ option_map (before token) (tokens_of after)
+token_ahead token after (inl is) apart = plain_token_ahead token after is apart
+token_ahead token after (inr is) apart =
+    subst (λ (t : List ℕ). tokens_of (t ++ after) ≡ option_map (before t) (tokens_of after)) (sym is.spelled)
+    (literal_token_ahead is.inside after is.no_apostrophe apart)
 
 -- the tokens that a line has are read
 pub read_what_it_has : {line : List ℕ} {tokens : List (List ℕ)} → HasTokens line tokens → tokens_of line ≡ Some tokens
 unfolding tokens_from
 read_what_it_has ended = refl
 read_what_it_has (spaced line tokens has) = read_what_it_has has
-read_what_it_has (led token behind tokens is apart has) =
-    token_ahead token behind is apart ∙ ap (option_map (before token)) (read_what_it_has has)
+read_what_it_has (led token after tokens is apart has) =
+    token_ahead token after is apart ∙ ap (option_map (before token)) (read_what_it_has has)
 
 -- a line has one list of tokens at most
 pub one_division : {line : List ℕ} {a b : List (List ℕ)} → HasTokens line a → HasTokens line b → a ≡ b

@@ -4,7 +4,7 @@ use Rattle.std.specs.Prelude.{ℕ, ◌==◌, Bool, true, List, [], ◌∷◌, Op
 use Rattle.std.specs.List.{onto_first}
 use denote.Ref.{Bor}
 
--- where in a line a byte stands: between tokens, in a plain token, in a literal, or behind its second apostrophe
+-- where in a line a byte stands: between tokens, in a plain token, in a literal, or after its second apostrophe
 pub data Place : Type 0 where
   between in_plain in_literal closed : Place
 
@@ -42,7 +42,7 @@ abbrev pub is_apart : List ℕ → Bool
 is_apart [] = true
 is_apart (b ∷ bs) = b == 32
 
--- the tokens of a line that is cut behind its first token, or that begins with none
+-- the tokens of a line that is cut after its first token, or that begins with none
 abbrev pub first_then : Option (Bor (List ℕ) × Bor (List ℕ)) → Option (List (List ℕ))
 first_then None = None
 first_then (Some cut) = option_map (before cut.0.now) (tokens_of cut.1.now)

@@ -1,5 +1,5 @@
 -- The frame of a text format: how large a text may be, which lines are empty, the first or END, the line at a number, and what
--- may stand behind END. The lines of a text are numbered from 1, and what the format itself says begins at some line.
+-- may stand after END. The lines of a text are numbered from 1, and what the format itself says begins at some line.
 use Rattle.std.specs.Prelude.{ℕ, ◌-◌, ◌<◌, ◌≤◌, List, [], ◌∷◌, length, slice_index_or, Any, ◌⊎◌, codes}
 use Rattle.tokens.specs.Tokens.{HasTokens}
 
@@ -29,7 +29,7 @@ pub record IsLineFrom (first : ℕ) (lines : List (List ℕ)) (number : ℕ) : T
   pub to : number ≤ length lines
 
 -- a line END stands before the line of a number
-pub record IsBehindEnd (first : ℕ) (lines : List (List ℕ)) (number : ℕ) : Type 0 where
+pub record IsAfterEnd (first : ℕ) (lines : List (List ℕ)) (number : ℕ) : Type 0 where
   pub end : ℕ
   pub there : IsLineFrom first lines end
   pub before : end < number
@@ -41,10 +41,10 @@ pub record IsNoLine {S : Type 0} (Says : List ℕ → S → Type 0) (line : List
   pub not_end : ¬ IsEndLine line
   pub not_said : (statement : S) → ¬ Says line statement
 
--- the line of a number is none of the format, or stands behind END and isn't empty
+-- the line of a number is none of the format, or stands after END and isn't empty
 pub record IsMisplaced {S : Type 0} (Says : List ℕ → S → Type 0) (first : ℕ) (lines : List (List ℕ)) (number : ℕ) : Type 0 where
   pub there : IsLineFrom first lines number
-  pub cause : IsNoLine Says (line_at lines number) ⊎ (IsBehindEnd first lines number × (¬ IsEmptyLine (line_at lines number)))
+  pub cause : IsNoLine Says (line_at lines number) ⊎ (IsAfterEnd first lines number × (¬ IsEmptyLine (line_at lines number)))
 
 -- no line from the first on is END
 abbrev pub LacksEnd : ℕ → List (List ℕ) → Type 0

@@ -25,14 +25,14 @@ pub record IsLiteralToken (token : List ℕ) : Type 0 where
 abbrev pub IsToken : List ℕ → Type 0
 IsToken token = IsPlainToken token ⊎ IsLiteralToken token
 
--- what stands behind a token: nothing, or a space first
+-- what stands after a token: nothing, or a space first
 abbrev pub IsApart : List ℕ → Type 0
 IsApart [] = Unit {0}
 IsApart (byte ∷ bytes) = byte ≡ 32
 
--- a line and its tokens: spaces, and tokens with a space or the line's end behind each
+-- a line and its tokens: spaces, and tokens with a space or the line's end after each
 pub data HasTokens : List ℕ → List (List ℕ) → Type 0 where
   ended : HasTokens [] []
   spaced : (line : List ℕ) (tokens : List (List ℕ)) → HasTokens line tokens → HasTokens (32 ∷ line) tokens
-  led : (token behind : List ℕ) (tokens : List (List ℕ))
-      → IsToken token → IsApart behind → HasTokens behind tokens → HasTokens (token ++ behind) (token ∷ tokens)
+  led : (token after : List ℕ) (tokens : List (List ℕ))
+      → IsToken token → IsApart after → HasTokens after tokens → HasTokens (token ++ after) (token ∷ tokens)

@@ -9,7 +9,7 @@ use crate::line::{first_token, without_spaces};
 use crate::word::is;
 use card_code::next_line;
 
-/// What a line behind the first ones is, in a format whose lines say `S`.
+/// What a line after the first ones is, in a format whose lines say `S`.
 #[derive(Debug, Drop)]
 pub enum Content<S> {
     /// A line without a token.
@@ -28,27 +28,27 @@ pub fn is_larger(text: &[u8], most_lines: usize, most_bytes: usize) -> bool
 {
     let mut lines = 0;
     let mut rest = text;
-    while let Some((line, behind)) = next_line(rest) {
+    while let Some((line, after)) = next_line(rest) {
         if lines == most_lines || line.len() > most_bytes {
             return true;
         }
         lines += 1;
-        rest = behind;
+        rest = after;
     }
     false
 }
 
-/// Whether a line is a format's name and its version alone. Spaces may stand before, between and behind them.
+/// Whether a line is a format's name and its version alone. Spaces may stand before, between and after them.
 pub fn is_title_line(line: &[u8], name: &[u8], version: &[u8]) -> bool
     ensures { IsTrue result ↔ IsTitleLine name.now version.now line.now }
 {
-    match behind_word(line, name) {
-        Some(behind) => is_lone_word(behind, version),
+    match after_word(line, name) {
+        Some(after) => is_lone_word(after, version),
         None => false,
     }
 }
 
-/// Whether a line is END: whether END is its only token. Spaces may stand before and behind it, and nothing else may.
+/// Whether a line is END: whether END is its only token. Spaces may stand before and after it, and nothing else may.
 pub fn is_end_line(line: &[u8]) -> bool
     ensures { IsTrue result ↔ IsEndLine line.now }
 {
@@ -59,8 +59,8 @@ pub fn is_end_line(line: &[u8]) -> bool
 fn is_lone_word(line: &[u8], word: &[u8]) -> bool
     ensures { IsTrue result ↔ HasTokens line.now (word.now ∷ []) }
 {
-    match behind_word(line, word) {
-        Some(behind) => is_empty_line(behind),
+    match after_word(line, word) {
+        Some(after) => is_empty_line(after),
         None => false,
     }
 }
@@ -72,18 +72,18 @@ fn is_empty_line(line: &[u8]) -> bool
     without_spaces(line).is_empty()
 }
 
-/// What stands behind a word, or `None` where the word isn't the first token of the line.
-fn behind_word<'a>(line: &'a [u8], word: &[u8]) -> Option<&'a [u8]>
-    ensures first { IfSome result (λ behind. (tokens : List (List ℕ))
-        → HasTokens line.now (word.now ∷ tokens) ↔ HasTokens behind.now tokens) }
+/// What stands after a word, or `None` where the word isn't the first token of the line.
+fn after_word<'a>(line: &'a [u8], word: &[u8]) -> Option<&'a [u8]>
+    ensures first { IfSome result (λ after. (tokens : List (List ℕ))
+        → HasTokens line.now (word.now ∷ tokens) ↔ HasTokens after.now tokens) }
     ensures other { IfNone result ((tokens : List (List ℕ)) → ¬ HasTokens line.now (word.now ∷ tokens)) }
 {
     let rest = without_spaces(line);
     if rest.is_empty() {
         return None;
     }
-    let Some((token, behind)) = first_token(rest) else {
+    let Some((token, after)) = first_token(rest) else {
         return None;
     };
-    if is(token, word) { Some(behind) } else { None }
+    if is(token, word) { Some(after) } else { None }
 }

@@ -5,13 +5,13 @@
 //! is, and [`is`] whether it is a given word.
 //!
 //! The text formats share a frame: [`is_larger`] tells a text that is too large for its format, [`is_title_line`] the line
-//! that names a format and its version, and [`is_end_line`] the line that ends a text. [`Content`] is what a line behind the
+//! that names a format and its version, and [`is_end_line`] the line that ends a text. [`Content`] is what a line after the
 //! first ones is.
 //! Lines are those of `card_code`; the crate stands on no other of this repository.
 //!
 //! `specs/` has the grammar apart from any scanner: `HasTokens`, `IsNumber` and `IsNumberTo` are relations,
 //! and what a reader answers is exactly what is related. `Frame` has what the text formats share: the size of a text, its first
-//! line, its empty lines, its END, the line at a number, and what stands behind END. That a line has one list of tokens at most, and
+//! line, its empty lines, its END, the line at a number, and what stands after END. That a line has one list of tokens at most, and
 //! a token is one number at most, is a law of them. The files `Dividing`, `NumberReading`, `FrameReading` and `HelperLines` are words of
 //! code alone, of this crate and of those that read by it: no contract that a caller sees speaks of them.
 #![tactic(auto)]

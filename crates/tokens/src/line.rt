@@ -10,7 +10,7 @@ ghost use Rattle.tokens.specs.Dividing.{in_plain};
 use std::alloc::{AllocError, Global};
 
 /// The tokens of a line, in order, or `None` where it isn't made of tokens: where an apostrophe stands in
-/// a plain token or has no second one, or something but a space stands behind a literal.
+/// a plain token or has no second one, or something but a space stands after a literal.
 ///
 /// A line of spaces alone has no token, and any byte but a space can stand in one: a tab or a CR divides
 /// nothing. A literal keeps its apostrophes.
@@ -25,11 +25,11 @@ pub fn split_line<'a>(alloc: Global, line: &'a [u8]) -> Result<Option<Vec<&'a [u
     let mut tokens = Vec::new(alloc);
     let mut rest = without_spaces(line);
     while !rest.is_empty() {
-        let Some((token, behind)) = first_token(rest) else {
+        let Some((token, after)) = first_token(rest) else {
             return Ok(None);
         };
         tokens.push(token)?;
-        rest = without_spaces(behind);
+        rest = without_spaces(after);
     }
     Ok(Some(tokens))
 }
@@ -52,7 +52,7 @@ fn spaces_before(line: &[u8]) -> usize
     line.iter().take_while(|byte| **byte == b' ').count()
 }
 
-/// The token that a line begins with and what stands behind it, or `None` where it begins with none.
+/// The token that a line begins with and what stands after it, or `None` where it begins with none.
 pub(crate) fn first_token(line: &[u8]) -> Option<(&[u8], &[u8])>
     requires some { 0 < length line.now }
     requires no_space { slice_index line.now 0 ≢ 32 }
@@ -66,7 +66,7 @@ pub(crate) fn first_token(line: &[u8]) -> Option<(&[u8], &[u8])>
     }
 }
 
-/// The plain token that a line begins with and what stands behind it.
+/// The plain token that a line begins with and what stands after it.
 fn first_plain(line: &[u8]) -> Option<(&[u8], &[u8])>
     requires some { 0 < length line.now }
     requires no_space { slice_index line.now 0 ≢ 32 }
@@ -74,9 +74,9 @@ fn first_plain(line: &[u8]) -> Option<(&[u8], &[u8])>
     ensures shorter { IfSome result (λ cut. length cut.1.now < length line.now) }
     ensures tokens { tokens_of line.now ≡ first_then result }
 {
-    let (token, behind) = line.split_at(plain_bytes_before(line));
-    if is_apart(behind) {
-        Some((token, behind))
+    let (token, after) = line.split_at(plain_bytes_before(line));
+    if is_apart(after) {
+        Some((token, after))
     } else {
         None
     }
@@ -92,7 +92,7 @@ fn plain_bytes_before(line: &[u8]) -> usize
         .count()
 }
 
-/// The literal that a line begins with and what stands behind it, where the first apostrophe is there.
+/// The literal that a line begins with and what stands after it, where the first apostrophe is there.
 fn first_literal(line: &[u8]) -> Option<(&[u8], &[u8])>
     requires some { 0 < length line.now }
     requires apostrophe { slice_index line.now 0 ≡ 39 }
@@ -103,9 +103,9 @@ fn first_literal(line: &[u8]) -> Option<(&[u8], &[u8])>
     if length > line.len() {
         return None;
     }
-    let (token, behind) = line.split_at(length);
-    if is_apart(behind) {
-        Some((token, behind))
+    let (token, after) = line.split_at(length);
+    if is_apart(after) {
+        Some((token, after))
     } else {
         None
     }
@@ -119,11 +119,11 @@ fn bytes_inside(bytes: &[u8]) -> usize
     bytes.iter().take_while(|byte| **byte != b'\'').count()
 }
 
-/// Whether nothing or a space stands behind a token.
-fn is_apart(behind: &[u8]) -> bool
-    ensures { result ≡ is_apart behind.now }
+/// Whether nothing or a space stands after a token.
+fn is_apart(after: &[u8]) -> bool
+    ensures { result ≡ is_apart after.now }
 {
-    match behind {
+    match after {
         [] => true,
         [first, ..] => *first == b' ',
     }

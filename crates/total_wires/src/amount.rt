@@ -87,11 +87,11 @@ pub fn wire_total(
     };
     let kind = field.kind;
     let (decimals, rule) = (kind.decimals(), rule_of(kind));
-    let behind = mark_wheel(wheel, digits, decimals);
+    let after = mark_wheel(wheel, digits, decimals);
     wire_lowest(setup, chart, plan, name, level, field, group)?;
     wire_read_out(setup, level, wheel, digits, decimals, group)?;
     wire_point(setup, 4 + level.number(), wheel, digits, decimals)?;
-    wire_sign(setup, level, behind, mark, group, rule)?;
+    wire_sign(setup, level, after, mark, group, rule)?;
     wire_transfer(setup, chart, plan, name, level, digits, group, rule)?;
     Ok(())
 }

@@ -6,7 +6,7 @@ use Rattle.counter_cycles.specs.Acts.{Held, number_after}
 use Rattle.counter_cycles.specs.Acts.Act.{Still, Show}
 use Rattle.counter_cycles.proofs.DigitLemmas.{power-some}
 use Rattle.net.specs.declared.cycle.Ordinal.TheVariants.{Third}
-use Rattle.totals.specs.Amounts.{Amount, IsLawful, lower, posted, act_of, total_act, state_after}
+use Rattle.totals.specs.Amounts.{Amount, HasGroups, lower, posted, act_of, total_act, state_after}
 use Rattle.totals.specs.Amounts.Kind.{Prog}
 use Rattle.totals.specs.Laws.{ready, IsGroupEnd, TotalIsShown, EmptyLevelEnds}
 use Rattle.totals.specs.Standing.{Stands, StandsAll}
@@ -19,7 +19,7 @@ use Rattle.totals.proofs.Rooms.{higher_room}
 
 -- what the end of a group is told by
 record Ending (amount : Amount) (ended : ℕ) (sum : ℕ → ℤ) (state : ℕ → Held) : Type 0 where
-  lawful : IsLawful amount
+  lawful : HasGroups amount
   here : amount.has ended ≡ true
   ends : IsGroupEnd amount ended sum
   stands : StandsAll amount sum state
@@ -119,7 +119,7 @@ clears amount ended sum level same =
     (sum_at-cleared ended sum (lower amount.has level) (omega (arith, same, lower_le amount.has level))))
     refl (zero_stands amount.is_signed (10 ^ amount.width level) (power-some (amount.width level)))
 
--- a total behind the third cycle, by whether its level is the ended one or the next higher
+-- a total after the third cycle, by whether its level is the ended one or the next higher
 third_at : (amount : Amount) (ended : ℕ) (sum : ℕ → ℤ) (state : ℕ → Held) → Ending amount ended sum state → (level : ℕ) → 1 ≤ level
     → amount.has level ≡ true → (same : Bool) → (ended == level) ≡ same
     → (next : Bool) → (amount.has ended && (lower amount.has level == ended)) ≡ next
@@ -145,10 +145,10 @@ third_at amount ended sum state ending level some here false apart false e =
     not_next : (lower amount.has level == ended) ≡ false
     not_next = sym (ap (λ b. b && (lower amount.has level == ended)) ending.here) ∙ e
 
--- all totals behind the third cycle
-behind : (amount : Amount) (ended : ℕ) (sum : ℕ → ℤ) (state : ℕ → Held) → Ending amount ended sum state
+-- all totals after the third cycle
+after : (amount : Amount) (ended : ℕ) (sum : ℕ → ℤ) (state : ℕ → Held) → Ending amount ended sum state
     → StandsAll amount (cleared ended sum) (state_after amount (Prog ended Third) (ready amount ended state))
-behind amount ended sum state ending level some here =
+after amount ended sum state ending level some here =
     let before = ready amount ended state in
     along amount.is_signed (10 ^ amount.width level) refl
     (ap (λ b. number_after amount.is_signed (10 ^ amount.width level)
@@ -185,7 +185,7 @@ total_shows amount ended sum state lawful here ends stands =
       at_zero = is.zero;
       shows = shows amount ended (ready amount ended state) here;
       room = (ends.is_level, λ there. omega (arith, is.number, ends.fits));
-      behind = behind amount ended sum state ending;
+      after = after amount ended sum state ending;
     }
 
 pub empty_ends : EmptyLevelEnds

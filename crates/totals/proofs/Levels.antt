@@ -1,4 +1,4 @@
--- The next lower total's level, and the sums behind the end of a group.
+-- The next lower total's level, and the sums after the end of a group.
 use Rattle.std.proofs.Common.{◌≡◌, refl, sym, ap, ℕ, zero, suc, ◌≤◌, ◌<◌, ◌==◌, nat_le, Bool, true, false, ℤ, pos, if◌then◌else◌, arith}
 use Rattle.std.proofs.lemmas.Bool.Decides.{nat_tests}
 use Rattle.totals.specs.Amounts.{lower}

@@ -6,7 +6,7 @@ use Rattle.counter_cycles.specs.Acts.{Act, Held, held_after, IsWithinGroup}
 use Rattle.counter_cycles.specs.Acts.Act.{Still, Test, Turn, Show}
 use Rattle.net.specs.declared.cycle.Ordinal.{Ordinal}
 use Rattle.net.specs.declared.cycle.Ordinal.TheVariants.{First, Second, Third}
-use Rattle.totals.specs.Amounts.{Amount, Kind, IsLawful, IsSmall, lower, posted, act_of, total_act, state_after}
+use Rattle.totals.specs.Amounts.{Amount, Kind, HasGroups, IsSmall, lower, posted, act_of, total_act, state_after}
 use Rattle.totals.specs.Amounts.Kind.{Entry, Prog, Other}
 use Rattle.totals.specs.Laws.{EmptyLevelPasses, GroupsHaveRoom}
 use Rattle.totals.proofs.Levels.{lower_le}
@@ -75,7 +75,7 @@ within_if width act true within = within refl
 within_if width act false within = tt
 
 -- what a total is asked in the third cycle of a level
-within_third : (amount : Amount) (ended : ℕ) (state : ℕ → Held) → IsLawful amount → IsSmall amount (Prog ended Third) state
+within_third : (amount : Amount) (ended : ℕ) (state : ℕ → Held) → HasGroups amount → IsSmall amount (Prog ended Third) state
     → (level : ℕ) → amount.has level ≡ true → (same : Bool) → (ended == level) ≡ same
     → (next : Bool) → (amount.has ended && (lower amount.has level == ended)) ≡ next
     → IsWithinGroup (amount.width level)
@@ -92,7 +92,7 @@ within_third amount ended state lawful small level here false same true e =
     (higher_room amount lawful ended level (state ended).number small.0 less parts.0 here (small.1 parts.0))
 
 -- what a total is asked
-within : (amount : Amount) (kind : Kind) (state : ℕ → Held) → IsLawful amount → IsSmall amount kind state
+within : (amount : Amount) (kind : Kind) (state : ℕ → Held) → HasGroups amount → IsSmall amount kind state
     → (level : ℕ) → 1 ≤ level → amount.has level ≡ true → IsWithinGroup (amount.width level) (total_act amount kind state level)
 within amount (Entry is_negated size) state lawful small level some here =
     within_if (amount.width level) (posted (amount.is_signed && is_negated) size) (lower amount.has level == 0)

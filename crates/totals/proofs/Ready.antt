@@ -12,12 +12,12 @@ use Rattle.totals.specs.Sums.{is_below_zero}
 use Rattle.totals.proofs.Figures.{figured, plain_figure}
 use Rattle.totals.proofs.Rooms.{tenth_room, more_room}
 
--- what a total holds behind a first cycle, by whether it is there, and whether its level is the ended one
+-- what a total holds after a first cycle, by whether it is there, and whether its level is the ended one
 abbrev first_of : (here same is_signed : Bool) (width : ℕ) → Held → Held
 first_of here same is_signed width held =
     held_after is_signed width (if here then (if is_signed && same then Test else Still) else Still) held
 
--- what a total holds behind a second cycle
+-- what a total holds after a second cycle
 abbrev second_of : (here same is_signed : Bool) (width : ℕ) → Held → Held
 second_of here same is_signed width held =
     held_after is_signed width (if here then (if is_signed && (same && held.latch) then Turn else Still) else Still) held

@@ -50,7 +50,7 @@ total_act amount Other state level = Still
 abbrev pub act_of : Amount → Kind → (ℕ → Held) → (level : ℕ) → Act
 act_of amount kind state level = if amount.has level then total_act amount kind state level else Still
 
--- what the totals hold behind a cycle of a kind
+-- what the totals hold after a cycle of a kind
 abbrev pub state_after : Amount → Kind → (ℕ → Held) → ℕ → Held
 state_after amount kind state level =
     held_after amount.is_signed (amount.width level) (act_of amount kind state level) (state level)
@@ -60,7 +60,7 @@ abbrev pub sign_positions : (is_signed : Bool) → ℕ
 sign_positions is_signed = if is_signed then 1 else 0
 
 -- Each total has a counter group with room for its digits and its sign, and no total takes fewer digits than a lower one.
-pub record IsLawful (amount : Amount) : Type 0 where
+pub record HasGroups (amount : Amount) : Type 0 where
   pub room : (level : ℕ) → 1 ≤ level → amount.has level ≡ true
       → amount.digits level + sign_positions amount.is_signed ≤ amount.width level
   pub growing : (low high : ℕ) → 1 ≤ low → low < high → amount.has low ≡ true → amount.has high ≡ true

@@ -2,7 +2,7 @@
 use Rattle.std.specs.Prelude.{◌≡◌, ℕ, ◌==◌, Bool, true, false, ◌||◌}
 use Rattle.counter_cycles.specs.Acts.{Held}
 use Rattle.net.specs.declared.cycle.Ordinal.TheVariants.{Third}
-use Rattle.totals.specs.Amounts.{Amount, IsLawful, state_after}
+use Rattle.totals.specs.Amounts.{Amount, HasGroups, state_after}
 use Rattle.totals.specs.Amounts.Kind.{Entry, Prog}
 use Rattle.totals.specs.Laws.{ready}
 
@@ -23,22 +23,22 @@ holds number latch = record { number = number; latch = latch }
 abbrev pub at_first : ℕ → Held
 at_first level = holds 0 false
 
--- the totals behind one card: a 5
+-- the totals after one card: a 5
 abbrev pub five : ℕ → Held
 five = state_after two_totals (Entry false 5) at_first
 
--- the totals behind one card: a negated 5
+-- the totals after one card: a negated 5
 abbrev pub less_five : ℕ → Held
 less_five = state_after two_totals (Entry true 5) at_first
 
--- the totals behind two cards: a 5, then a negated 5
+-- the totals after two cards: a 5, then a negated 5
 abbrev pub five_and_back : ℕ → Held
 five_and_back = state_after two_totals (Entry true 5) five
 
 -- The amount keeps the rules of the laws. A 5 shows as it stands, and goes up by adding. 5 below 0 stands as 994, is turned into 5 with
 -- the latch set, and goes up by subtracting. A sum of 0 that stands as all nines sets the latch, and is turned into 0.
 pub record InThreeWheels : Type 0 where
-  pub lawful : IsLawful two_totals
+  pub lawful : HasGroups two_totals
   pub above : five 2 ≡ holds 5 false
   pub above_ready : ready two_totals 2 five 2 ≡ holds 5 false
   pub above_gone_up : state_after two_totals (Prog 2 Third) (ready two_totals 2 five) 4 ≡ holds 5 false

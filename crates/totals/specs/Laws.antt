@@ -4,7 +4,7 @@ use Rattle.counter_cycles.specs.Acts.{Held, IsWithinGroup}
 use Rattle.counter_cycles.specs.Acts.Act.{Show}
 use Rattle.net.specs.declared.cycle.Ordinal.{Ordinal}
 use Rattle.net.specs.declared.cycle.Ordinal.TheVariants.{First, Second, Third}
-use Rattle.totals.specs.Amounts.{Amount, Kind, IsLawful, IsOnCard, IsSmall, act_of, state_after}
+use Rattle.totals.specs.Amounts.{Amount, Kind, HasGroups, IsOnCard, IsSmall, act_of, state_after}
 use Rattle.totals.specs.Amounts.Kind.{Entry, Prog}
 use Rattle.totals.specs.Standing.{StandsAll}
 use Rattle.totals.specs.Sums.{is_below_zero, signed, with_card, cleared}
@@ -18,10 +18,10 @@ ZerosStand =
 abbrev pub CardGoesIn : Type 0
 CardGoesIn =
     (amount : Amount) (is_negated : Bool) (number : ℕ) (sum : ℕ → ℤ) (state : ℕ → Held)
-    → IsLawful amount → IsOnCard amount is_negated number → StandsAll amount sum state
+    → HasGroups amount → IsOnCard amount is_negated number → StandsAll amount sum state
     → StandsAll amount (with_card (signed is_negated number) sum) (state_after amount (Entry is_negated number) state)
 
--- what the totals hold behind the first two program cycles of a level
+-- what the totals hold after the first two program cycles of a level
 abbrev pub ready : Amount → (ended : ℕ) → (ℕ → Held) → ℕ → Held
 ready amount ended state = state_after amount (Prog ended Second) (state_after amount (Prog ended First) state)
 
@@ -33,9 +33,9 @@ pub record IsGroupEnd (amount : Amount) (ended : ℕ) (sum : ℕ → ℤ) : Type
   pub fits : unsigned_abs (sum ended) < 10 ^ amount.digits ended
   pub unsigned : amount.is_signed ≡ false → is_below_zero (sum ended) ≡ false
 
--- What the three program cycles of a level make of its total. Behind the second it holds the size of its group's sum, and its latch is
+-- What the three program cycles of a level make of its total. After the second it holds the size of its group's sum, and its latch is
 -- set for a sum below 0 and reset for a sum above 0; for a sum of 0 it is set where that stood as all nines. In the third the total shows that
--- number, and behind it the sums of the group and of those within it are cleared. The higher total has room for what goes up.
+-- number, and after it the sums of the group and of those within it are cleared. The higher total has room for what goes up.
 pub record IsShown (amount : Amount) (ended : ℕ) (sum : ℕ → ℤ) (state : ℕ → Held) : Type 0 where
   pub number : (ready amount ended state ended).number ≡ unsigned_abs (sum ended)
   pub below_zero : is_below_zero (sum ended) ≡ true → (ready amount ended state ended).latch ≡ true
@@ -45,12 +45,12 @@ pub record IsShown (amount : Amount) (ended : ℕ) (sum : ℕ → ℤ) (state : 
       → (ready amount ended state ended).latch ≡ ((state ended).number + 1 == 10 ^ amount.width ended)
   pub shows : act_of amount (Prog ended Third) (ready amount ended state) ended ≡ Show
   pub room : IsSmall amount (Prog ended Third) (ready amount ended state)
-  pub behind : StandsAll amount (cleared ended sum) (state_after amount (Prog ended Third) (ready amount ended state))
+  pub after : StandsAll amount (cleared ended sum) (state_after amount (Prog ended Third) (ready amount ended state))
 
 -- At the end of a group whose level has a total, the total is shown and goes up.
 abbrev pub TotalIsShown : Type 0
 TotalIsShown =
-    (amount : Amount) (ended : ℕ) (sum : ℕ → ℤ) (state : ℕ → Held) → IsLawful amount → amount.has ended ≡ true
+    (amount : Amount) (ended : ℕ) (sum : ℕ → ℤ) (state : ℕ → Held) → HasGroups amount → amount.has ended ≡ true
     → IsGroupEnd amount ended sum → StandsAll amount sum state → IsShown amount ended sum state
 
 -- The program cycles of a level without a total leave what the totals hold.
@@ -69,5 +69,5 @@ EmptyLevelEnds =
 -- What is asked of a counter group never has more digits than the group has positions.
 abbrev pub GroupsHaveRoom : Type 0
 GroupsHaveRoom =
-    (amount : Amount) (kind : Kind) (state : ℕ → Held) → IsLawful amount → IsSmall amount kind state
+    (amount : Amount) (kind : Kind) (state : ℕ → Held) → HasGroups amount → IsSmall amount kind state
     → (level : ℕ) → 1 ≤ level → IsWithinGroup (amount.width level) (act_of amount kind state level)

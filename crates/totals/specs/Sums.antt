@@ -24,6 +24,6 @@ open_sum has sum level = sum level -ℤ sum_at sum (lower has level)
 abbrev pub with_card : (value : ℤ) (sum : ℕ → ℤ) → ℕ → ℤ
 with_card value sum level = sum level +ℤ value
 
--- the sums behind the end of a group of a level, where the groups of that level and of lower ones begin again
+-- the sums after the end of a group of a level, where the groups of that level and of lower ones begin again
 abbrev pub cleared : (ended : ℕ) (sum : ℕ → ℤ) → ℕ → ℤ
 cleared ended sum level = if nat_le level ended then pos 0 else sum level

@@ -34,10 +34,10 @@ columns-all front list line field place were all = were ∙ ap (λ count. front 
 
 -- a list that is shorter than a field has columns does not begin with their positions
 pub columns-short : (list : List Position) (line : ℕ) (field : Field) → length list < columns_of field
-    → (behind : List Position) → list ≢ positions_for line (Some field) ++ behind
+    → (after : List Position) → list ≢ positions_for line (Some field) ++ after
 unfolding positions_for
-columns-short list line field short behind e =
-    absurd (omega (arith, ap length e, length-append (map (at_column line) (range_with_len field.first (columns_of field))) behind, length-map-range_with_len (at_column line) field.first (columns_of field)))
+columns-short list line field short after e =
+    absurd (omega (arith, ap length e, length-append (map (at_column line) (range_with_len field.first (columns_of field))) after, length-map-range_with_len (at_column line) field.first (columns_of field)))
 
 -- a list has the positions of columns that follow one another
 abbrev pub Follow : List Position → ℕ → ℕ → Type 0
@@ -63,25 +63,25 @@ columns-Follow list line first count e k lt =
     ∙ ap Some (get_or-map-range_with_len (at_column line) first count k (first + k) (at_column line first) (omega arith) refl)
 
 -- the front of a list is the positions of a field's columns
-pub columns-front : (list front behind : List Position) (line : ℕ) (field : Field) (count : ℕ) → count ≡ columns_of field
-    → count ≤ length list → front ≡ take count list → behind ≡ drop count list → Follow front line field.first
-    → list ≡ positions_for line (Some field) ++ behind
+pub columns-front : (list front after : List Position) (line : ℕ) (field : Field) (count : ℕ) → count ≡ columns_of field
+    → count ≤ length list → front ≡ take count list → after ≡ drop count list → Follow front line field.first
+    → list ≡ positions_for line (Some field) ++ after
 unfolding positions_for
-columns-front list front behind line field count all within is_front is_behind follow =
+columns-front list front after line field count all within is_front is_after follow =
     let long : length front ≡ columns_of field = ap length is_front ∙ length-take-le count list within ∙ all in
-    sym (take-append-drop count list) ∙ ap (λ ps. ps ++ drop count list) (sym is_front) ∙ ap (λ ps. front ++ ps) (sym is_behind)
-    ∙ ap (λ ps. ps ++ behind) (Follow-columns front line field.first follow ∙ ap (λ n. map (at_column line) (range_with_len field.first n)) long)
+    sym (take-append-drop count list) ∙ ap (λ ps. ps ++ drop count list) (sym is_front) ∙ ap (λ ps. front ++ ps) (sym is_after)
+    ∙ ap (λ ps. ps ++ after) (Follow-columns front line field.first follow ∙ ap (λ n. map (at_column line) (range_with_len field.first n)) long)
 
 -- a list whose front is not the positions of a field's columns does not begin with them
 pub columns-differ : (list front : List Position) (line : ℕ) (field : Field) (count : ℕ) → count ≡ columns_of field
     → front ≡ take count list → (Follow front line field.first → ⊥)
-    → (behind : List Position) → list ≢ positions_for line (Some field) ++ behind
+    → (after : List Position) → list ≢ positions_for line (Some field) ++ after
 unfolding positions_for
-columns-differ list front line field count all is_front differ behind e =
+columns-differ list front line field count all is_front differ after e =
     let columns = map (at_column line) (range_with_len field.first (columns_of field)) in
     let long : length columns ≡ count = length-map-range_with_len (at_column line) field.first (columns_of field) ∙ sym all in
     differ (columns-Follow front line field.first (columns_of field)
-    (is_front ∙ ap (λ n. take n list) (sym long) ∙ ap (λ ps. take (length columns) ps) e ∙ take-append_seam columns behind))
+    (is_front ∙ ap (λ n. take n list) (sym long) ∙ ap (λ ps. take (length columns) ps) e ∙ take-append_seam columns after))
 
 -- where no field is named there is no position
 pub positions_for-none : (line : ℕ) (field : Option Field) → None ≡ field → positions_for line field ≡ []

@@ -17,7 +17,7 @@ use Rattle.field_rules.proofs.DigitsKept.{digits-kept}
 use Rattle.chart_rules.proofs.Laws.{kept-line}
 use Rattle.wanted.specs.declared.total.Total.{Total}
 use Rattle.wanted.specs.Totals.{NeedsFit}
-use Rattle.wanted.specs.ChartTotals.{need_of, total_of, totals_of}
+use Rattle.wanted.specs.ChartTotals.{need_of, line_total, totals_of}
 
 -- a total whose digits are in range needs 8 positions at most
 need-fits : (field : Option Field) (digits : ℕ) → is_none field ≡ false → is_out_of_digits field digits ≡ false → need_of field digits ≤ 8
@@ -29,7 +29,7 @@ need-fits (Some field) digits known range = by (is_some (sign_column field.kind)
     by false few with_sign = omega (arith, few)
 
 -- the total of a line that keeps these rules
-total-fits : (lines : List Line) (number : ℕ) (statement : Statement) (total : Total) → total_of lines number statement ≡ Some total
+total-fits : (lines : List Line) (number : ℕ) (statement : Statement) (total : Total) → line_total lines number statement ≡ Some total
     → breaks_unknown_name (fields_of lines) statement ≡ false → breaks_digits_range (fields_of lines) statement ≡ false → total.need ≤ 8
 total-fits lines number (says.TotalAmount level wheel name digits mark) total is known range =
     let need : need_of (field_named lines name) digits ≡ total.need = cc in
@@ -40,7 +40,7 @@ total-fits lines number other total is known range = absurd (cc)
 pub NeedsFit-lawful : (chart : Chart) → IsLawful chart → NeedsFit (totals_of chart.lines)
 NeedsFit-lawful chart lawful k none within =
     let total = get_or (totals_of chart.lines) k none in
-    let from = given-by (λ line. total_of chart.lines line.number line.statement) chart.lines total
+    let from = given-by (λ line. line_total chart.lines line.number line.statement) chart.lines total
     (Contains-get_or (totals_of chart.lines) k none within) in
     total-fits chart.lines from.element.number from.element.statement total from.gives
     (kept-line chart lawful from.element from.listed rule.UnknownName).1 (kept-line chart lawful from.element from.listed rule.DigitsRange).1

@@ -42,16 +42,16 @@ module _ {X Y : Type 0} (f : X → List Y) (xs : List X) (list : List Y) where
         record { there = λ e. read.there e ∙ here; back = λ e. read.back (e ∙ sym here) }
 
     -- an element whose piece is the next of the list
-    pub IsReadTo-front : (behind : List Y) → rest ≡ f x ++ behind → IsReadTo f xs list behind (i + 1)
-    IsReadTo-front behind front =
+    pub IsReadTo-front : (after : List Y) → rest ≡ f x ++ after → IsReadTo f xs list after (i + 1)
+    IsReadTo-front after front =
         let here = flat_map-here f xs i x lt at in
         record {
-          there = λ e. append_cancel_left (f x) behind (flat_map f (drop (i + 1) xs)) (sym front ∙ read.there e ∙ here);
+          there = λ e. append_cancel_left (f x) after (flat_map f (drop (i + 1) xs)) (sym front ∙ read.there e ∙ here);
           back = λ e. read.back (front ∙ ap (λ ys. f x ++ ys) e ∙ sym here);
         }
 
     -- an element whose piece is not the next of the list
-    pub IsReadTo-fails : ((behind : List Y) → rest ≢ f x ++ behind) → list ≢ flat_map f xs
+    pub IsReadTo-fails : ((after : List Y) → rest ≢ f x ++ after) → list ≢ flat_map f xs
     IsReadTo-fails differs e = differs (flat_map f (drop (i + 1) xs)) (read.there e ∙ flat_map-here f xs i x lt at)
 
   -- past the last element nothing may be left
@@ -83,10 +83,10 @@ IsReadTo-end_filter p f xs list rest i past read =
 -- an element that passes the test, and is not the next of the list
 pub IsReadTo-fails_filter : {X Y : Type 0} (p : X → Bool) (f : X → Y) (xs : List X) (list rest : List Y) (i : ℕ) (x : X) → i < length xs
     → x ≡ get_or xs i x → IsReadTo (λ x. cond (p x) (f x ∷ []) []) xs list rest i → p x ≡ true
-    → ((behind : List Y) → rest ≢ f x ∷ behind) → list ≢ map f (filter p xs)
+    → ((after : List Y) → rest ≢ f x ∷ after) → list ≢ map f (filter p xs)
 IsReadTo-fails_filter p f xs list rest i x lt at read passes differs same =
     IsReadTo-fails (λ x. cond (p x) (f x ∷ []) []) xs list rest i x lt at read
-    (λ behind e. differs behind (e ∙ ap (λ b. cond b (f x ∷ []) [] ++ behind) passes)) (same ∙ map-filter p f xs)
+    (λ after e. differs after (e ∙ ap (λ b. cond b (f x ∷ []) [] ++ after) passes)) (same ∙ map-filter p f xs)
 
 -- the pieces up to one more element
 pub flat_map-more : {X Y : Type 0} (f : X → List Y) (xs : List X) (i : ℕ) (x : X) → i < length xs → x ≡ get_or xs i x

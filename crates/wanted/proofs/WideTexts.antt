@@ -23,7 +23,7 @@ IsBelow-more lower number list lt below (suc k) within = omega (arith, below k (
 IsBelow-lower : (lower number : ℕ) (list : List ℕ) → lower < number → IsBelow number list → IsBelow lower list
 IsBelow-lower lower number list lt below k within = omega (arith, below k within)
 
--- a line stands below those behind it
+-- a line stands below those after it
 pub IsBelow-line : (p : Line → Bool) (line : Line) (lines : List Line) (end : ℕ) → NumbersRise (line ∷ lines) end → IsBelow line.number (numbers p lines)
 IsBelow-line p line [] end rise = λ k within. absurd (omega arith)
 IsBelow-line p line (next ∷ lines) end rise = by (p next) (IsBelow-line p next lines end rise.1)

@@ -18,11 +18,11 @@ abbrev pub need_of : Option Field → ℕ → ℕ
 need_of field digits = digits + (if names_signed field then 1 else 0)
 
 -- the total that a line is, if it is a TOTAL amount
-abbrev pub total_of : List Line → ℕ → Statement → Option Total
-total_of lines number (says.TotalAmount level wheel name digits mark) =
+abbrev pub line_total : List Line → ℕ → Statement → Option Total
+line_total lines number (says.TotalAmount level wheel name digits mark) =
     Some (record { level = level; line = number; need = need_of (field_named lines name) digits })
-total_of lines number other = None
+line_total lines number other = None
 
 -- the totals of a chart, in the order of their lines
 abbrev pub totals_of : List Line → List Total
-totals_of lines = filter_map (λ line. total_of lines line.number line.statement) lines
+totals_of lines = filter_map (λ line. line_total lines line.number line.statement) lines

@@ -5,5 +5,5 @@ pub mod Positions
 pub mod Units
 pub mod Wanted
 pub mod Counts
-pub mod HelperBehind
+pub mod HelperAfter
 pub mod HelperLines

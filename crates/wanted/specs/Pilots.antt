@@ -16,12 +16,12 @@ shows wanted (says.TotalAmount level wheel name digits mark) = is_same_name name
 shows wanted other = false
 
 -- whether a name stands on a DETAIL or TOTAL line of a chart
-abbrev pub is_shown : List Line → List ℕ → Bool
-is_shown lines name = list_any (λ line. shows name line.statement) lines
+abbrev pub prints_name : List Line → List ℕ → Bool
+prints_name lines name = list_any (λ line. shows name line.statement) lines
 
 -- whether a field wants a pilot: it has a sign rule, and it stands on a DETAIL or TOTAL line
 unfoldable pub wants_pilot : List Line → Field → Bool
-wants_pilot lines field = is_some (sign_column field.kind) && is_shown lines field.name
+wants_pilot lines field = is_some (sign_column field.kind) && prints_name lines field.name
 
 -- The pilots of a chart: the names of the amounts that want one, in the order of their FIELD lines. A pilot's number is
 -- its place in this list, from 1.

@@ -28,8 +28,8 @@ fn need_of(field: Option<Field>, digits: u16) -> u32
 }
 
 /// The total that a line is, if it is a TOTAL amount.
-pub fn total_of(chart: &Chart, line: &Line) -> Option<Total>
-    ensures { result ≡ totals.total_of chart.now.lines line.now.number line.now.statement }
+pub fn line_total(chart: &Chart, line: &Line) -> Option<Total>
+    ensures { result ≡ totals.line_total chart.now.lines line.now.number line.now.statement }
 {
     match &line.statement {
         Statement::TotalAmount {
@@ -56,7 +56,7 @@ pub fn total_place(chart: &Chart, line: u16) -> Option<usize>
     chart
         .lines()
         .iter()
-        .filter_map(|each| total_of(chart, each))
+        .filter_map(|each| line_total(chart, each))
         .position(|total| total.line == line)
 }
 
@@ -72,10 +72,10 @@ pub(crate) fn totals_of(alloc: Global, chart: &Chart) -> Result<Vec<Total>, Allo
 /// The totals that some lines of a chart are, in the order of these.
 fn totals_among(alloc: Global, lines: &[Line], chart: &Chart) -> Result<Vec<Total>, AllocError>
     ensures { IfOk result (λ list. list.items
-        ≡ filter_map (λ line. totals.total_of chart.now.lines line.number line.statement) lines.now) }
+        ≡ filter_map (λ line. totals.line_total chart.now.lines line.number line.statement) lines.now) }
 {
     lines
         .iter()
-        .filter_map(|line| total_of(chart, line))
+        .filter_map(|line| line_total(chart, line))
         .collect(alloc)
 }

@@ -16,7 +16,7 @@ mod total;
 mod unit;
 mod wanted;
 
-pub use chart_totals::{total_of, total_place};
+pub use chart_totals::{line_total, total_place};
 pub use count::Capacity;
 pub use parts::Parts;
 pub use position::Position;

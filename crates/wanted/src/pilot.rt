@@ -1,7 +1,7 @@
 //! Pilots.
 
 ghost use Rattle.std.specs.Prelude.{◌≡◌, ◌↔◌, [], ◌∷◌, IsTrue, IfOk, option_map};
-ghost use Rattle.wanted.specs.HelperBehind.{IsBehind};
+ghost use Rattle.wanted.specs.HelperAfter.{IsAfter};
 ghost use Rattle.wanted.specs.Pilots as pilots;
 
 use chart_rules::Chart;
@@ -21,8 +21,8 @@ fn shows(wanted: Name, statement: &Statement) -> bool
 }
 
 /// Whether a name stands on a DETAIL or TOTAL line.
-fn is_shown(lines: &[Line], name: Name) -> bool
-    ensures { result ≡ pilots.is_shown lines.now name }
+fn prints_name(lines: &[Line], name: Name) -> bool
+    ensures { result ≡ pilots.prints_name lines.now name }
 {
     lines.iter().any(|line| shows(name, &line.statement))
 }
@@ -32,7 +32,7 @@ fn is_shown(lines: &[Line], name: Name) -> bool
 fn wants_pilot(chart: &Chart, field: Field) -> bool
     ensures { result ≡ pilots.wants_pilot chart.now.lines field }
 {
-    field.kind.sign_column().is_some() && is_shown(chart.lines(), field.name)
+    field.kind.sign_column().is_some() && prints_name(chart.lines(), field.name)
 }
 
 /// The names of the amounts that want a pilot, in the order of their FIELD lines.
@@ -55,8 +55,8 @@ pub(crate) fn are_pilots(list: &[Name], chart: &Chart) -> bool
     let mut rest = list;
     for field in fields {
         if wants_pilot(chart, *field) {
-            match behind_name(rest, field.name) {
-                Some(behind) => rest = behind,
+            match after_name(rest, field.name) {
+                Some(after) => rest = after,
                 None => return false,
             }
         }
@@ -64,12 +64,12 @@ pub(crate) fn are_pilots(list: &[Name], chart: &Chart) -> bool
     rest.is_empty()
 }
 
-/// What stands behind a name in a list, if it is the first.
-fn behind_name(list: &[Name], name: Name) -> Option<&[Name]>
-    ensures { IsBehind (name ∷ []) list.now (option_map (λ behind. behind.now) result) }
+/// What stands after a name in a list, if it is the first.
+fn after_name(list: &[Name], name: Name) -> Option<&[Name]>
+    ensures { IsAfter (name ∷ []) list.now (option_map (λ after. after.now) result) }
 {
     match list.split_first() {
-        Some((first, behind)) if *first == name => Some(behind),
+        Some((first, after)) if *first == name => Some(after),
         _ => None,
     }
 }

@@ -1,7 +1,7 @@
 //! Comparing and indicate positions.
 
 ghost use Rattle.std.specs.Prelude.{◌≡◌, ◌+◌, ◌++◌, ◌↔◌, Some, IsTrue, IfOk, OnOk, EachIndex, slice_get, option_map};
-ghost use Rattle.wanted.specs.HelperBehind.{IsBehind};
+ghost use Rattle.wanted.specs.HelperAfter.{IsAfter};
 ghost use Rattle.wanted.specs.Positions as positions;
 
 use chart_rules::Chart;
@@ -74,7 +74,7 @@ pub(crate) fn positions_of(
     Ok(list)
 }
 
-/// Puts the positions of a field's columns behind the others.
+/// Puts the positions of a field's columns after the others.
 fn push_columns(list: &mut Vec<Position>, line: u16, field: Field) -> Result<(), AllocError>
     ensures { OnOk result (list.new.items ≡ list.old.items ++ positions.positions_for line (Some field)) }
 {
@@ -95,8 +95,8 @@ pub(crate) fn are_positions_of(list: &[Position], chart: &Chart, columns: Column
     let mut rest = list;
     for line in lines {
         if let Some(field) = field_used(chart, columns, &line.statement) {
-            match behind_columns(rest, line.number, field) {
-                Some(behind) => rest = behind,
+            match after_columns(rest, line.number, field) {
+                Some(after) => rest = after,
                 None => return false,
             }
         }
@@ -104,18 +104,18 @@ pub(crate) fn are_positions_of(list: &[Position], chart: &Chart, columns: Column
     rest.is_empty()
 }
 
-/// What stands behind the positions of a field's columns in a list, if these are the first.
-fn behind_columns(list: &[Position], line: u16, field: Field) -> Option<&[Position]>
-    ensures { IsBehind (positions.positions_for line (Some field)) list.now (option_map (λ behind. behind.now) result) }
+/// What stands after the positions of a field's columns in a list, if these are the first.
+fn after_columns(list: &[Position], line: u16, field: Field) -> Option<&[Position]>
+    ensures { IsAfter (positions.positions_for line (Some field)) list.now (option_map (λ after. after.now) result) }
 {
     let first = field.first;
     let columns = field.columns() as usize;
     if list.len() < columns {
         return None;
     }
-    let (front, behind) = list.split_at(columns);
+    let (front, after) = list.split_at(columns);
     if are_columns(front, line, first) {
-        Some(behind)
+        Some(after)
     } else {
         None
     }

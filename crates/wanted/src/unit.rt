@@ -1,7 +1,7 @@
 //! Storage units and column splits.
 
 ghost use Rattle.std.specs.Prelude.{◌≡◌, ◌↔◌, [], ◌∷◌, IsTrue, IfOk, option_map, map, filter};
-ghost use Rattle.wanted.specs.HelperBehind.{IsBehind};
+ghost use Rattle.wanted.specs.HelperAfter.{IsAfter};
 ghost use Rattle.wanted.specs.Units as units;
 ghost use Rattle.wanted.specs.HelperLines.{FirstIsLowest};
 
@@ -110,8 +110,8 @@ pub(crate) fn are_lines_of_kind(list: &[u16], chart: &Chart, kind: LineKind) -> 
     let mut rest = list;
     for line in lines {
         if is_of_kind(chart, kind, &line.statement) {
-            match behind_number(rest, line.number) {
-                Some(behind) => rest = behind,
+            match after_number(rest, line.number) {
+                Some(after) => rest = after,
                 None => return false,
             }
         }
@@ -119,12 +119,12 @@ pub(crate) fn are_lines_of_kind(list: &[u16], chart: &Chart, kind: LineKind) -> 
     rest.is_empty()
 }
 
-/// What stands behind a number in a list, if it is the first.
-fn behind_number(list: &[u16], number: u16) -> Option<&[u16]>
-    ensures { IsBehind (number ∷ []) list.now (option_map (λ behind. behind.now) result) }
+/// What stands after a number in a list, if it is the first.
+fn after_number(list: &[u16], number: u16) -> Option<&[u16]>
+    ensures { IsAfter (number ∷ []) list.now (option_map (λ after. after.now) result) }
 {
     match list.split_first() {
-        Some((first, behind)) if *first == number => Some(behind),
+        Some((first, after)) if *first == number => Some(after),
         _ => None,
     }
 }

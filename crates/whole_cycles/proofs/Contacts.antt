@@ -11,7 +11,7 @@ use Rattle.net.specs.Panel.{contact_of}
 use Rattle.net.proofs.ImpulsedLaws.{no_exit_is_entry}
 use Rattle.whole_cycles.specs.Laws.{ContactsAreOneDeep}
 use Rattle.whole_cycles.specs.OneContactDeep.{is_common, AreCarriesOpen, IsOneContactDeep, IsWithinOneContact, NoCommonEmits}
-use Rattle.whole_cycles.specs.OneContactDeep.IsWithinOneContact.{emits, wired, through, behind}
+use Rattle.whole_cycles.specs.OneContactDeep.IsWithinOneContact.{emits, wired, through, after}
 
 -- a contact that is closed leads from a common hub, where no carry passes
 common_of : (closed : Hub → Bool) → AreCarriesOpen closed → (hub common : Hub) → contact_of hub ≡ Some common → closed hub ≡ true
@@ -46,8 +46,8 @@ within wiring exits closed deep silent open_all (led_on from to at (inl wire)) =
     along : {x y : Hub} → HasWire wiring x y → IsWithinOneContact wiring exits closed x → IsWithinOneContact wiring exits closed y
     along {x} {y} wire (emits hub there on) = wired x y on wire
     along {x} {y} wire (wired exit hub on first) = absurd (ends wiring exit x y deep first wire)
-    along {x} {y} wire (through exit common hub on first leads shut) = behind exit common x y on first leads shut wire
-    along {x} {y} wire (behind exit common contact hub on first leads shut last) = absurd (ends wiring contact x y deep last wire)
+    along {x} {y} wire (through exit common hub on first leads shut) = after exit common x y on first leads shut wire
+    along {x} {y} wire (after exit common contact hub on first leads shut last) = absurd (ends wiring contact x y deep last wire)
 within wiring exits closed deep silent open_all (led_on from to at (inr contact)) =
     across contact (within wiring exits closed deep silent open_all at)
   where
@@ -57,7 +57,7 @@ within wiring exits closed deep silent open_all (led_on from to at (inr contact)
     across {x} {y} contact (wired exit hub on first) = through exit x y on first contact.0 contact.1
     across {x} {y} contact (through exit common hub on first leads shut) =
         absurd (false≢true (sym (not_common x common leads) ∙ common_of closed open_all y x contact.0 contact.1))
-    across {x} {y} contact (behind exit common last hub on first leads shut wire) =
+    across {x} {y} contact (after exit common last hub on first leads shut wire) =
         absurd (deep.shallow last x wire (ap is_some leads) (common_of closed open_all y x contact.0 contact.1))
 
 -- what an emitting exit is wired to is impulsed
@@ -73,7 +73,7 @@ impulsed wiring exits closed (emits hub there on) = emitting hub there on
 impulsed wiring exits closed (wired exit hub on wire) = fed wiring exits closed exit hub on wire
 impulsed wiring exits closed (through exit common hub on wire leads shut) =
     led_on common hub (fed wiring exits closed exit common on wire) (inr (leads, shut))
-impulsed wiring exits closed (behind exit common contact hub on wire leads shut last) =
+impulsed wiring exits closed (after exit common contact hub on wire leads shut last) =
     led_on contact hub (led_on common contact (fed wiring exits closed exit common on wire) (inr (leads, shut))) (inl last)
 
 pub contacts-one_deep : ContactsAreOneDeep

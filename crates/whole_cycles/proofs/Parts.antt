@@ -1,4 +1,4 @@
--- The machine behind some points, unit by unit.
+-- The machine after some points, unit by unit.
 use Rattle.std.proofs.Common.{◌≡◌, ◌∙◌, sym, ap, refl, Bool, List, [], ◌∷◌, map}
 use Rattle.counters.specs.Counters.{Counter, counter_sensed}
 use Rattle.hubs.specs.declared.hub.Hub.{Hub}
@@ -65,8 +65,8 @@ compared_after cycle = after (λ compared point picture. comparing_sensed compar
 abbrev pub pilots_after : Cycle → (Point → Hub → Bool) → List Point → PilotStates → PilotStates
 pilots_after cycle = after (λ pilots point picture. pilots_sensed pilots cycle point picture)
 
-abbrev pub wheels_after : Cycle → (Point → Hub → Bool) → List Point → WheelsState → WheelsState
-wheels_after cycle = after (λ wheels point picture. wheels_sensed wheels cycle point picture)
+abbrev pub sensed_wheels : Cycle → (Point → Hub → Bool) → List Point → WheelsState → WheelsState
+sensed_wheels cycle = after (λ wheels point picture. wheels_sensed wheels cycle point picture)
 
 abbrev pub carriage_after : Cycle → (Point → Hub → Bool) → List Point → CarriageState → CarriageState
 carriage_after cycle = after (λ carriage point picture. carriage_sensed carriage cycle point picture)
@@ -74,7 +74,7 @@ carriage_after cycle = after (λ carriage point picture. carriage_sensed carriag
 abbrev pub program_after : Cycle → (Point → Hub → Bool) → List Point → ProgramState → ProgramState
 program_after cycle = after (λ program point picture. program_sensed program cycle point picture)
 
--- The machine behind some points: each unit senses by itself.
+-- The machine after some points: each unit senses by itself.
 pub record Parts (cycle : Cycle) (pictures : Point → Hub → Bool) (points : List Point) (old now : MachineState) : Type 0 where
   pub stations : now.stations ≡ old.stations
   pub comparing : now.comparing ≡ compared_after cycle pictures points old.comparing
@@ -84,7 +84,7 @@ pub record Parts (cycle : Cycle) (pictures : Point → Hub → Bool) (points : L
   pub indicate : now.indicate ≡ old.indicate
   pub splits : now.splits ≡ old.splits
   pub emitters : now.emitters ≡ old.emitters
-  pub wheels : now.wheels ≡ wheels_after cycle pictures points old.wheels
+  pub wheels : now.wheels ≡ sensed_wheels cycle pictures points old.wheels
   pub carriage : now.carriage ≡ carriage_after cycle pictures points old.carriage
   pub program : now.program ≡ program_after cycle pictures points old.program
 

@@ -9,7 +9,7 @@ use Rattle.hub_table.specs.Places.{group_place, is_width}
 use Rattle.hub_table.specs.Ranges.{is_within}
 use Rattle.hubs.specs.declared.hub.Group.{Group}
 use Rattle.hubs.specs.declared.hub.Hub.TheVariants.{PL}
-use Rattle.net.specs.Panel.{unit_behind, unit_of}
+use Rattle.net.specs.Panel.{unit_after, unit_of}
 use Rattle.whole_cycles.specs.Units.{IsGroup}
 
 -- where a test holds of no other place, it is told by one
@@ -48,7 +48,7 @@ has_place name is = by name.width name.number is.width is.number
     by : (w n : ℕ) → is_width w ≡ true → is_within n 8 ≡ true → is_some (group_place w n) ≡ true
     by w n width number = grind (arith, nat_tests, width, number)
 
-place_is : (place : Option ℕ) → is_some place ≡ true → place ≡ Some (unit_behind 2 place - 2)
+place_is : (place : Option ℕ) → is_some place ≡ true → place ≡ Some (unit_after 2 place - 2)
 place_is None is = cc
 place_is (Some p) is = let same : p ≡ 2 + p - 2 = omega arith in ap Some same
 
@@ -68,5 +68,5 @@ pub in_units : (name : Group) → IsGroup name → (3 ≤ unit_of name) × (unit
 in_units name is = by name.width name.number is.width is.number
   where
     by : (w n : ℕ) → is_width w ≡ true → is_within n 8 ≡ true
-        → (3 ≤ unit_behind 2 (group_place w n)) × (unit_behind 2 (group_place w n) ≤ 34)
+        → (3 ≤ unit_after 2 (group_place w n)) × (unit_after 2 (group_place w n) ≤ 34)
     by w n width number = (grind (arith, nat_tests, width, number), grind (arith, nat_tests, width, number))

@@ -4,7 +4,7 @@ use Rattle.std.specs.List.{All, range_with_len}
 use Rattle.std.proofs.lemmas.List.{length-map, length-set}
 use Rattle.std.proofs.lemmas.List.Elements.{All-from_get_or, All-map, All-same}
 use Rattle.std.proofs.lemmas.List.FromFn.{get_or-range_with_len, length-map-range_with_len}
-use Rattle.card_code.specs.Rows.{row_place}
+use Rattle.card_code.specs.Rows.{passing_place}
 use Rattle.card_code.specs.declared.row.Row.TheVariants.{Eleven}
 use Rattle.counters.proofs.EarliestRows.{points-stay}
 use Rattle.counters.proofs.Staying.{counters-stay}
@@ -72,7 +72,7 @@ starts wiring = record {
   wheels = all-made IsEmpty (wheel_at_start wiring) (range_with_len 1 120) (λ v. refl);
 }
 
--- an idle group is idle behind a cycle
+-- an idle group is idle after a cycle
 group-kept : (cycle : Cycle) (pictures : Point → Hub → Bool) (group : Counter) → IsIdle group
     → IsIdle (counters.after_cycle cycle pictures group)
 group-kept cycle pictures group is = record {
@@ -90,8 +90,8 @@ storage-point : (cycle : Cycle) (point : Point) (picture : Hub → Bool) (storag
 storage-point cycle C picture storage is = record { held = is.held; received = refl }
 storage-point cycle (Row row) picture storage is = record { held = is.held; received = by storage.reads_in }
   where
-    by : (reads_in : Bool) → length (if reads_in then slice_set storage.received (row_place row) (columns_in picture storage.place) else storage.received) ≡ 12
-    by true = length-set storage.received (row_place row) (columns_in picture storage.place) ∙ is.received
+    by : (reads_in : Bool) → length (if reads_in then slice_set storage.received (passing_place row) (columns_in picture storage.place) else storage.received) ≡ 12
+    by true = length-set storage.received (passing_place row) (columns_in picture storage.place) ∙ is.received
     by false = is.received
 storage-point cycle K picture storage is = is
 

@@ -161,7 +161,7 @@ by_name machine name between is =
             (λ group. and_right (carries_out (wheels_in (before_closing cycle pictures group)) false) (is_hub (CO group.name) (CI name))
             (differing (CO group.name) (CI name) (λ e. cc)));
       };
-      behind = λ wiring cycle new whole.
+      after = λ wiring cycle new whole.
           ap (λ (gs : List Counter). get_or gs k d) whole.groups
           ∙ get_or-map (counters.after_cycle cycle whole.pictures) machine.groups k d d at.place;
     }
@@ -210,7 +210,7 @@ by_number machine number between low high =
           (λ j within other. storage-silent pictures row number column (get_or machine.storage j d)
           (λ same. let is = unit_at j within in other (omega (arith, is, same, low))))
           ∙ storage-here pictures row number column (storage_at machine number) place;
-      behind = λ wiring cycle new whole.
+      after = λ wiring cycle new whole.
           ap (λ (us : List StorageState). get_or us k d) whole.storage
           ∙ get_or-map (columns.after_cycle cycle whole.pictures) machine.storage k d d inside;
     }

@@ -1,9 +1,9 @@
--- Fourteen points, one behind another: the picture that is seen at each, and what is reached by them. The state is any.
+-- Fourteen points, one after another: the picture that is seen at each, and what is reached by them. The state is any.
 use Rattle.std.proofs.Common.{◌≡◌, ◌∙◌, sym, ap, subst, ℕ, zero, suc, ◌+◌, ◌<◌, ◌==◌, ◌⊎◌, inl, inr, Bool, true, false, List, [], ◌∷◌, map, arith, if◌then◌else◌}
 use Rattle.std.proofs.Math.ListN.{get_or-map}
 use Rattle.std.proofs.lemmas.Bool.Decides.{nat_tests}
 use Rattle.std.proofs.lemmas.List.FromFn.{get_or-range_with_len}
-use Rattle.card_code.specs.Rows.{rows, row_place}
+use Rattle.card_code.specs.Rows.{rows, passing_place}
 use Rattle.card_code.specs.declared.row.Row.{Row as CardRow}
 use Rattle.card_code.specs.declared.row.Row.TheVariants.{Zero, One, Two, Three, Four, Five, Six, Seven, Eight, Nine, Eleven, Twelve}
 use Rattle.hubs.specs.declared.hub.Hub.{Hub}
@@ -45,7 +45,7 @@ rows_before Zero = Nine ∷ Eight ∷ Seven ∷ Six ∷ Five ∷ Four ∷ Three 
 rows_before Eleven = Nine ∷ Eight ∷ Seven ∷ Six ∷ Five ∷ Four ∷ Three ∷ Two ∷ One ∷ Zero ∷ []
 rows_before Twelve = Nine ∷ Eight ∷ Seven ∷ Six ∷ Five ∷ Four ∷ Three ∷ Two ∷ One ∷ Zero ∷ Eleven ∷ []
 
--- All points by their pictures: each is one that the state behind the points before it has.
+-- All points by their pictures: each is one that the state after the points before it has.
 pub record IsWalked {M : Type 0} (sense : M → Point → (Hub → Bool) → M) (Has : M → Point → (Hub → Bool) → Type 0) (old now : M) :
     Type 0 where
   pub pictures : Point → Hub → Bool
@@ -134,7 +134,7 @@ agreeing sense Has old pictures (suc place) now (mid, walk, step) is =
 -- the place of a point
 place_of : Point → ℕ
 place_of C = 0
-place_of (Row row) = suc (row_place row)
+place_of (Row row) = suc (passing_place row)
 place_of K = 13
 
 place-point_at : (k : ℕ) → k < 14 → place_of (point_at k) ≡ k
@@ -144,7 +144,7 @@ place-point_at k less = sym (get_or-map place_of points k K) ∙ get_or-range_wi
     plain : 0 + k ≡ k
     plain = omega arith
 
--- at a row the state is that behind the control point and the rows before it
+-- at a row the state is that after the control point and the rows before it
 Has-row : {M : Type 0} (sense : M → Point → (Hub → Bool) → M) (Has : M → Point → (Hub → Bool) → Type 0) (old : M)
     → (pictures : Point → Hub → Bool)
     → ((k : ℕ) → k < 14 → Has (after_places sense pictures k old) (point_at k) (pictures (point_at k))) → (row : CardRow)

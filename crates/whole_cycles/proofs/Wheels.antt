@@ -17,8 +17,8 @@ use Rattle.print_unit.specs.ZeroControl.{Wheel}
 use Rattle.print_unit.proofs.Ranges.{map-same}
 use Rattle.whole_cycles.specs.Between.{IsEmpty}
 use Rattle.whole_cycles.specs.Laws.{WheelsHaveTheirJacks}
-use Rattle.whole_cycles.specs.WholeCycles.{wheel_received, rows_received, wheel_behind, wheels_behind}
-use Rattle.whole_cycles.proofs.Parts.{after-kept, wheels_after}
+use Rattle.whole_cycles.specs.WholeCycles.{wheel_received, rows_received, wheel_after, wheels_after}
+use Rattle.whole_cycles.proofs.Parts.{after-kept, sensed_wheels}
 
 -- the wheels from wheel v on by the pictures of some rows
 collected_rows : (Point → Hub → Bool) → ℕ → List CardRow → List Wheel → List Wheel
@@ -79,14 +79,14 @@ collected-all pictures v (wheel ∷ wheels) empty =
     next : (u : ℕ) → v + 1 ≤ u → suc (u - (v + 1)) ≡ u - v
     next u low = omega (arith, low)
 
--- the wheels behind all points
+-- the wheels after all points
 pub wheels-collected : (cycle : Cycle) (pictures : Point → Hub → Bool) (wheels : WheelsState)
     → length wheels.wheels ≡ 120 → All IsEmpty wheels.wheels
-    → (wheels_after cycle pictures points wheels).wheels ≡ wheels_behind pictures wheels.wheels
+    → (sensed_wheels cycle pictures points wheels).wheels ≡ wheels_after pictures wheels.wheels
 unfolding collected_rows
 wheels-collected cycle pictures wheels many empty =
     collected-all pictures 1 wheels.wheels empty
-    ∙ ap (λ (n : ℕ). map (wheel_behind pictures wheels.wheels) (range_with_len 1 n)) many
+    ∙ ap (λ (n : ℕ). map (wheel_after pictures wheels.wheels) (range_with_len 1 n)) many
 
 -- what wheels collect is forgotten with the rest
 collected-emptied : (v : ℕ) (row : CardRow) (picture : Hub → Bool) (wheels : List Wheel)
@@ -102,7 +102,7 @@ sensed-emptied cycle wheels (Row row) picture = collected-emptied 1 row picture 
 sensed-emptied cycle wheels K picture = refl
 
 pub wheels-emptied : (cycle : Cycle) (pictures : Point → Hub → Bool) (list : List Point) (wheels : WheelsState)
-    → map emptied (wheels_after cycle pictures list wheels).wheels ≡ map emptied wheels.wheels
+    → map emptied (sensed_wheels cycle pictures list wheels).wheels ≡ map emptied wheels.wheels
 wheels-emptied cycle pictures list wheels =
     after-kept (λ state point picture. wheels_sensed state cycle point picture) (λ state. map emptied state.wheels)
     (λ state point picture. sensed-emptied cycle state point picture) pictures list wheels
@@ -110,7 +110,7 @@ wheels-emptied cycle pictures list wheels =
 -- the wheels of a setup with all that they receive
 pub wheels-jacks : WheelsHaveTheirJacks
 wheels-jacks wiring machine pictures set_up =
-    ap (λ (ws : List Wheel). wheels_behind pictures ws) set_up.wheels
-    ∙ map-same (wheel_behind pictures (map (wheel_at_start wiring) (range_with_len 1 120))) (wheel_received wiring pictures) 1 120
+    ap (λ (ws : List Wheel). wheels_after pictures ws) set_up.wheels
+    ∙ map-same (wheel_after pictures (map (wheel_at_start wiring) (range_with_len 1 120))) (wheel_received wiring pictures) 1 120
     (λ v low high. ap (filled pictures v)
     (get_or-map-range_with_len (wheel_at_start wiring) 1 120 (v - 1) v no_wheel (omega (arith, low, high)) (omega (arith, low))))

@@ -15,7 +15,7 @@ use Rattle.machine.specs.Machine.{MachineState, machine_at_start}
 use Rattle.whole_cycles.specs.Between.{IsBetween, IsReady, IsSetUp}
 use Rattle.whole_cycles.specs.OneContactDeep.{AreCarriesOpen, IsOneContactDeep, IsWithinOneContact, NoCommonEmits, SourcesAloneEmit}
 use Rattle.whole_cycles.specs.Units.{AreAlone, IsGroup, IsGroupByName, IsStorageByNumber, UnitsStart}
-use Rattle.whole_cycles.specs.WholeCycles.{WholeCycle, control_emits, row_emits, closing_emits, wheel_received, wheels_behind}
+use Rattle.whole_cycles.specs.WholeCycles.{WholeCycle, control_emits, row_emits, closing_emits, wheel_received, wheels_after}
 
 -- A cycle of a machine between cycles is a whole cycle.
 abbrev pub CyclesAreWhole : Type 0
@@ -23,14 +23,14 @@ CyclesAreWhole =
     (wiring : Wiring) (cycle : Cycle) (old new : MachineState)
     → IsBetween old → CycleRun wiring cycle old new → WholeCycle wiring cycle old new
 
--- A machine starts between cycles, and is between cycles behind each of its cycles.
+-- A machine starts between cycles, and is between cycles after each of its cycles.
 pub record MachinesStayBetween : Type 0 where
   pub start : (wiring : Wiring) → IsBetween (machine_at_start wiring)
   pub kept :
       (wiring : Wiring) (cycle : Cycle) (old new : MachineState)
       → IsBetween old → CycleRun wiring cycle old new → IsBetween new
 
--- A machine starts ready, and is ready behind each of its cycles and behind each feed.
+-- A machine starts ready, and is ready after each of its cycles and after each feed.
 pub record MachinesStayReady : Type 0 where
   pub start : (wiring : Wiring) → IsReady wiring (machine_at_start wiring)
   pub kept :
@@ -45,7 +45,7 @@ abbrev pub WheelsHaveTheirJacks : Type 0
 WheelsHaveTheirJacks =
     (wiring : Wiring) (machine : MachineState) (pictures : Point → Hub → Bool)
     → IsSetUp wiring machine
-    → wheels_behind pictures machine.wheels.wheels ≡ map (wheel_received wiring pictures) (range_with_len 1 120)
+    → wheels_after pictures machine.wheels.wheels ≡ map (wheel_received wiring pictures) (range_with_len 1 120)
 
 -- Where no impulse passes two contacts, no common hub emits and no carry passes, the impulsed hubs are those within one contact.
 abbrev pub ContactsAreOneDeep : Type 0

@@ -54,6 +54,6 @@ pub data IsWithinOneContact (wiring : Wiring) (exits closed : Hub → Bool) : Hu
   through :
       (exit common hub : Hub) → exits exit ≡ true → HasWire wiring exit common → contact_of hub ≡ Some common
       → closed hub ≡ true → IsWithinOneContact wiring exits closed hub
-  behind :
+  after :
       (exit common contact hub : Hub) → exits exit ≡ true → HasWire wiring exit common → contact_of contact ≡ Some common
       → closed contact ≡ true → HasWire wiring contact hub → IsWithinOneContact wiring exits closed hub

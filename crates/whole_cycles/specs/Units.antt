@@ -59,7 +59,7 @@ pub record IsGroupByName (machine : MachineState) (name : Group) : Type 0 where
       (pictures : Point → Hub → Bool) (cycle : Cycle)
       → CarriesBy (all_closing_emits machine pictures cycle) (closing_closes machine pictures cycle) name
       (wheels_in (before_closing cycle pictures (group_at machine name)))
-  pub behind :
+  pub after :
       (wiring : Wiring) (cycle : Cycle) (new : MachineState) (whole : WholeCycle wiring cycle machine new)
       → group_at new name ≡ counters.after_cycle cycle whole.pictures (group_at machine name)
 
@@ -71,7 +71,7 @@ pub record IsStorageByNumber (machine : MachineState) (number : ℕ) : Type 0 wh
       (pictures : Point → Hub → Bool) (cycle : Cycle) (row : CardRow) (column : ℕ)
       → row_emits machine pictures cycle row (SX number column)
       ≡ (pictures C (SO number) && holds (storage_at machine number) row column)
-  pub behind :
+  pub after :
       (wiring : Wiring) (cycle : Cycle) (new : MachineState) (whole : WholeCycle wiring cycle machine new)
       → storage_at new number ≡ columns.after_cycle cycle whole.pictures (storage_at machine number)
 

@@ -1,4 +1,4 @@
--- A cycle of the machine as a whole: one picture for each of its fourteen points, and what each unit is behind it.
+-- A cycle of the machine as a whole: one picture for each of its fourteen points, and what each unit is after it.
 -- What the exits emit at the rows hangs on the state before the cycle and on the picture of the control point alone, and
 -- no contact moves before the closing point but those of the splits; there the carries have theirs, by what was entered at the
 -- rows. So a cycle is its control point, its twelve rows side by side, and its closing point.
@@ -90,18 +90,18 @@ abbrev pub rows_received : (Point → Hub → Bool) → ℕ → List Bool
 rows_received pictures v = map (λ row. pictures (Row row) (W v)) rows
 
 -- wheel v with all that it receives in the cycle, and the jacks that it had
-abbrev pub wheel_behind : (Point → Hub → Bool) → List Wheel → ℕ → Wheel
-wheel_behind pictures wheels v = record (wheel_at_place wheels (v - 1)) { received = rows_received pictures v }
+abbrev pub wheel_after : (Point → Hub → Bool) → List Wheel → ℕ → Wheel
+wheel_after pictures wheels v = record (wheel_at_place wheels (v - 1)) { received = rows_received pictures v }
 
 -- the wheels 1 to 120 with all that they receive in the cycle
-abbrev pub wheels_behind : (Point → Hub → Bool) → List Wheel → List Wheel
-wheels_behind pictures wheels = map (wheel_behind pictures wheels) (range_with_len 1 120)
+abbrev pub wheels_after : (Point → Hub → Bool) → List Wheel → List Wheel
+wheels_after pictures wheels = map (wheel_after pictures wheels) (range_with_len 1 120)
 
 -- wheel v of a setup with all that it receives in the cycle
 abbrev pub wheel_received : Wiring → (Point → Hub → Bool) → ℕ → Wheel
 wheel_received wiring pictures v = record (wheel_at_start wiring v) { received = rows_received pictures v }
 
--- A whole cycle: the pictures of its points, and each unit behind it. The pilots, the storage units and the counter groups sense all
+-- A whole cycle: the pictures of its points, and each unit after it. The pilots, the storage units and the counter groups sense all
 -- points, the wheels the rows, the carriage the control point and the program unit the closing point.
 pub record WholeCycle (wiring : Wiring) (cycle : Cycle) (old new : MachineState) : Type 0 where
   pub pictures : Point → Hub → Bool
@@ -118,6 +118,6 @@ pub record WholeCycle (wiring : Wiring) (cycle : Cycle) (old new : MachineState)
   pub splits : new.splits ≡ old.splits
   pub emitters : new.emitters ≡ old.emitters
   pub wheels : new.wheels.wheels ≡ map emptied old.wheels.wheels
-  pub line : new.wheels.line ≡ printed_line (has_zero_control cycle) (wheels_behind pictures old.wheels.wheels)
+  pub line : new.wheels.line ≡ printed_line (has_zero_control cycle) (wheels_after pictures old.wheels.wheels)
   pub carriage : new.carriage ≡ carriage_ended (carriage_sensed old.carriage cycle C (pictures C)) cycle
   pub program : new.program ≡ program_ended (program_sensed old.program cycle K (pictures K)) cycle

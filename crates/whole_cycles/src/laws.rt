@@ -10,12 +10,12 @@ pub fn cycles_are_whole()
     ensures { CyclesAreWhole }
 {}
 
-/// A machine starts between cycles, and is between cycles behind each of its cycles.
+/// A machine starts between cycles, and is between cycles after each of its cycles.
 pub fn machines_stay_between()
     ensures { MachinesStayBetween }
 {}
 
-/// A machine is between cycles, and as its setup has it, at the start, behind each of its cycles and behind each feed.
+/// A machine is between cycles, and as its setup has it, at the start, after each of its cycles and after each feed.
 pub fn machines_stay_ready()
     ensures { MachinesStayReady }
 {}

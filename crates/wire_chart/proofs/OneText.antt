@@ -1,7 +1,7 @@
 -- A setup has one text.
 use Rattle.std.proofs.Common.{◌≡◌, inl, inr, ℕ, ◌<◌, List, refl, sym, ap, ◌∙◌, subst, arith}
 use Rattle.std.proofs.lemmas.Option.{same_Some}
-use Rattle.setups.specs.Tapes.{Form, SameTape}
+use Rattle.setups.specs.Tapes.{CarriageTape, SameTape}
 use Rattle.setups.specs.Wiring.{Wiring}
 use Rattle.hubs.specs.declared.hub.Hub.{Hub}
 use Rattle.hubs.specs.declared.jack.Jack.{Jack}
@@ -62,7 +62,7 @@ same_wires one other text words same first second =
     (λ a has. (first.all_wires a.0 a.1).0 ((same.wires a.0 a.1).0 ((second.all_wires a.0 a.1).1 has)))
 
 -- a form is written by its numbers alone
-same_text : (one other : Form) (stops : List (ℕ × ℕ)) (jacks : List Jack) (wires : List (Hub × Hub))
+same_text : (one other : CarriageTape) (stops : List (ℕ × ℕ)) (jacks : List Jack) (wires : List (Hub × Hub))
     → SameTape one other → text_of one stops jacks wires ≡ text_of other stops jacks wires
 same_text one other stops jacks wires same = rw (same.lines, same.first, same.overflow) refl
 

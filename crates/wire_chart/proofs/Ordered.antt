@@ -40,7 +40,7 @@ all_from_each P [] each = All-nil P
 all_from_each P (x ∷ xs) each =
     All-cons P x xs (each x (contains_first x xs)) (all_from_each P xs (λ y has. each y (contains_more x xs y has)))
 
--- two lists in order, one behind the other
+-- two lists in order, one after the other
 pub pairs_append : {X : Type 0} (R : X → X → Type 0) (xs ys : List X) → AllPairs R xs → AllPairs R ys
     → ((x y : X) → Contains xs x → Contains ys y → R x y) → AllPairs R (xs ++ ys)
 pairs_append R [] ys one other across = other
@@ -63,18 +63,18 @@ same_first R x y xs ys one_way ordered also x_there y_there =
       | inl e ↦ e
       | inr later ↦ elim (first_or_other x xs y y_there) [
         | inl e ↦ sym e
-        | inr behind ↦ absurd (one_way x y (All-contains (R x) xs y (pairs_head R x xs ordered) behind)
+        | inr after ↦ absurd (one_way x y (All-contains (R x) xs y (pairs_head R x xs ordered) after)
             (All-contains (R y) ys x (pairs_head R y ys also) later))
       ]
     ]
 
--- an element behind the first is behind it in the other list too
+-- an element after the first is after it in the other list too
 same_rest : {X : Type 0} (R : X → X → Type 0) (x y a : X) (xs ys : List X) → IsOneWay R → AllPairs R (x ∷ xs)
     → x ≡ y → Contains xs a → Contains (y ∷ ys) a → Contains ys a
-same_rest R x y a xs ys one_way ordered e behind there =
+same_rest R x y a xs ys one_way ordered e after there =
     elim (first_or_other y ys a there) [
       | inl first ↦
-          let before : R x a = All-contains (R x) xs a (pairs_head R x xs ordered) behind in
+          let before : R x a = All-contains (R x) xs a (pairs_head R x xs ordered) after in
           let is_x : a ≡ x = first ∙ sym e in
           let twice : R x x = subst (λ z. R x z) is_x before in
           absurd (one_way x x twice twice)

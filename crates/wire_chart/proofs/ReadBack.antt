@@ -22,7 +22,7 @@ use Rattle.wire_chart.proofs.OneText.{stops_one_way, jacks_one_way, wires_one_wa
 use Rattle.wire_chart.proofs.WrittenSaid.{stop_fits, wire_fits}
 use Rattle.wire_chart.proofs.Ordered.{IsOneWay, all_mapped}
 use Rattle.wire_chart.proofs.WrittenLines.{IsText, stop_statement, wire_statement, each_stop, each_wire}
-use Rattle.wire_chart.proofs.TextLines.{form_numbers, form_is, first_written, lines_behind, statements_of, text_lines, text_said}
+use Rattle.wire_chart.proofs.TextLines.{form_numbers, form_is, first_written, lines_after, statements_of, text_lines, text_said}
 use Rattle.wire_chart.proofs.TextSize.{not_large}
 
 -- nothing is said twice
@@ -275,7 +275,7 @@ read_back wiring text setup written =
           size = not_large wiring text is;
           first = codes "WIRING407 1";
           second = form_line wiring.tape;
-          others = lines_behind written.stops written.jacks written.wires;
+          others = lines_after written.stops written.jacks written.wires;
           lines = text_lines wiring text is;
           begun = first_written.divided;
           formed = form_is wiring.tape setup.form.formed;

@@ -1,6 +1,6 @@
 -- The stops of a form, line by line and channel by channel.
 use Rattle.std.proofs.Common.{◌≡◌, inl, inr, ℕ, ◌+◌, ◌<◌, ◌≤◌, List, ◌++◌, true, refl, sym, ap, ◌∙◌, arith}
-use Rattle.setups.specs.Tapes.{Form, IsForm, IsStop, has_stop}
+use Rattle.setups.specs.Tapes.{CarriageTape, IsCarriageTape, IsStop, has_stop}
 use Rattle.wire_chart.specs.WrittenText.{ended, stop_line, IsStopBefore}
 use Rattle.wire_chart.specs.Writing.{GainsStops, IsStopOf, IsStopAt, IsStopAbove, IsStopIn, IsStopBelow}
 use Rattle.wire_chart.proofs.Gains.{gains_none, gains_one, gains_more, gains_same, below_or_at}
@@ -10,7 +10,7 @@ stop_is : (stop : ℕ × ℕ) (channel line : ℕ) → stop.0 ≡ channel → st
 stop_is stop channel line c l =
     ap (λ (a : ℕ). let s : ℕ × ℕ = (a, stop.1) in s) c ∙ ap (λ (b : ℕ). let s : ℕ × ℕ = (channel, b) in s) l
 
-pub stop_gained : (form : Form) (channel line : ℕ) (old new : List ℕ) → has_stop form channel line ≡ true
+pub stop_gained : (form : CarriageTape) (channel line : ℕ) (old new : List ℕ) → has_stop form channel line ≡ true
     → new ≡ old ++ ended (stop_line (channel, line)) → GainsStops (IsStopAt form channel line) old new
 stop_gained form channel line old new there gained =
     gains_one (IsStopAt form channel line) IsStopBefore stop_line old new (channel, line) gained
@@ -18,7 +18,7 @@ stop_gained form channel line old new there gained =
     (λ stop is. stop_is stop channel line is.channel_is is.line_is)
 
 -- no line of a channel
-pub no_lines : (form : Form) (channel : ℕ) (text : List ℕ) → IsForm form → GainsStops (IsStopAbove form channel 1) text text
+pub no_lines : (form : CarriageTape) (channel : ℕ) (text : List ℕ) → IsCarriageTape form → GainsStops (IsStopAbove form channel 1) text text
 no_lines form channel text is_form =
     gains_none (IsStopAbove form channel 1) IsStopBefore stop_line text text refl
     (λ stop is.
@@ -26,7 +26,7 @@ no_lines form channel text is_form =
     omega (arith, at.line_from, is.line_below))
 
 -- one line more
-pub line_more : (form : Form) (channel line : ℕ) (old mid new : List ℕ)
+pub line_more : (form : CarriageTape) (channel line : ℕ) (old mid new : List ℕ)
     → GainsStops (IsStopAbove form channel line) old mid → GainsStops (IsStopAt form channel line) mid new
     → GainsStops (IsStopAbove form channel (line + 1)) old new
 line_more form channel line old mid new first second =
@@ -41,7 +41,7 @@ line_more form channel line old mid new first second =
     (λ one other is also. inr (is.channel_is ∙ sym also.channel_is, omega (arith, is.line_below, also.line_is)))
 
 -- all lines of a channel
-pub all_lines : (form : Form) (channel line : ℕ) (old new : List ℕ) → IsForm form → form.lines < line
+pub all_lines : (form : CarriageTape) (channel line : ℕ) (old new : List ℕ) → IsCarriageTape form → form.lines < line
     → GainsStops (IsStopAbove form channel line) old new → GainsStops (IsStopIn form channel) old new
 all_lines form channel line old new is_form last gains =
     gains_same (IsStopAbove form channel line) (IsStopIn form channel) IsStopBefore stop_line old new gains
@@ -51,7 +51,7 @@ all_lines form channel line old new is_form last gains =
     (λ stop is. record { there = is.there; channel_is = is.channel_is })
 
 -- no channel
-pub no_channels : (form : Form) (text : List ℕ) → IsForm form → GainsStops (IsStopBelow form 2) text text
+pub no_channels : (form : CarriageTape) (text : List ℕ) → IsCarriageTape form → GainsStops (IsStopBelow form 2) text text
 no_channels form text is_form =
     gains_none (IsStopBelow form 2) IsStopBefore stop_line text text refl
     (λ stop is.
@@ -59,7 +59,7 @@ no_channels form text is_form =
     omega (arith, at.channel_from, is.channel_below))
 
 -- one channel more
-pub channel_more : (form : Form) (channel : ℕ) (old mid new : List ℕ)
+pub channel_more : (form : CarriageTape) (channel : ℕ) (old mid new : List ℕ)
     → GainsStops (IsStopBelow form channel) old mid → GainsStops (IsStopIn form channel) mid new
     → GainsStops (IsStopBelow form (channel + 1)) old new
 channel_more form channel old mid new first second =
@@ -74,7 +74,7 @@ channel_more form channel old mid new first second =
     (λ one other is also. inl (omega (arith, is.channel_below, also.channel_is)))
 
 -- all channels
-pub all_channels : (form : Form) (channel : ℕ) (old new : List ℕ) → IsForm form → 12 ≤ channel
+pub all_channels : (form : CarriageTape) (channel : ℕ) (old new : List ℕ) → IsCarriageTape form → 12 ≤ channel
     → GainsStops (IsStopBelow form channel) old new → GainsStops (IsStopOf form) old new
 all_channels form channel old new is_form last gains =
     gains_same (IsStopBelow form channel) (IsStopOf form) IsStopBefore stop_line old new gains

@@ -3,7 +3,7 @@ use Rattle.std.proofs.Common.{◌≡◌, ℕ, ◌≤◌, List, [], ◌∷◌, �
 use Rattle.std.specs.Prelude.{map}
 use Rattle.std.specs.List.{flat_map}
 use Rattle.card_code.specs.Lines.{lines_of}
-use Rattle.setups.specs.Tapes.{Form, IsFormed}
+use Rattle.setups.specs.Tapes.{CarriageTape, IsFormed}
 use Rattle.setups.specs.Wiring.{Wiring}
 use Rattle.hubs.specs.declared.hub.Hub.{Hub}
 use Rattle.hubs.specs.declared.jack.Jack.{Jack}
@@ -19,14 +19,14 @@ use Rattle.std.proofs.Common.{append-nil}
 use Rattle.wire_chart.proofs.WrittenLines.{IsText, stop_statement, wire_statement, lines_said, lines_inner, stops_said, each_jack, wires_said}
 
 -- the line of the form
-abbrev pub form_numbers : Form → FormNumbers
+abbrev pub form_numbers : CarriageTape → FormNumbers
 form_numbers form = record { lines = form.lines; first = form.first; overflow = form.overflow }
 
 three_words : (word a b c : List ℕ)
     → word ++ (32 ∷ a) ++ (32 ∷ b) ++ (32 ∷ c) ≡ word ++ words_line (a ∷ b ∷ c ∷ [])
 three_words word a b c = simp (append_assoc, append-nil)
 
-pub form_written : (form : Form) → IsFormed form.lines form.first form.overflow
+pub form_written : (form : CarriageTape) → IsFormed form.lines form.first form.overflow
     → IsWrittenLine (form_line form) (codes "FORM" ∷ number_text form.lines ∷ number_text form.first ∷ number_text form.overflow ∷ [])
 form_written form formed =
     let tokens : List (List ℕ) = number_text form.lines ∷ number_text form.first ∷ number_text form.overflow ∷ [] in
@@ -42,7 +42,7 @@ form_written form formed =
     )
     (omega arith))
 
-pub form_is : (form : Form) → IsFormed form.lines form.first form.overflow → IsFormLine (form_line form) (form_numbers form)
+pub form_is : (form : CarriageTape) → IsFormed form.lines form.first form.overflow → IsFormLine (form_line form) (form_numbers form)
 form_is form formed =
     let to : form.lines ≤ 144 = formed.lines_to in
     record {
@@ -66,9 +66,9 @@ pub end_written : IsWrittenLine (codes "END") (codes "END" ∷ [])
 end_written =
     line_of_words (codes "END") [] (record { some = omega arith; few = omega arith; high = refl }) (omega arith) tt (omega arith)
 
--- the lines behind the form, and what they say
-abbrev pub lines_behind : List (ℕ × ℕ) → List Jack → List (Hub × Hub) → List (List ℕ)
-lines_behind stops jacks wires =
+-- the lines after the form, and what they say
+abbrev pub lines_after : List (ℕ × ℕ) → List Jack → List (Hub × Hub) → List (List ℕ)
+lines_after stops jacks wires =
     map stop_line stops ++ (map jack_line jacks ++ (map wire_line wires ++ (codes "END" ∷ [])))
 
 abbrev pub statements_of : List (ℕ × ℕ) → List Jack → List (Hub × Hub) → List Statement
@@ -79,7 +79,7 @@ regroup a b c d e f = simp append_assoc
 
 -- the lines of the text
 pub text_lines : (wiring : Wiring) (text : List ℕ) → (is : IsText wiring text) → lines_of text
-    ≡ codes "WIRING407 1" ∷ form_line wiring.tape ∷ lines_behind is.written.stops is.written.jacks is.written.wires
+    ≡ codes "WIRING407 1" ∷ form_line wiring.tape ∷ lines_after is.written.stops is.written.jacks is.written.wires
 text_lines wiring text is =
     let w : IsWritten wiring text = is.written in
     let stops : List ℕ = flat_map (λ stop. ended (stop_line stop)) w.stops in
@@ -101,7 +101,7 @@ text_lines wiring text is =
     (ended_line (codes "END") [] refl ∙ ap (λ (ls : List (List ℕ)). codes "END" ∷ ls) no_lines)))))
 
 pub text_said : (wiring : Wiring) (text : List ℕ) → (is : IsText wiring text)
-    → SaysLines (lines_behind is.written.stops is.written.jacks is.written.wires)
+    → SaysLines (lines_after is.written.stops is.written.jacks is.written.wires)
     (statements_of is.written.stops is.written.jacks is.written.wires)
 text_said wiring text is =
     let w : IsWritten wiring text = is.written in

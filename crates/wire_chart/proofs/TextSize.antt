@@ -21,7 +21,7 @@ use Rattle.wire_chart.proofs.WrittenSaid.{jack_said}
 use Rattle.std.specs.Prelude.{unwrap_or}
 use Rattle.std.proofs.Common.{Option}
 use Rattle.wire_chart.proofs.WrittenLines.{IsText, stop_statement, wire_statement, lines_short, each_stop, stops_said, each_jack, each_wire, wires_said}
-use Rattle.wire_chart.proofs.TextLines.{form_written, first_written, end_written, lines_behind, text_lines}
+use Rattle.wire_chart.proofs.TextLines.{form_written, first_written, end_written, lines_after, text_lines}
 
 -- how many stops, jacks and wires there are at most
 stops_few : (wiring : Wiring) (text : List ℕ) → (is : IsText wiring text) → length is.written.stops ≤ 2400
@@ -114,13 +114,13 @@ no_more lines few short (inr h) =
     omega (arith, at, same, h.4)
 
 text_short : (wiring : Wiring) (text : List ℕ) → (is : IsText wiring text) → All (λ line. length line ≤ 60)
-    (codes "WIRING407 1" ∷ form_line wiring.tape ∷ lines_behind is.written.stops is.written.jacks is.written.wires)
+    (codes "WIRING407 1" ∷ form_line wiring.tape ∷ lines_after is.written.stops is.written.jacks is.written.wires)
 text_short wiring text is =
     let w : IsWritten wiring text = is.written in
     let last : List (List ℕ) = codes "END" ∷ [] in
     All-cons (λ line. length line ≤ 60) (codes "WIRING407 1")
-    (form_line wiring.tape ∷ lines_behind w.stops w.jacks w.wires) first_written.short
-    (All-cons (λ line. length line ≤ 60) (form_line wiring.tape) (lines_behind w.stops w.jacks w.wires)
+    (form_line wiring.tape ∷ lines_after w.stops w.jacks w.wires) first_written.short
+    (All-cons (λ line. length line ≤ 60) (form_line wiring.tape) (lines_after w.stops w.jacks w.wires)
     (form_written wiring.tape is.setup.form.formed).short
     (All-append (λ line. length line ≤ 60) (map stop_line w.stops) (map jack_line w.jacks ++ (map wire_line w.wires ++ last))
     (lines_short stop_line stop_statement w.stops (stops_said wiring text is))
@@ -130,9 +130,9 @@ text_short wiring text is =
     (lines_short wire_line wire_statement w.wires (wires_said wiring text is))
     (All-cons (λ line. length line ≤ 60) (codes "END") [] end_written.short (All-nil (λ line. length line ≤ 60)))))))
 
-behind_length : (stops : List (ℕ × ℕ)) (jacks : List Jack) (wires : List (Hub × Hub))
-    → length (lines_behind stops jacks wires) ≡ length stops + length jacks + length wires + 1
-behind_length stops jacks wires =
+after_length : (stops : List (ℕ × ℕ)) (jacks : List Jack) (wires : List (Hub × Hub))
+    → length (lines_after stops jacks wires) ≡ length stops + length jacks + length wires + 1
+after_length stops jacks wires =
     omega (
       arith,
       length-append (map stop_line stops) (map jack_line jacks ++ (map wire_line wires ++ (codes "END" ∷ []))),
@@ -146,11 +146,11 @@ behind_length stops jacks wires =
 pub not_large : (wiring : Wiring) (text : List ℕ) → (is : IsText wiring text) → IsTooLarge (lines_of text) → ⊥
 not_large wiring text is large =
     let lines : List (List ℕ) =
-    codes "WIRING407 1" ∷ form_line wiring.tape ∷ lines_behind is.written.stops is.written.jacks is.written.wires in
+    codes "WIRING407 1" ∷ form_line wiring.tape ∷ lines_after is.written.stops is.written.jacks is.written.wires in
     no_more lines
     (few (length is.written.stops) (length is.written.jacks) (length is.written.wires)
-    (lines_behind is.written.stops is.written.jacks is.written.wires)
-    (behind_length is.written.stops is.written.jacks is.written.wires)
+    (lines_after is.written.stops is.written.jacks is.written.wires)
+    (after_length is.written.stops is.written.jacks is.written.wires)
     (stops_few wiring text is) (jacks_few wiring text is) (wires_few wiring text is))
     (text_short wiring text is)
     (subst (λ (ls : List (List ℕ)). IsTooLarge ls) (text_lines wiring text is) large)

@@ -1,7 +1,7 @@
 -- The parts of a text make the whole.
 use Rattle.std.proofs.Common.{◌≡◌, ℕ, List, ◌++◌, ap, ◌∙◌, subst, append_assoc, codes}
 use Rattle.std.specs.List.{flat_map}
-use Rattle.setups.specs.Tapes.{Form}
+use Rattle.setups.specs.Tapes.{CarriageTape}
 use Rattle.setups.specs.Wiring.{Wiring, HasJack}
 use Rattle.wire_chart.specs.WrittenText.{IsWritten, ended, form_line, stop_line, jack_line, wire_line}
 use Rattle.wire_chart.specs.Writing.{GainsStops, GainsJacks, GainsWires, IsStopOf, IsWireOf}
@@ -16,7 +16,7 @@ joined a b c d e f one two three four five p q r s t =
     (s ∙ ap (λ (l : List ℕ). l ++ e) (r ∙ ap (λ (l : List ℕ). l ++ d) (q ∙ ap (λ (l : List ℕ). l ++ c) p)))
     ∙ parts a b c d e f
 
-pub written : (wiring : Wiring) (one other : Form) (begun formed stopped plugged wired text : List ℕ)
+pub written : (wiring : Wiring) (one other : CarriageTape) (begun formed stopped plugged wired text : List ℕ)
     → one ≡ wiring.tape → other ≡ wiring.tape
     → begun ≡ ended (codes "WIRING407 1")
     → formed ≡ begun ++ ended (form_line one)
@@ -27,7 +27,7 @@ pub written : (wiring : Wiring) (one other : Form) (begun formed stopped plugged
     → IsWritten wiring text
 written wiring one other begun formed stopped plugged wired text same also first second other_stops jacks wires last =
     let stops : GainsStops (IsStopOf wiring.tape) formed stopped =
-    subst (λ (f : Form). GainsStops (IsStopOf f) formed stopped) also other_stops in
+    subst (λ (f : CarriageTape). GainsStops (IsStopOf f) formed stopped) also other_stops in
     record {
       stops = stops.things;
       jacks = jacks.things;
@@ -44,6 +44,6 @@ written wiring one other begun formed stopped plugged wired text same also first
           (flat_map (λ wire. ended (wire_line wire)) wires.things)
           (ended (codes "END")) formed stopped plugged wired text
           (second ∙ ap (λ (l : List ℕ). l ++ ended (form_line one)) first
-          ∙ ap (λ (f : Form). ended (codes "WIRING407 1") ++ ended (form_line f)) same)
+          ∙ ap (λ (f : CarriageTape). ended (codes "WIRING407 1") ++ ended (form_line f)) same)
           stops.gained jacks.gained wires.gained last;
     }

@@ -9,7 +9,7 @@ use Rattle.card_code.specs.Lines.{onto, pieces, without_cr, lines_of_pieces, lin
 use Rattle.tokens.specs.Tokens.{HasTokens, ended, spaced, led, IsToken, IsApart, is_plain}
 use Rattle.wire_chart.specs.WrittenText as text
 
--- a byte of a word: behind the space and the apostrophe
+-- a byte of a word: after the space and the apostrophe
 abbrev pub is_high : ℕ → Bool
 is_high b = nat_lt 39 b
 
@@ -45,7 +45,7 @@ pub word_token : (word : List ℕ) → IsWord word → IsToken word
 word_token word is =
     inl (record { some = omega (arith, is.some); plain = all_weaker is_high is_plain high_plain word is.high })
 
--- words behind spaces
+-- words after spaces
 abbrev pub words_line : List (List ℕ) → List ℕ
 words_line [] = []
 words_line (word ∷ words) = 32 ∷ (word ++ words_line words)
@@ -91,7 +91,7 @@ line_of_words word words is few are three = record {
   short = omega (arith, length-append word (words_line words), words_length words are, few, three);
 }
 
--- a line without LF and CR, its LF, and what stands behind
+-- a line without LF and CR, its LF, and what stands after
 some_pieces : (bs : List ℕ) → (piece : List ℕ) × (others : List (List ℕ)) × (pieces bs ≡ piece ∷ others)
 some_pieces [] = ([], [], refl)
 some_pieces (b ∷ bs) = first_piece b (pieces bs) (b == 10)
@@ -112,14 +112,14 @@ not_cr b h =
     let above : 13 < b = ltb-true 13 b h in
     grind (arith, nat_tests)
 
-pieces_of_line : (line behind : List ℕ) → list_all is_inner line ≡ true → pieces (line ++ 10 ∷ behind)
-    ≡ line ∷ pieces behind
-pieces_of_line [] behind h = refl
-pieces_of_line (b ∷ bs) behind h =
+pieces_of_line : (line after : List ℕ) → list_all is_inner line ≡ true → pieces (line ++ 10 ∷ after)
+    ≡ line ∷ pieces after
+pieces_of_line [] after h = refl
+pieces_of_line (b ∷ bs) after h =
     let parts = and_parts (is_inner b) (list_all is_inner bs) h in
-    ap (λ (t : Bool). cond t ([] ∷ pieces (bs ++ 10 ∷ behind)) (onto b (pieces (bs ++ 10 ∷ behind))))
+    ap (λ (t : Bool). cond t ([] ∷ pieces (bs ++ 10 ∷ after)) (onto b (pieces (bs ++ 10 ∷ after))))
     (not_line_feed b parts.0)
-    ∙ ap (onto b) (pieces_of_line bs behind parts.1)
+    ∙ ap (onto b) (pieces_of_line bs after parts.1)
 
 no_cr : (line : List ℕ) → list_all is_inner line ≡ true → without_cr line ≡ line
 no_cr [] h = refl
@@ -130,12 +130,12 @@ no_cr (b ∷ c ∷ bs) h =
     let parts = and_parts (is_inner b) (list_all is_inner (c ∷ bs)) h in
     ap (λ (l : List ℕ). b ∷ l) (no_cr (c ∷ bs) parts.1)
 
-pub first_line : (line behind : List ℕ) → list_all is_inner line ≡ true → lines_of (line ++ 10 ∷ behind)
-    ≡ line ∷ lines_of behind
+pub first_line : (line after : List ℕ) → list_all is_inner line ≡ true → lines_of (line ++ 10 ∷ after)
+    ≡ line ∷ lines_of after
 unfolding lines_of
-first_line line behind h =
-    let next = some_pieces behind in
-    ap lines_of_pieces (pieces_of_line line behind h)
+first_line line after h =
+    let next = some_pieces after in
+    ap lines_of_pieces (pieces_of_line line after h)
     ∙ ap (λ (ps : List (List ℕ)). lines_of_pieces (line ∷ ps)) next.2
     ∙ ap (λ (l : List ℕ). l ∷ lines_of_pieces (next.0 ∷ next.1)) (no_cr line h)
     ∙ ap (λ (ps : List (List ℕ)). line ∷ lines_of_pieces ps) (sym next.2)
@@ -144,18 +144,18 @@ pub no_lines : lines_of [] ≡ []
 unfolding lines_of
 no_lines = refl
 
-pub ended_line : (line behind : List ℕ) → list_all is_inner line ≡ true → lines_of (text.ended line ++ behind)
-    ≡ line ∷ lines_of behind
-ended_line line behind h =
-    ap lines_of (append_assoc line (10 ∷ []) behind) ∙ first_line line behind h
+pub ended_line : (line after : List ℕ) → list_all is_inner line ≡ true → lines_of (text.ended line ++ after)
+    ≡ line ∷ lines_of after
+ended_line line after h =
+    ap lines_of (append_assoc line (10 ∷ []) after) ∙ first_line line after h
 
 -- the lines of things one after another
-pub ended_lines : {A : Type 0} (line_of : A → List ℕ) (things : List A) (behind : List ℕ)
+pub ended_lines : {A : Type 0} (line_of : A → List ℕ) (things : List A) (after : List ℕ)
     → AllByRecursion (λ thing. list_all is_inner (line_of thing) ≡ true) things
-    → lines_of (flat_map (λ thing. text.ended (line_of thing)) things ++ behind) ≡ map line_of things ++ lines_of behind
-ended_lines line_of [] behind are = refl
-ended_lines {A} line_of (thing ∷ things) behind are =
+    → lines_of (flat_map (λ thing. text.ended (line_of thing)) things ++ after) ≡ map line_of things ++ lines_of after
+ended_lines line_of [] after are = refl
+ended_lines {A} line_of (thing ∷ things) after are =
     let ends : A → List ℕ = λ a. text.ended (line_of a) in
-    ap lines_of (append_assoc (text.ended (line_of thing)) (flat_map ends things) behind)
-    ∙ ended_line (line_of thing) (flat_map ends things ++ behind) are.0
-    ∙ ap (λ (ls : List (List ℕ)). line_of thing ∷ ls) (ended_lines line_of things behind are.1)
+    ap lines_of (append_assoc (text.ended (line_of thing)) (flat_map ends things) after)
+    ∙ ended_line (line_of thing) (flat_map ends things ++ after) are.0
+    ∙ ap (λ (ls : List (List ℕ)). line_of thing ∷ ls) (ended_lines line_of things after are.1)

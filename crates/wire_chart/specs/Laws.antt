@@ -1,16 +1,16 @@
 -- Laws of wiring charts: a setup has one text, that text reads as the setup, and a text reads as one setup at most.
 use Rattle.std.specs.Prelude.{◌≡◌, ℕ, List}
-use Rattle.setups.specs.Tapes.{IsForm}
+use Rattle.setups.specs.Tapes.{IsCarriageTape}
 use Rattle.setups.specs.Wiring.{Wiring, IsLawfulWiring}
 use Rattle.wiring_text.specs.WiringText.{ReadsAs, IsSameSetup}
-use Rattle.wiring_text.specs.WiringFaults.{HasFault}
+use Rattle.wiring_text.specs.WiringFaults.{HasWiringFault}
 use Rattle.wire_chart.specs.WrittenText.{IsWritten}
 use Rattle.wiring_text.specs.declared.fault.WiringFault.{WiringFault}
 
 -- what every setup is: wires that the panel can have, and a form that a tape can have
 pub record IsSetup (wiring : Wiring) : Type 0 where
   pub wires : IsLawfulWiring wiring
-  pub form : IsForm wiring.tape
+  pub form : IsCarriageTape wiring.tape
 
 -- What is written of a setup reads as that setup.
 abbrev pub WrittenTextsReadBack : Type 0
@@ -27,7 +27,7 @@ SetupsHaveOneText =
 
 -- A text that reads as a setup has no fault, and a text has one fault at most.
 abbrev pub ReadTextsHaveNoFault : Type 0
-ReadTextsHaveNoFault = (text : List ℕ) (wiring : Wiring) (fault : WiringFault) → ReadsAs text wiring → ¬ HasFault text fault
+ReadTextsHaveNoFault = (text : List ℕ) (wiring : Wiring) (fault : WiringFault) → ReadsAs text wiring → ¬ HasWiringFault text fault
 
 abbrev pub TextsHaveOneFault : Type 0
-TextsHaveOneFault = (text : List ℕ) (one other : WiringFault) → HasFault text one → HasFault text other → one ≡ other
+TextsHaveOneFault = (text : List ℕ) (one other : WiringFault) → HasWiringFault text one → HasWiringFault text other → one ≡ other

@@ -4,7 +4,7 @@ use Rattle.std.specs.Prelude.{◌≡◌, ◌↔◌, ℕ, ◌<◌, true, List, �
 use Rattle.std.specs.List.{flat_map}
 use Rattle.hubs.specs.Hubs.{number_of}
 use Rattle.hubs.specs.Jacks.{jack_place}
-use Rattle.setups.specs.Tapes.{Form, has_stop}
+use Rattle.setups.specs.Tapes.{CarriageTape, has_stop}
 use Rattle.setups.specs.Wiring.{Wiring, HasWire, HasJack}
 use Rattle.hubs.specs.declared.hub.Hub.{Hub}
 use Rattle.hubs.specs.declared.jack.Jack.{Jack}
@@ -19,7 +19,7 @@ AreSmall (One n) = n < 1000
 AreSmall (Two m n) = (m < 1000) × (n < 1000)
 AreSmall (Three l m n) = (l < 1000) × (m < 1000) × (n < 1000)
 
--- new is old with a line behind for each thing that is so, in order
+-- new is old with a line after for each thing that is so, in order
 pub record GainsLines {A : Type 0} (Is : A → Type 0) (Before : A → A → Type 0) (line_of : A → List ℕ) (old new : List ℕ)
     : Type 0 where
   pub things : List A
@@ -38,28 +38,28 @@ abbrev pub GainsWires : (Hub × Hub → Type 0) → List ℕ → List ℕ → Ty
 GainsWires Is old new = GainsLines Is IsWireBefore wire_line old new
 
 -- a stop of the form
-abbrev pub IsStopOf : Form → ℕ × ℕ → Type 0
+abbrev pub IsStopOf : CarriageTape → ℕ × ℕ → Type 0
 IsStopOf form stop = has_stop form stop.0 stop.1 ≡ true
 
 -- a stop of the form at this channel and line
-pub record IsStopAt (form : Form) (channel line : ℕ) (stop : ℕ × ℕ) : Type 0 where
+pub record IsStopAt (form : CarriageTape) (channel line : ℕ) (stop : ℕ × ℕ) : Type 0 where
   pub there : IsStopOf form stop
   pub channel_is : stop.0 ≡ channel
   pub line_is : stop.1 ≡ line
 
 -- a stop of the form in this channel, at a line below this one
-pub record IsStopAbove (form : Form) (channel line : ℕ) (stop : ℕ × ℕ) : Type 0 where
+pub record IsStopAbove (form : CarriageTape) (channel line : ℕ) (stop : ℕ × ℕ) : Type 0 where
   pub there : IsStopOf form stop
   pub channel_is : stop.0 ≡ channel
   pub line_below : stop.1 < line
 
 -- a stop of the form in this channel
-pub record IsStopIn (form : Form) (channel : ℕ) (stop : ℕ × ℕ) : Type 0 where
+pub record IsStopIn (form : CarriageTape) (channel : ℕ) (stop : ℕ × ℕ) : Type 0 where
   pub there : IsStopOf form stop
   pub channel_is : stop.0 ≡ channel
 
 -- a stop of the form in a lower channel
-pub record IsStopBelow (form : Form) (channel : ℕ) (stop : ℕ × ℕ) : Type 0 where
+pub record IsStopBelow (form : CarriageTape) (channel : ℕ) (stop : ℕ × ℕ) : Type 0 where
   pub there : IsStopOf form stop
   pub channel_below : stop.0 < channel
 

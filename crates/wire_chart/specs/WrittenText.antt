@@ -6,7 +6,7 @@ use Rattle.std.specs.List.{flat_map}
 use Rattle.hub_table.specs.HubTable.{row_of}
 use Rattle.hubs.specs.Hubs.{letters_of, numbers_of, number_of}
 use Rattle.hubs.specs.Jacks.{jack_place}
-use Rattle.setups.specs.Tapes.{Form, has_stop}
+use Rattle.setups.specs.Tapes.{CarriageTape, has_stop}
 use Rattle.setups.specs.Wiring.{Wiring, HasWire, HasJack}
 use Rattle.hubs.specs.declared.hub.Hub.{Hub}
 use Rattle.hubs.specs.declared.jack.Jack.{Jack}
@@ -40,11 +40,11 @@ numbers_text (Three l m n) = pointed l ++ pointed m ++ pointed n
 abbrev pub hub_text : Hub → List ℕ
 hub_text hub = (row_of (letters_of hub)).spelled ++ numbers_text (numbers_of hub)
 
--- a word behind a space
+-- a word after a space
 abbrev pub spaced : List ℕ → List ℕ
 spaced word = 32 ∷ word
 
--- the words behind JACK
+-- the words after JACK
 abbrev pub jack_text : Jack → List ℕ
 jack_text jacks.List = codes "LIST"
 jack_text (jacks.Total level) = codes "TOTAL" ++ spaced (number_text level)
@@ -54,7 +54,7 @@ jack_text (jacks.Suppress wheel) = codes "SUPPRESS" ++ spaced (number_text wheel
 jack_text (jacks.Symbol wheel) = codes "SYMBOL" ++ spaced (number_text wheel)
 
 -- the lines, without their LF
-abbrev pub form_line : Form → List ℕ
+abbrev pub form_line : CarriageTape → List ℕ
 form_line form = codes "FORM" ++ spaced (number_text form.lines) ++ spaced (number_text form.first) ++ spaced (number_text form.overflow)
 
 abbrev pub stop_line : ℕ × ℕ → List ℕ
@@ -71,7 +71,7 @@ abbrev pub ended : List ℕ → List ℕ
 ended line = line ++ 10 ∷ []
 
 -- the whole text
-abbrev pub text_of : Form → List (ℕ × ℕ) → List Jack → List (Hub × Hub) → List ℕ
+abbrev pub text_of : CarriageTape → List (ℕ × ℕ) → List Jack → List (Hub × Hub) → List ℕ
 text_of form stops jacks wires =
     ended (codes "WIRING407 1")
     ++ ended (form_line form)

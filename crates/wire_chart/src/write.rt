@@ -4,7 +4,7 @@ ghost use Rattle.std.specs.Prelude.{◌≡◌, ◌↔◌, ◌++◌, ◌<◌, ◌
 ghost use Rattle.std.specs.String.{string_bytes};
 ghost use Rattle.hubs.specs.Hubs.{is_hub_in_range, number_of};
 ghost use Rattle.hubs.specs.Jacks.{is_jack_in_range};
-ghost use Rattle.setups.specs.Tapes.{IsForm};
+ghost use Rattle.setups.specs.Tapes.{IsCarriageTape};
 ghost use Rattle.setups.specs.Wiring.{HasJack};
 ghost use Rattle.wiring_text.specs.WiringText.{ReadsAs};
 ghost use Rattle.wire_chart.specs.WrittenText.{IsWritten, ended, form_line, stop_line, jack_line, wire_line};
@@ -47,7 +47,7 @@ fn write_form(text: &mut String, tape: &Tape) -> Result<(), AllocError>
 
 // The stops, by channel and then by line.
 fn write_stops(text: &mut String, tape: &Tape) -> Result<(), AllocError>
-    requires form { IsForm tape.now }
+    requires form { IsCarriageTape tape.now }
     ensures { OnOk result (GainsStops (IsStopOf tape.now) (string_bytes text.old) (string_bytes text.new)) }
 {
     for channel in 2..12 {
@@ -58,7 +58,7 @@ fn write_stops(text: &mut String, tape: &Tape) -> Result<(), AllocError>
 
 // The stops of a channel, by line.
 fn write_channel(text: &mut String, tape: &Tape, channel: u8) -> Result<(), AllocError>
-    requires form { IsForm tape.now }
+    requires form { IsCarriageTape tape.now }
     ensures { OnOk result (GainsStops (IsStopIn tape.now channel) (string_bytes text.old) (string_bytes text.new)) }
 {
     for line in 1..tape.lines() + 1 {

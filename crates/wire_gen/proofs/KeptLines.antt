@@ -70,7 +70,7 @@ narrow-line test (other ∷ lines) line none there =
         → (other ≡ line) ⊎ Contains lines line → test line ≡ false
     by later true passes is either = cc
     by later false fails is (inl same) = ap test (sym same) ∙ fails
-    by later false fails is (inr behind) = later is behind
+    by later false fails is (inr after) = later is after
 
 -- the text on a total line is no wider than a storage unit, where no total text is too wide
 narrow-field : (lines : List Line) (line : Line) (level : Level) (wheel : ℕ) (name : List ℕ) (field : Field)

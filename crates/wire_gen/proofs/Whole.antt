@@ -2,7 +2,7 @@
 use Rattle.std.proofs.Common.{◌≡◌, inl, inr, true, false, List, sym, ◌∙◌, subst}
 use Rattle.plans.specs.Plans.{Lists}
 use Rattle.charts.specs.declared.chart.Line.{Line}
-use Rattle.setups.specs.Tapes.{Form}
+use Rattle.setups.specs.Tapes.{CarriageTape}
 use Rattle.setups.specs.Wiring.{Wiring, HasWire, is_plugged}
 use Rattle.hubs.specs.declared.hub.Hub.{Hub}
 use Rattle.hubs.specs.declared.jack.Jack.{Jack}
@@ -12,7 +12,7 @@ use Rattle.wiring_table.specs.Jacks.{ChartJack}
 use Rattle.wiring_table.specs.Wires.{ChartWire}
 use Rattle.wiring_table.specs.WiredFor.{IsTapeOf, WiredFor}
 
-pub whole : (lines : List Line) (plan : Lists) (tape : Form) (bare plugged wired : Wiring) → IsTapeOf lines tape
+pub whole : (lines : List Line) (plan : Lists) (tape : CarriageTape) (bare plugged wired : Wiring) → IsTapeOf lines tape
     → ((exit entry : Hub) → ¬ HasWire bare exit entry) → ((jack : Jack) → is_plugged bare jack ≡ false) → bare.tape ≡ tape
     → Plugs (ChartJack lines) bare plugged → Adds (ChartWire lines plan) plugged wired → WiredFor lines plan wired
 whole lines plan tape bare plugged wired is_tape no_wires no_jacks same plugs adds = record {

@@ -1,4 +1,4 @@
--- What holds of each wire of a chart: it leads from an exit to an entry, and no second contact stands behind a contact.
+-- What holds of each wire of a chart: it leads from an exit to an entry, and no second contact stands after a contact.
 use Rattle.std.proofs.Common.{◌≡◌, ◌∙◌, sym, refl, ℕ, ◌&&◌, ◌||◌, not, Bool, true, false, List, Option, Some, None, ap, is_some}
 use Rattle.std.proofs.lemmas.Option.{same_Some}
 use Rattle.plans.specs.Plans.{Lists}

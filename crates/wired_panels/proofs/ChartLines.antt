@@ -16,14 +16,14 @@ use Rattle.charts.specs.declared.statement.Field.{Field}
 use Rattle.charts.specs.declared.statement.Statement.{Statement}
 use Rattle.charts.specs.declared.statement.Statement.TheVariants as says
 
--- the first field with a name, behind lines that have none with it
-behind-none : (earlier : List Line) (line : Line) (later : List Line) (field : Field) → line.statement ≡ says.Field field
+-- the first field with a name, after lines that have none with it
+after-none : (earlier : List Line) (line : Line) (later : List Line) (field : Field) → line.statement ≡ says.Field field
     → is_some (first_named (fields_of earlier) field.name) ≡ false → field_named (earlier ++ line ∷ later) field.name ≡ Some field
-behind-none [] line later field is none =
+after-none [] line later field is none =
     ap (λ statement. first_named (cons_option (field_of statement) (fields_of later)) field.name) is
     ∙ rw (is_same_name-own field.name) refl
-behind-none (first ∷ earlier) line later field is none =
-    by (field_of first.statement) none (behind-none earlier line later field is)
+after-none (first ∷ earlier) line later field is none =
+    by (field_of first.statement) none (after-none earlier line later field is)
   where
     either : (other : Field) (b : Bool)
         → is_some (if b then Some other else first_named (fields_of earlier) field.name) ≡ false
@@ -46,4 +46,4 @@ field-own chart lawful line field listed is =
     let kept : is_some (first_named (fields_of s.earlier) field.name) ≡ false =
     ap (λ statement. breaks_name_twice (fields_of s.earlier) statement) (sym is)
     ∙ breaks-lawful rule.NameTwice chart s.earlier line s.later lawful s.parts in
-    ap (λ lines. field_named lines field.name) s.parts ∙ behind-none s.earlier line s.later field is kept
+    ap (λ lines. field_named lines field.name) s.parts ∙ after-none s.earlier line s.later field is kept

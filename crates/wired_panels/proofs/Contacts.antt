@@ -8,7 +8,7 @@ use Rattle.hubs.specs.declared.hub.Hub.TheVariants.{BAN, BAT, PIN, PIT, IX, CSD}
 use Rattle.machine.proofs.ClosedContacts.{closes-joined}
 use Rattle.machine.specs.Fields.{AreInUnitOrder}
 use Rattle.machine.specs.Machine.{MachineState, closes}
-use Rattle.machine.specs.Steady.{latches_of}
+use Rattle.machine.specs.Steady.{balance_latches}
 use Rattle.net.specs.declared.cycle.Cycle.{Cycle}
 use Rattle.net.specs.declared.cycle.Cycle.TheVariants.{RunIn, Card, Prog, Head}
 use Rattle.net.specs.declared.cycle.Point.{Point}
@@ -20,7 +20,7 @@ use Rattle.selectors.specs.Splits.{is_digit_row, split_closes}
 
 -- whether the balance latch of a counter group is set
 abbrev pub is_set : MachineState → Group → Bool
-is_set machine group = is_balance_set (latches_of machine.groups) group
+is_set machine group = is_balance_set (balance_latches machine.groups) group
 
 -- what none of the other contacts is
 alone : (a : Bool) → (a || (false || (false || false))) ≡ a

@@ -100,27 +100,27 @@ module _ (chart : Chart) (plan : Lists) (wiring : Wiring) (old : MachineState) (
       by (inr (a, b)) stepped = subst (λ k. IsStep cycle level k) (sym b) stepped
   in_balance name level step group own which (balance_marks emitter row position) tells = untold tells refl
 
-  -- behind a contact of a balance
-  behind_balance :
+  -- after a contact of a balance
+  after_balance :
       (exit common : Hub) (name : List ℕ) (level position step : ℕ) (group : Group) → IsGroupOf chart.lines plan name level group
       → IsPositionOf position step → Some (BAC group position) ≡ Some common
       → control_emits cycle exit ≡ true → ChartWire chart.lines plan exit common → IsStep cycle level step
-  behind_balance exit common name level position step group own which leads on given =
+  after_balance exit common name level position step group own which leads on given =
       let same : common ≡ BAC group position = cc in
       let moved_wire : ChartWire chart.lines plan exit (BAC group position) = subst (λ h. ChartWire chart.lines plan exit h) same given in
       in_balance name level step group own which
       (to_balance chart.lines plan moved_wire.line.number (itself chart.lines moved_wire.line moved_wire.listed) moved_wire.wire)
       (told cycle exit on)
 
-  -- behind a contact of a pilot
+  -- after a contact of a pilot
   in_pilot : {exit : Hub} {pilot position : ℕ} → ToPilot chart.lines plan pilot position exit → EmitsAtControl cycle exit → IsCardCycle cycle
   in_pilot (pilots_signs pilot) tells = told_card tells
   in_pilot (pilots_marks emitter row pilot position) tells = untold tells refl
 
-  behind_pilot :
+  after_pilot :
       (exit common : Hub) (pilot : ℕ) → Some (PIC pilot 1) ≡ Some common
       → control_emits cycle exit ≡ true → ChartWire chart.lines plan exit common → IsCardCycle cycle
-  behind_pilot exit common pilot leads on given =
+  after_pilot exit common pilot leads on given =
       let same : common ≡ PIC pilot 1 = cc in
       let moved_wire : ChartWire chart.lines plan exit (PIC pilot 1) = subst (λ h. ChartWire chart.lines plan exit h) same given in
       in_pilot
@@ -167,14 +167,14 @@ module _ (chart : Chart) (plan : Lists) (wiring : Wiring) (old : MachineState) (
     plus_through exit common (plus_from_card its its_level given low unsigned) leads closed on given_wire = cc
     plus_through exit common (plus_by_sign its its_level rule pilot given low signed served) leads closed on given_wire =
         let same = same_as its its_level given in
-        by_sign rule pilot (behind_pilot exit common pilot (sym (positive_common rule pilot) ∙ leads) on given_wire)
+        by_sign rule pilot (after_pilot exit common pilot (sym (positive_common rule pilot) ∙ leads) on given_wire)
         (moved (λ n l. IsLowest chart.lines n l) same low) (moved (λ n l. IsSigned chart.lines n rule) same signed)
         (moved (λ n l. pilot_for plan n ≡ Some pilot) same served) closed
     plus_through exit common (plus_up its low goes unsigned) leads closed on given_wire = cc
     plus_through exit common (plus_up_by_latch its low rule lower goes signed given) leads closed on given_wire =
         let (same, under, digits) = goes_under chart plan name its low level group rise at.panel.planned own goes in
         by_latch low rule lower
-        (behind_balance exit common its low 2 3 lower given (inr (refl, refl)) leads on given_wire) under
+        (after_balance exit common its low 2 3 lower given (inr (refl, refl)) leads on given_wire) under
         (moved (λ n l. IsSigned chart.lines n rule) same signed) (subst (λ n. IsGroupOf chart.lines plan n low lower) same.name given) closed
 
     plus_from : {hub : Hub} → Arrives chart.lines plan (control_emits cycle) (shut old cycle) hub → hub ≡ PL group
@@ -199,17 +199,17 @@ module _ (chart : Chart) (plan : Lists) (wiring : Wiring) (old : MachineState) (
         → Minuses chart.lines plan (shut old cycle) cycle name level group
     minus_through exit common (minus_by_sign its its_level rule pilot given low signed served) leads closed on given_wire =
         let same = same_as its its_level given in
-        less_by_sign rule pilot (behind_pilot exit common pilot (sym (negative_common rule pilot) ∙ leads) on given_wire)
+        less_by_sign rule pilot (after_pilot exit common pilot (sym (negative_common rule pilot) ∙ leads) on given_wire)
         (moved (λ n l. IsLowest chart.lines n l) same low) (moved (λ n l. IsSigned chart.lines n rule) same signed)
         (moved (λ n l. pilot_for plan n ≡ Some pilot) same served) closed
     minus_through exit common (minus_turned its its_level rule given signed) leads closed on given_wire =
         let same = same_as its its_level given in
-        less_turned rule (behind_balance exit common name level 1 2 group own (inl (refl, refl)) leads on given_wire)
+        less_turned rule (after_balance exit common name level 1 2 group own (inl (refl, refl)) leads on given_wire)
         (moved (λ n l. IsSigned chart.lines n rule) same signed) closed
     minus_through exit common (minus_up_by_latch its low rule lower goes signed given) leads closed on given_wire =
         let (same, under, digits) = goes_under chart plan name its low level group rise at.panel.planned own goes in
         less_by_latch low rule lower
-        (behind_balance exit common its low 2 3 lower given (inr (refl, refl)) leads on given_wire) under
+        (after_balance exit common its low 2 3 lower given (inr (refl, refl)) leads on given_wire) under
         (moved (λ n l. IsSigned chart.lines n rule) same signed) (subst (λ n. IsGroupOf chart.lines plan n low lower) same.name given) closed
 
     minus_from : {hub : Hub} → Arrives chart.lines plan (control_emits cycle) (shut old cycle) hub → hub ≡ MI group
@@ -234,7 +234,7 @@ module _ (chart : Chart) (plan : Lists) (wiring : Wiring) (old : MachineState) (
     read_through exit common (read_shown its its_level given) leads closed on given_wire = cc
     read_through exit common (read_turned its its_level rule given signed) leads closed on given_wire =
         let same = same_as its its_level given in
-        turns_it rule (behind_balance exit common name level 1 2 group own (inl (refl, refl)) leads on given_wire)
+        turns_it rule (after_balance exit common name level 1 2 group own (inl (refl, refl)) leads on given_wire)
         (moved (λ n l. IsSigned chart.lines n rule) same signed) closed
 
     read_from : {hub : Hub} → Arrives chart.lines plan (control_emits cycle) (shut old cycle) hub → hub ≡ RO group

@@ -16,26 +16,26 @@ use Rattle.hubs.specs.declared.hub.Hub.TheVariants.{PL}
 use Rattle.machine.proofs.ClosedContacts.{AreFrom, are_from, group_units-up, unit_of-last}
 use Rattle.machine.specs.Fields.{AreInUnitOrder}
 use Rattle.machine.specs.Machine.{group_units}
-use Rattle.net.specs.Panel.{unit_of, unit_behind}
+use Rattle.net.specs.Panel.{unit_of, unit_after}
 use Rattle.wiring_table.specs.Parts.{group_for}
 use Rattle.wiring_table.proofs.Groups.{group-there}
-use Rattle.charts.proofs.Listed.{listed-behind, listed-cases, listed-first}
+use Rattle.charts.proofs.Listed.{listed-after, listed-cases, listed-first}
 
 -- a group of the standard machine is one of the units 3 and up
 pub unit_there : (group : Group) → HasGroup standard (record { width = group.width; number = group.number }) → 3 ≤ unit_of group
 unit_there group has =
     by group.width group.number has.from has.to (width-cases standard (record { width = group.width; number = group.number }) has)
   where
-    placed : (w n k : ℕ) → width_place w ≡ Some (suc k) → 1 ≤ n → n ≤ 8 → 3 ≤ unit_behind 2 (group_place w n)
+    placed : (w n k : ℕ) → width_place w ≡ Some (suc k) → 1 ≤ n → n ≤ 8 → 3 ≤ unit_after 2 (group_place w n)
     placed w n k width from to =
         let within : is_within n 8 ≡ true = grind (arith, nat_tests, from, to) in
         let number : up_to 8 n ≡ Some n = ap (λ b. if b then Some n else None) within in
-        let is : unit_behind 2 (group_place w n) ≡ 2 + ((suc k - 1) * 8 + n) =
-        ap (λ p. unit_behind 2 (part_place 8 p (up_to 8 n))) width ∙ ap (λ p. unit_behind 2 (part_place 8 (Some (suc k)) p)) number in
+        let is : unit_after 2 (group_place w n) ≡ 2 + ((suc k - 1) * 8 + n) =
+        ap (λ p. unit_after 2 (part_place 8 p (up_to 8 n))) width ∙ ap (λ p. unit_after 2 (part_place 8 (Some (suc k)) p)) number in
         omega (arith, is, from)
 
     by : (w n : ℕ) → 1 ≤ n → n ≤ groups_of standard w → (w ≡ 8) ⊎ (w ≡ 6) ⊎ (w ≡ 4) ⊎ (w ≡ 3)
-        → 3 ≤ unit_behind 2 (group_place w n)
+        → 3 ≤ unit_after 2 (group_place w n)
     by w n from to (inl e) = placed w n 3 (ap width_place e) from (subst (λ v. n ≤ groups_of standard v) e to)
     by w n from to (inr (inl e)) = placed w n 2 (ap width_place e) from (subst (λ v. n ≤ groups_of standard v) e to)
     by w n from to (inr (inr (inl e))) = placed w n 1 (ap width_place e) from (subst (λ v. n ≤ groups_of standard v) e to)
@@ -47,7 +47,7 @@ one_unit one other same there =
     by (group_place one.width one.number) (group_place other.width other.number) refl refl same there
   where
     by : (p q : Option ℕ) → group_place one.width one.number ≡ p → group_place other.width other.number ≡ q
-        → unit_behind 2 p ≡ unit_behind 2 q → 3 ≤ unit_behind 2 q → one ≡ other
+        → unit_after 2 p ≡ unit_after 2 q → 3 ≤ unit_after 2 q → one ≡ other
     by p None is and_is same there = absurd (omega (arith, there))
     by None (Some q) is and_is same there = absurd (omega (arith, same))
     by (Some p) (Some q) is and_is same there =
@@ -98,7 +98,7 @@ from_there k (group ∷ groups) unit (is, from) low high =
     by false above later =
         let less : suc k ≤ unit = grind (arith, nat_tests, above) in
         let (counter, there, number) = later less in
-        (counter, listed-behind group groups there, number)
+        (counter, listed-after group groups there, number)
 
 -- as many groups as units
 many_groups : (groups : List Counter) (units : List ℕ) → map counter_number groups ≡ units → length groups ≡ length units

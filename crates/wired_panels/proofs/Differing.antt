@@ -16,7 +16,7 @@ use Rattle.charts.specs.declared.statement.Statement.{Statement}
 use Rattle.charts.specs.declared.statement.Statement.TheVariants as says
 use Rattle.report.specs.Groups.{control_field, is_same_on, is_same_at}
 use Rattle.wired_panels.specs.PanelCycles.{Differs}
-use Rattle.charts.proofs.Listed.{listed-behind}
+use Rattle.charts.proofs.Listed.{listed-after}
 
 -- A column of a row of them that fails a test.
 record Fails (test : ℕ → Bool) (first many : ℕ) : Type 0 where
@@ -26,10 +26,10 @@ record Fails (test : ℕ → Bool) (first many : ℕ) : Type 0 where
 
 range-fails : (test : ℕ → Bool) (first many : ℕ) → list_all test (range_with_len first many) ≡ false → Fails test first many
 range-fails test first zero is = cc
-range-fails test first (suc many) is = by (test first) refl is (λ left. behind (range-fails test (first + 1) many left))
+range-fails test first (suc many) is = by (test first) refl is (λ left. after (range-fails test (first + 1) many left))
   where
-    behind : Fails test (first + 1) many → Fails test first (suc many)
-    behind f = let within = f.within in let place : first + suc f.place ≡ first + 1 + f.place = omega arith in
+    after : Fails test (first + 1) many → Fails test first (suc many)
+    after f = let within = f.within in let place : first + suc f.place ≡ first + 1 + f.place = omega arith in
         record { place = suc f.place; within = omega (arith, within); fails = ap test place ∙ f.fails }
 
     by : (b : Bool) → test first ≡ b → (b && list_all test (range_with_len (first + 1) many)) ≡ false
@@ -65,12 +65,12 @@ fields-fail : (whole lines : List Line) (level : ℕ) (card next : List ℕ) →
     → FailsOn whole lines level card next
 fields-fail whole [] level card next is = cc
 fields-fail whole (line ∷ lines) level card next is =
-    by line.statement refl is (λ left. behind (fields-fail whole lines level card next left))
+    by line.statement refl is (λ left. after (fields-fail whole lines level card next left))
   where
-    behind : FailsOn whole lines level card next → FailsOn whole (line ∷ lines) level card next
-    behind f = record {
+    after : FailsOn whole lines level card next → FailsOn whole (line ∷ lines) level card next
+    after f = record {
       line = f.line;
-      listed = listed-behind line lines f.listed;
+      listed = listed-after line lines f.listed;
       its_level = f.its_level;
       name = f.name;
       field = f.field;

@@ -1,11 +1,11 @@
--- The latches of group indication behind the cycles of a card: its card cycle resets them all, and the third cycle of a level sets that
+-- The latches of group indication after the cycles of a card: its card cycle resets them all, and the third cycle of a level sets that
 -- level's latch.
 use Rattle.std.proofs.Common.{◌≡◌, ◌∙◌, refl, ℕ, zero, suc, ◌≢◌, ◌+◌, ◌≤◌, ◌==◌, nat_le, Bool, true, false, arith, if◌then◌else◌}
 use Rattle.std.proofs.lemmas.Bool.Decides.{nat_tests}
 use Rattle.net.specs.Cycles.{level_number}
 use Rattle.net.specs.declared.cycle.Cycle.TheVariants.{RunIn, Card, Prog, Head}
-use Rattle.net.specs.declared.cycle.Level.{Level}
-use Rattle.net.specs.declared.cycle.Level.TheVariants.{Minor, Intermediate, Major, Final}
+use Rattle.net.specs.declared.cycle.ProgramLevel.{ProgramLevel}
+use Rattle.net.specs.declared.cycle.ProgramLevel.TheVariants.{Minor, Intermediate, Major, Final}
 use Rattle.net.specs.declared.cycle.Ordinal.{Ordinal}
 use Rattle.net.specs.declared.cycle.Ordinal.TheVariants.{First, Second, Third}
 use Rattle.selectors.specs.Indicate.{Latches, indicate_at_start, indicate_ended}
@@ -26,7 +26,7 @@ pub latches-card : (latches : Latches) → AreSetTo (indicate_ended latches Card
 latches-card latches = λ level low high. by-levels false false false 0 level low high refl refl refl
 
 -- The third cycle of the level above those whose latches are set sets its own.
-pub latches-third : (latches : Latches) (level : Level) (below : ℕ) → AreSetTo latches below → level_number level ≡ below + 1
+pub latches-third : (latches : Latches) (level : ProgramLevel) (below : ℕ) → AreSetTo latches below → level_number level ≡ below + 1
     → AreSetTo (indicate_ended latches (Prog level Third)) (below + 1)
 latches-third latches level below set is = by level is
   where
@@ -45,7 +45,7 @@ latches-third latches level below set is = by level is
     own : (n : ℕ) → n ≡ below + 1 → true ≡ nat_le n (below + 1)
     own n same = grind (arith, nat_tests, same)
 
-    by : (level : Level) → level_number level ≡ below + 1 → AreSetTo (indicate_ended latches (Prog level Third)) (below + 1)
+    by : (level : ProgramLevel) → level_number level ≡ below + 1 → AreSetTo (indicate_ended latches (Prog level Third)) (below + 1)
     by Minor is = λ n low high. by-levels true latches.intermediate latches.major (below + 1) n low high
         (own 1 is) (two ∙ up 2 (omega (arith, is))) (three ∙ up 3 (omega (arith, is)))
     by Intermediate is = λ n low high. by-levels latches.minor true latches.major (below + 1) n low high
@@ -56,7 +56,7 @@ latches-third latches level below set is = by level is
         (one ∙ up 1 (omega (arith, is))) (two ∙ up 2 (omega (arith, is))) (three ∙ up 3 (omega (arith, is)))
 
 -- The first two cycles of a level leave them.
-pub latches-left : (latches : Latches) (level : Level) (top : ℕ) → AreSetTo latches top
+pub latches-left : (latches : Latches) (level : ProgramLevel) (top : ℕ) → AreSetTo latches top
     → AreSetTo (indicate_ended latches (Prog level First)) top × AreSetTo (indicate_ended latches (Prog level Second)) top
 latches-left latches Minor top set = (set, set)
 latches-left latches Intermediate top set = (set, set)

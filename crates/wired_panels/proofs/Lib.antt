@@ -13,7 +13,7 @@ pub mod SameColumns
 pub mod Differing
 pub mod ControlTexts
 pub mod ToComparing
-pub mod BehindCycles
+pub mod AfterCycles
 pub mod PlanOwners
 pub mod ToCounters
 pub mod CounterAsksTold

@@ -3,7 +3,7 @@ use Rattle.std.proofs.Common.{◌≡◌, ◌≢◌, refl, false}
 use Rattle.net.specs.declared.cycle.Cycle.{Cycle}
 use Rattle.net.specs.declared.cycle.Cycle.TheVariants.{RunIn, Card, Prog, Head}
 use Rattle.wired_panels.specs.PanelLaws.{BreaksCallLevels, PilotsTellTheNextCard, UnitsHoldTheCard}
-use Rattle.wired_panels.proofs.BehindCycles.{pilots-behind, pilots-behind-other, program-behind, units-behind, units-behind-other}
+use Rattle.wired_panels.proofs.AfterCycles.{pilots-after, pilots-after-other, program-after, units-after, units-after-other}
 use Rattle.wired_panels.proofs.Contacts.{is_card_cycle}
 
 -- a cycle other than a card cycle
@@ -15,16 +15,16 @@ no_card (Head heading) other = refl
 
 pub pilots-told : PilotsTellTheNextCard
 pilots-told chart plan wiring cycle old new panel between whole = (
-  pilots-behind chart plan wiring cycle old new panel between whole,
-  pilots-behind-other chart plan wiring cycle old new panel between whole,
+  pilots-after chart plan wiring cycle old new panel between whole,
+  pilots-after-other chart plan wiring cycle old new panel between whole,
 )
 
 pub units-told : UnitsHoldTheCard
 units-told chart plan wiring cycle old new card panel rising between whole = (
-  units-behind chart plan wiring cycle old new panel between whole card rising,
-  λ other. units-behind-other chart plan wiring cycle old new panel between whole card (no_card cycle other),
+  units-after chart plan wiring cycle old new panel between whole card rising,
+  λ other. units-after-other chart plan wiring cycle old new panel between whole card (no_card cycle other),
 )
 
 pub levels-called : BreaksCallLevels
 levels-called chart plan wiring old new card next panel between whole stands waits valid valid' =
-    program-behind chart plan wiring old new card next panel between whole stands waits valid valid'
+    program-after chart plan wiring old new card next panel between whole stands waits valid valid'

@@ -3,8 +3,8 @@ use Rattle.std.proofs.Common.{◌≡◌, ◌+◌, filter, ◌∙◌, refl, sym, 
 use Rattle.std.proofs.lemmas.Bool.Decides.{nat_tests}
 use Rattle.std.proofs.lemmas.List.Elements.{Contains-append_cases, Contains-append_right}
 use Rattle.std.proofs.lemmas.Option.{slice_get_within, slice_get_cases}
-use Rattle.wanted.specs.ChartTotals.{total_of, totals_of, need_of}
-use Rattle.wanted.specs.Pilots.{shows, is_shown, wants_pilot, pilots_of}
+use Rattle.wanted.specs.ChartTotals.{line_total, totals_of, need_of}
+use Rattle.wanted.specs.Pilots.{shows, prints_name, wants_pilot, pilots_of}
 use Rattle.plans.specs.Plans.{Lists, IsFor, number_where}
 use Rattle.wanted.specs.declared.total.Total.{Total}
 use Rattle.wanted.specs.Wanted.{Parts}

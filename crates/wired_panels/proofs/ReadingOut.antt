@@ -10,7 +10,7 @@ use Rattle.hubs.specs.declared.hub.Hub.TheVariants.{PX, RO, SO}
 use Rattle.net.specs.Cycles.{level_number}
 use Rattle.net.specs.declared.cycle.Cycle.{Cycle}
 use Rattle.net.specs.declared.cycle.Cycle.TheVariants.{RunIn, Card, Prog, Head}
-use Rattle.net.specs.declared.cycle.Level.{Level}
+use Rattle.net.specs.declared.cycle.ProgramLevel.{ProgramLevel}
 use Rattle.net.specs.declared.cycle.Ordinal.TheVariants.{First, Second, Third}
 use Rattle.net.specs.declared.cycle.Point.TheVariants.{C}
 use Rattle.wired_panels.proofs.ReadingGroups.{reading}
@@ -33,7 +33,7 @@ can_print (Head heading) = true
 
 -- the third program cycle of a level, by the exit that emits in it
 pub third-of : {cycle : Cycle} {hub : Hub} (n : ℕ) → EmitsAtControl cycle hub → hub ≡ PX n 3 → can_print cycle ≡ true
-    → (level : Level) × (cycle ≡ Prog level Third)
+    → (level : ProgramLevel) × (cycle ≡ Prog level Third)
 third-of n emits_card is prints = cc
 third-of n (emits_prog level First) is prints = cc
 third-of n (emits_prog level Second) is prints = cc
@@ -45,15 +45,15 @@ module _ (wiring : Wiring) (at : CycleRow) (it : IsPanelCycle at.chart at.plan w
   unit-reads : (unit : ℕ) → (at.pictures C (SO unit) ≡ true) ↔ IsTextPrinted at.chart.lines at.plan at.cycle unit
   unit-reads unit = unit-reads_out at.chart at.plan wiring at.old at.cycle at.pictures it unit
 
-  pub unit-third : (unit : ℕ) → can_print at.cycle ≡ true → at.pictures C (SO unit) ≡ true → (level : Level) × (at.cycle ≡ Prog level Third)
+  pub unit-third : (unit : ℕ) → can_print at.cycle ≡ true → at.pictures C (SO unit) ≡ true → (level : ProgramLevel) × (at.cycle ≡ Prog level Third)
   unit-third unit prints on = let text = (unit-reads unit).0 on in third-of (chart_number text.level) text.printed refl prints
 
   -- In the third program cycle of a level a unit that reads out is that of a text on the total line, and each of these reads out.
-  pub text-read : (level : Level) → at.cycle ≡ Prog level Third → (unit : ℕ) → at.pictures C (SO unit) ≡ true
+  pub text-read : (level : ProgramLevel) → at.cycle ≡ Prog level Third → (unit : ℕ) → at.pictures C (SO unit) ≡ true
       → IsTextPrinted at.chart.lines at.plan (Prog level Third) unit
   text-read level is unit on = subst (λ c. IsTextPrinted at.chart.lines at.plan c unit) is ((unit-reads unit).0 on)
 
-  pub reads-text : (level : Level) → at.cycle ≡ Prog level Third → (unit : ℕ) → IsTextPrinted at.chart.lines at.plan (Prog level Third) unit
+  pub reads-text : (level : ProgramLevel) → at.cycle ≡ Prog level Third → (unit : ℕ) → IsTextPrinted at.chart.lines at.plan (Prog level Third) unit
       → at.pictures C (SO unit) ≡ true
   reads-text level is unit text = (unit-reads unit).1 (subst (λ c. IsTextPrinted at.chart.lines at.plan c unit) (sym is) text)
 
@@ -63,15 +63,15 @@ module _ (wiring : Wiring) (at : CycleRow) (it : IsPanelCycle at.chart at.plan w
     group-reads group = reading at.chart at.plan wiring rises at.old at.pictures group at.cycle it
 
     pub group-third : (group : Group) → can_print at.cycle ≡ true → at.pictures C (RO group) ≡ true
-        → (level : Level) × (at.cycle ≡ Prog level Third)
+        → (level : ProgramLevel) × (at.cycle ≡ Prog level Third)
     group-third group prints on = by ((group-reads group).0 on) prints
       where
-        by : {cycle : Cycle} → Reading at.chart at.plan at.old group cycle → can_print cycle ≡ true → (level : Level) × (cycle ≡ Prog level Third)
+        by : {cycle : Cycle} → Reading at.chart at.plan at.old group cycle → can_print cycle ≡ true → (level : ProgramLevel) × (cycle ≡ Prog level Third)
         by (reads_third level name own) prints = (level, refl)
         by (reads_second level name rule own signed on) prints = cc
 
     -- In the third program cycle of a level a group that reads out is that of a total of the level, and each of these reads out.
-    pub total-read : (level : Level) → at.cycle ≡ Prog level Third → (group : Group) → at.pictures C (RO group) ≡ true
+    pub total-read : (level : ProgramLevel) → at.cycle ≡ Prog level Third → (group : Group) → at.pictures C (RO group) ≡ true
         → (name : List ℕ) × IsGroupOf at.chart.lines at.plan name (level_number level) group
     total-read level is group on = by ((group-reads group).0 on) is
       where
@@ -86,7 +86,7 @@ module _ (wiring : Wiring) (at : CycleRow) (it : IsPanelCycle at.chart at.plan w
             (name, subst (λ n. IsGroupOf at.chart.lines at.plan name n group) levels own)
         by (reads_second l name rule own signed on) same = cc
 
-    pub reads-total : (level : Level) → at.cycle ≡ Prog level Third → (name : List ℕ) (group : Group)
+    pub reads-total : (level : ProgramLevel) → at.cycle ≡ Prog level Third → (name : List ℕ) (group : Group)
         → IsGroupOf at.chart.lines at.plan name (level_number level) group → at.pictures C (RO group) ≡ true
     reads-total level is name group own =
         (group-reads group).1 (subst (λ c. Reading at.chart at.plan at.old group c) (sym is) (reads_third level name own))

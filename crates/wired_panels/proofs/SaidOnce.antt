@@ -28,17 +28,17 @@ abbrev pub IsSaidOnce : List Line → Type 0
 IsSaidOnce [] = Unit {0}
 IsSaidOnce (line ∷ lines) = (list_any (λ other. repeats line.statement other.statement) lines ≡ false) × IsSaidOnce lines
 
--- what a line of a lawful chart says, none of those behind it says again
-behind-once : (chart : Chart) → IsLawful chart → (before : List Line) (line : Line) (middle rest : List Line)
+-- what a line of a lawful chart says, none of those after it says again
+after-once : (chart : Chart) → IsLawful chart → (before : List Line) (line : Line) (middle rest : List Line)
     → chart.lines ≡ (before ++ line ∷ middle) ++ rest → list_any (λ other. repeats line.statement other.statement) rest ≡ false
-behind-once chart lawful before line middle [] split = refl
-behind-once chart lawful before line middle (other ∷ rest) split =
+after-once chart lawful before line middle [] split = refl
+after-once chart lawful before line middle (other ∷ rest) split =
     let kept : list_any (λ each. repeats each.statement other.statement) (before ++ line ∷ middle) ≡ false =
     breaks-lawful rule.LineTwice chart (before ++ line ∷ middle) other rest lawful split in
     let here : repeats line.statement other.statement ≡ false =
     none-any (λ each. repeats each.statement other.statement) (before ++ line ∷ middle) line kept
     (Contains-append_right before (line ∷ middle) line (listed-first line middle)) in
-    rw here (behind-once chart lawful before line (middle ++ other ∷ []) rest
+    rw here (after-once chart lawful before line (middle ++ other ∷ []) rest
     (split ∙ append_assoc before (line ∷ middle) (other ∷ rest)
     ∙ ap (λ l. before ++ line ∷ l) (sym (append_assoc middle (other ∷ []) rest))
     ∙ sym (append_assoc before (line ∷ (middle ++ other ∷ [])) rest)))
@@ -47,7 +47,7 @@ rest-once : (chart : Chart) → IsLawful chart → (before rest : List Line) →
 rest-once chart lawful before [] split = tt
 rest-once chart lawful before (line ∷ rest) split =
     let further : chart.lines ≡ (before ++ line ∷ []) ++ rest = split ∙ sym (append_assoc before (line ∷ []) rest) in
-    (behind-once chart lawful before line [] rest further, rest-once chart lawful (before ++ line ∷ []) rest further)
+    (after-once chart lawful before line [] rest further, rest-once chart lawful (before ++ line ∷ []) rest further)
 
 -- a lawful chart says things once
 pub said-once : (chart : Chart) → IsLawful chart → IsSaidOnce chart.lines

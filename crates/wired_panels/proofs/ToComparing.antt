@@ -24,7 +24,7 @@ use Rattle.hubs.specs.declared.hub.Hub.TheVariants.{FR, SR, CX, CA, CB, ST}
 use Rattle.machine.specs.Machine.{MachineState, closes}
 use Rattle.net.specs.Impulsed.{IsPicture}
 use Rattle.net.specs.declared.cycle.Cycle.TheVariants.{Card}
-use Rattle.net.specs.declared.cycle.Level.TheVariants.{Minor, Intermediate, Major}
+use Rattle.net.specs.declared.cycle.ProgramLevel.TheVariants.{Minor, Intermediate, Major}
 use Rattle.net.specs.declared.cycle.Point.{Point}
 use Rattle.net.specs.declared.cycle.Point.TheVariants.{Row, K}
 use Rattle.program_unit.specs.CycleOrder.{levels_to}

@@ -1,4 +1,4 @@
--- How the pilots of a panel stand behind a cycle that reads the card at first reading: by the sign columns of that card.
+-- How the pilots of a panel stand after a cycle that reads the card at first reading: by the sign columns of that card.
 use Rattle.std.proofs.Common.{◌≡◌, ◌∙◌, refl, sym, ap, subst, ℕ, ◌-◌, ◌&&◌, Bool, true, false, List, Contains, Option, Some, None, option_map, ◌↔◌, if◌then◌else◌, slice_index, ◌+◌}
 use Rattle.plans.specs.Plans.{Lists}
 use Rattle.card_code.specs.CardCode.{has_row}
@@ -130,7 +130,7 @@ module _ (chart : Chart) (plan : Lists) (wiring : Wiring) (old : MachineState) (
         let there = (it.panel.wired.wires (FR (column_of_rule rule)) (PIX pilot)).1 sign-wire in
         column-there (is_within pilot 16) pilot there.to 1604 there.entry_numbered
 
-    -- behind a cycle that reads it
+    -- after a cycle that reads it
     pilot-is : moves_pilots cycle ≡ true
         → is_transferred (after_cycle cycle pictures old.pilots) pilot ≡ has_sign old.stations.first (column_of_rule rule)
     pilot-is moves =
@@ -144,7 +144,7 @@ module _ (chart : Chart) (plan : Lists) (wiring : Wiring) (old : MachineState) (
           wire = sign-wire;
         })))
 
-  -- Behind the run-in and behind card cycles the pilots tell the signs of the card at first reading.
+  -- After the run-in and after card cycles the pilots tell the signs of the card at first reading.
   pub pilots-tell : moves_pilots cycle ≡ true → PilotsTellSigns chart.lines plan old.stations.first (after_cycle cycle pictures old.pilots)
   pilots-tell moves = λ name field rule pilot named ruled served. pilot-is name field rule pilot named ruled served moves
 

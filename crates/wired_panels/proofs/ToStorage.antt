@@ -1,4 +1,4 @@
--- What the storage units of a panel hold behind a card cycle, and in which cycles they read out.
+-- What the storage units of a panel hold after a card cycle, and in which cycles they read out.
 use Rattle.std.proofs.Common.{◌≡◌, ◌∙◌, refl, sym, ap, subst, ℕ, ◌+◌, ◌-◌, ◌<◌, ◌&&◌, Bool, true, false, List, [], ◌∷◌, Contains, Option, Some, None, option_map, ◌↔◌, if◌then◌else◌, slice_index, zero, suc, arith, map}
 use Rattle.plans.specs.Plans.{Lists}
 use Rattle.card_code.specs.CardCode.{has_row}
@@ -38,7 +38,7 @@ use Rattle.wired_panels.proofs.Contacts.{is_card_cycle}
 use Rattle.wired_panels.proofs.Ways.{same_tests}
 use Rattle.wired_panels.proofs.Straight.{at_control, at_row}
 use Rattle.wiring_table.proofs.Parts.{unit-own}
-use Rattle.charts.proofs.Listed.{listed-behind}
+use Rattle.charts.proofs.Listed.{listed-after}
 use Rattle.wired_panels.proofs.ToPilots.{sends-second, column-there}
 use Rattle.wired_panels.specs.PanelCycles.{IsPanelCycle, ArrivesAtControl, ArrivesAtRow, UnitsHold, IsTextPrinted}
 use Rattle.wired_panels.specs.Sources.{EmitsAtRow, EmitsAtControl}
@@ -222,11 +222,11 @@ mapped f [] y (k, within, is) = absurd (omega (arith, within))
 mapped f (x ∷ list) y (zero, within, is) = record { item = x; listed = (0, omega arith, refl); is = is }
 mapped f (x ∷ list) y (suc k, within, is) =
     let below = mapped f list y (k, omega (arith, within), is) in
-    record { item = below.item; listed = listed-behind x list below.listed; is = below.is }
+    record { item = below.item; listed = listed-after x list below.listed; is = below.is }
 
 module _ (chart : Chart) (plan : Lists) (wiring : Wiring) (old : MachineState) (cycle : Cycle) (pictures : Point → Hub → Bool)
     (it : IsPanelCycle chart plan wiring old cycle pictures) where
-  -- Behind a card cycle the storage units hold the texts of the card at second reading.
+  -- After a card cycle the storage units hold the texts of the card at second reading.
   pub units-hold : (card : List ℕ) → NumbersRise chart.lines chart.end → cycle ≡ Card → old.stations.second ≡ Some card
       → UnitsHold chart.lines plan card (map (after_cycle cycle pictures) old.storage)
   units-hold card rising is_card stands =
@@ -236,7 +236,7 @@ module _ (chart : Chart) (plan : Lists) (wiring : Wiring) (old : MachineState) (
       ∙ unit-holds chart plan wiring old cycle pictures it rising is_card card stands line level wheel name field unit listed says_it
       is_text served row j below from.item (ap (λ (s : StorageState). s.place) from.is ∙ place)
 
-  -- Behind another cycle they hold what they held.
+  -- After another cycle they hold what they held.
   pub units-kept : (card : List ℕ) → is_card_cycle cycle ≡ false → UnitsHold chart.lines plan card old.storage
       → UnitsHold chart.lines plan card (map (after_cycle cycle pictures) old.storage)
   units-kept card none held =

@@ -1,4 +1,4 @@
--- What arrives at a row of a cycle behind the contacts on the way to print wheels: who feeds a position of group indication, a split, a
+-- What arrives at a row of a cycle after the contacts on the way to print wheels: who feeds a position of group indication, a split, a
 -- pilot's and a group's marks. And the wires of a line, followed from an exit that emits.
 use Rattle.std.proofs.Common.{◌≡◌, ◌∙◌, refl, sym, ap, subst, ℕ, ◌+◌, ◌-◌, Bool, true, false, Contains, Option, Some, arith, List}
 use Rattle.card_code.specs.Rows.{row_number}

@@ -14,7 +14,7 @@ use Rattle.net.specs.Panel.{contact_of}
 use Rattle.whole_cycles.proofs.Contacts.{contacts-one_deep}
 use Rattle.whole_cycles.proofs.Sources.{emit_at_sources}
 use Rattle.whole_cycles.specs.OneContactDeep.{AreCarriesOpen, IsOneContactDeep, IsWithinOneContact, SourcesAloneEmit, is_source}
-use Rattle.whole_cycles.specs.OneContactDeep.IsWithinOneContact.{emits, wired, through as passed, behind}
+use Rattle.whole_cycles.specs.OneContactDeep.IsWithinOneContact.{emits, wired, through as passed, after}
 use Rattle.wired_panels.specs.Panel.{IsPanel, Arrives}
 use Rattle.wired_panels.specs.Panel.Arrives.{straight, through}
 use Rattle.wired_panels.proofs.Chains.{carry_on, fed_by_itself, wire_orderly}
@@ -74,12 +74,12 @@ arrives chart plan wiring exits closed picture entry panel alone open_all is_pic
     by (emits hub there on) none off = cc
     by (wired exit hub on wire) none off = straight exit hub on ((panel.wired.wires exit hub).0 wire)
     by (passed exit middle hub on wire contact shut) none off = cc
-    by (behind exit middle contact hub on wire leads shut last) none off =
+    by (after exit middle contact hub on wire leads shut last) none off =
         through exit middle contact hub on ((panel.wired.wires exit middle).0 wire) leads shut
         ((panel.wired.wires contact hub).0 last)
 
     back : {hub : Hub} → Arrives chart.lines plan exits closed hub → IsWithinOneContact wiring exits closed hub
     back (straight exit hub on wire) = wired exit hub on ((panel.wired.wires exit hub).1 wire)
     back (through exit middle contact hub on wire leads shut last) =
-        behind exit middle contact hub on ((panel.wired.wires exit middle).1 wire) leads shut
+        after exit middle contact hub on ((panel.wired.wires exit middle).1 wire) leads shut
         ((panel.wired.wires contact hub).1 last)

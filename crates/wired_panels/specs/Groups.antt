@@ -6,11 +6,11 @@ use Rattle.charts.specs.declared.chart.Line.{Line}
 use Rattle.charts.specs.declared.statement.SignRule.{SignRule}
 use Rattle.hubs.specs.declared.hub.Group.{Group}
 use Rattle.machine.specs.Machine.{MachineState}
-use Rattle.machine.specs.Steady.{latches_of}
+use Rattle.machine.specs.Steady.{balance_latches}
 use Rattle.net.specs.Cycles.{level_number}
 use Rattle.net.specs.declared.cycle.Cycle.{Cycle}
 use Rattle.net.specs.declared.cycle.Cycle.TheVariants.{Prog}
-use Rattle.net.specs.declared.cycle.Level.{Level}
+use Rattle.net.specs.declared.cycle.ProgramLevel.{ProgramLevel}
 use Rattle.net.specs.declared.cycle.Ordinal.TheVariants.{Second, Third}
 use Rattle.selectors.specs.Contacts.{is_balance_set}
 use Rattle.wiring_table.specs.Figures.{IsSigned}
@@ -31,6 +31,6 @@ pub record IsServing (lines : List Line) (plan : Lists) (group : Group) : Type 0
 -- In the third program cycle of a level exactly the groups of its totals read out, in the second those of its signed totals with a set
 -- latch, and in the first and in other cycles none.
 pub data Reading (chart : Chart) (plan : Lists) (old : MachineState) (group : Group) : Cycle → Type 0 where
-  third : (l : Level) (name : List ℕ) → IsGroupOf chart.lines plan name (level_number l) group → Reading chart plan old group (Prog l Third)
-  second : (l : Level) (name : List ℕ) (rule : SignRule) → IsGroupOf chart.lines plan name (level_number l) group
-      → IsSigned chart.lines name rule → is_balance_set (latches_of old.groups) group ≡ true → Reading chart plan old group (Prog l Second)
+  third : (l : ProgramLevel) (name : List ℕ) → IsGroupOf chart.lines plan name (level_number l) group → Reading chart plan old group (Prog l Third)
+  second : (l : ProgramLevel) (name : List ℕ) (rule : SignRule) → IsGroupOf chart.lines plan name (level_number l) group
+      → IsSigned chart.lines name rule → is_balance_set (balance_latches old.groups) group ≡ true → Reading chart plan old group (Prog l Second)

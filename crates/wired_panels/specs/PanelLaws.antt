@@ -15,7 +15,7 @@ use Rattle.whole_cycles.specs.WholeCycles.{WholeCycle}
 use Rattle.wired_panels.specs.Panel.{IsPanel}
 use Rattle.wired_panels.specs.PanelCycles.{PilotsTellSigns, UnitsHold}
 
--- Behind the run-in and each card cycle the pilots tell the signs of the card that stood at first reading; other cycles leave them.
+-- After the run-in and each card cycle the pilots tell the signs of the card that stood at first reading; other cycles leave them.
 abbrev pub PilotsTellTheNextCard : Type 0
 PilotsTellTheNextCard =
     (chart : Chart) (plan : Lists) (wiring : Wiring) (cycle : Cycle) (old new : MachineState)
@@ -24,7 +24,7 @@ PilotsTellTheNextCard =
     × ((card : Option (List ℕ)) → moves_pilots cycle ≡ false → PilotsTellSigns chart.lines plan card old.pilots
     → PilotsTellSigns chart.lines plan card new.pilots)
 
--- Behind a card cycle the storage units hold the texts of the card that stood at second reading; other cycles leave them.
+-- After a card cycle the storage units hold the texts of the card that stood at second reading; other cycles leave them.
 abbrev pub UnitsHoldTheCard : Type 0
 UnitsHoldTheCard =
     (chart : Chart) (plan : Lists) (wiring : Wiring) (cycle : Cycle) (old new : MachineState) (card : List ℕ)
@@ -32,7 +32,7 @@ UnitsHoldTheCard =
     → (cycle ≡ Card → old.stations.second ≡ Some card → UnitsHold chart.lines plan card new.storage)
     × (cycle ≢ Card → UnitsHold chart.lines plan card old.storage → UnitsHold chart.lines plan card new.storage)
 
--- Behind a card cycle with a card behind it the levels that are called for are those of the break between the two cards.
+-- After a card cycle with a card after it the levels that are called for are those of the break between the two cards.
 abbrev pub BreaksCallLevels : Type 0
 BreaksCallLevels =
     (chart : Chart) (plan : Lists) (wiring : Wiring) (old new : MachineState) (card next : List ℕ)

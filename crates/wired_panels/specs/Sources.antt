@@ -9,7 +9,7 @@ use Rattle.machine.specs.Machine.{MachineState}
 use Rattle.net.specs.Cycles.{level_number, ordinal_number}
 use Rattle.net.specs.declared.cycle.Cycle.{Cycle}
 use Rattle.net.specs.declared.cycle.Cycle.TheVariants.{RunIn, Card, Prog, Head}
-use Rattle.net.specs.declared.cycle.Level.{Level}
+use Rattle.net.specs.declared.cycle.ProgramLevel.{ProgramLevel}
 use Rattle.net.specs.declared.cycle.Ordinal.{Ordinal}
 use Rattle.net.specs.declared.cycle.Point.{Point}
 use Rattle.net.specs.declared.cycle.Point.TheVariants.{C}
@@ -20,7 +20,7 @@ use Rattle.storage_units.specs.Storage.{StorageState, holds}
 -- The exit that emits at the control point of a cycle.
 pub data EmitsAtControl : Cycle → Hub → Type 0 where
   card : EmitsAtControl Card CC
-  prog : (level : Level) (ordinal : Ordinal) → EmitsAtControl (Prog level ordinal) (PX (level_number level) (ordinal_number ordinal))
+  prog : (level : ProgramLevel) (ordinal : Ordinal) → EmitsAtControl (Prog level ordinal) (PX (level_number level) (ordinal_number ordinal))
   head : (heading : Ordinal) → EmitsAtControl (Head heading) (HX (ordinal_number heading))
 
 -- the digit of a group at a position, counted from the units

@@ -2,17 +2,17 @@
 
 ghost use Rattle.wired_panels.specs.PanelLaws.{BreaksCallLevels, PilotsTellTheNextCard, UnitsHoldTheCard};
 
-/// Behind the run-in and each card cycle the pilots tell the signs of the card that prints next, and other cycles leave them.
+/// After the run-in and each card cycle the pilots tell the signs of the card that prints next, and other cycles leave them.
 pub fn pilots_tell_the_next_card()
     ensures { PilotsTellTheNextCard }
 {}
 
-/// Behind a card cycle the storage units hold the texts of its card, and other cycles leave them.
+/// After a card cycle the storage units hold the texts of its card, and other cycles leave them.
 pub fn units_hold_the_card()
     ensures { UnitsHoldTheCard }
 {}
 
-/// Behind a card cycle the levels that are called for are those of the break between its card and the next.
+/// After a card cycle the levels that are called for are those of the break between its card and the next.
 pub fn breaks_call_levels()
     ensures { BreaksCallLevels }
 {}

@@ -4,7 +4,7 @@ use Rattle.std.specs.Prelude.{IsOkUnless}
 use Rattle.setups.specs.Tapes.{has_stop}
 use Rattle.setups.specs.Wiring.{Wiring, is_plugged}
 use Rattle.wiring_reader.specs.TextReading.{Answers, Told, text_told}
-use Rattle.wiring_text.specs.WiringFaults.{HasFault}
+use Rattle.wiring_text.specs.WiringFaults.{HasWiringFault}
 use Rattle.wiring_text.specs.WiringText.{IsSameSetup, IsSetupOf, ReadsAs}
 use Rattle.wiring_text.specs.declared.statement.FormNumbers.{FormNumbers}
 use Rattle.wiring_text.specs.declared.fault.WiringFault.{WiringFault}
@@ -41,7 +41,7 @@ read_by text (Ok wiring) told = told_reads text told.0 wiring told.1 told.2
 read_by text (Err fault) told = tt
 
 pub fault_by : (text : List ℕ) (answer : Result Wiring WiringFault) → Answers answer (text_told text)
-    → IfErr answer (λ fault. fault ≢ Memory → HasFault text fault)
+    → IfErr answer (λ fault. fault ≢ Memory → HasWiringFault text fault)
 fault_by text (Ok wiring) told = tt
 fault_by text (Err fault) (inl memory) = λ other. absurd (other memory)
 fault_by text (Err fault) (inr told) = λ other. fault_is text fault told
@@ -55,7 +55,7 @@ only_read text (Err fault) (inr told) wiring is =
     cc
 
 pub only_fault : (text : List ℕ) (answer : Result Wiring WiringFault) → Answers answer (text_told text)
-    → (fault : WiringFault) → HasFault text fault → (answer ≡ Err fault) ⊎ (answer ≡ Err Memory)
+    → (fault : WiringFault) → HasWiringFault text fault → (answer ≡ Err fault) ⊎ (answer ≡ Err Memory)
 only_fault text (Ok wiring) told fault has =
     let is = told.1 in
     let failed = fault_read text fault has in
@@ -97,11 +97,11 @@ one_setup text one other is also =
     (subst (λ (w : Told). IsSetupOf w.form w.statements other) same also.setup)
 
 -- no fault fits a text that is read, and one at most fits any other
-pub no_fault : (text : List ℕ) (wiring : Wiring) (fault : WiringFault) → ReadsAs text wiring → ¬ HasFault text fault
+pub no_fault : (text : List ℕ) (wiring : Wiring) (fault : WiringFault) → ReadsAs text wiring → ¬ HasWiringFault text fault
 no_fault text wiring fault is has =
     let read = reads_told text wiring is in
     let failed = fault_read text fault has in
     cc
 
-pub one_fault : (text : List ℕ) (one other : WiringFault) → HasFault text one → HasFault text other → one ≡ other
+pub one_fault : (text : List ℕ) (one other : WiringFault) → HasWiringFault text one → HasWiringFault text other → one ≡ other
 one_fault text one other is also = same_failed one other (sym (fault_read text one is) ∙ fault_read text other also)

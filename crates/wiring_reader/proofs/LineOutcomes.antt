@@ -1,4 +1,4 @@
--- What the answer on the lines behind a form says of them.
+-- What the answer on the lines after a form says of them.
 use Rattle.std.proofs.Common.{◌≡◌, ℕ, ◌+◌, ◌-◌, ◌<◌, Bool, true, false, cond, List, [], ◌∷◌, ◌++◌, get_or, Option, Some, None, Result, Ok, Err, refl, ap, sym, ◌∙◌, subst, suc, inl, inr, arith}
 use Rattle.setups.specs.Tapes.{IsFormed}
 use Rattle.setups.specs.declared.fault.SetupFault.{SetupFault}
@@ -8,7 +8,7 @@ use Rattle.std.proofs.lemmas.Bool.{false≢true}
 use Rattle.std.proofs.lemmas.Option.{none-some}
 use Rattle.wiring_reader.proofs.Agreeing.{agrees-each, apart-from, fault-none, fault-some}
 use Rattle.wiring_reader.specs.TextReading.{Content, agrees_with, content_of, fault_said, go_on, lines_from, new_said, step, start}
-use Rattle.tokens.specs.Frame.{line_at, IsBehindEnd, LacksEnd}
+use Rattle.tokens.specs.Frame.{line_at, IsAfterEnd, LacksEnd}
 use Rattle.wiring_text.specs.WiringFaults.{CannotHave, IsMisplaced, SaysAt, IsRepeated, IsUnfit, IsAtFault, misplaced, repeated, unfit, AreGoodBefore}
 use Rattle.wiring_text.specs.WiringText.{IsEndLine}
 use Rattle.wiring_text.specs.declared.statement.FormNumbers.{FormNumbers}
@@ -17,7 +17,7 @@ use Rattle.wiring_text.specs.declared.fault.WiringFault.TheVariants.{TooLarge, N
 use Rattle.tokens.specs.declared.frame.Content.TheVariants.{Empty, End, Says, NoLine}
 use Rattle.wiring_text.specs.declared.statement.Statement.{Statement}
 use Rattle.wiring_reader.proofs.LineGrammar.{is_content, empty_read, end_read}
-use Rattle.wiring_reader.proofs.LinesGrammar.{before_end, behind_end}
+use Rattle.wiring_reader.proofs.LinesGrammar.{before_end, after_end}
 use Rattle.wiring_reader.proofs.LinePlaces.{Stands, next_stands, content_at, there_at, same_said, NoEndBelow, good_more, no_end_more, not_at_fault, unsaid_good, empty_placed, before_end_placed, all_good, SaidBelow, said_nothing_more, said_more}
 use Rattle.wiring_reader.proofs.SameStatement.{contains_said, none_contained}
 
@@ -32,25 +32,25 @@ Outcome all form (Err TooLarge) = ⊥
 Outcome all form (Err NoFirstLine) = ⊥
 Outcome all form (Err Memory) = ⊥
 
--- a line behind END that is not empty
-misplaced_behind : (all : List (List ℕ)) (form : FormNumbers) (number : ℕ) (line : List ℕ) (rest : List (List ℕ)) (content : Content)
-    → Stands all number (line ∷ rest) → AreGoodBefore all form number → IsBehindEnd 3 all number
+-- a line after END that is not empty
+misplaced_after : (all : List (List ℕ)) (form : FormNumbers) (number : ℕ) (line : List ℕ) (rest : List (List ℕ)) (content : Content)
+    → Stands all number (line ∷ rest) → AreGoodBefore all form number → IsAfterEnd 3 all number
     → content_of (line_at all number) ≡ content → (content ≡ Empty → ⊥)
     → IsMisplaced all number × AreGoodBefore all form number
-misplaced_behind all form number line rest content stands good behind here filled = (
+misplaced_after all form number line rest content stands good after here filled = (
   record {
     there = there_at all number line rest stands;
-    cause = inr (behind, λ has. filled (sym here ∙ empty_read (line_at all number) has));
+    cause = inr (after, λ has. filled (sym here ∙ empty_read (line_at all number) has));
   },
   good,
 )
 
-behind_more : (all : List (List ℕ)) (number : ℕ) → IsBehindEnd 3 all number → IsBehindEnd 3 all (suc number)
-behind_more all number behind = record {
-  end = behind.end;
-  there = behind.there;
-  before = omega (arith, behind.before);
-  is_end = behind.is_end;
+after_more : (all : List (List ℕ)) (number : ℕ) → IsAfterEnd 3 all number → IsAfterEnd 3 all (suc number)
+after_more all number after = record {
+  end = after.end;
+  there = after.there;
+  before = omega (arith, after.before);
+  is_end = after.is_end;
 }
 
 unsaid_empty : (s : Statement) → Empty ≡ Says s → ⊥
@@ -60,33 +60,33 @@ unsaid_end : (s : Statement) → End ≡ Says s → ⊥
 unsaid_end s e = cc
 
 ended_by : (all : List (List ℕ)) (form : FormNumbers) (number : ℕ) (said : List Statement) (line : List ℕ) (rest : List (List ℕ))
-    (content : Content) → Stands all number (line ∷ rest) → AreGoodBefore all form number → IsBehindEnd 3 all number
+    (content : Content) → Stands all number (line ∷ rest) → AreGoodBefore all form number → IsAfterEnd 3 all number
     → content_of (line_at all number) ≡ content
-    → (Stands all (suc number) rest → AreGoodBefore all form (suc number) → IsBehindEnd 3 all (suc number)
-    → Outcome all form (lines_from form.lines (suc number) (behind_end said) rest))
-    → Outcome all form (go_on (step form.lines number (behind_end said) content)
+    → (Stands all (suc number) rest → AreGoodBefore all form (suc number) → IsAfterEnd 3 all (suc number)
+    → Outcome all form (lines_from form.lines (suc number) (after_end said) rest))
+    → Outcome all form (go_on (step form.lines number (after_end said) content)
     (λ next. lines_from form.lines (suc number) next rest))
-ended_by all form number said line rest Empty stands good behind here others =
+ended_by all form number said line rest Empty stands good after here others =
     others (next_stands all number line rest stands)
     (good_more all form number good (unsaid_good all form number Empty stands.from here unsaid_empty
     (empty_placed all number here)))
-    (behind_more all number behind)
-ended_by all form number said line rest End stands good behind here others =
-    misplaced_behind all form number line rest End stands good behind here (λ e. cc)
-ended_by all form number said line rest (Says s) stands good behind here others =
-    misplaced_behind all form number line rest (Says s) stands good behind here (λ e. cc)
-ended_by all form number said line rest NoLine stands good behind here others =
-    misplaced_behind all form number line rest NoLine stands good behind here (λ e. cc)
+    (after_more all number after)
+ended_by all form number said line rest End stands good after here others =
+    misplaced_after all form number line rest End stands good after here (λ e. cc)
+ended_by all form number said line rest (Says s) stands good after here others =
+    misplaced_after all form number line rest (Says s) stands good after here (λ e. cc)
+ended_by all form number said line rest NoLine stands good after here others =
+    misplaced_after all form number line rest NoLine stands good after here (λ e. cc)
 
--- the outcome behind END
+-- the outcome after END
 ended_outcome : (all : List (List ℕ)) (form : FormNumbers) (said : List Statement) (rest : List (List ℕ)) (number : ℕ)
-    → Stands all number rest → AreGoodBefore all form number → IsBehindEnd 3 all number
-    → Outcome all form (lines_from form.lines number (behind_end said) rest)
+    → Stands all number rest → AreGoodBefore all form number → IsAfterEnd 3 all number
+    → Outcome all form (lines_from form.lines number (after_end said) rest)
 unfolding lines_from
-ended_outcome all form said [] number stands good behind =
-    (all_good all form number stands good, λ lacks. lacks behind.end behind.there behind.is_end)
-ended_outcome all form said (line ∷ rest) number stands good behind =
-    ended_by all form number said line rest (content_of line) stands good behind
+ended_outcome all form said [] number stands good after =
+    (all_good all form number stands good, λ lacks. lacks after.end after.there after.is_end)
+ended_outcome all form said (line ∷ rest) number stands good after =
+    ended_by all form number said line rest (content_of line) stands good after
     (content_at all number line rest (content_of line) stands refl) (ended_outcome all form said rest (suc number))
 
 -- a statement before END
@@ -182,12 +182,12 @@ started_by all form number said line rest Empty stands good no_end below here ot
     (said_nothing_more all number Empty said here unsaid_empty below)
 started_by all form number said line rest End stands good no_end below here others =
     let is_end = is_content (line_at all number) End here in
-    let behind : IsBehindEnd 3 all (suc number) =
+    let after : IsAfterEnd 3 all (suc number) =
     record { end = number; there = there_at all number line rest stands; before = omega arith; is_end = is_end } in
     ended_outcome all form said rest (suc number) (next_stands all number line rest stands)
     (good_more all form number good (unsaid_good all form number End stands.from here unsaid_end
     (before_end_placed all number no_end (λ none. none.not_end is_end))))
-    behind
+    after
 started_by all form number said line rest (Says s) stands good no_end below here others =
     said_by all form number said line rest s (is_said said s) (fault_said form.lines said s) stands good no_end below here
     (says_at all number line rest s stands no_end here) refl refl (others (said ++ s ∷ []))

@@ -3,8 +3,8 @@ use Rattle.std.proofs.Common.{◌≡◌, ◌⊎◌, ℕ, ◌+◌, ◌<◌, ◌�
 use Rattle.std.proofs.lemmas.Bool.{cases_order}
 use Rattle.setups.specs.declared.fault.SetupFault.{SetupFault}
 use Rattle.wiring_reader.specs.TextReading.{Content, content_of}
-use Rattle.tokens.specs.Frame.{line_at, IsBehindEnd, IsNoLine}
-use Rattle.wiring_text.specs.WiringFaults.{IsBehindForm, IsMisplaced, SaysAt, IsRepeated, IsUnfitLine, IsAtFault, misplaced, repeated, unfit, AreGoodBefore}
+use Rattle.tokens.specs.Frame.{line_at, IsAfterEnd, IsNoLine}
+use Rattle.wiring_text.specs.WiringFaults.{IsAfterForm, IsMisplaced, SaysAt, IsRepeated, IsUnfitLine, IsAtFault, misplaced, repeated, unfit, AreGoodBefore}
 use Rattle.wiring_text.specs.WiringText.{IsEmptyLine, IsEndLine, SaysLine}
 use Rattle.wiring_text.specs.declared.statement.FormNumbers.{FormNumbers}
 use Rattle.tokens.specs.declared.frame.Content.TheVariants.{Empty, Says}
@@ -43,7 +43,7 @@ pub content_at : (all : List (List ℕ)) (number : ℕ) (line : List ℕ) (rest 
 content_at all number line rest content stands is = ap content_of (sym (stands_here all number line rest stands)) ∙ is
 
 pub there_at : (all : List (List ℕ)) (number : ℕ) (line : List ℕ) (rest : List (List ℕ)) → Stands all number (line ∷ rest)
-    → IsBehindForm all number
+    → IsAfterForm all number
 there_at all number line rest stands = record { from = stands.from; to = omega (arith, stands.size) }
 
 -- two contents of one line are the same
@@ -60,7 +60,7 @@ same_said all number s t here said = same (says_other all number (Says s) t here
 
 -- no lower line is END
 abbrev pub NoEndBelow : List (List ℕ) → ℕ → Type 0
-NoEndBelow all number = (n : ℕ) → n < number → IsBehindForm all n → IsEndLine (line_at all n) → ⊥
+NoEndBelow all number = (n : ℕ) → n < number → IsAfterForm all n → IsEndLine (line_at all n) → ⊥
 
 -- one number more
 below_more : (P : ℕ → Type 0) (number : ℕ) → ((n : ℕ) → n < number → P n → ⊥) → (P number → ⊥) → (n : ℕ) → n < suc number
@@ -79,7 +79,7 @@ good_more all form number good here = below_more (IsAtFault all form) number goo
 pub no_end_more : (all : List (List ℕ)) (number : ℕ) → NoEndBelow all number → (IsEndLine (line_at all number) → ⊥)
     → NoEndBelow all (suc number)
 no_end_more all number no_end here n below there is_end =
-    below_more (λ m. IsBehindForm all m × IsEndLine (line_at all m)) number (λ m lower p. no_end m lower p.0 p.1)
+    below_more (λ m. IsAfterForm all m × IsEndLine (line_at all m)) number (λ m lower p. no_end m lower p.0 p.1)
     (λ p. here p.1) n below (there, is_end)
 
 -- a line that is neither misplaced, nor repeated, nor unfit is not at fault
@@ -104,20 +104,20 @@ unsaid_good all form number content from here unsaid placed =
 pub empty_placed : (all : List (List ℕ)) (number : ℕ) → content_of (line_at all number) ≡ Empty → IsMisplaced all number → ⊥
 empty_placed all number here is = by_cause is.cause
   where
-    by_cause : IsNoLine SaysLine (line_at all number) ⊎ (IsBehindEnd 3 all number × (IsEmptyLine (line_at all number) → ⊥)) → ⊥
+    by_cause : IsNoLine SaysLine (line_at all number) ⊎ (IsAfterEnd 3 all number × (IsEmptyLine (line_at all number) → ⊥)) → ⊥
     by_cause (inl none) = none.not_empty (is_content (line_at all number) Empty here)
-    by_cause (inr behind) = behind.1 (is_content (line_at all number) Empty here)
+    by_cause (inr after) = after.1 (is_content (line_at all number) Empty here)
 
 -- a line before END is misplaced only where it says nothing
 pub before_end_placed : (all : List (List ℕ)) (number : ℕ) → NoEndBelow all number → (IsNoLine SaysLine (line_at all number) → ⊥)
     → IsMisplaced all number → ⊥
 before_end_placed all number no_end a_line is = by_cause is.cause
   where
-    by_cause : IsNoLine SaysLine (line_at all number) ⊎ (IsBehindEnd 3 all number × (IsEmptyLine (line_at all number) → ⊥)) → ⊥
+    by_cause : IsNoLine SaysLine (line_at all number) ⊎ (IsAfterEnd 3 all number × (IsEmptyLine (line_at all number) → ⊥)) → ⊥
     by_cause (inl none) = a_line none
-    by_cause (inr behind) = no_end behind.0.end behind.0.before behind.0.there behind.0.is_end
+    by_cause (inr after) = no_end after.0.end after.0.before after.0.there after.0.is_end
 
--- no line behind the last is at fault
+-- no line after the last is at fault
 pub all_good : (all : List (List ℕ)) (form : FormNumbers) (number : ℕ) → Stands all number [] → AreGoodBefore all form number
     → (n : ℕ) → IsAtFault all form n → ⊥
 all_good all form number stands good n is = good n (reached is) is

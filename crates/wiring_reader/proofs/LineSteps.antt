@@ -18,21 +18,21 @@ pub record ReadsSoFar (form : FormNumbers) (setup : Wiring) (ended : Bool) (numb
   pub numbered : number + length (lines_of rest) ≡ 3 + length (lines_of text)
 
 -- the rest of a text, by its first line
-rest_from : (lines number : ℕ) (so_far : SoFar) (content : Content) (line rest behind : List ℕ)
-    → lines_of rest ≡ line ∷ lines_of behind → content ≡ content_of line
+rest_from : (lines number : ℕ) (so_far : SoFar) (content : Content) (line rest after : List ℕ)
+    → lines_of rest ≡ line ∷ lines_of after → content ≡ content_of line
     → lines_from lines number so_far (lines_of rest)
-    ≡ go_on (step lines number so_far content) (λ next. lines_from lines (suc number) next (lines_of behind))
+    ≡ go_on (step lines number so_far content) (λ next. lines_from lines (suc number) next (lines_of after))
 unfolding lines_from
-rest_from lines number so_far content line rest behind first is =
+rest_from lines number so_far content line rest after first is =
     ap (lines_from lines number so_far) first
-    ∙ ap (λ c. go_on (step lines number so_far c) (λ next. lines_from lines (suc number) next (lines_of behind))) (sym is)
+    ∙ ap (λ c. go_on (step lines number so_far c) (λ next. lines_from lines (suc number) next (lines_of after))) (sym is)
 
 -- one line is the fault
-pub fault_more : (form : FormNumbers) (old : Wiring) (ended : Bool) (number : ℕ) (content : Content) (line rest behind text : List ℕ)
-    (fault : WiringFault) → lines_of rest ≡ line ∷ lines_of behind → content ≡ content_of line
+pub fault_more : (form : FormNumbers) (old : Wiring) (ended : Bool) (number : ℕ) (content : Content) (line rest after text : List ℕ)
+    (fault : WiringFault) → lines_of rest ≡ line ∷ lines_of after → content ≡ content_of line
     → Refuses content number old ended fault → ReadsSoFar form old ended number rest text
     → Answers (Err fault) (with_form form (lines_from form.lines 3 start (lines_of text)))
-fault_more form old ended number content line rest behind text fault first is refuses reads =
+fault_more form old ended number content line rest after text fault first is refuses reads =
     by_cause (refuses form reads.said reads.holds)
   where
     by_cause : (fault ≡ Memory) ⊎ (step form.lines number (record { said = reads.said; ended = ended }) content ≡ Err fault)
@@ -40,15 +40,15 @@ fault_more form old ended number content line rest behind text fault first is re
     by_cause (inl e) = inl e
     by_cause (inr e) =
         inr (ap (with_form form) (sym reads.same
-        ∙ rest_from form.lines number (record { said = reads.said; ended = ended }) content line rest behind first is
-        ∙ ap (λ s. go_on s (λ next. lines_from form.lines (suc number) next (lines_of behind))) e))
+        ∙ rest_from form.lines number (record { said = reads.said; ended = ended }) content line rest after first is
+        ∙ ap (λ s. go_on s (λ next. lines_from form.lines (suc number) next (lines_of after))) e))
 
 -- one line more is read
 pub reads_more : (form : FormNumbers) (old new : Wiring) (ended new_ended : Bool) (number : ℕ) (content : Content)
-    (line rest behind text : List ℕ) → lines_of rest ≡ line ∷ lines_of behind → content ≡ content_of line
+    (line rest after text : List ℕ) → lines_of rest ≡ line ∷ lines_of after → content ≡ content_of line
     → Takes content number old ended new new_ended → ReadsSoFar form old ended number rest text
-    → ReadsSoFar form new new_ended (number + 1) behind text
-reads_more form old new ended new_ended number content line rest behind text first is takes reads =
+    → ReadsSoFar form new new_ended (number + 1) after text
+reads_more form old new ended new_ended number content line rest after text first is takes reads =
     let taken = takes form reads.said reads.holds in
     let next : SoFar = record { said = taken.next.said; ended = new_ended } in
     let next_is : taken.next ≡ next =
@@ -56,10 +56,10 @@ reads_more form old new ended new_ended number content line rest behind text fir
     record {
       said = taken.next.said;
       holds = taken.holds;
-      same = ap (λ n. lines_from form.lines n next (lines_of behind)) (add-one number)
-          ∙ ap (λ s. lines_from form.lines (suc number) s (lines_of behind)) (sym next_is)
-          ∙ sym (ap (λ s. go_on s (λ n. lines_from form.lines (suc number) n (lines_of behind))) taken.stepped)
-          ∙ sym (rest_from form.lines number (record { said = reads.said; ended = ended }) content line rest behind first is)
+      same = ap (λ n. lines_from form.lines n next (lines_of after)) (add-one number)
+          ∙ ap (λ s. lines_from form.lines (suc number) s (lines_of after)) (sym next_is)
+          ∙ sym (ap (λ s. go_on s (λ n. lines_from form.lines (suc number) n (lines_of after))) taken.stepped)
+          ∙ sym (rest_from form.lines number (record { said = reads.said; ended = ended }) content line rest after first is)
           ∙ reads.same;
       numbered = omega (arith, ap length first, reads.numbered);
     }

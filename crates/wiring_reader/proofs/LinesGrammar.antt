@@ -1,4 +1,4 @@
--- The lines behind a form say exactly what is read of them.
+-- The lines after a form say exactly what is read of them.
 use Rattle.std.proofs.Common.{◌≡◌, ◌≢◌, ℕ, ◌<◌, Bool, true, false, cond, List, [], ◌∷◌, ◌++◌, length, get_or, All, AllPairs, Contains, Option, Some, None, Result, Ok, Err, refl, ap, sym, ◌∙◌, subst, suc, arith, append_assoc, append-nil, length-append}
 use Rattle.std.proofs.lemmas.Grind.{common_steps}
 use Rattle.std.proofs.lemmas.List.{get_or_append_left}
@@ -19,12 +19,12 @@ use Rattle.wiring_text.specs.declared.statement.Statement.{Statement}
 use Rattle.wiring_reader.proofs.LineGrammar.{is_content, empty_read, end_read, said_read}
 use Rattle.wiring_reader.proofs.SameStatement.{not_said, none_contained}
 
--- what is said so far, before and behind END
+-- what is said so far, before and after END
 abbrev pub before_end : List Statement → SoFar
 before_end said = record { said = said; ended = false }
 
-abbrev pub behind_end : List Statement → SoFar
-behind_end said = record { said = said; ended = true }
+abbrev pub after_end : List Statement → SoFar
+after_end said = record { said = said; ended = true }
 
 -- no two statements are the same, and the panel can have each
 abbrev pub AreOnce : List Statement → Type 0
@@ -42,13 +42,13 @@ unfolding lines_from
 lines_from-cons lines number so_far line rest content is =
     ap (λ c. go_on (step lines number so_far c) (λ next. lines_from lines (suc number) next rest)) is
 
--- behind END
+-- after END
 empties_read : (rest : List (List ℕ)) (lines number : ℕ) (said : List Statement) → AllByRecursion IsEmptyLine rest
-    → lines_from lines number (behind_end said) rest ≡ Ok said
+    → lines_from lines number (after_end said) rest ≡ Ok said
 unfolding lines_from
 empties_read [] lines number said all = refl
 empties_read (line ∷ rest) lines number said all =
-    lines_from-cons lines number (behind_end said) line rest Empty (empty_read line all.0)
+    lines_from-cons lines number (after_end said) line rest Empty (empty_read line all.0)
     ∙ empties_read rest lines (suc number) said all.1
 
 -- a statement that is not among those before it
@@ -80,7 +80,7 @@ lines_read (end_line {line} {lines = rest} is all) lines number said once togeth
     ∙ empties_read rest lines (suc number) said all
     ∙ ap Ok (sym (append-nil said))
 
--- what is read of lines behind END
+-- what is read of lines after END
 record Ends (rest : List (List ℕ)) (said all : List Statement) : Type 0 where
   empty : AllByRecursion IsEmptyLine rest
   nothing : all ≡ said
@@ -93,8 +93,8 @@ same_ok a b e = cc
 
 ends_by : (content : Content) (line : List ℕ) (rest : List (List ℕ)) (lines number : ℕ) (said all : List Statement)
     → content_of line ≡ content
-    → (lines_from lines (suc number) (behind_end said) rest ≡ Ok all → Ends rest said all)
-    → go_on (step lines number (behind_end said) content) (λ next. lines_from lines (suc number) next rest) ≡ Ok all
+    → (lines_from lines (suc number) (after_end said) rest ≡ Ok all → Ends rest said all)
+    → go_on (step lines number (after_end said) content) (λ next. lines_from lines (suc number) next rest) ≡ Ok all
     → Ends (line ∷ rest) said all
 ends_by Empty line rest lines number said all is others read =
     let r = others read in
@@ -104,7 +104,7 @@ ends_by (Says s) line rest lines number said all is others read = cc
 ends_by NoLine line rest lines number said all is others read = cc
 
 ends : (rest : List (List ℕ)) (lines number : ℕ) (said all : List Statement)
-    → lines_from lines number (behind_end said) rest ≡ Ok all → Ends rest said all
+    → lines_from lines number (after_end said) rest ≡ Ok all → Ends rest said all
 unfolding lines_from
 ends [] lines number said all read = record { empty = tt; nothing = same_ok all said (sym read) }
 ends (line ∷ rest) lines number said all read =

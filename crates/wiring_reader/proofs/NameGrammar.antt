@@ -15,7 +15,7 @@ use Rattle.wiring_text.specs.HubNames.{IsPointed, IsDotted, bare, one, two, thre
 use Rattle.wiring_reader.specs.Reading.{is_point, letters_spelled, numbers_spelled, numbers_from_one, numbers_from_two, numbers_from_three, name_of_pieces, name_spelled}
 use Rattle.wiring_text.specs.declared.statement.HubName.{HubName}
 use Rattle.wiring_reader.proofs.LetterReading.{no_point, letters_is, letters_read, letters_plain}
-use Rattle.wiring_reader.proofs.NamePieces.{dotted, joined, joined_pieces, split_alone, split_behind}
+use Rattle.wiring_reader.proofs.NamePieces.{dotted, joined, joined_pieces, split_alone, split_after}
 
 -- no point stands in a number
 plain_digit : (b : ℕ) → is_digit b ≡ true → no_point b ≡ true
@@ -29,11 +29,11 @@ plain_digits (b ∷ bs) all =
     let p = and_parts (is_digit b) (list_all is_digit bs) all in
     and_from _ _ (plain_digit b p.0) (plain_digits bs p.1)
 
--- a number behind a point
+-- a number after a point
 pointed_is : (digits : List ℕ) (n : ℕ) → number_of digits ≡ Some n → IsPointed (46 ∷ digits) n
 pointed_is digits n read = record { digits = digits; spelled = refl; value = number_is digits n read }
 
--- what pieces spell is what stands behind points
+-- what pieces spell is what stands after points
 two_is : (l m : ℕ) (a b : List ℕ) (numbers : Numbers) (pieces : List (List ℕ)) → number_of a ≡ Some l → number_of b ≡ Some m
     → numbers_from_two l m pieces ≡ Some numbers → IsDotted (dotted (a ∷ b ∷ pieces)) numbers
 two_is l m a b numbers [] la mb read =
@@ -88,7 +88,7 @@ pub name_is : (token : List ℕ) (name : HubName) → name_spelled token ≡ Som
 unfolding name_spelled
 name_is token name read = pieces_is token name (slice_split is_point token) (joined_pieces token) read
 
--- the pieces of plain bytes, and what is read of them, where numbers stand behind points
+-- the pieces of plain bytes, and what is read of them, where numbers stand after points
 record FallsInto (bytes : List ℕ) (numbers : Numbers) : Type 0 where
   pieces : List (List ℕ)
   falls : (plain : List ℕ) → list_all no_point plain ≡ true → slice_split is_point (plain ++ bytes) ≡ plain ∷ pieces
@@ -106,24 +106,24 @@ falls_into bare = record {
 falls_into (one {n} is) = record {
   pieces = is.digits ∷ [];
   falls = λ plain all. rw is.spelled
-      (split_behind plain is.digits all ∙ ap (λ ps. plain ∷ ps) (split_alone is.digits (plain_number is.digits n is.value)));
+      (split_after plain is.digits all ∙ ap (λ ps. plain ∷ ps) (split_alone is.digits (plain_number is.digits n is.value)));
   read = rw (number_read is.digits n is.value) refl;
 }
 falls_into (two {m} {n} is also) = record {
   pieces = is.digits ∷ also.digits ∷ [];
   falls = λ plain all. rw (is.spelled, also.spelled)
-      (split_behind plain (is.digits ++ 46 ∷ also.digits) all
-      ∙ ap (λ ps. plain ∷ ps) (split_behind is.digits also.digits (plain_number is.digits m is.value)
+      (split_after plain (is.digits ++ 46 ∷ also.digits) all
+      ∙ ap (λ ps. plain ∷ ps) (split_after is.digits also.digits (plain_number is.digits m is.value)
       ∙ ap (λ ps. is.digits ∷ ps) (split_alone also.digits (plain_number also.digits n also.value))));
   read = rw (number_read is.digits m is.value, number_read also.digits n also.value) refl;
 }
 falls_into (three {l} {m} {n} is also last) = record {
   pieces = is.digits ∷ also.digits ∷ last.digits ∷ [];
   falls = λ plain all. rw (is.spelled, also.spelled, last.spelled)
-      (split_behind plain ((is.digits ++ 46 ∷ also.digits) ++ 46 ∷ last.digits) all
+      (split_after plain ((is.digits ++ 46 ∷ also.digits) ++ 46 ∷ last.digits) all
       ∙ ap (λ s. plain ∷ slice_split is_point s) (append_assoc is.digits (46 ∷ also.digits) (46 ∷ last.digits))
-      ∙ ap (λ ps. plain ∷ ps) (split_behind is.digits (also.digits ++ 46 ∷ last.digits) (plain_number is.digits l is.value)
-      ∙ ap (λ ps. is.digits ∷ ps) (split_behind also.digits last.digits (plain_number also.digits m also.value)
+      ∙ ap (λ ps. plain ∷ ps) (split_after is.digits (also.digits ++ 46 ∷ last.digits) (plain_number is.digits l is.value)
+      ∙ ap (λ ps. is.digits ∷ ps) (split_after also.digits last.digits (plain_number also.digits m also.value)
       ∙ ap (λ ps. also.digits ∷ ps) (split_alone last.digits (plain_number last.digits n last.value)))));
   read = rw (number_read is.digits l is.value, number_read also.digits m also.value, number_read last.digits n last.value)
       refl;

@@ -63,12 +63,12 @@ plain_byte b plain = by_test (is_point b) refl plain
     by_test false e f = e
 
 -- plain bytes before a point, and plain bytes alone
-pub split_behind : (plain bytes : List ℕ) → list_all no_point plain ≡ true
+pub split_after : (plain bytes : List ℕ) → list_all no_point plain ≡ true
     → slice_split is_point (plain ++ 46 ∷ bytes) ≡ plain ∷ slice_split is_point bytes
-split_behind [] bytes all = refl
-split_behind (b ∷ bs) bytes all =
+split_after [] bytes all = refl
+split_after (b ∷ bs) bytes all =
     let p = and_parts (no_point b) (list_all no_point bs) all in
-    slice_split-cons_no is_point b (bs ++ 46 ∷ bytes) (plain_byte b p.0) ∙ ap (onto_first b) (split_behind bs bytes p.1)
+    slice_split-cons_no is_point b (bs ++ 46 ∷ bytes) (plain_byte b p.0) ∙ ap (onto_first b) (split_after bs bytes p.1)
 
 pub split_alone : (plain : List ℕ) → list_all no_point plain ≡ true → slice_split is_point plain ≡ plain ∷ []
 split_alone [] all = refl
@@ -76,7 +76,7 @@ split_alone (b ∷ bs) all =
     let p = and_parts (no_point b) (list_all no_point bs) all in
     slice_split-cons_no is_point b bs (plain_byte b p.0) ∙ ap (onto_first b) (split_alone bs p.1)
 
--- pieces, each behind a point
+-- pieces, each after a point
 abbrev pub dotted : List (List ℕ) → List ℕ
 dotted [] = []
 dotted (piece ∷ pieces) = 46 ∷ (piece ++ dotted pieces)

@@ -2,7 +2,7 @@
 use Rattle.std.proofs.Common.{◌≡◌, ◌↔◌, ℕ, ◌&&◌, Bool, true, false, leb, [], Contains, refl, ap, ◌∙◌, arith}
 use Rattle.std.proofs.lemmas.Bool.{and_parts, and_from, leb-true, le-leb}
 use Rattle.hub_table.specs.Ranges.{is_within}
-use Rattle.setups.specs.Tapes.{Form, IsFormed, has_stop}
+use Rattle.setups.specs.Tapes.{CarriageTape, IsFormed, has_stop}
 use Rattle.setups.specs.Wiring.{Wiring, HasWire, is_plugged}
 use Rattle.hubs.specs.declared.hub.Hub.{Hub}
 use Rattle.hubs.specs.declared.jack.Jack.{Jack}
@@ -45,7 +45,7 @@ untrue b t is = (λ e. clash e, λ has. absurd (none_said t has))
     clash e = cc
 
 -- a new setup
-pub holds_nothing : (form : FormNumbers) (tape : Form) (wiring : Wiring) → numbers_of_tape tape ≡ form → is_formed form ≡ true
+pub holds_nothing : (form : FormNumbers) (tape : CarriageTape) (wiring : Wiring) → numbers_of_tape tape ≡ form → is_formed form ≡ true
     → ((channel line : ℕ) → has_stop tape channel line ≡ false) → wiring.tape ≡ tape
     → ((exit entry : Hub) → HasWire wiring exit entry → ⊥) → ((j : Jack) → is_plugged wiring j ≡ false)
     → Holds (numbers_of_tape wiring.tape) [] wiring

@@ -9,7 +9,7 @@ use Rattle.setups.specs.declared.fault.SetupFault.TheVariants.{TapeFault}
 use Rattle.tokens.specs.Dividing.{tokens_of}
 use Rattle.tokens.proofs.TextFrame.{larger_by, title_by, told_false, refused_by}
 use Rattle.wiring_reader.specs.TextReading.{Told, divided_form, formed_lines, headed_lines, is_first, is_formed, is_large, lines_from, lines_told, start, text_told, with_form}
-use Rattle.wiring_text.specs.WiringFaults.{HasHead, IsUnfitForm, IsUnfit, IsAtFault, misplaced, repeated, unfit, AreGoodBefore, IsBegun, HaveFault, HasFault}
+use Rattle.wiring_text.specs.WiringFaults.{HasHead, IsUnfitForm, IsUnfit, IsAtFault, misplaced, repeated, unfit, AreGoodBefore, IsBegun, HaveFault, HasWiringFault}
 use Rattle.wiring_text.specs.WiringText.{IsFirstLine, IsTooLarge, IsWiringChart, SaysLines}
 use Rattle.wiring_text.specs.declared.statement.FormNumbers.{FormNumbers}
 use Rattle.wiring_text.specs.declared.fault.WiringFault.{WiringFault}
@@ -55,7 +55,7 @@ form_fault : (form : FormNumbers) (read : Result (List Statement) WiringFault) (
 form_fault form (Ok said) fault e = cc
 form_fault form (Err other) fault e = ap read_fault (same_fault other fault e)
 
--- what is told behind a form
+-- what is told after a form
 record IsTold (form : FormNumbers) (read : Result (List Statement) WiringFault) (what : Told) : Type 0 where
   form_is : form ≡ what.form
   read_is : read ≡ Ok what.statements
@@ -143,7 +143,7 @@ sized_fault (first ∷ second ∷ others) fault false size read =
     (not_large (first ∷ second ∷ others) size) refl refl read
 
 -- the fault that is read is the one of the text
-pub fault_is : (bytes : List ℕ) (fault : WiringFault) → text_told bytes ≡ Err fault → HasFault bytes fault
+pub fault_is : (bytes : List ℕ) (fault : WiringFault) → text_told bytes ≡ Err fault → HasWiringFault bytes fault
 unfolding text_told
 fault_is bytes fault read = sized_fault (lines_of bytes) fault (is_large (lines_of bytes)) refl read
 
@@ -153,7 +153,7 @@ form_at_fault : (lines : List (List ℕ)) (form : FormNumbers) → (IsFormed for
 form_at_fault lines form not_formed =
     unfit TapeFault (inl (record { second = refl; unfit = not_formed; is_tape = refl }))
 
--- the fault of lines behind good first lines is read
+-- the fault of lines after good first lines is read
 formed_read_fault : (first second : List ℕ) (others : List (List ℕ)) (form : FormNumbers) (fault : WiringFault)
     → IsFormed form.lines form.first form.overflow
     → lines_from form.lines 3 start others ≡ Err fault → formed_lines form others ≡ Err fault
@@ -161,7 +161,7 @@ formed_read_fault first second others form fault formed read =
     ap (λ t. cond t (with_form form (lines_from form.lines 3 start others)) (Err (Unfit 2 TapeFault))) (formed_read form formed)
     ∙ ap (with_form form) read
 
--- the form of lines of which one behind it is the lowest at fault
+-- the form of lines of which one after it is the lowest at fault
 good_form : (lines : List (List ℕ)) (form : FormNumbers) (n : ℕ) → 3 ≤ n → AreGoodBefore lines form n
     → IsFormed form.lines form.first form.overflow
 good_form lines form n from good = by_test (is_formed form) refl
@@ -194,7 +194,7 @@ begun_read_fault first second others form n fault good (inr is) =
     (unfit_read (first ∷ second ∷ others) form n fault (lines_from form.lines 3 start others) formed is good
     (outcome first second others form formed))
 
--- what is read behind good first lines
+-- what is read after good first lines
 past_head : (first second : List ℕ) (others : List (List ℕ)) (form : FormNumbers) → HasHead (first ∷ second ∷ others) form
     → lines_told (first ∷ second ∷ others) ≡ formed_lines form others
 past_head first second others form has =
@@ -263,7 +263,7 @@ fault_read_all (first ∷ second ∷ others) NoEnd has =
 fault_read_all lines Memory has = absurd has
 
 -- the fault of a text is read
-pub fault_read : (bytes : List ℕ) (fault : WiringFault) → HasFault bytes fault → text_told bytes ≡ Err fault
+pub fault_read : (bytes : List ℕ) (fault : WiringFault) → HasWiringFault bytes fault → text_told bytes ≡ Err fault
 unfolding text_told
 fault_read bytes fault has = fault_read_all (lines_of bytes) fault has
 

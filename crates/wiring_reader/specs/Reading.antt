@@ -23,16 +23,16 @@ use Rattle.wiring_text.specs.declared.statement.Statement.TheVariants.{Stop, Plu
 abbrev pub is_point : ℕ → Bool
 is_point byte = byte == 46
 
--- the pieces behind the first point, if there is one
-abbrev pub pieces_behind : Option (Bor (List ℕ)) → List (List ℕ)
-pieces_behind None = []
-pieces_behind (Some bytes) = slice_split is_point bytes.now
+-- the pieces after the first point, if there is one
+abbrev pub pieces_after : Option (Bor (List ℕ)) → List (List ℕ)
+pieces_after None = []
+pieces_after (Some bytes) = slice_split is_point bytes.now
 
 -- the letters that are spelled so
 unfoldable pub letters_spelled : List ℕ → Option Letters
 letters_spelled token = find (λ letters. bytes_eq (row_of letters).spelled token) (exit_kinds ++ entry_kinds)
 
--- the numbers that pieces spell, behind three, two, one, and none that are read already
+-- the numbers that pieces spell, after three, two, one, and none that are read already
 abbrev pub numbers_from_three : ℕ → ℕ → ℕ → List (List ℕ) → Option Numbers
 numbers_from_three l m n [] = Some (Three l m n)
 numbers_from_three l m n (piece ∷ pieces) = None

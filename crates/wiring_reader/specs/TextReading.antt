@@ -5,7 +5,7 @@ use Rattle.std.specs.List.{list_all}
 use Rattle.card_code.specs.Lines.{lines_of}
 use Rattle.hubs.specs.Jacks.{is_jack_in_range}
 use Rattle.hub_table.specs.Ranges.{is_within}
-use Rattle.setups.specs.Tapes.{Form, IsFormed}
+use Rattle.setups.specs.Tapes.{CarriageTape, IsFormed}
 use Rattle.setups.specs.Wiring.{Wiring}
 use Rattle.setups.specs.declared.fault.SetupFault.{SetupFault}
 use Rattle.setups.specs.declared.fault.SetupFault.TheVariants as panel
@@ -95,7 +95,7 @@ abbrev pub go_on : {A B : Type 0} → Result A WiringFault → (A → Result B W
 go_on (Ok so_far) others = others so_far
 go_on (Err fault) others = Err fault
 
--- behind the last line
+-- after the last line
 abbrev pub finished : SoFar → Result (List Statement) WiringFault
 finished so_far = if so_far.ended then Ok so_far.said else Err NoEnd
 
@@ -114,12 +114,12 @@ pub record Told : Type 0 where
 abbrev pub with_form : FormNumbers → Result (List Statement) WiringFault → Result Told WiringFault
 with_form form read = go_on read (λ statements. Ok (record { form = form; statements = statements }))
 
--- the lines behind a form
+-- the lines after a form
 abbrev pub formed_lines : FormNumbers → List (List ℕ) → Result Told WiringFault
 formed_lines form others =
     if is_formed form then with_form form (lines_from form.lines 3 start others) else Err (Unfit 2 panel.TapeFault)
 
--- the lines behind the first two
+-- the lines after the first two
 abbrev pub headed_lines : Bool → Option FormNumbers → List (List ℕ) → Result Told WiringFault
 headed_lines true (Some form) others = formed_lines form others
 headed_lines true None others = Err NoFirstLine
@@ -151,7 +151,7 @@ HasSayable (Says statement) = IsSayable statement
 HasSayable content = Unit {0}
 
 -- the numbers of the form of a tape
-abbrev pub numbers_of_tape : Form → FormNumbers
+abbrev pub numbers_of_tape : CarriageTape → FormNumbers
 numbers_of_tape tape = record { lines = tape.lines; first = tape.first; overflow = tape.overflow }
 
 -- the setup is that of these statements, all of which the panel can have, and each two together

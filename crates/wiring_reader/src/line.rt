@@ -39,7 +39,7 @@ fn read_form_tokens(tokens: &[&[u8]]) -> Option<FormNumbers>
     }
 }
 
-/// What a line behind the form is.
+/// What a line after the form is.
 #[tactic(auto, unfolding(crate::specs::TextReading::content_of))]
 pub(crate) fn read_line(alloc: Global, line: &[u8]) -> Result<Content<Statement>, AllocError>
     ensures { IfOk result (λ content. content ≡ content_of line.now) }

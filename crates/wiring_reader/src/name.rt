@@ -2,7 +2,7 @@
 
 ghost use Rattle.std.specs.Prelude.{◌≡◌, ◌≢◌, ◌<◌, ◌∷◌, ℕ, length, slice_index, IfSome, IfNone};
 ghost use Rattle.std.specs.List.{slice_split};
-ghost use Rattle.wiring_reader.specs.Reading.{is_point, letters_spelled, numbers_from_three, pieces_behind, numbers_spelled, name_spelled};
+ghost use Rattle.wiring_reader.specs.Reading.{is_point, letters_spelled, numbers_from_three, pieces_after, numbers_spelled, name_spelled};
 
 use crate::scanner::read_number;
 use hub_table::{Letters, Numbers};
@@ -14,9 +14,9 @@ use wiring_text::HubName;
 pub(crate) fn read_hub_name(token: &[u8]) -> Option<HubName>
     ensures { result ≡ name_spelled token.now }
 {
-    let (spelled, behind) = cut_at_point(token);
+    let (spelled, after) = cut_at_point(token);
     let letters = read_letters(spelled)?;
-    let numbers = read_numbers(behind)?;
+    let numbers = read_numbers(after)?;
     if letters.shape().has_as_many(numbers) {
         Some(HubName { letters, numbers })
     } else {
@@ -31,40 +31,40 @@ fn read_letters(spelled: &[u8]) -> Option<Letters>
     Letters::of_spelled(spelled)
 }
 
-/// The numbers of a hub, behind its first point, if it has one.
-fn read_numbers(behind: Option<&[u8]>) -> Option<Numbers>
-    ensures { result ≡ numbers_spelled (pieces_behind behind.entry) }
+/// The numbers of a hub, after its first point, if it has one.
+fn read_numbers(after: Option<&[u8]>) -> Option<Numbers>
+    ensures { result ≡ numbers_spelled (pieces_after after.entry) }
 {
-    let Some(rest) = behind else {
+    let Some(rest) = after else {
         return Some(Numbers::Bare);
     };
-    let (first, behind) = cut_at_point(rest);
+    let (first, after) = cut_at_point(rest);
     let first = read_number(first)?;
-    let Some(rest) = behind else {
+    let Some(rest) = after else {
         return Some(Numbers::One(first));
     };
-    let (second, behind) = cut_at_point(rest);
+    let (second, after) = cut_at_point(rest);
     let second = read_number(second)?;
-    let Some(rest) = behind else {
+    let Some(rest) = after else {
         return Some(Numbers::Two(first, second));
     };
-    let (third, behind) = cut_at_point(rest);
-    three_numbers(first, second, read_number(third)?, behind)
+    let (third, after) = cut_at_point(rest);
+    three_numbers(first, second, read_number(third)?, after)
 }
 
-/// Three numbers, where nothing stands behind them.
-fn three_numbers(first: u16, second: u16, third: u16, behind: Option<&[u8]>) -> Option<Numbers>
-    ensures { result ≡ numbers_from_three first second third (pieces_behind behind.entry) }
+/// Three numbers, where nothing stands after them.
+fn three_numbers(first: u16, second: u16, third: u16, after: Option<&[u8]>) -> Option<Numbers>
+    ensures { result ≡ numbers_from_three first second third (pieces_after after.entry) }
 {
-    match behind {
+    match after {
         None => Some(Numbers::Three(first, second, third)),
         Some(_) => None,
     }
 }
 
-/// The bytes before the first point and, where there is a point, those behind it.
+/// The bytes before the first point and, where there is a point, those after it.
 fn cut_at_point(bytes: &[u8]) -> (&[u8], Option<&[u8]>)
-    ensures { slice_split is_point bytes.now ≡ result.0.now ∷ pieces_behind result.1 }
+    ensures { slice_split is_point bytes.now ≡ result.0.now ∷ pieces_after result.1 }
 {
     match first_point(bytes) {
         Some(place) => (&bytes[..place], Some(&bytes[place + 1..])),

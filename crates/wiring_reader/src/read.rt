@@ -6,7 +6,7 @@ ghost use Rattle.setups.specs.Tapes.{has_stop};
 ghost use Rattle.setups.specs.Wiring.{Wiring};
 ghost use Rattle.wiring_reader.specs.TextReading.{Answers, HasSayable, Holds, Refuses, Takes, is_formed, lines_from, numbers_of_tape, start, text_told, with_form};
 ghost use Rattle.wiring_text.specs.WiringText.{ReadsAs};
-ghost use Rattle.wiring_text.specs.WiringFaults.{HasFault};
+ghost use Rattle.wiring_text.specs.WiringFaults.{HasWiringFault};
 
 use crate::line::{read_form, read_line};
 use crate::panel::put;
@@ -29,16 +29,16 @@ const MAX_LINE_BYTES: usize = 60;
 ///
 /// The text's one fault, asked in this order: `TooLarge` for more than 1,000,000 lines or a line of more than 60 bytes;
 /// `NoFirstLine` where line 1 is not `WIRING407 1` or line 2 not `FORM` with three numbers; then, at the lowest line at fault,
-/// `NotALine` where it is no line of a wiring chart or stands behind END, else `LineTwice` where it stood before, else `Unfit` where the
+/// `NotALine` where it is no line of a wiring chart or stands after END, else `LineTwice` where it stood before, else `Unfit` where the
 /// panel can't have what it says; `NoEnd` where no line is END. `Memory` only where memory was refused; what was read so far is freed then.
 pub fn read_setup(alloc: Global, text: &[u8]) -> Result<Setup, WiringFault>
     // What is read is the setup of the text, and a fault is the one of the text.
     ensures read { IfOk result (ReadsAs text.now) }
-    ensures fault { IfErr result (λ fault. fault ≢ WiringFault.Memory → HasFault text.now fault) }
+    ensures fault { IfErr result (λ fault. fault ≢ WiringFault.Memory → HasWiringFault text.now fault) }
 
     // Each wiring chart is read, and each fault told, unless memory is refused.
     ensures only_read { (wiring : Wiring) → ReadsAs text.now wiring → IsOkUnless result WiringFault.Memory }
-    ensures only_fault { (fault : WiringFault) → HasFault text.now fault
+    ensures only_fault { (fault : WiringFault) → HasWiringFault text.now fault
         → (result ≡ Err fault) ⊎ (result ≡ Err WiringFault.Memory) }
 {
     read_text(alloc, text)
@@ -52,10 +52,10 @@ fn read_text(alloc: Global, text: &[u8]) -> Result<Setup, WiringFault>
     if is_larger(text, MAX_LINES, MAX_LINE_BYTES) {
         return Err(WiringFault::TooLarge);
     }
-    let Some((first, behind)) = next_line(text) else {
+    let Some((first, after)) = next_line(text) else {
         return Err(WiringFault::NoFirstLine);
     };
-    let Some((second, others)) = next_line(behind) else {
+    let Some((second, others)) = next_line(after) else {
         return Err(WiringFault::NoFirstLine);
     };
     if !is_title_line(first, b"WIRING407", b"1") {
@@ -98,11 +98,11 @@ fn read_lines(alloc: Global, setup: Setup, text: &[u8]) -> Result<Setup, WiringF
     let mut ended = false;
     let mut number = 3;
     let mut rest = text;
-    while let Some((line, behind)) = next_line(rest) {
+    while let Some((line, after)) = next_line(rest) {
         let content = read_line(alloc, line)?;
         take_line(content, number, &mut setup, &mut ended)?;
         number += 1;
-        rest = behind;
+        rest = after;
     }
     if ended {
         Ok(setup)

@@ -14,7 +14,7 @@ use Rattle.field_rules.proofs.Places.{is_same_name-equal}
 use Rattle.field_rules.specs.Fields.{field_named}
 use Rattle.hubs.specs.declared.hub.Group.{Group}
 use Rattle.plans.specs.Plans.{Lists, IsFor}
-use Rattle.wanted.specs.ChartTotals.{need_of, total_of, totals_of}
+use Rattle.wanted.specs.ChartTotals.{need_of, line_total, totals_of}
 use Rattle.wanted.specs.declared.total.Total.{Total}
 use Rattle.wiring_table.specs.Parts.{HasTotal, group_for, panel_group}
 
@@ -58,8 +58,8 @@ pub group-given : (lines : List Line) (plan : Lists) (name : List ℕ) (level nu
     → HasTotal lines name level number → (group : Group) × (group_for lines plan number ≡ Some group)
 group-given lines plan name level number planned total =
     let made : Total = record { level = total.its_level; line = total.line.number; need = need_of (field_named lines total.its_name) total.digits } in
-    let listed = listed-given (λ (l : Line). total_of lines l.number l.statement) lines total.line made total.listed
-    (ap (total_of lines total.line.number) total.says_total) in
+    let listed = listed-given (λ (l : Line). line_total lines l.number l.statement) lines total.line made total.listed
+    (ap (line_total lines total.line.number) total.says_total) in
     let same = total.is_number in
     let (place, at) = position-passing (λ (t : Total). t.line == number) (totals_of lines) made listed (grind (arith, nat_tests, same)) in
     let stands = position-stands (λ (t : Total). t.line == number) (totals_of lines) place at in
@@ -100,13 +100,13 @@ module _ (lines : List Line) (plan : Lists) (planned : IsFor lines plan) where
       → need_of (field_named lines name) total.digits ≤ group.width
   group-room end name level number group rise total served =
       let a = is-served lines plan number group served in
-      let from = given-by (λ (l : Line). total_of lines l.number l.statement) lines a.total
+      let from = given-by (λ (l : Line). line_total lines l.number l.statement) lines a.total
       (listed-at (totals_of lines) a.place a.total a.is_total) in
       let its_number : from.element.number ≡ total.line.number =
       numbered from.element.number from.element.statement a.total from.gives ∙ a.line ∙ sym total.is_number in
       let line = one-line lines end from.element total.line rise from.listed total.listed its_number in
       let made = need-made total.line.number a.total
-      (sym (ap (total_of lines total.line.number) total.says_total) ∙ ap (λ (l : Line). total_of lines l.number l.statement) (sym line)
+      (sym (ap (line_total lines total.line.number) total.says_total) ∙ ap (λ (l : Line). line_total lines l.number l.statement) (sym line)
       ∙ from.gives) in
       let need : need_of (field_named lines name) total.digits ≡ a.total.need =
       ap (λ n. need_of (field_named lines n) total.digits) (sym (is_same_name-equal total.its_name name total.same_name)) ∙ made in
@@ -114,7 +114,7 @@ module _ (lines : List Line) (plan : Lists) (planned : IsFor lines plan) where
       let enough = planned.groups.enough a.place a.total a.counter_group a.is_total a.there in
       omega (arith, need, wide, enough)
     where
-      numbered : (its : ℕ) (statement : Statement) (found : Total) → total_of lines its statement ≡ Some found → its ≡ found.line
+      numbered : (its : ℕ) (statement : Statement) (found : Total) → line_total lines its statement ≡ Some found → its ≡ found.line
       numbered its (says.TotalAmount its_level wheel its_name digits mark) found is = cc
       numbered its other found is = cc
 

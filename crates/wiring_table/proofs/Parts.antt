@@ -20,7 +20,7 @@ use Rattle.field_rules.proofs.Places.{is_same_name-equal, is_same_name-own}
 use Rattle.field_rules.specs.Fields.{field_named, fields_of}
 use Rattle.plans.proofs.Numbers.{HasNumber, both-stand, number-given}
 use Rattle.plans.specs.Plans.{Lists, IsFor, number_where}
-use Rattle.wanted.specs.Pilots.{is_shown, pilots_of, shows, wants_pilot}
+use Rattle.wanted.specs.Pilots.{prints_name, pilots_of, shows, wants_pilot}
 use Rattle.wanted.specs.Positions.{compared_field, field_used, indicated_field, is_same_position, positions_for}
 use Rattle.wanted.specs.Units.{has_inside_sign, is_inside, is_of_kind, is_split_amount, is_total_text}
 use Rattle.wanted.specs.Wanted.{Parts, indicate_at}
@@ -102,7 +102,7 @@ module _ (lines : List Line) (plan : Lists) (planned : IsFor lines plan) where
   pilot-given line name field listed shown_on named signed =
       let found = field-line lines name field named in
       let wants : wants_pilot lines field ≡ true =
-      rw (signed, ap (is_shown lines) found.own_name ∙ any-listed (λ (each : Line). shows name each.statement) lines line listed shown_on) refl in
+      rw (signed, ap (prints_name lines) found.own_name ∙ any-listed (λ (each : Line). shows name each.statement) lines line listed shown_on) refl in
       let there : Contains (pilots_of lines) field.name =
       listed-map (λ (each : Field). each.name) (filter (wants_pilot lines) (fields_of lines)) field
       (listed-filter (wants_pilot lines) (fields_of lines) field found.among wants) in

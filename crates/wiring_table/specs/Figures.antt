@@ -1,5 +1,5 @@
 -- Where the items of a chart stand on their wheels: the characters of a literal, and of an amount its digits, its point and its
--- mark. Position 1 of an amount is the units; the point stands left of the decimals, and the mark behind the units.
+-- mark. Position 1 of an amount is the units; the point stands left of the decimals, and the mark after the units.
 use Rattle.std.specs.Prelude.{◌≡◌, ℕ, ◌+◌, ◌-◌, nat_lt, true, false, List, Option, Some, None, slice_get, if◌then◌else◌}
 use Rattle.card_code.specs.CardCode.{has_row, rows_of}
 use Rattle.field_rules.specs.Fields.{field_named}
@@ -84,7 +84,7 @@ digit_wheel wheel digits decimals position =
 abbrev pub point_wheel : (wheel digits decimals : ℕ) → ℕ
 point_wheel wheel digits decimals = wheel + digits - decimals
 
--- the wheel behind the units, where the mark begins
+-- the wheel after the units, where the mark begins
 abbrev pub mark_wheel : (wheel digits decimals : ℕ) → ℕ
 mark_wheel wheel digits decimals = wheel + digits + (if nat_lt 0 decimals then 1 else 0)
 

@@ -2,7 +2,7 @@
 use Rattle.std.specs.Prelude.{◌≡◌, ◌↔◌, ℕ, List, Contains, true}
 use Rattle.plans.specs.Plans.{Lists}
 use Rattle.charts.specs.declared.chart.Line.{Line}
-use Rattle.setups.specs.Tapes.{Form, has_stop}
+use Rattle.setups.specs.Tapes.{CarriageTape, has_stop}
 use Rattle.setups.specs.Wiring.{Wiring, HasWire, HasJack}
 use Rattle.hubs.specs.declared.hub.Hub.{Hub}
 use Rattle.hubs.specs.declared.jack.Jack.{Jack}
@@ -11,7 +11,7 @@ use Rattle.wiring_table.specs.Jacks.{ChartJack}
 use Rattle.wiring_table.specs.Wires.{ChartWire}
 
 -- the tape of a chart: its form, and the stops of its TAPE lines, whether something skips to them or not
-pub record IsTapeOf (lines : List Line) (tape : Form) : Type 0 where
+pub record IsTapeOf (lines : List Line) (tape : CarriageTape) : Type 0 where
   pub form_lines : tape.lines ≡ (form_of lines).lines
   pub first : tape.first ≡ (form_of lines).first
   pub overflow : tape.overflow ≡ (form_of lines).overflow

@@ -1,4 +1,4 @@
--- Hubs as they are written: letters, and behind each of its numbers' points the number.
+-- Hubs as they are written: letters, and after each of its numbers' points the number.
 use Rattle.std.specs.Prelude.{◌≡◌, ℕ, List, [], ◌∷◌, ◌++◌, true, Option}
 use Rattle.hub_table.specs.HubTable.{row_of}
 use Rattle.hubs.specs.Hubs.{letters_of, numbers_of, hub_named}

@@ -22,17 +22,17 @@ pub record HasHead (lines : List (List ℕ)) (form : FormNumbers) : Type 0 where
   pub begun : IsFirstLine (line_at lines 1)
   pub formed : IsFormLine (line_at lines 2) form
 
--- the number is that of a line behind the form
-abbrev pub IsBehindForm : List (List ℕ) → ℕ → Type 0
-IsBehindForm lines number = IsLineFrom 3 lines number
+-- the number is that of a line after the form
+abbrev pub IsAfterForm : List (List ℕ) → ℕ → Type 0
+IsAfterForm lines number = IsLineFrom 3 lines number
 
--- the line of a number is none of a wiring chart, or stands behind END and isn't empty
+-- the line of a number is none of a wiring chart, or stands after END and isn't empty
 abbrev pub IsMisplaced : List (List ℕ) → ℕ → Type 0
 IsMisplaced lines number = frame.IsMisplaced SaysLine 3 lines number
 
 -- the line of a number says this, and stands where a line may stand
 pub record SaysAt (lines : List (List ℕ)) (number : ℕ) (statement : Statement) : Type 0 where
-  pub there : IsBehindForm lines number
+  pub there : IsAfterForm lines number
   pub said : SaysLine (line_at lines number) statement
   pub placed : ¬ IsMisplaced lines number
 
@@ -104,5 +104,5 @@ HaveFault lines NoEnd = (begun : IsBegun lines) × ((number : ℕ) → ¬ IsAtFa
 HaveFault lines Memory = ⊥
 
 -- the fault of a text
-abbrev pub HasFault : List ℕ → WiringFault → Type 0
-HasFault bytes fault = HaveFault (lines_of bytes) fault
+abbrev pub HasWiringFault : List ℕ → WiringFault → Type 0
+HasWiringFault bytes fault = HaveFault (lines_of bytes) fault

@@ -1,5 +1,5 @@
--- A wiring chart as text: line 1 names it, line 2 is the form, the lines behind are stops, jacks and wires in any order,
--- and END ends it. Empty lines may stand behind line 2. Which lines are empty or END is said of every text format in the crate tokens;
+-- A wiring chart as text: line 1 names it, line 2 is the form, the lines after are stops, jacks and wires in any order,
+-- and END ends it. Empty lines may stand after line 2. Which lines are empty or END is said of every text format in the crate tokens;
 -- what is wrong with other texts stands in WiringFaults.
 use Rattle.std.specs.Prelude.{◌≡◌, ◌≢◌, ◌↔◌, ℕ, true, List, [], ◌∷◌, All, AllPairs, Contains, None, codes}
 use Rattle.std.specs.List.{AllByRecursion}

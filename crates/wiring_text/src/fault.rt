@@ -17,7 +17,7 @@ pub enum WiringFault {
     /// Line 1 is not `WIRING407 1`, or line 2 not `FORM` with three numbers: fault 72.
     #[error("the text does not begin as a wiring chart")]
     NoFirstLine,
-    /// The lowest line at fault is none of a wiring chart, or stands behind END: fault 73.
+    /// The lowest line at fault is none of a wiring chart, or stands after END: fault 73.
     #[error("line {line} is no line of a wiring chart")]
     NotALine {
         /// Its number.

@@ -1,19 +1,19 @@
 use Rattle.std.proofs.Common.{arith, inl}
 use Rattle.std.proofs.lemmas.Result.{err_from_is_err_and}
-use Rattle.card_code.specs.Deck.{Deck, HasFault}
+use Rattle.card_code.specs.Deck.{Deck, HasDeckFault}
 use Rattle.card_code.specs.declared.deck.DeckFault.TheVariants.{TooManyCards}
-use Rattle.card_code.proofs.Decks.{Deck-at_end, HasFault-next, HasFault-many, IsReadUpTo-push}
+use Rattle.card_code.proofs.Decks.{Deck-at_end, HasDeckFault-next, HasDeckFault-many, IsReadUpTo-push}
 use Rattle.card_code.proofs.Faults.{Deck-no_fault, Deck-same, told_at_fault}
 use Rattle.card_code.proofs.deck.read_deck.Goals as goal
 
 -- line 1,000,000 is there
-too_many : (c : goal.After-drop-cards) → HasFault c.args.bytes.now TooManyCards
-too_many c = HasFault-many _ _ _ _ _ c.loop-line.invariant (omega arith) c.in-Some.ensures.first
+too_many : (c : goal.After-drop-cards) → HasDeckFault c.args.bytes.now TooManyCards
+too_many c = HasDeckFault-many _ _ _ _ _ c.loop-line.invariant (omega arith) c.in-Some.ensures.first
 
 -- the line read is at fault
-at_fault : (c : goal.After-drop-cards-in_err-read_card) → HasFault c.args.bytes.now c.in_err-read_card.field-0.0
+at_fault : (c : goal.After-drop-cards-in_err-read_card) → HasDeckFault c.args.bytes.now c.in_err-read_card.field-0.0
 at_fault c =
-    HasFault-next _ _ _ _ _ c.loop-line.invariant (omega arith) c.in-Some.ensures.first _ (omega arith) _
+    HasDeckFault-next _ _ _ _ _ c.loop-line.invariant (omega arith) c.in-Some.ensures.first _ (omega arith) _
     c.in_err-read_card.ensures.fault
 
 -- all lines are read

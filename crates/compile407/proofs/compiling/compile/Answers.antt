@@ -1,6 +1,6 @@
 use Rattle.std.proofs.Common.{◌≢◌, subst, sym}
 use Rattle.std.proofs.lemmas.Result.{err_from_is_err_and}
-use Rattle.allocate.specs.Exceeded.{Fits, HasFault as Exceeds}
+use Rattle.allocate.specs.Exceeded.{Fits, HasCapacityFault}
 use Rattle.allocate.specs.Allocated.{IsPlanOf}
 use Rattle.wanted.specs.Wanted.{wanted_of}
 use Rattle.allocate.specs.declared.fault.CapacityFault.TheVariants as exceeds
@@ -51,7 +51,7 @@ returns-in_err-plan-clause-refused c =
     let read = c.in_ok-chart.chart in
     let fault = c.in_err-plan.field-0.0 in
     let Exceeding : Capacities → Type 0 =
-    λ machine. fault ≢ exceeds.Memory → Exceeds (wanted_of read.lines) machine fault in
+    λ machine. fault ≢ exceeds.Memory → HasCapacityFault (wanted_of read.lines) machine fault in
     let refusal = err_from_is_err_and c.from_residual-in_err-plan.result c.from_residual-in_err-plan.ensures.1 in
     let told = capacity_told bytes read fault
     (subst (Reads bytes) (sym c.in_ok-chart.ensures.same) c.in_ok-raw.ensures.read)

@@ -15,4 +15,4 @@ returns c =
     (adds-by (λ n. DetailMarks c.args.plan.now c.args.name (mark_wheel c.args.wheel columns n) (rule_of c.args.field.kind) c.args.mark)
     (adds-by (λ r. DetailMarks c.args.plan.now c.args.name (mark_wheel c.args.wheel columns c.decimals-decimals.result) r c.args.mark)
     (adds-by (λ w. DetailMarks c.args.plan.now c.args.name w c.rule_of-rule.result c.args.mark)
-    c.in_ok-wire_detail_marks.ensures c.mark_wheel-behind.ensures) c.rule_of-rule.ensures) d))
+    c.in_ok-wire_detail_marks.ensures c.mark_wheel-after.ensures) c.rule_of-rule.ensures) d))

@@ -1,10 +1,10 @@
 use Rattle.std.proofs.Common.{◌≡◌, drop}
 use Rattle.std.specs.List.{filter_map}
-use Rattle.wanted.specs.ChartTotals.{total_of}
+use Rattle.wanted.specs.ChartTotals.{line_total}
 use Rattle.plans.specs.HelperEnough.{are_enough}
 use Rattle.plans.proofs.assignment.has_enough.Given as goal
 
 abbrev pub invariant-loop-line : goal.invariant-loop-line
 invariant-loop-line l =
-    are_enough (filter_map (λ line. total_of l.chart.lines line.number line.statement) l.lines) l.groups
-    ≡ are_enough (filter_map (λ line. total_of l.chart.lines line.number line.statement) (drop l.line-index l.lines)) l.rest
+    are_enough (filter_map (λ line. line_total l.chart.lines line.number line.statement) l.lines) l.groups
+    ≡ are_enough (filter_map (λ line. line_total l.chart.lines line.number line.statement) (drop l.line-index l.lines)) l.rest

@@ -2,5 +2,5 @@ use Rattle.std.proofs.Common.{◌≡◌, true, ◌-◌, length, drop}
 use Rattle.selectors.specs.Spread.{spread}
 use Rattle.selectors.proofs.spread.spread.Given as goal
 
-abbrev pub invariant-loop-behind : goal.invariant-loop-behind
-invariant-loop-behind l = l.bits ≡ spread true l.parts (drop (length l.things - l.behind) l.things)
+abbrev pub invariant-loop-after : goal.invariant-loop-after
+invariant-loop-after l = l.bits ≡ spread true l.parts (drop (length l.things - l.after) l.things)

@@ -12,5 +12,5 @@ returns-clause-first c =
 
 pub returns-clause-second : goal.returns-clause-second
 returns-clause-second c =
-    positions_read c.behind_thirty.result c.low_thirty-2.result (λ p. has_hub c.args.picture.now (CB p)) c.low_thirty-2.ensures
-    (λ k below. c.behind_thirty.ensures k ∙ second_entry c.row-row.result c.args.picture.now c.row-row.ensures.hubs k below)
+    positions_read c.after_thirty.result c.low_thirty-2.result (λ p. has_hub c.args.picture.now (CB p)) c.low_thirty-2.ensures
+    (λ k below. c.after_thirty.ensures k ∙ second_entry c.row-row.result c.args.picture.now c.row-row.ensures.hubs k below)

@@ -1,6 +1,6 @@
 use Rattle.std.proofs.Common.{ap, ◌∙◌, drop}
 use Rattle.tokens.specs.Dividing.{tokens_of}
-use Rattle.tokens.proofs.Dividing.{tokens_of-spaces, no_space_behind}
+use Rattle.tokens.proofs.Dividing.{tokens_of-spaces, no_space_after}
 use Rattle.tokens.proofs.line.without_spaces.Goals as goal
 
 pub returns-clause-tokens : goal.returns-clause-tokens
@@ -10,4 +10,4 @@ returns-clause-tokens c =
 
 pub returns-clause-first : goal.returns-clause-first
 returns-clause-first c =
-    no_space_behind c.args.line.now _ _ c.spaces_before.ensures.value c.split_at.ensures.back
+    no_space_after c.args.line.now _ _ c.spaces_before.ensures.value c.split_at.ensures.back

@@ -23,6 +23,6 @@ returns c =
     (adds-both
     (adds-by (λ s. OfSome s (λ its_rule. SignedTotal c.args.level (mark_wheel c.args.wheel c.args.digits (decimals_of c.args.field.kind)) c.args.mark group))
     (adds-by (λ w. OfSome c.rule_of-rule.result (λ its_rule. SignedTotal c.args.level w c.args.mark group))
-    c.in_ok-wire_sign.ensures (c.mark_wheel-behind.ensures ∙ ap (mark_wheel c.args.wheel c.args.digits) d)) r)
+    c.in_ok-wire_sign.ensures (c.mark_wheel-after.ensures ∙ ap (mark_wheel c.args.wheel c.args.digits) d)) r)
     (adds-by (NextWires c.args.chart.now.lines c.args.plan.now c.args.name c.args.level c.args.digits group)
     c.in_ok-wire_transfer.ensures r)))))

@@ -4,17 +4,17 @@ use Rattle.wanted.specs.Positions.{field_used, positions_for, positions_of}
 use Rattle.wanted.proofs.Reading.{IsTrue-ended, IsTrue-differs, IsReadTo-nothing, IsReadTo-front, IsReadTo-fails, IsReadTo-end}
 use Rattle.wanted.proofs.Columns.{positions_for-none}
 use Rattle.wanted.proofs.position.are_positions_of.Goals as goal
-use Rattle.wanted.proofs.position.are_positions_of.Goals.{in-Some+in-Some-behind_columns, in_default}
+use Rattle.wanted.proofs.position.are_positions_of.Goals.{in-Some+in-Some-after_columns, in_default}
 
 pub loop-line-preserved : goal.loop-line-preserved
 loop-line-preserved c =
     let f = λ (line : Line). positions_for line.number (field_used c.args.chart.now.lines c.args.columns line.statement) in
     elim c.match-field_used.branch [
-      | in-Some+in-Some-behind_columns w ↦
+      | in-Some+in-Some-after_columns w ↦
           rw w.rest-is
           (IsReadTo-front f c.lines-lines.result.now c.args.list.now c.loop-line.rest.now c.loop-line.line-index c.line-item.result c.loop-line-test.true c.line-item.is c.loop-line.invariant
-          w.in-Some-behind_columns.behind.now
-          (w.in-Some-behind_columns.ensures ∙ ap (λ field. positions_for c.line-item.result.number field ++ w.in-Some-behind_columns.behind.now) w.in-Some.ensures))
+          w.in-Some-after_columns.after.now
+          (w.in-Some-after_columns.ensures ∙ ap (λ field. positions_for c.line-item.result.number field ++ w.in-Some-after_columns.after.now) w.in-Some.ensures))
       | in_default w ↦
           rw w.rest-is
           (IsReadTo-nothing f c.lines-lines.result.now c.args.list.now c.loop-line.rest.now c.loop-line.line-index c.line-item.result c.loop-line-test.true c.line-item.is c.loop-line.invariant
@@ -27,7 +27,7 @@ returns-in-None c =
     IsTrue-differs (c.args.list.now ≡ positions_of c.args.chart.now.lines c.args.columns)
     (rw c.lines-lines.ensures.value at
     (IsReadTo-fails f c.lines-lines.result.now c.args.list.now c.loop-line.rest.now c.loop-line.line-index c.line-item.result c.loop-line-test.true c.line-item.is c.loop-line.invariant
-    (λ behind e. c.in-None.ensures behind (e ∙ sym (ap (λ field. positions_for c.line-item.result.number field ++ behind) c.in-Some.ensures)))))
+    (λ after e. c.in-None.ensures after (e ∙ sym (ap (λ field. positions_for c.line-item.result.number field ++ after) c.in-Some.ensures)))))
 
 pub returns : goal.returns
 returns c =

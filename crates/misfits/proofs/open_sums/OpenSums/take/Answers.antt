@@ -20,11 +20,11 @@ pub invariant_of-self : goal.invariant_of-self
 invariant_of-self c =
     let items = c.self.inside.totals.items in
     let added = refilled (with_card c.args.card.now) items c.as_mut_slice.result.now c.add_card.new.totals c.as_mut_slice.ensures.value c.add_card.ensures in
-    let closed = refilled (closed_to c.ended_behind-ended.result) (refill (length items) items c.add_card.new.totals) c.as_mut_slice-2.result.now
+    let closed = refilled (closed_to c.ended_after-ended.result) (refill (length items) items c.add_card.new.totals) c.as_mut_slice-2.result.now
     c.end_groups.new.totals c.as_mut_slice-2.ensures.value c.end_groups.ensures in (
       room_for c.self.inside.cards c.args.self.now (ap (λ v. v.cards) c.self.view_is) c.requires,
-      subst (All (IsKept (c.self.inside.cards + 1))) (sym (closed ∙ ap (map (closed_to c.ended_behind-ended.result)) added))
-          (all_closed (c.self.inside.cards + 1) c.ended_behind-ended.result (map (with_card c.args.card.now) items)
+      subst (All (IsKept (c.self.inside.cards + 1))) (sym (closed ∙ ap (map (closed_to c.ended_after-ended.result)) added))
+          (all_closed (c.self.inside.cards + 1) c.ended_after-ended.result (map (with_card c.args.card.now) items)
           (all_with_card c.self.inside.cards c.args.card.now items c.self.invariant.1)),
     )
 
@@ -33,24 +33,24 @@ returns-clause-told c = λ so_far are.
     let items = c.self.inside.totals.items in
     let added = refilled (with_card c.args.card.now) items c.as_mut_slice.result.now c.add_card.new.totals c.as_mut_slice.ensures.value c.add_card.ensures in
     told_after c.args.chart.now.lines so_far c.args.card.now c.args.self.now items c.as_slice.result.now (c.self.inside.cards + 1)
-    (c.args.self.now.cards + 1) c.ended_behind-ended.result _ _
+    (c.args.self.now.cards + 1) c.ended_after-ended.result _ _
     are
     (ap (λ v. v.totals) c.self.view_is)
     (c.as_slice.ensures.value ∙ added)
     (ap (λ v. v.cards + 1) c.self.view_is)
-    c.ended_behind-ended.ensures.value
+    c.ended_after-ended.ensures.value
     c.first_misfit_to-misfit.ensures
 
 pub returns-clause-goes_on : goal.returns-clause-goes_on
 returns-clause-goes_on c = λ so_far are.
     let items = c.self.inside.totals.items in
     let added = refilled (with_card c.args.card.now) items c.as_mut_slice.result.now c.add_card.new.totals c.as_mut_slice.ensures.value c.add_card.ensures in
-    let closed = refilled (closed_to c.ended_behind-ended.result) (refill (length items) items c.add_card.new.totals) c.as_mut_slice-2.result.now
+    let closed = refilled (closed_to c.ended_after-ended.result) (refill (length items) items c.add_card.new.totals) c.as_mut_slice-2.result.now
     c.end_groups.new.totals c.as_mut_slice-2.ensures.value c.end_groups.ensures in
     open_after c.args.chart.now.lines so_far c.args.card.now c.args.self.now items (refill (length items) items c.add_card.new.totals) _
-    c.ended_behind-ended.result _
+    c.ended_after-ended.result _
     are
     (ap (λ v. v.totals) c.self.view_is)
     added
-    c.ended_behind-ended.ensures.value
+    c.ended_after-ended.ensures.value
     closed

@@ -7,4 +7,4 @@ pub returns : goal.returns
 returns c hub = has_number-zeros 31 (number_of hub)
 
 pub invariant_of-result : goal.invariant_of-result
-invariant_of-result c place behind = has_place-zeros 31 place
+invariant_of-result c place after = has_place-zeros 31 place

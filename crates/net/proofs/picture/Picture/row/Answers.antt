@@ -8,6 +8,6 @@ returns-in-Some-clause-hubs c other near =
     c.in-Some.ensures.value c.in-Some.ensures.range.0 c.run.ensures near
 
 pub returns-in-Some-clause-cut : goal.returns-in-Some-clause-cut
-returns-in-Some-clause-cut c number k is behind =
+returns-in-Some-clause-cut c number k is after =
     row_cut_at c.self.inside.words c.in-Some.number c.run.result _ number k
-    c.in-Some.ensures.value is c.in-Some.ensures.range.0 c.self.invariant c.run.ensures behind
+    c.in-Some.ensures.value is c.in-Some.ensures.range.0 c.self.invariant c.run.ensures after

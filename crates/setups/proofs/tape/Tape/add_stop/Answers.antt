@@ -1,6 +1,6 @@
 use Rattle.std.proofs.Common.{refl, arith}
-use Rattle.setups.specs.Fields.{form_of}
-use Rattle.setups.proofs.StopLemmas.{stops_after, IsForm-punched}
+use Rattle.setups.specs.Fields.{carriage_tape}
+use Rattle.setups.proofs.StopLemmas.{stops_after, IsCarriageTape-punched}
 use Rattle.setups.proofs.tape.Tape.add_stop.Goals as goal
 
 pub returns-clause-added : goal.returns-clause-added
@@ -16,7 +16,7 @@ returns-clause-added c =
 
 pub invariant_of-self : goal.invariant_of-self
 invariant_of-self c =
-    IsForm-punched (form_of c.self.inside) _ _ _ c.self.invariant (c.if-not-is_stop.ensures.0 refl) c.punch_row.ensures.long
+    IsCarriageTape-punched (carriage_tape c.self.inside) _ _ _ c.self.invariant (c.if-not-is_stop.ensures.0 refl) c.punch_row.ensures.long
     c.punch_row.ensures.punched
 
 pub returns-clause-form : goal.returns-clause-form

@@ -1,5 +1,5 @@
 use Rattle.std.proofs.Common.{◌≡◌, take}
-use Rattle.setups.specs.Tapes.{IsForm, IsTape, HasStops}
+use Rattle.setups.specs.Tapes.{IsCarriageTape, IsTape, HasStops}
 use Rattle.setups.proofs.tape.Tape.new.Given as goal
 
 abbrev pub invariant-loop-channel : goal.invariant-loop-channel
@@ -10,5 +10,5 @@ invariant-loop-channel l =
       overflow : l.tape.overflow ≡ l.overflow;
       is_tape : IsTape l.lines l.first l.overflow (take l.channel-index l.stops);
       has_stops : HasStops l.tape (take l.channel-index l.stops);
-      is_form : IsForm l.tape;
+      is_form : IsCarriageTape l.tape;
     }

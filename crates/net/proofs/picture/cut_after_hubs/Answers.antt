@@ -1,5 +1,5 @@
 use Rattle.net.proofs.Sets.{HoldsHubsAlone-cut, cut-kept}
-use Rattle.net.proofs.picture.cut_behind_hubs.Goals as goal
+use Rattle.net.proofs.picture.cut_after_hubs.Goals as goal
 
 pub returns-clause-hubs : goal.returns-clause-hubs
 returns-clause-hubs c = HoldsHubsAlone-cut c.args.words.now c.told-words

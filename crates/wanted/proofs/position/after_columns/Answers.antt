@@ -1,6 +1,6 @@
 use Rattle.std.proofs.Common.{◌≡◌, true, arith}
 use Rattle.wanted.proofs.Columns.{columns-short, columns-front, columns-differ}
-use Rattle.wanted.proofs.position.behind_columns.Goals as goal
+use Rattle.wanted.proofs.position.after_columns.Goals as goal
 
 pub returns-then-list-columns : goal.returns-then-list-columns
 returns-then-list-columns c = columns-short c.args.list.now c.args.line c.args.field (omega (arith, c.columns-columns.ensures))

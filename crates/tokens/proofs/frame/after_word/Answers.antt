@@ -1,7 +1,7 @@
 use Rattle.std.proofs.Common.{sym}
 use Rattle.std.proofs.lemmas.Bool.{eqb-true}
 use Rattle.tokens.proofs.FirstWord.{no_word-empty, no_word-undivided, no_word-other, word_by}
-use Rattle.tokens.proofs.frame.behind_word.Goals as goal
+use Rattle.tokens.proofs.frame.after_word.Goals as goal
 
 pub returns-then-is_empty-clause-other : goal.returns-then-is_empty-clause-other
 returns-then-is_empty-clause-other c = λ tokens.
