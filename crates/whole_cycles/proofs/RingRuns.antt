@@ -77,8 +77,8 @@ none-impulsed wiring pictures cycle closed leads joins (led_on from to at (inr c
     by (is_carry to) refl (and_parts (not (is_carry to)) (closed to) contact.1).0
   where
     by : (carry : Bool) → is_carry to ≡ carry → not carry ≡ true → is_carry to ≡ false
-    by true is open = absurd (false≢true open)
-    by false is open = is
+    by true is not_carry = absurd (false≢true not_carry)
+    by false is not_carry = is
 
 -- so the picture of the closing point without its carries is the one that would be there without them
 closing-apart : (wiring : Wiring) (pictures : Point → Hub → Bool) (cycle : Cycle) (closed picture : Hub → Bool)
@@ -288,13 +288,13 @@ rings-run = record {
   );
   runs = λ wiring cards cycles lines leads joins. (
     runs-by (CycleRun wiring) (RingCycle wiring) (IsReady wiring) (ready-moved wiring)
-    (λ cycle old new ready ran.
-    (machines-ready.kept wiring cycle old new ready ran, ring-cycle wiring cycle old new leads joins ready.between ran))
-    cycles (run_at_start wiring cards) lines (ready-at_start wiring cards),
+        (λ cycle old new ready ran.
+        (machines-ready.kept wiring cycle old new ready ran, ring-cycle wiring cycle old new leads joins ready.between ran))
+        cycles (run_at_start wiring cards) lines (ready-at_start wiring cards),
     runs-by (RingCycle wiring) (CycleRun wiring) (IsReady wiring) (ready-moved wiring)
-    (λ cycle old new ready ring.
-    let ran = machine-cycle wiring cycle old new leads joins ready.between ring in
-    (machines-ready.kept wiring cycle old new ready ran, ran))
-    cycles (run_at_start wiring cards) lines (ready-at_start wiring cards),
+        (λ cycle old new ready ring.
+        let ran = machine-cycle wiring cycle old new leads joins ready.between ring in
+        (machines-ready.kept wiring cycle old new ready ran, ran))
+        cycles (run_at_start wiring cards) lines (ready-at_start wiring cards),
   );
 }
