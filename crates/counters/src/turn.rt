@@ -6,7 +6,7 @@ ghost use Rattle.counters.specs.Laws.{IsDigit};
 ghost use Rattle.counters.specs.Wheels.{all_nines, carries_out, turned};
 
 use crate::controls::Controls;
-use crate::wheel::{stands_at_nine, step, wheel_of};
+use crate::wheel::{passes, stands_at_nine, step, wheel_of};
 
 // The carry that leaves the top of the wheels by themselves. Where the group neither enters nor reads out there is none.
 pub(crate) fn carry_of(digits: &[u8], entered: &[u8], controls: Controls) -> bool
@@ -59,19 +59,24 @@ pub(crate) fn latch_after(digits: &[u8], controls: Controls, latch: bool) -> boo
     }
 }
 
-// Whether a carry leaves the top of the wheels, where none comes in at the lowest.
+// Whether a carry leaves the top of the wheels, where none comes in at the lowest. From the top down the first wheel that doesn't
+// stand at 9 decides, and mostly that is the top one.
 fn carries_out(digits: &[u8], entered: &[u8], controls: Controls) -> bool
     requires as_many { length digits.now ≡ length entered.now }
     requires digits { All IsDigit digits.now }
     requires entered { All IsDigit entered.now }
     ensures { result ≡ carries_out (wheels_of controls digits.now entered.now) false }
 {
-    let mut out = false;
-    for i in (0..digits.len()).rev() {
-        let (_, next) = step(wheel_of(controls, digits[i], entered[i]), out);
-        out = next;
+    for i in 0..digits.len() {
+        let wheel = wheel_of(controls, digits[i], entered[i]);
+        if passes(wheel) {
+            return true;
+        }
+        if !stands_at_nine(wheel) {
+            return false;
+        }
     }
-    out
+    false
 }
 
 // Turns the wheels, where a carry comes in at the lowest or not.

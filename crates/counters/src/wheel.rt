@@ -43,6 +43,14 @@ pub(crate) fn stands_at_nine(wheel: Wheel) -> bool
     (wheel.base + wheel.advance) % 10 == 9
 }
 
+// Whether a wheel passes from 9 to 0 by its own advance.
+pub(crate) fn passes(wheel: Wheel) -> bool
+    requires { IsWheel wheel }
+    ensures { result ≡ passes wheel }
+{
+    wheel.base + wheel.advance >= 10
+}
+
 // Turns a wheel: its digit in the end, and whether it carries a step to the wheel above.
 pub(crate) fn step(wheel: Wheel, carry: bool) -> (u8, bool)
     requires { IsWheel wheel }

@@ -18,7 +18,7 @@ same_test P true false first second = sym (second.1 (first.0 refl))
 same_test P false true first second = first.1 (second.0 refl)
 same_test P false false first second = refl
 
-same_picture : (wiring : Wiring) (exits shut one other : Hub → Bool)
+pub same_picture : (wiring : Wiring) (exits shut one other : Hub → Bool)
     → IsPicture wiring exits shut one → IsPicture wiring exits shut other → ◌≡◌ {A = Hub → Bool} one other
 same_picture wiring exits shut one other first second = λ i h. same_test _ (one h) (other h) (first h) (second h) i
 

@@ -1,8 +1,25 @@
--- Pictures of equal sets.
-use Rattle.std.proofs.Common.{◌≡◌, Bool, subst}
+-- Pictures of equal sets, and of more contacts.
+use Rattle.std.proofs.Common.{◌≡◌, ◌∙◌, sym, subst, ℕ, ◌≤◌, ◌&&◌, ◌||◌, nat_le, Bool, true, false, List, Option, Some, inl, inr, arith}
+use Rattle.std.proofs.lemmas.Bool.{and_parts, false≢true, or_cases, or_left}
+use Rattle.std.proofs.lemmas.Bool.Decides.{nat_tests}
 use Rattle.setups.specs.Wiring.{Wiring}
+use Rattle.hubs.specs.declared.hub.Group.{Group}
 use Rattle.hubs.specs.declared.hub.Hub.{Hub}
+use Rattle.hubs.specs.declared.hub.Hub.TheVariants.{CI, CO}
+use Rattle.net.proofs.ImpulsedLaws.{picture_more}
+use Rattle.net.specs.Cycles.{is_closing}
+use Rattle.net.specs.HubSets.{has_hub}
 use Rattle.net.specs.Impulsed.{IsPicture}
+use Rattle.net.specs.Panel.{contact_of, unit_of}
+use Rattle.net.specs.declared.cycle.Cycle.{Cycle}
+use Rattle.net.specs.declared.cycle.Point.{Point}
+use Rattle.selectors.specs.Contacts.{carry_closes, is_nines}
+use Rattle.machine.specs.Fields.{AreInUnitOrder}
+use Rattle.machine.specs.Machine.{MachineState, closes}
+use Rattle.machine.specs.Rest.{ComeToNoNines}
+use Rattle.machine.specs.Steady.{AreSteady, closed_at, nines_of}
+use Rattle.machine.specs.declared.closed.Closed.{Closed}
+use Rattle.machine.proofs.ClosedContacts.{closes-all}
 
 -- a picture is one of any exits and contacts that have the same hubs
 pub IsPicture-same : (wiring : Wiring) (exits others closed also_closed picture : Hub → Bool)
@@ -13,3 +30,36 @@ IsPicture-same wiring exits others closed also_closed picture same_exits same_cl
     let closed_are : ◌≡◌ {A = Hub → Bool} closed also_closed = λ i hub. same_closed hub i in
     subst (λ (c : Hub → Bool). IsPicture wiring others c picture) closed_are
     (subst (λ (e : Hub → Bool). IsPicture wiring e closed picture) exits_are is_picture)
+
+-- a contact of a carry leads on from no impulsed hub where no carry comes to a group at nines
+carry-idle : (point : Point) (nines : List Bool) (picture : Hub → Bool) (from to : Hub) → ComeToNoNines picture nines
+    → contact_of to ≡ Some from → picture from ≡ true → carry_closes point nines to ≡ true → ⊥
+carry-idle point nines picture from (CO group) idle contact on shut =
+    let both = and_parts (nat_le 3 (unit_of group)) (is_nines nines group)
+    (and_parts (is_closing point) (nat_le 3 (unit_of group) && is_nines nines group) shut).1 in
+    false≢true (sym (idle group (third (unit_of group) both.0) (come from (CI group) contact on)) ∙ both.1)
+  where
+    third : (unit : ℕ) → nat_le 3 unit ≡ true → 3 ≤ unit
+    third unit e = grind (arith, nat_tests, e)
+
+    come : (from common : Hub) → ◌≡◌ {A = Option Hub} (Some common) (Some from) → picture from ≡ true → picture common ≡ true
+    come from common same on = let is : common ≡ from = cc in rw is on
+carry-idle point nines picture from other idle contact on shut = false≢true shut
+
+-- there the picture with the contacts of the carries is the one without
+pub picture-idle : (wiring : Wiring) (cycle : Cycle) (closed : Closed) (machine : MachineState) (point : Point)
+    (exits picture : Hub → Bool)
+    → AreInUnitOrder machine.groups → AreSteady cycle closed machine → ComeToNoNines picture (nines_of machine.groups)
+    → IsPicture wiring exits (has_hub (closed_at closed point)) picture → IsPicture wiring exits (closes machine cycle point) picture
+picture-idle wiring cycle closed machine point exits picture ordered steady idle is =
+    picture_more wiring exits (has_hub (closed_at closed point)) (closes machine cycle point) picture
+    (λ hub shut. sym (all hub) ∙ or_left (has_hub (closed_at closed point) hub) (carry_closes point (nines_of machine.groups) hub) shut)
+    (λ from to contact on shut.
+    elim (or_cases (has_hub (closed_at closed point) to) (carry_closes point (nines_of machine.groups) to) (all to ∙ shut)) [
+      | inl others ↦ others
+      | inr carry ↦ absurd (carry-idle point (nines_of machine.groups) picture from to idle contact on carry)
+    ]) is
+  where
+    all : (hub : Hub)
+        → (has_hub (closed_at closed point) hub || carry_closes point (nines_of machine.groups) hub) ≡ closes machine cycle point hub
+    all hub = closes-all cycle closed machine point hub ordered steady

@@ -30,7 +30,7 @@ Reached-some wiring cycle (suc place) old =
     (step.0, (before.0, before.1, step.1))
 
 -- and so does each cycle
-CycleRun-some : (wiring : Wiring) (cycle : Cycle) (old : MachineState)
+pub CycleRun-some : (wiring : Wiring) (cycle : Cycle) (old : MachineState)
     → (new : MachineState) × CycleRun wiring cycle old new
 CycleRun-some wiring cycle old =
     let points = Reached-some wiring cycle 14 old in

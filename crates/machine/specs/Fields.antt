@@ -1,8 +1,8 @@
 -- What contracts see of the fields of the units.
-use Rattle.std.specs.Prelude.{◌≡◌, false, List, map}
+use Rattle.std.specs.Prelude.{◌≡◌, List, map}
 use Rattle.counters.specs.Counters.{Counter, counter_number}
 use Rattle.machine.specs.Machine.{MachineState, group_units}
-use Rattle.machine.specs.Rest.{AreAtRest}
+use Rattle.machine.specs.Rest.{AreBusy}
 use Rattle.machine.specs.declared.units.Units.TheInside.{Inside}
 
 -- the states of the units
@@ -25,7 +25,7 @@ machine_in units = record {
 abbrev pub AreInUnitOrder : List Counter → Type 0
 AreInUnitOrder groups = map counter_number groups ≡ group_units
 
--- What holds of the fields: the groups stand in order, and are under no control where the machine holds them for idle.
+-- What holds of the fields: the groups stand in order, and have no more to do than what the machine holds of them.
 pub record AreLawful (units : Inside) : Type 0 where
   pub ordered : AreInUnitOrder units.groups
-  pub rest : units.is_busy ≡ false → AreAtRest units.groups
+  pub busy : AreBusy units.busy units.groups

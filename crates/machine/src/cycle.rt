@@ -4,7 +4,7 @@ ghost use Rattle.std.specs.Prelude.{◌≡◌, map};
 ghost use Rattle.machine.specs.Steady.{balance_latches};
 
 use crate::closed::Closed;
-use crate::groups::{latches, nines};
+use crate::groups::{comes_to_nines, latches, nines};
 use crate::units::Units;
 use card_code::Row;
 use net::{Cycle, Net, POINTS, Picture, Point};
@@ -59,8 +59,8 @@ impl Units {
         self.sense(cycle, point, &picture);
     }
 
-    // Makes the picture of the exits that emit at a point: the contacts of the carries move with the rows, so at the closing point
-    // they are closed anew.
+    // Makes the picture of the exits that emit at a point. At the closing point the contacts of the carries may be closed too, but they
+    // lead on only where a carry comes to a group that stands at nines.
     fn impulse(
         &self,
         net: &Net,
@@ -75,11 +75,14 @@ impl Units {
             → IsNetOf wiring net.now
             → IsPicture wiring (has_hub exits.now) (closes self.now cycle point) (has_hub picture.new) }
     {
+        net.picture(exits, closed.at(point), picture);
         match point {
-            Point::C | Point::Row(_) => net.picture(exits, closed.at(point), picture),
+            Point::C | Point::Row(_) => {}
             Point::K => {
-                let contacts = with_carries(*closed.at(point), point, &nines(&self.groups));
-                net.picture(exits, &contacts, picture);
+                if comes_to_nines(&self.groups, picture) {
+                    let contacts = with_carries(*closed.at(point), point, &nines(&self.groups));
+                    net.picture(exits, &contacts, picture);
+                }
             }
         }
     }

@@ -1,15 +1,13 @@
-//! The counter groups of a machine. In a cycle in which no group is told anything at the control point, none emits or senses at
-//! the rows.
+//! The counter groups of a machine. In a cycle in which no group is told anything at the control point, none emits, and none senses
+//! anything but a carry.
 
-ghost use Rattle.std.specs.Prelude.{◌≡◌, false, map};
+ghost use Rattle.std.specs.Prelude.{◌≡◌, ◌<◌, false, map};
 ghost use Rattle.std.specs.List.{list_any};
 ghost use Rattle.counters.specs.Counters.{counter_at_start, counter_emits, counter_sensed};
-ghost use Rattle.net.specs.HubSets.{GainsHubs, has_hub};
-ghost use Rattle.net.specs.Cycles.{is_closing};
-ghost use Rattle.net.specs.declared.cycle.Point.TheVariants.{C, K};
+ghost use Rattle.net.specs.HubSets.{GainsHubs, has_hub, is_bit};
 ghost use Rattle.machine.specs.Fields.{AreInUnitOrder};
 ghost use Rattle.machine.specs.Machine.{group_units};
-ghost use Rattle.machine.specs.Rest.{AreAtRest, AreAllSilent, ComeNoCarries};
+ghost use Rattle.machine.specs.Rest.{AreAllSilent, AreApart, AreBusy, ComeNoCarries, ComeToNoNines};
 ghost use Rattle.machine.specs.Steady.{balance_latches, nines_of};
 
 use crate::rows::{emit_all, sense_all};
@@ -64,54 +62,98 @@ pub(crate) fn groups() -> [Group; GROUPS]
     ]
 }
 
-// All groups emit. Before the closing point none does where none is busy.
+// What the counter groups may have to do in a cycle.
+#[derive(Clone, Copy)]
+pub(crate) struct Busy {
+    // Whether a group may be under a control.
+    pub(crate) controlled: bool,
+    // Whether a carry may have come into a group.
+    pub(crate) carried: bool,
+}
+
+impl Busy {
+    ghost use Rattle.std.specs.Prelude.{◌≡◌, false, if◌then◌else◌};
+    ghost use Rattle.net.specs.Cycles.{is_closing};
+    ghost use Rattle.net.specs.HubSets.{has_hub};
+    ghost use Rattle.net.specs.declared.cycle.Point.TheVariants.{C, K};
+    ghost use Rattle.machine.specs.Rest.{AreAllSilent, ComeNoCarries};
+
+    // No group is told anything, and no carry came in.
+    pub(crate) fn none() -> Self
+        ensures controlled { result.controlled ≡ false }
+        ensures carried { result.carried ≡ false }
+    {
+        Busy {
+            controlled: false,
+            carried: false,
+        }
+    }
+
+    // What they may have to do after a point at which this picture is sensed.
+    fn after(self, point: Point, picture: &Picture) -> Self
+        ensures uncontrolled { result.controlled ≡ false → self.controlled ≡ false }
+        ensures silent { result.controlled ≡ false → point ≡ C → AreAllSilent (has_hub picture.now) }
+        ensures empty { result.carried ≡ false → self.carried ≡ false }
+        ensures none { result.carried ≡ false → point ≡ K → ComeNoCarries (has_hub picture.now) }
+    {
+        match point {
+            Point::C => Busy {
+                controlled: self.controlled || is_any_told(picture),
+                carried: self.carried,
+            },
+            Point::Row(_) => self,
+            Point::K => Busy {
+                controlled: self.controlled,
+                carried: self.carried || comes_any_carry(picture),
+            },
+        }
+    }
+
+    // Whether a group may change by what it senses at a point: by a carry at the closing point, at others by its controls.
+    fn senses(self, point: Point) -> bool
+        ensures { result ≡ (if is_closing point then self.carried else self.controlled) }
+    {
+        match point {
+            Point::C | Point::Row(_) => self.controlled,
+            Point::K => self.carried,
+        }
+    }
+}
+
+// All groups emit. None does where none is under a control.
 pub(crate) fn emit_groups(
     groups: &[Group; GROUPS],
-    is_busy: bool,
+    busy: Busy,
     cycle: Cycle,
     point: Point,
     exits: &mut Picture,
 )
-    requires { is_busy ≡ false → AreAtRest groups.now }
+    requires { AreBusy busy groups.now }
     ensures { GainsHubs (λ exit. list_any (λ group. counter_emits group cycle point exit) groups.now) exits.old exits.new }
 {
-    if is_busy | is_closing(point) {
+    if busy.controlled {
         emit_all(groups, cycle, point, exits);
     }
 }
 
-// All groups sense the picture. At a row none does where none is busy, nor at the closing point where no carry comes in
-// either. Answers whether any may be busy then.
+// All groups sense the picture, and stay as they are where none has to do with it. Answers what they may have to do from then on.
 pub(crate) fn sense_groups(
     groups: &mut [Group; GROUPS],
-    is_busy: bool,
+    busy: Busy,
     cycle: Cycle,
     point: Point,
     picture: &Picture,
-) -> bool
+) -> Busy
     requires ordered { AreInUnitOrder groups.old }
-    requires rest { is_busy ≡ false → AreAtRest groups.old }
+    requires busy { AreBusy busy groups.old }
     ensures sensed { groups.new ≡ map (λ group. counter_sensed group cycle point (has_hub picture.now)) groups.old }
-    ensures rest { result ≡ false → AreAtRest groups.new }
+    ensures busy { AreBusy result groups.new }
 {
-    let is_busy = stays_busy(is_busy, point, picture);
-    if is_busy {
+    let busy = busy.after(point, picture);
+    if busy.senses(point) {
         sense_all(groups, cycle, point, picture);
     }
-    is_busy
-}
-
-// Whether a group may be busy after a point.
-fn stays_busy(is_busy: bool, point: Point, picture: &Picture) -> bool
-    ensures idle { result ≡ false → is_busy ≡ false }
-    ensures silent { result ≡ false → point ≡ C → AreAllSilent (has_hub picture.now) }
-    ensures none { result ≡ false → point ≡ K → ComeNoCarries (has_hub picture.now) }
-{
-    match point {
-        Point::C => is_busy || is_any_told(picture),
-        Point::Row(_) => is_busy,
-        Point::K => is_busy || comes_any_carry(picture),
-    }
+    busy
 }
 
 // Whether a control hub of some group is impulsed: the hubs PL, MI, RO and BT of all groups follow one another.
@@ -128,14 +170,32 @@ fn comes_any_carry(picture: &Picture) -> bool
     picture.row(Hub::CI(FIRST)) != 0
 }
 
-// Whether a point is the closing point.
-fn is_closing(point: Point) -> bool
-    ensures { result ≡ is_closing point }
+// Whether a carry comes to a group that stands at nines.
+pub(crate) fn comes_to_nines(groups: &[Group; GROUPS], picture: &Picture) -> bool
+    ensures { result ≡ false → ComeToNoNines (has_hub picture.now) (nines_of groups.now) }
 {
-    match point {
-        Point::C | Point::Row(_) => false,
-        Point::K => true,
+    let carries = picture.row(Hub::CI(FIRST));
+    carries != 0 && meets_nines(groups, carries)
+}
+
+// Whether a group stands at nines whose bit is set. The first group has the lowest bit.
+fn meets_nines(groups: &[Group; GROUPS], bits: u128) -> bool
+    ensures { result ≡ false → AreApart bits (nines_of groups.now) }
+{
+    for place in 0..GROUPS {
+        if has_bit(bits, place) && groups[place].nines() {
+            return true;
+        }
     }
+    false
+}
+
+// Whether a bit of a word is set.
+fn has_bit(word: u128, bit: usize) -> bool
+    requires { bit < 128 }
+    ensures { result ≡ is_bit word bit }
+{
+    word >> bit & 1 == 1
 }
 
 // The balance latches of the counter groups.

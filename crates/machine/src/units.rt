@@ -1,6 +1,6 @@
 //! The units of a machine.
 
-use crate::groups::{emit_groups, groups, sense_groups};
+use crate::groups::{Busy, emit_groups, groups, sense_groups};
 use crate::rows::{emit_all, end_all, sense_all};
 use carriage::Carriage;
 use counters::Group;
@@ -32,8 +32,8 @@ pub(crate) struct Units {
     pub(crate) wheels: Wheels,
     pub(crate) carriage: Carriage,
     pub(crate) program: Program,
-    // Whether a counter group may be under a control, or a carry may have come in.
-    is_busy: bool,
+    // What the counter groups may have to do in the cycle that runs.
+    busy: Busy,
 }
 
 impl Model for Units {
@@ -73,7 +73,7 @@ impl Units {
             wheels: Wheels::new(setup),
             carriage: Carriage::new(setup),
             program: Program::new(setup),
-            is_busy: false,
+            busy: Busy::none(),
         }
     }
 
@@ -83,7 +83,7 @@ impl Units {
     {
         self.stations.emit(cycle, point, exits);
         self.comparing.emit(cycle, point, exits);
-        emit_groups(&self.groups, self.is_busy, cycle, point, exits);
+        emit_groups(&self.groups, self.busy, cycle, point, exits);
         emit_all(&self.storage, cycle, point, exits);
         self.emitters.emit(cycle, point, exits);
         self.program.emit(cycle, point, exits);
@@ -94,8 +94,8 @@ impl Units {
         ensures { self.new ≡ sensed self.old cycle point (has_hub picture.now) }
     {
         self.comparing.sense(cycle, point, picture);
-        let is_busy = sense_groups(&mut self.groups, self.is_busy, cycle, point, picture);
-        self.is_busy = is_busy;
+        let busy = sense_groups(&mut self.groups, self.busy, cycle, point, picture);
+        self.busy = busy;
         sense_all(&mut self.storage, cycle, point, picture);
         self.pilots.sense(cycle, point, picture);
         self.wheels.sense(cycle, point, picture);
@@ -109,7 +109,7 @@ impl Units {
     {
         self.comparing.end_cycle(cycle);
         end_all(&mut self.groups, cycle);
-        self.is_busy = false;
+        self.busy = Busy::none();
         end_all(&mut self.storage, cycle);
         self.pilots.end_cycle(cycle);
         self.indicate.end_cycle(cycle);

@@ -1,13 +1,14 @@
 -- Laws of impulsed hubs, for those who show hubs impulsed or not.
-use Rattle.std.proofs.Common.{◌≡◌, ◌∙◌, sym, Bool, true, false, not, ◌&&◌, ◌↔◌, inl, inr}
+use Rattle.std.proofs.Common.{◌≡◌, ◌∙◌, sym, Bool, true, false, not, ◌&&◌, ◌↔◌, Some, inl, inr}
 use Rattle.std.proofs.lemmas.Bool.{and_parts, false≢true}
 use Rattle.hub_table.specs.HubTable.{row_of}
 use Rattle.hubs.specs.Hubs.{is_entry_hub, is_exit_hub, is_hub_in_range, letters_of}
 use Rattle.setups.specs.Wiring.{LeadsToEntries, Wiring}
 use Rattle.hubs.specs.declared.hub.Hub.{Hub}
-use Rattle.net.specs.Impulsed.{IsImpulsed}
+use Rattle.net.specs.Impulsed.{IsImpulsed, IsPicture}
 use Rattle.net.specs.Impulsed.IsImpulsed.{emitting, led_on}
 use Rattle.net.specs.Laws.{AreAllOpen, EmitsOrIsFed, FollowsLeads, HoldsHubs, IsLeastSet}
+use Rattle.net.specs.Panel.{contact_of}
 
 -- a set that holds the exits and what its hubs lead on to holds the impulsed hubs
 pub impulsed_within :
@@ -24,6 +25,31 @@ impulsed_least wiring exits closed = record {
   follows = led_on;
   within = λ set holds follows hub at. impulsed_within wiring exits closed set holds follows at;
 }
+
+-- what is impulsed stays so where more emits and more is closed
+pub impulsed_more : (wiring : Wiring) (exits others closed shut : Hub → Bool)
+    → ((hub : Hub) → exits hub ≡ true → others hub ≡ true) → ((hub : Hub) → closed hub ≡ true → shut hub ≡ true) → {hub : Hub}
+    → IsImpulsed wiring exits closed hub → IsImpulsed wiring others shut hub
+impulsed_more wiring exits others closed shut more also (emitting hub there emits) = emitting hub there (more hub emits)
+impulsed_more wiring exits others closed shut more also (led_on from to at (inl wire)) =
+    led_on from to (impulsed_more wiring exits others closed shut more also at) (inl wire)
+impulsed_more wiring exits others closed shut more also (led_on from to at (inr contact)) =
+    led_on from to (impulsed_more wiring exits others closed shut more also at) (inr (contact.0, also to contact.1))
+
+-- so a picture is one too where more contacts are closed but none of these at an impulsed hub
+pub picture_more : (wiring : Wiring) (exits closed shut picture : Hub → Bool)
+    → ((hub : Hub) → closed hub ≡ true → shut hub ≡ true)
+    → ((from to : Hub) → contact_of to ≡ Some from → picture from ≡ true → shut to ≡ true → closed to ≡ true)
+    → IsPicture wiring exits closed picture → IsPicture wiring exits shut picture
+picture_more wiring exits closed shut picture also only is hub = (
+  λ on. impulsed_more wiring exits exits closed shut (λ h emits. emits) also ((is hub).0 on),
+  λ at. impulsed_within wiring exits shut picture (λ h there emits. (is h).1 (emitting h there emits)) follows at,
+)
+  where
+    follows : FollowsLeads wiring shut picture
+    follows from to on (inl wire) = (is to).1 (led_on from to ((is from).0 on) (inl wire))
+    follows from to on (inr contact) =
+        (is to).1 (led_on from to ((is from).0 on) (inr (contact.0, only from to contact.0 on contact.1)))
 
 -- no hub is an exit and an entry
 pub no_exit_is_entry : (hub : Hub) → is_exit_hub hub ≡ true → is_entry_hub hub ≡ true → ⊥

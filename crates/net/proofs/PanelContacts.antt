@@ -66,7 +66,7 @@ common_at to =
     then 1556 + (to - 646)
     else if nat_lt to 742
     then 1556 + (to - 694)
-    else if nat_lt to 896 then 1692 + (to - 806) else if nat_lt to 912 then 1782 + (to - 896) else 1782 + (to - 912)
+    else if nat_lt to 912 then 1692 + (to - 806) else 1782 + (to - 912)
 
 common_is : (from to : ℕ) → IsInRuns CONTACTS from to → from ≡ common_at to
 unfolding common_at
@@ -85,6 +85,13 @@ common_of before common count (Some q) given h numbered is low high =
     let index : common + q ≡ common + (h - before) + 1 = omega arith in
     (common + (h - before), sym is ∙ ap Some index, (omega arith, omega arith, refl))
 common_of before common count None given h numbered is low high = cc
+
+-- contacts next to others on both sides are in one run with them
+next_to : (exits common count before and_common many g h : ℕ) → exits ≤ before → before + many ≤ exits + count
+    → and_common + exits ≡ common + before → (before ≤ h) × (h < before + many) × (g ≡ and_common + (h - before))
+    → (exits ≤ h) × (h < exits + count) × (g ≡ common + (h - exits))
+next_to exits common count before and_common many g h low high aside (from, to, is) =
+    (omega (arith, low, from), omega (arith, high, to), omega (arith, low, from, aside, is))
 
 -- the common hub of a contact has the place that the runs say
 pub contact_numbered : (from to : Hub) (h : ℕ) → contact_of to ≡ Some from → number_of to ≡ Some (h + 1)
@@ -118,17 +125,19 @@ contact_numbered from (IX level position) h is numbered =
     let kind = number_of-kind (IX level position) (h + 1) numbered in
     let hub : IE level position ≡ from = same_Some _ _ is in
     let found = common_of 806 1692 90 _ (number_of from) h numbered (ap number_of hub) kind.0 kind.1 in
-    (found.0, found.1, inr (inr (inr (inr (inr (inl found.2))))))
+    let at = next_to 806 1692 106 806 1692 90 found.0 h (omega arith) (omega arith) refl found.2 in
+    (found.0, found.1, inr (inr (inr (inr (inr (inl at))))))
 contact_numbered from (CSD split) h is numbered =
     let kind = number_of-kind (CSD split) (h + 1) numbered in
     let hub : CSE split ≡ from = same_Some _ _ is in
     let found = common_of 896 1782 16 _ (number_of from) h numbered (ap number_of hub) kind.0 kind.1 in
-    (found.0, found.1, inr (inr (inr (inr (inr (inr (inl found.2)))))))
+    let at = next_to 806 1692 106 896 1782 16 found.0 h (omega arith) (omega arith) refl found.2 in
+    (found.0, found.1, inr (inr (inr (inr (inr (inl at))))))
 contact_numbered from (CSZ split) h is numbered =
     let kind = number_of-kind (CSZ split) (h + 1) numbered in
     let hub : CSE split ≡ from = same_Some _ _ is in
     let found = common_of 912 1782 16 _ (number_of from) h numbered (ap number_of hub) kind.0 kind.1 in
-    (found.0, found.1, inr (inr (inr (inr (inr (inr (inr (inl found.2))))))))
+    (found.0, found.1, inr (inr (inr (inr (inr (inr (inl found.2)))))))
 contact_numbered from other h is numbered = cc
 
 -- a hub that is no contact's exit has no place in the runs

@@ -3,7 +3,7 @@
 use bit_sets::Run;
 
 /// The contacts, by places: the hub with the number h is the place h - 1.
-pub(crate) const CONTACTS: [Run; 8] = [
+pub(crate) const CONTACTS: [Run; 7] = [
     // CI to CO.
     Run {
         common: 1396,
@@ -34,17 +34,11 @@ pub(crate) const CONTACTS: [Run; 8] = [
         exits: 694,
         count: 48,
     },
-    // IE to IX.
+    // IE to IX and, next to them on both sides, CSE to CSD.
     Run {
         common: 1692,
         exits: 806,
-        count: 90,
-    },
-    // CSE to CSD.
-    Run {
-        common: 1782,
-        exits: 896,
-        count: 16,
+        count: 106,
     },
     // CSE to CSZ.
     Run {

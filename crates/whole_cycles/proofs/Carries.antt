@@ -9,6 +9,7 @@ use Rattle.setups.specs.Wiring.{HasWire, Wiring}
 use Rattle.hubs.specs.declared.hub.Group.{Group}
 use Rattle.hubs.specs.declared.hub.Hub.{Hub}
 use Rattle.hubs.specs.declared.hub.Hub.TheVariants.{BAN, BAT, CI, CO}
+use Rattle.net.proofs.ImpulsedLaws.{impulsed_more}
 use Rattle.net.specs.HubSets.{is_hub}
 use Rattle.net.specs.Impulsed.{IsImpulsed}
 use Rattle.net.specs.Impulsed.IsImpulsed.{emitting, led_on}
@@ -27,16 +28,6 @@ use Rattle.whole_cycles.proofs.Alone.{at_balances, differing}
 use Rattle.whole_cycles.proofs.Emitted.{any-changed}
 use Rattle.whole_cycles.proofs.Sources.{none-any}
 use Rattle.whole_cycles.proofs.Units.{units-by_name}
-
--- what is impulsed stays so where more emits and more is closed
-impulsed-more : (wiring : Wiring) (exits others closed shut : Hub → Bool)
-    → ((hub : Hub) → exits hub ≡ true → others hub ≡ true) → ((hub : Hub) → closed hub ≡ true → shut hub ≡ true) → {hub : Hub}
-    → IsImpulsed wiring exits closed hub → IsImpulsed wiring others shut hub
-impulsed-more wiring exits others closed shut more also (emitting hub there emits) = emitting hub there (more hub emits)
-impulsed-more wiring exits others closed shut more also (led_on from to at (inl wire)) =
-    led_on from to (impulsed-more wiring exits others closed shut more also at) (inl wire)
-impulsed-more wiring exits others closed shut more also (led_on from to at (inr contact)) =
-    led_on from to (impulsed-more wiring exits others closed shut more also at) (inr (contact.0, also to contact.1))
 
 -- no carry exit is a hub that is no carry's
 carry-apart : (name : Group) (hub : Hub) → is_carry hub ≡ false → is_hub (CO name) hub ≡ false
@@ -67,7 +58,7 @@ others-stand old pictures cycle hub none =
 
 pub carries-apart : CarriesKeepApart
 carries-apart wiring old pictures cycle lead is hub none =
-    (λ on. to ((is hub).0 on) none, λ at. (is hub).1 (impulsed-more wiring _ _ _ _ more also at))
+    (λ on. to ((is hub).0 on) none, λ at. (is hub).1 (impulsed_more wiring _ _ _ _ more also at))
   where
     more : (h : Hub) → closing_emits pictures cycle h ≡ true → all_closing_emits old pictures cycle h ≡ true
     more h emits = or_left (closing_emits pictures cycle h) _ emits

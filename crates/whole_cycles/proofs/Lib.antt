@@ -12,3 +12,4 @@ pub mod Alone
 pub mod Carries
 pub mod Units
 pub mod Rings
+pub mod RingRuns

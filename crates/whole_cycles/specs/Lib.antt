@@ -3,5 +3,6 @@ pub mod Between
 pub mod Carries
 pub mod OneContactDeep
 pub mod Rings
+pub mod RingRuns
 pub mod Units
 pub mod Laws

@@ -1,6 +1,7 @@
 //! Laws of cycles as a whole. Each is a function that does nothing: its contract is the law.
 
 ghost use Rattle.whole_cycles.specs.Carries.{CarriesComeByWires, CarriesKeepApart, CarriesWaitForTheClosingPoint};
+ghost use Rattle.whole_cycles.specs.RingRuns.{RingsRunByThemselves};
 ghost use Rattle.whole_cycles.specs.Rings.{RingsTurnByThemselves};
 ghost use Rattle.whole_cycles.specs.Laws.{ContactsAreOneDeep, CyclesAreWhole, CyclesEmitAtSources, MachinesStayBetween, MachinesStayReady, UnitsAreByName, WheelsHaveTheirJacks};
 
@@ -56,8 +57,14 @@ pub fn carries_come_by_wires()
 {}
 
 /// Where no two groups are joined, each group that is wired from its carry exit to its carry entry turns as a ring by itself, every
-/// other one on the line, and all hubs but those of carries are impulsed as if no carry passed: so such a setup prints the lines
-/// that it prints where carries are no impulses.
+/// other one on the line, and all hubs but those of carries are impulsed as if no carry passed.
 pub fn rings_turn_by_themselves()
     ensures { RingsTurnByThemselves }
+{}
+
+/// Where no two groups are joined, a cycle of the machine is one in which carries are no impulses and each group turns by itself, and
+/// each such cycle is one of the machine. So in a run over a deck the same cycles run and the same lines are placed: such a setup
+/// prints what it prints where carries are no impulses.
+pub fn rings_run_by_themselves()
+    ensures { RingsRunByThemselves }
 {}

@@ -1,13 +1,13 @@
 use Rattle.std.proofs.Common.{subst, sym}
-use Rattle.machine.specs.Rest.{AreAtRest}
-use Rattle.machine.proofs.Rest.{ended-rest}
+use Rattle.machine.specs.Rest.{AreBusy}
+use Rattle.machine.proofs.Rest.{ended-busy}
 use Rattle.machine.proofs.UnitOrder.{ended-in_order}
 use Rattle.machine.proofs.units.Units.end_cycle.Goals as goal
 
 pub invariant_of-self : goal.invariant_of-self
 invariant_of-self c = record {
   ordered = ended-in_order c.self.inside.groups c.end_all.new.units c.args.cycle c.end_all.ensures c.self.invariant.ordered;
-  rest = λ is. subst AreAtRest (sym c.end_all.ensures) (ended-rest c.self.inside.groups c.args.cycle);
+  busy = subst (AreBusy c.none-self-inside.result) (sym c.end_all.ensures) (ended-busy c.self.inside.groups c.args.cycle c.none-self-inside.result);
 }
 
 pub returns : goal.returns

@@ -5,9 +5,9 @@ use Rattle.machine.proofs.units.Units.sense.Goals as goal
 pub invariant_of-self : goal.invariant_of-self
 invariant_of-self c = record {
   ordered =
-      sensed-in_order c.self.inside.groups c.sense_groups-is_busy.new.groups c.args.cycle c.args.point
-      (has_hub c.args.picture.now) c.sense_groups-is_busy.ensures.sensed c.self.invariant.ordered;
-  rest = c.sense_groups-is_busy.ensures.rest;
+      sensed-in_order c.self.inside.groups c.sense_groups-busy.new.groups c.args.cycle c.args.point
+      (has_hub c.args.picture.now) c.sense_groups-busy.ensures.sensed c.self.invariant.ordered;
+  busy = c.sense_groups-busy.ensures.busy;
 }
 
 pub returns : goal.returns
@@ -16,7 +16,7 @@ returns c =
     (λ i. record {
       stations = c.self.inside.stations;
       comparing = c.sense.ensures i;
-      groups = c.sense_groups-is_busy.ensures.sensed i;
+      groups = c.sense_groups-busy.ensures.sensed i;
       storage = c.sense_all.ensures i;
       pilots = c.sense-2.ensures i;
       indicate = c.self.inside.indicate;
