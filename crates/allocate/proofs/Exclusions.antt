@@ -1,15 +1,15 @@
 -- Where all that is wanted fits a machine, no capacity is exceeded first.
 use Rattle.std.proofs.lemmas.Option.{slice_get_within}
 use Rattle.capacity.specs.Capacities.{Capacities}
-use Rattle.allocate.specs.Exceeded.{Fits, IsFirstOver, in_order}
+use Rattle.allocate.specs.Exceeded.{FitsMachine, IsFirstOver, in_order}
 use Rattle.allocate.specs.Laws.{FittingChartsHaveNoFault}
 use Rattle.wanted.specs.Wanted.{Wanted}
 use Rattle.wanted.specs.declared.count.Capacity.{Capacity}
 use Rattle.allocate.specs.declared.fault.CapacityFault.TheVariants as fault
 
 -- no capacity is the first that is exceeded
-none_first : (first : Capacity) (wanted : Wanted) (machine : Capacities) → Fits wanted machine → IsFirstOver first wanted machine → ⊥
-unfolding Fits IsFirstOver
+none_first : (first : Capacity) (wanted : Wanted) (machine : Capacities) → FitsMachine wanted machine → IsFirstOver first wanted machine → ⊥
+unfolding FitsMachine IsFirstOver
 none_first first wanted machine fits is =
     fits is.place first (slice_get_within in_order is.place first is.is_there) is.is_there is.over
 

@@ -4,7 +4,7 @@ use Rattle.capacity.specs.Capacities.{Capacities, standard, IsAtMost}
 use Rattle.wanted.specs.Wanted.{Parts, Wanted}
 use Rattle.plans.specs.Assignments.{IsAssignment}
 use Rattle.plans.specs.Plans.{Lists, IsWithinMachine, Serves}
-use Rattle.allocate.specs.Exceeded.{Fits}
+use Rattle.allocate.specs.Exceeded.{FitsMachine}
 use Rattle.allocate.specs.HelperCounters.{HasGroupsFor}
 use Rattle.allocate.proofs.Assignments.{HasGroupsFor-from, IsAssignment-standard}
 use Rattle.allocate.proofs.Order.{NotOver-fits}
@@ -40,7 +40,7 @@ wide_texts-none [] none = refl
 wide_texts-none (line ∷ lines) none = absurd (none (omega arith))
 
 -- where what is wanted fits a machine, what its parts serve is within the standard machine
-pub IsWithinMachine-fits : (wanted : Wanted) (machine : Capacities) → Fits wanted machine → IsAtMost machine standard → IsWithinMachine wanted.parts
+pub IsWithinMachine-fits : (wanted : Wanted) (machine : Capacities) → FitsMachine wanted machine → IsAtMost machine standard → IsWithinMachine wanted.parts
 IsWithinMachine-fits wanted machine fits most =
     let not = NotOver-fits wanted machine fits in
     let below : (m n : ℕ) → ¬ (m < n) → n ≤ m = λ m n h. omega arith in
@@ -55,17 +55,17 @@ IsWithinMachine-fits wanted machine fits most =
     }
 
 -- where what is wanted fits, no total text is too wide
-pub wide_texts-fits : (wanted : Wanted) (machine : Capacities) → Fits wanted machine → [] ≡ wanted.wide_texts
+pub wide_texts-fits : (wanted : Wanted) (machine : Capacities) → FitsMachine wanted machine → [] ≡ wanted.wide_texts
 wide_texts-fits wanted machine fits = wide_texts-none wanted.wide_texts (NotOver-fits wanted machine fits).storage_width
 
 -- where what is wanted fits, there are counter groups enough
-pub HasGroupsFor-fits : (wanted : Wanted) (machine : Capacities) → Fits wanted machine → HasGroupsFor machine wanted.totals
+pub HasGroupsFor-fits : (wanted : Wanted) (machine : Capacities) → FitsMachine wanted machine → HasGroupsFor machine wanted.totals
 HasGroupsFor-fits wanted machine fits =
     let not = NotOver-fits wanted machine fits in
     HasGroupsFor-from wanted.totals machine not.eights not.sixes not.fours not.threes
 
 -- a plan that serves all where what is wanted fits a machine
-pub Serves-fits : (wanted : Wanted) (machine : Capacities) (plan : Lists) → Fits wanted machine → IsAtMost machine standard
+pub Serves-fits : (wanted : Wanted) (machine : Capacities) (plan : Lists) → FitsMachine wanted machine → IsAtMost machine standard
     → IsAssignment wanted.totals machine plan.groups → plan.parts ≡ wanted.parts → Serves wanted plan
 Serves-fits wanted machine plan fits most assigned same =
     Serves-from wanted plan (rw same (IsWithinMachine-fits wanted machine fits most))

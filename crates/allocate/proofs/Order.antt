@@ -6,12 +6,12 @@ use Rattle.wanted.specs.declared.count.Capacity.TheVariants as of
 use Rattle.charts.specs.declared.level.ControlLevel.TheVariants as control
 use Rattle.wanted.specs.Wanted.{Wanted}
 use Rattle.plans.specs.Excess.{IsOver}
-use Rattle.allocate.specs.Exceeded.{NoneIsOver, Fits, IsFirstAmong, IsFirstOver, in_order}
+use Rattle.allocate.specs.Exceeded.{NoneIsOver, FitsMachine, IsFirstAmong, IsFirstOver, in_order}
 
 -- what the search among the capacities in order tells
 pub IfNone-fits : (wanted : Wanted) (machine : Capacities) (found : Option Capacity)
-    → IfNone found (NoneIsOver in_order (length in_order) wanted machine) → IfNone found (Fits wanted machine)
-unfolding Fits
+    → IfNone found (NoneIsOver in_order (length in_order) wanted machine) → IfNone found (FitsMachine wanted machine)
+unfolding FitsMachine
 IfNone-fits wanted machine found none = none
 
 pub IfSome-first : (wanted : Wanted) (machine : Capacities) (found : Option Capacity)
@@ -39,8 +39,8 @@ pub record NotOver (wanted : Wanted) (machine : Capacities) : Type 0 where
   pub intermediate : ¬ IsOver (of.Indicate control.Intermediate) wanted machine
   pub major : ¬ IsOver (of.Indicate control.Major) wanted machine
 
-pub NotOver-fits : (wanted : Wanted) (machine : Capacities) → Fits wanted machine → NotOver wanted machine
-unfolding Fits in_order
+pub NotOver-fits : (wanted : Wanted) (machine : Capacities) → FitsMachine wanted machine → NotOver wanted machine
+unfolding FitsMachine in_order
 NotOver-fits wanted machine fits = record {
   eights = fits 0 (of.Counters 8) (omega arith) refl;
   sixes = fits 1 (of.Counters 6) (omega arith) refl;

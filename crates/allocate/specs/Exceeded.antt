@@ -35,8 +35,8 @@ NoneIsOver capacities count wanted machine =
     (place : ℕ) (capacity : Capacity) → place < count → slice_get capacities place ≡ Some capacity → ¬ IsOver capacity wanted machine
 
 -- no capacity is exceeded: all that is wanted fits the machine
-unfoldable pub Fits : Wanted → Capacities → Type 0
-Fits wanted machine = NoneIsOver in_order (length in_order) wanted machine
+unfoldable pub FitsMachine : Wanted → Capacities → Type 0
+FitsMachine wanted machine = NoneIsOver in_order (length in_order) wanted machine
 
 -- a capacity is the first of a list that is exceeded
 pub record IsFirstAmong (capacities : List Capacity) (first : Capacity) (wanted : Wanted) (machine : Capacities) : Type 0 where

@@ -5,7 +5,7 @@ use Rattle.capacity.specs.declared.group.CounterGroup.{CounterGroup}
 use Rattle.charts.specs.Chart.{Chart}
 use Rattle.chart_rules.specs.Rules.{IsLawful}
 use Rattle.wanted.specs.ChartTotals.{totals_of}
-use Rattle.allocate.specs.Exceeded.{HasCapacityFault, Fits}
+use Rattle.allocate.specs.Exceeded.{HasCapacityFault, FitsMachine}
 use Rattle.plans.specs.Excess.{IsOver}
 use Rattle.plans.specs.Assignments.{IsAssignment}
 use Rattle.wanted.specs.Wanted.{Wanted, wanted_of}
@@ -31,7 +31,7 @@ ChartsOverHaveNone =
 -- what fits a machine has no fault on it
 abbrev pub FittingChartsHaveNoFault : Type 0
 FittingChartsHaveNoFault =
-    (wanted : Wanted) (machine : Capacities) (told : CapacityFault) → Fits wanted machine → ¬ HasCapacityFault wanted machine told
+    (wanted : Wanted) (machine : Capacities) (told : CapacityFault) → FitsMachine wanted machine → ¬ HasCapacityFault wanted machine told
 
 -- what is wanted has at most one fault on a machine
 abbrev pub ChartsExceedOneCapacity : Type 0

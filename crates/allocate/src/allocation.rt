@@ -1,7 +1,7 @@
 //! Allocation.
 
 ghost use Rattle.std.specs.Prelude.{◌≢◌, IfOk, IfErr, OnOk};
-ghost use Rattle.allocate.specs.Exceeded.{Fits, HasCapacityFault};
+ghost use Rattle.allocate.specs.Exceeded.{FitsMachine, HasCapacityFault};
 ghost use Rattle.allocate.specs.Allocated.{IsPlanOf};
 ghost use Rattle.plans.specs.Plans.{IsFor};
 ghost use Rattle.wanted.specs.Wanted.{wanted_of};
@@ -30,7 +30,7 @@ use wanted::Wanted;
 pub fn allocate(alloc: Global, chart: &Chart, profile: &Profile) -> Result<Plan, CapacityFault>
     ensures plan { IfOk result (IsPlanOf (wanted_of chart.now.lines) profile.now) }
     ensures serves { IfOk result (IsFor chart.now.lines) }
-    ensures fits { OnOk result (Fits (wanted_of chart.now.lines) profile.now) }
+    ensures fits { OnOk result (FitsMachine (wanted_of chart.now.lines) profile.now) }
     ensures refused { IfErr result (λ fault. fault ≢ CapacityFault.Memory → HasCapacityFault (wanted_of chart.now.lines) profile.now fault) }
 {
     let wanted = Wanted::of(alloc, chart)?;

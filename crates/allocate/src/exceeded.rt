@@ -55,7 +55,7 @@ fn first_among(capacities: &[Capacity], wanted: &Wanted, profile: &Profile) -> O
 
 /// The first capacity that is exceeded.
 fn first_over(wanted: &Wanted, profile: &Profile) -> Option<Capacity>
-    ensures none { IfNone result (law.Fits wanted.now profile.now) }
+    ensures none { IfNone result (law.FitsMachine wanted.now profile.now) }
     ensures some { IfSome result (λ first. law.IsFirstOver first wanted.now profile.now) }
 {
     first_among(&IN_ORDER, wanted, profile)
@@ -103,7 +103,7 @@ fn fault_of(capacity: Capacity, wanted: &Wanted, profile: &Profile) -> CapacityF
 
 /// The fault of what is wanted on a machine, if it does not fit.
 pub(crate) fn fault_on(wanted: &Wanted, profile: &Profile) -> Option<CapacityFault>
-    ensures none { IfNone result (law.Fits wanted.now profile.now) }
+    ensures none { IfNone result (law.FitsMachine wanted.now profile.now) }
     ensures some { IfSome result (law.HasCapacityFault wanted.now profile.now) }
 {
     let capacity = first_over(wanted, profile)?;

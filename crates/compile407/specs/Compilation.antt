@@ -1,5 +1,5 @@
 -- A chart with its plan and the setup of the panel that is wired for it.
-use Rattle.allocate.specs.Exceeded.{Fits}
+use Rattle.allocate.specs.Exceeded.{FitsMachine}
 use Rattle.plans.specs.Plans.{Lists, IsFor}
 use Rattle.allocate.specs.Allocated.{IsPlanOf}
 use Rattle.wanted.specs.Wanted.{wanted_of}
@@ -19,7 +19,7 @@ pub record Compilation : Type 0 where
 -- and the setup is wired for both.
 pub record IsCompiled (compiled : Compilation) : Type 0 where
   pub sound : IsSound compiled.chart
-  pub fits : Fits (wanted_of compiled.chart.lines) standard
+  pub fits : FitsMachine (wanted_of compiled.chart.lines) standard
   pub planned : IsPlanOf (wanted_of compiled.chart.lines) standard compiled.plan
   pub serves : IsFor compiled.chart.lines compiled.plan
   pub wired : WiredFor compiled.chart.lines compiled.plan compiled.setup

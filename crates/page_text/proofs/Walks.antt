@@ -5,7 +5,7 @@ use Rattle.std.proofs.lemmas.Bool.Decides.{eqb_tells, nat_tests}
 use Rattle.placed_lines.specs.declared.placed_line.PlacedLine.{PlacedLine}
 use Rattle.placed_lines.specs.InOrder.{IsAfter, FollowInOrder, IsInOrder}
 use Rattle.page_text.specs.Pages.{Pages, page_bytes, line_bytes, text_at, last_page, without_trailing_blanks}
-use Rattle.page_text.specs.Walking.{first_text, left_after, left_after_lines, left_after_pages, walked_lines, walked_pages}
+use Rattle.page_text.specs.Walking.{first_text, rest_after, rest_after_lines, rest_after_pages, walked_lines, walked_pages}
 use Rattle.page_text.proofs.Parts.{flat_map-range_more}
 
 -- a number and one is the next number
@@ -15,55 +15,55 @@ next n = omega arith
 -- a definition's step, by a number and one
 walked_at_next : (left : List PlacedLine) (page n : ℕ)
     → walked_lines left page n
-    ++ (without_trailing_blanks (first_text (left_after_lines left page n) page (suc n)) ++ 10 ∷ [])
+    ++ (without_trailing_blanks (first_text (rest_after_lines left page n) page (suc n)) ++ 10 ∷ [])
     ≡ walked_lines left page (suc n)
 unfolding walked_lines
 walked_at_next left page n = refl
 
 walked_next : (left : List PlacedLine) (page n : ℕ)
     → walked_lines left page n
-    ++ (without_trailing_blanks (first_text (left_after_lines left page n) page (n + 1)) ++ 10 ∷ [])
+    ++ (without_trailing_blanks (first_text (rest_after_lines left page n) page (n + 1)) ++ 10 ∷ [])
     ≡ walked_lines left page (n + 1)
 walked_next left page n = subst
-    (λ k. walked_lines left page n ++ (without_trailing_blanks (first_text (left_after_lines left page n) page k) ++ 10 ∷ []) ≡ walked_lines left page k)
+    (λ k. walked_lines left page n ++ (without_trailing_blanks (first_text (rest_after_lines left page n) page k) ++ 10 ∷ []) ≡ walked_lines left page k)
     (next n) (walked_at_next left page n)
 
 after_at_next : (left : List PlacedLine) (long n : ℕ)
-    → left_after_lines (left_after_pages left long n) (suc n) long ≡ left_after_pages left long (suc n)
-unfolding left_after_pages
+    → rest_after_lines (rest_after_pages left long n) (suc n) long ≡ rest_after_pages left long (suc n)
+unfolding rest_after_pages
 after_at_next left long n = refl
 
 after_next : (left : List PlacedLine) (long n : ℕ)
-    → left_after_lines (left_after_pages left long n) (n + 1) long ≡ left_after_pages left long (n + 1)
-after_next left long n = subst (λ k. left_after_lines (left_after_pages left long n) k long ≡ left_after_pages left long k) (next n)
+    → rest_after_lines (rest_after_pages left long n) (n + 1) long ≡ rest_after_pages left long (n + 1)
+after_next left long n = subst (λ k. rest_after_lines (rest_after_pages left long n) k long ≡ rest_after_pages left long k) (next n)
     (after_at_next left long n)
 
 pages_at_next : (left : List PlacedLine) (long n : ℕ)
-    → walked_pages left long n ++ (walked_lines (left_after_pages left long n) (suc n) long ++ 12 ∷ [])
+    → walked_pages left long n ++ (walked_lines (rest_after_pages left long n) (suc n) long ++ 12 ∷ [])
     ≡ walked_pages left long (suc n)
 unfolding walked_pages
 pages_at_next left long n = refl
 
 pages_next : (left : List PlacedLine) (long n : ℕ)
-    → walked_pages left long n ++ (walked_lines (left_after_pages left long n) (n + 1) long ++ 12 ∷ [])
+    → walked_pages left long n ++ (walked_lines (rest_after_pages left long n) (n + 1) long ++ 12 ∷ [])
     ≡ walked_pages left long (n + 1)
 pages_next left long n = subst
-    (λ k. walked_pages left long n ++ (walked_lines (left_after_pages left long n) k long ++ 12 ∷ []) ≡ walked_pages left long k)
+    (λ k. walked_pages left long n ++ (walked_lines (rest_after_pages left long n) k long ++ 12 ∷ []) ≡ walked_pages left long k)
     (next n) (pages_at_next left long n)
 
-line_at_next : (left now : List PlacedLine) (page n : ℕ) → now ≡ left_after_lines left page n
-    → left_after now page (suc n) ≡ left_after_lines left page (suc n)
-unfolding left_after_lines
-line_at_next left now page n is = ap (λ l. left_after l page (suc n)) is
+line_at_next : (left now : List PlacedLine) (page n : ℕ) → now ≡ rest_after_lines left page n
+    → rest_after now page (suc n) ≡ rest_after_lines left page (suc n)
+unfolding rest_after_lines
+line_at_next left now page n is = ap (λ l. rest_after l page (suc n)) is
 
 -- a line more
-pub left_after_lines-more : (left now : List PlacedLine) (page n : ℕ) → now ≡ left_after_lines left page n
-    → left_after now page (n + 1) ≡ left_after_lines left page (n + 1)
-left_after_lines-more left now page n is =
-    subst (λ k. left_after now page k ≡ left_after_lines left page k) (next n) (line_at_next left now page n is)
+pub rest_after_lines-more : (left now : List PlacedLine) (page n : ℕ) → now ≡ rest_after_lines left page n
+    → rest_after now page (n + 1) ≡ rest_after_lines left page (n + 1)
+rest_after_lines-more left now page n is =
+    subst (λ k. rest_after now page k ≡ rest_after_lines left page k) (next n) (line_at_next left now page n is)
 
 pub walked_lines-more :
-    (left now : List PlacedLine) (page n : ℕ) (text old mid new : List ℕ) → now ≡ left_after_lines left page n
+    (left now : List PlacedLine) (page n : ℕ) (text old mid new : List ℕ) → now ≡ rest_after_lines left page n
     → text ≡ first_text now page (n + 1) → mid ≡ old ++ walked_lines left page n
     → new ≡ mid ++ (without_trailing_blanks text ++ 10 ∷ []) → new ≡ old ++ walked_lines left page (n + 1)
 walked_lines-more left now page n text old mid new is shown so_far grown =
@@ -74,28 +74,28 @@ walked_lines-more left now page n text old mid new is shown so_far grown =
     ∙ ap (λ bytes. old ++ bytes) (walked_next left page n)
 
 -- a page more
-pub left_after_pages-more : (left now new : List PlacedLine) (long n : ℕ) → now ≡ left_after_pages left long n
-    → new ≡ left_after_lines now (n + 1) long → new ≡ left_after_pages left long (n + 1)
-left_after_pages-more left now new long n is more = more ∙ ap (λ l. left_after_lines l (n + 1) long) is ∙ after_next left long n
+pub rest_after_pages-more : (left now new : List PlacedLine) (long n : ℕ) → now ≡ rest_after_pages left long n
+    → new ≡ rest_after_lines now (n + 1) long → new ≡ rest_after_pages left long (n + 1)
+rest_after_pages-more left now new long n is more = more ∙ ap (λ l. rest_after_lines l (n + 1) long) is ∙ after_next left long n
 
 pub walked_pages-more :
-    (left now : List PlacedLine) (long n : ℕ) (old new : List ℕ) → now ≡ left_after_pages left long n
+    (left now : List PlacedLine) (long n : ℕ) (old new : List ℕ) → now ≡ rest_after_pages left long n
     → old ≡ walked_pages left long n → new ≡ old ++ (walked_lines now (n + 1) long ++ 12 ∷ [])
     → new ≡ walked_pages left long (n + 1)
 walked_pages-more left now long n old new is so_far grown =
     grown ∙ ap₂ (λ o l. o ++ (walked_lines l (n + 1) long ++ 12 ∷ [])) so_far is ∙ pages_next left long n
 
 -- nothing is after at first
-pub none_after : (left : List PlacedLine) (page : ℕ) → left ≡ left_after_lines left page 0
-unfolding left_after_lines
+pub none_after : (left : List PlacedLine) (page : ℕ) → left ≡ rest_after_lines left page 0
+unfolding rest_after_lines
 none_after left page = refl
 
 pub none_walked : (left : List PlacedLine) (page : ℕ) (old : List ℕ) → old ≡ old ++ walked_lines left page 0
 unfolding walked_lines
 none_walked left page old = sym (append-nil old)
 
-pub no_pages : (left : List PlacedLine) (long : ℕ) → (left ≡ left_after_pages left long 0) × ([] ≡ walked_pages left long 0)
-unfolding left_after_pages walked_pages
+pub no_pages : (left : List PlacedLine) (long : ℕ) → (left ≡ rest_after_pages left long 0) × ([] ≡ walked_pages left long 0)
+unfolding rest_after_pages walked_pages
 no_pages left long = (refl, refl)
 
 -- one list has the texts of another at the places after one
@@ -163,7 +163,7 @@ further page line p l (inr x) other = let apart : l ≢ line + 1 = other (sym x.
 -- one line more
 one_line :
     (long page line : ℕ) (left all : List PlacedLine) → line < long → IsLeft long page line left all
-    → (first_text left page (line + 1) ≡ text_at all page (line + 1)) × IsLeft long page (line + 1) (left_after left page (line + 1)) all
+    → (first_text left page (line + 1) ≡ text_at all page (line + 1)) × IsLeft long page (line + 1) (rest_after left page (line + 1)) all
 one_line long page line [] all within is = (
   is.agree page (line + 1) (inr (refl, omega arith)),
   record {
@@ -179,7 +179,7 @@ one_line long page line (placed ∷ others) all within is = by_place (at_place p
     by_place : ((placed.page ≡ page) × (placed.line ≡ line + 1) × ((placed.page == page && placed.line == line + 1) ≡ true))
         ⊎ (((placed.page ≡ page) → (placed.line ≡ line + 1) → ⊥) × ((placed.page == page && placed.line == line + 1) ≡ false))
         → (first_text (placed ∷ others) page (line + 1) ≡ text_at all page (line + 1))
-        × IsLeft long page (line + 1) (left_after (placed ∷ others) page (line + 1)) all
+        × IsLeft long page (line + 1) (rest_after (placed ∷ others) page (line + 1)) all
     by_place (inl here) = (
       ap (λ b. if b then placed.text else []) here.2
           ∙ sym (ap (λ b. if b then placed.text else text_at others page (line + 1)) here.2)
@@ -215,18 +215,18 @@ one_line long page line (placed ∷ others) all within is = by_place (at_place p
 lines_walked :
     (long page n : ℕ) (left all : List PlacedLine) → n ≤ long → IsLeft long page 0 left all
     → (walked_lines left page n ≡ flat_map (line_bytes all page) (range_with_len 1 n))
-    × IsLeft long page n (left_after_lines left page n) all
-unfolding walked_lines left_after_lines
+    × IsLeft long page n (rest_after_lines left page n) all
+unfolding walked_lines rest_after_lines
 lines_walked long page zero left all within is = (refl, is)
 lines_walked long page (suc n) left all within is =
     let before = lines_walked long page n left all (omega (arith, within)) is in
-    let step = one_line long page n (left_after_lines left page n) all (omega (arith, within)) before.1 in
+    let step = one_line long page n (rest_after_lines left page n) all (omega (arith, within)) before.1 in
     let after : suc n ≡ n + 1 = next n in (
       ap₂ (λ b t. b ++ (without_trailing_blanks t ++ 10 ∷ [])) before.0
-          (ap (first_text (left_after_lines left page n) page) after ∙ step.0)
+          (ap (first_text (rest_after_lines left page n) page) after ∙ step.0)
           ∙ sym (flat_map-range_more (line_bytes all page) n)
           ∙ ap (λ k. flat_map (line_bytes all page) (range_with_len 1 k)) (sym after),
-      subst (λ k. IsLeft long page k (left_after (left_after_lines left page n) page k) all) (sym after) step.1,
+      subst (λ k. IsLeft long page k (rest_after (rest_after_lines left page n) page k) all) (sym after) step.1,
     )
 
 -- a line of a page or of one after it is after the page's place 0
@@ -270,14 +270,14 @@ to_next_page long page line left all ended is = record {
 pages_walked :
     (long n : ℕ) (all : List PlacedLine) → IsInOrder long all
     → (walked_pages all long n ≡ flat_map (page_bytes all long) (range_with_len 1 n))
-    × IsLeft long (n + 1) 0 (left_after_pages all long n) all
-unfolding walked_pages left_after_pages
+    × IsLeft long (n + 1) 0 (rest_after_pages all long n) all
+unfolding walked_pages rest_after_pages
 pages_walked long zero all order = (refl, to_next_page long 0 0 all all (inl refl) (record { order = order; agree = λ p l after. refl }))
 pages_walked long (suc n) all order =
     let before = pages_walked long n all order in
     let after : suc n ≡ n + 1 = next n in
-    let walked = lines_walked long (suc n) long (left_after_pages all long n) all (omega arith)
-    (subst (λ k. IsLeft long k 0 (left_after_pages all long n) all) (sym after) before.1) in (
+    let walked = lines_walked long (suc n) long (rest_after_pages all long n) all (omega arith)
+    (subst (λ k. IsLeft long k 0 (rest_after_pages all long n) all) (sym after) before.1) in (
       ap₂ (λ b t. b ++ (t ++ 12 ∷ [])) before.0 walked.0
           ∙ ap (λ k. flat_map (page_bytes all long) (range_with_len 1 n) ++ page_bytes all long k) after
           ∙ sym (flat_map-range_more (page_bytes all long) n)

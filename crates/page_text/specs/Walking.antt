@@ -10,28 +10,28 @@ first_text [] page line = []
 first_text (placed ∷ others) page line = if placed.page == page && placed.line == line then placed.text else []
 
 -- the lines that are left after the place
-abbrev pub left_after : List PlacedLine → (page line : ℕ) → List PlacedLine
-left_after [] page line = []
-left_after (placed ∷ others) page line = if placed.page == page && placed.line == line then others else placed ∷ others
+abbrev pub rest_after : List PlacedLine → (page line : ℕ) → List PlacedLine
+rest_after [] page line = []
+rest_after (placed ∷ others) page line = if placed.page == page && placed.line == line then others else placed ∷ others
 
 -- the lines that are left after so many lines of a page
-unfoldable pub left_after_lines : List PlacedLine → (page lines : ℕ) → List PlacedLine
-left_after_lines left page zero = left
-left_after_lines left page (suc n) = left_after (left_after_lines left page n) page (suc n)
+unfoldable pub rest_after_lines : List PlacedLine → (page lines : ℕ) → List PlacedLine
+rest_after_lines left page zero = left
+rest_after_lines left page (suc n) = rest_after (rest_after_lines left page n) page (suc n)
 
 -- the bytes of so many lines of a page
 unfoldable pub walked_lines : List PlacedLine → (page lines : ℕ) → List ℕ
 walked_lines left page zero = []
 walked_lines left page (suc n) =
-    walked_lines left page n ++ (without_trailing_blanks (first_text (left_after_lines left page n) page (suc n)) ++ 10 ∷ [])
+    walked_lines left page n ++ (without_trailing_blanks (first_text (rest_after_lines left page n) page (suc n)) ++ 10 ∷ [])
 
 -- the lines that are left after so many pages
-unfoldable pub left_after_pages : List PlacedLine → (long pages : ℕ) → List PlacedLine
-left_after_pages left long zero = left
-left_after_pages left long (suc n) = left_after_lines (left_after_pages left long n) (suc n) long
+unfoldable pub rest_after_pages : List PlacedLine → (long pages : ℕ) → List PlacedLine
+rest_after_pages left long zero = left
+rest_after_pages left long (suc n) = rest_after_lines (rest_after_pages left long n) (suc n) long
 
 -- the bytes of so many pages
 unfoldable pub walked_pages : List PlacedLine → (long pages : ℕ) → List ℕ
 walked_pages left long zero = []
 walked_pages left long (suc n) =
-    walked_pages left long n ++ (walked_lines (left_after_pages left long n) (suc n) long ++ 12 ∷ [])
+    walked_pages left long n ++ (walked_lines (rest_after_pages left long n) (suc n) long ++ 12 ∷ [])

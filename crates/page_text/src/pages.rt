@@ -3,7 +3,7 @@
 ghost use Rattle.std.specs.Prelude.{◌≡◌, ◌+◌, ◌++◌, ◌∷◌, [], ◌≤◌, ◌<◌, ◌^◌, IfOk, OnOk};
 ghost use Rattle.placed_lines.specs.InOrder.{IsInOrder};
 ghost use Rattle.page_text.specs.Pages.{Pages, without_trailing_blanks, last_page};
-ghost use Rattle.page_text.specs.Walking.{first_text, left_after, left_after_lines, walked_lines};
+ghost use Rattle.page_text.specs.Walking.{first_text, rest_after, rest_after_lines, walked_lines};
 
 use placed_lines::PlacedLine;
 use std::alloc::{AllocError, Global};
@@ -56,7 +56,7 @@ fn push_page<'a>(
 ) -> Result<&'a [PlacedLine], AllocError>
     requires { form_lines ≤ 144 }
     ensures bytes { OnOk result (out.new.items ≡ out.old.items ++ (walked_lines lines.now page form_lines ++ 12 ∷ [])) }
-    ensures left { IfOk result (λ left. left.now ≡ left_after_lines lines.now page form_lines) }
+    ensures left { IfOk result (λ left. left.now ≡ rest_after_lines lines.now page form_lines) }
 {
     let mut left = lines;
     for line in 0..form_lines {
@@ -71,7 +71,7 @@ fn push_page<'a>(
 // The text of the first line, where it stands at the place, and the lines that are left after the place.
 fn take_at(lines: &[PlacedLine], page: u64, line: u32) -> (&[u8], &[PlacedLine])
     ensures text { result.0.now ≡ first_text lines.now page line }
-    ensures left { result.1.now ≡ left_after lines.now page line }
+    ensures left { result.1.now ≡ rest_after lines.now page line }
 {
     match lines {
         [first, others @ ..] if first.page == page && first.line == line => (&first.text, others),

@@ -1,6 +1,6 @@
 use Rattle.std.proofs.Common.{◌≢◌, subst, sym}
 use Rattle.std.proofs.lemmas.Result.{err_from_is_err_and}
-use Rattle.allocate.specs.Exceeded.{Fits, HasCapacityFault}
+use Rattle.allocate.specs.Exceeded.{FitsMachine, HasCapacityFault}
 use Rattle.allocate.specs.Allocated.{IsPlanOf}
 use Rattle.wanted.specs.Wanted.{wanted_of}
 use Rattle.allocate.specs.declared.fault.CapacityFault.TheVariants as exceeds
@@ -20,7 +20,7 @@ of-requires c =
     record {
       sound = sound_read c.args.bytes.now c.in_ok-raw.raw c.in_ok-chart.chart c.in_ok-raw.ensures.read c.in_ok-chart.ensures.same
           c.lines-lines.ensures.lawful c.lines-lines.ensures.rising;
-      fits = subst (Fits (wanted_of c.in_ok-chart.chart.lines)) c.standard.ensures c.in_ok-plan.ensures.fits;
+      fits = subst (FitsMachine (wanted_of c.in_ok-chart.chart.lines)) c.standard.ensures c.in_ok-plan.ensures.fits;
       planned = subst (λ machine. IsPlanOf (wanted_of c.in_ok-chart.chart.lines) machine c.in_ok-plan.plan) c.standard.ensures
           c.in_ok-plan.ensures.plan;
       serves = c.in_ok-plan.ensures.serves;

@@ -1,7 +1,7 @@
 use Rattle.std.proofs.Common.{◌≡◌, ◌∙◌, ap, arith}
 use Rattle.page_text.specs.Pages.{last_page}
 use Rattle.page_text.specs.Walking.{walked_pages}
-use Rattle.page_text.proofs.Walks.{left_after_pages-more, no_pages, pages_are_walked, walked_pages-more}
+use Rattle.page_text.proofs.Walks.{rest_after_pages-more, no_pages, pages_are_walked, walked_pages-more}
 use Rattle.page_text.proofs.pages.page_bytes.Goals as goal
 
 pub loop-page-init : goal.loop-page-init
@@ -11,7 +11,7 @@ loop-page-init c =
 
 pub loop-page-preserved : goal.loop-page-preserved
 loop-page-preserved c = record {
-  left = left_after_pages-more c.args.lines.now c.loop-page.left.now _ c.args.form_lines c.loop-page.page
+  left = rest_after_pages-more c.args.lines.now c.loop-page.left.now _ c.args.form_lines c.loop-page.page
       c.loop-page.invariant.left c.in_ok-left.ensures.left;
   bytes = walked_pages-more c.args.lines.now c.loop-page.left.now c.args.form_lines c.loop-page.page _ _
       c.loop-page.invariant.left c.loop-page.invariant.bytes c.in_ok-left.ensures.bytes;

@@ -1,6 +1,6 @@
 use Rattle.std.proofs.Common.{◌∙◌, ap, arith, ◌++◌, ◌∷◌, [], append_assoc, ◌≡◌}
-use Rattle.page_text.specs.Walking.{left_after_lines, walked_lines}
-use Rattle.page_text.proofs.Walks.{left_after_lines-more, none_after, none_walked, walked_lines-more}
+use Rattle.page_text.specs.Walking.{rest_after_lines, walked_lines}
+use Rattle.page_text.proofs.Walks.{rest_after_lines-more, none_after, none_walked, walked_lines-more}
 use Rattle.page_text.proofs.pages.push_page.Goals as goal
 
 pub loop-line-init : goal.loop-line-init
@@ -12,7 +12,7 @@ loop-line-init c = record {
 pub loop-line-preserved : goal.loop-line-preserved
 loop-line-preserved c = record {
   left = c.take_at.ensures.left
-      ∙ left_after_lines-more c.args.lines.now c.loop-line.left.now c.args.page c.loop-line.line c.loop-line.invariant.left;
+      ∙ rest_after_lines-more c.args.lines.now c.loop-line.left.now c.args.page c.loop-line.line c.loop-line.invariant.left;
   bytes = walked_lines-more c.args.lines.now c.loop-line.left.now c.args.page c.loop-line.line c.take_at.result.0.now _ _ _
       c.loop-line.invariant.left c.take_at.ensures.text c.loop-line.invariant.bytes c.in_ok-push_line.ensures;
 }
@@ -28,4 +28,4 @@ returns-clause-bytes c =
 pub returns-clause-left : goal.returns-clause-left
 returns-clause-left c =
     let all : c.loop-line.line ≡ c.args.form_lines = omega (arith, c.loop-line-test.false, c.loop-line.auto.line-end) in
-    c.loop-line.invariant.left ∙ ap (left_after_lines c.args.lines.now c.args.page) all
+    c.loop-line.invariant.left ∙ ap (rest_after_lines c.args.lines.now c.args.page) all
