@@ -8,7 +8,9 @@ use hubs::Hub;
 use setups::Setup;
 use std::alloc::AllocError;
 
-/// Adds a wire. Its hubs are in range and it breaks no carry ring, so want of memory is the only refusal.
+/// Adds a wire. Its hubs are in range, and a wire of a carry makes a ring of one counter group. Wires that are all added so never join
+/// two groups, and then want of memory is the only refusal; in a setup in which two groups are joined the wire may be refused for
+/// that, and is answered alike.
 pub fn connect(setup: &mut Setup, exit: Hub, entry: Hub) -> Result<(), AllocError>
     requires exit { is_exit_hub exit ≡ true }
     requires entry { is_entry_hub entry ≡ true }
