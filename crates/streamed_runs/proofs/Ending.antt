@@ -4,7 +4,6 @@ use Rattle.std.proofs.Math.Seq.{take-length}
 use Rattle.std.proofs.lemmas.Bool.{false≢true}
 use Rattle.std.specs.Io.{StartsWith}
 use Rattle.std.specs.Io.KnownBytes.{Appends}
-use Rattle.card_code.specs.Lines.{lines_of}
 use Rattle.card_lines.specs.Reading.{Reading}
 use Rattle.card_lines.specs.declared.fault.ReadFault.{ReadFault}
 use Rattle.charts.specs.Chart.{Chart}
@@ -15,6 +14,7 @@ use Rattle.page_writer.specs.Writing.{Writing}
 use Rattle.page_writer.proofs.Opens.{pages_end}
 use Rattle.report.specs.ChartForm.{form_of}
 use Rattle.report.specs.Report.{Report}
+use Rattle.streamed_runs.proofs.NextCards.{read_all}
 use Rattle.streamed_runs.proofs.Standing.{run_in_order}
 use Rattle.streamed_runs.proofs.Written.{all_written, begins_shorter, taken_broken, taken_more}
 use Rattle.decks.specs.Stands.{report_before}
@@ -77,11 +77,7 @@ module _ {S W : Type 0} {left : S → Option (List ℕ)} {held : W → Option (L
         record {
           cards = ends.cards;
           rest = [];
-          is_read = record {
-            lines = lines_of text;
-            cut = sym (append-nil (lines_of text));
-            each = (ends.read text known).each;
-          };
+          is_read = read_all text ends.cards (ends.read text known);
           valid = ends.valid;
           has_cause = told_of_writing chart text ends.cards fault.cause is;
           counted = taken.counted ∙ sym count_is;

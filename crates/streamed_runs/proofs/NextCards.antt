@@ -59,3 +59,15 @@ pub invalid_next : {S : Type 0} (left : S → Option (List ℕ)) (chart : Chart)
 invalid_next left chart text cards new found card fault number counted is first reads =
     let come : HasToCome left text (cards ++ card ∷ []) new = subst (λ f. ReadsOn left text cards new f) is reads in
     record { card = card; rest = come.rest; is_read = come.is_read; is_next = ap (λ n. n + 1) (sym counted); is_first = first }
+
+-- nothing comes after all lines of a text
+no_lines : lines_of [] ≡ []
+unfolding lines_of
+no_lines = refl
+
+pub read_all : (text : List ℕ) (cards : List (List ℕ)) → Deck text cards → HasRead text cards []
+read_all text cards deck = record {
+  lines = lines_of text;
+  cut = sym (append-nil (lines_of text)) ∙ ap (λ l. lines_of text ++ l) (sym no_lines);
+  each = deck.each;
+}

@@ -3,11 +3,8 @@ use Rattle.std.proofs.Common.{◌≡◌, ◌∙◌, refl, sym, ap, subst, ℕ, �
 use Rattle.std.specs.Io.{StartsWith}
 use Rattle.std.proofs.lemmas.Bool.{false≢true}
 use Rattle.std.proofs.lemmas.List.Elements.{All-append, All-cons, All-nil}
-use Rattle.std.specs.Io.KnownBytes.{IsAtEnd}
+use Rattle.std.specs.Io.KnownBytes.{IsAtEnd, prepend_known}
 use Rattle.std.specs.Prelude.{option_to_list}
-use Rattle.std.specs.List.{AllZip}
-use Rattle.card_code.specs.Deck.{Deck, IsCardOf}
-use Rattle.card_code.specs.Lines.{lines_of}
 use Rattle.card_code.specs.MostCards.{most_cards}
 use Rattle.card_lines.specs.Reading.{Reading}
 use Rattle.charts.specs.Chart.{Chart}
@@ -17,8 +14,9 @@ use Rattle.decks.specs.Stands.{last_of, report_before}
 use Rattle.decks.proofs.FitSoFar.{first_told}
 use Rattle.machine.specs.Feeds.{Feeds}
 use Rattle.machine.specs.Gains.{GainsFeed}
-use Rattle.machine.specs.Machine.{MachineState}
-use Rattle.misfits.specs.OpenSums.{Sums}
+use Rattle.machine.specs.Machine.{MachineState, machine_at_start}
+use Rattle.machine.specs.Running.{IsStarted}
+use Rattle.misfits.specs.OpenSums.{AreSumsOf, Sums}
 use Rattle.misfits.specs.Told.{told}
 use Rattle.misfits.specs.declared.misfit.Misfit.{Misfit as Found}
 use Rattle.net.specs.Nets.{IsNetOf, NetRows}
@@ -29,14 +27,16 @@ use Rattle.page_writer.specs.Writing.{Writing}
 use Rattle.placed_lines.specs.InOrder.{FollowInOrder, IsInOrder}
 use Rattle.placed_lines.specs.declared.placed_line.PlacedLine.{PlacedLine}
 use Rattle.printed_reports.specs.Promises.{IsDeck}
+use Rattle.report.specs.Breaks.{no_cards}
 use Rattle.report.specs.ChartForm.{form_of}
 use Rattle.report.specs.Misfits.{first_of, misfits}
 use Rattle.report.specs.Report.{Report}
 use Rattle.setups.specs.Wiring.{Wiring}
+use Rattle.streamed_runs.proofs.NextCards.{read_all}
 use Rattle.streamed_runs.proofs.Standing.{HaveNoMisfit, fed_deck, fed_end, fed_next, feed_in_order, none_told, report_begins, run_begins, stand_before, stand_before_last}
-use Rattle.streamed_runs.proofs.Written.{breaks_more, follow, takes_more}
+use Rattle.streamed_runs.proofs.Written.{breaks_more, follow, open_none, taken_none, takes_more}
 use Rattle.streamed_runs.specs.Causes.{HasCause, cards_written, stops_between_cards}
-use Rattle.streamed_runs.specs.HelperStanding.{Ends, HasFed, HasTaken, HasToCome, HaveLast, IsOfNext, ReadsOn, Serves, Stands, Start, Stops}
+use Rattle.streamed_runs.specs.HelperStanding.{Ends, HasFed, HasTaken, HasToCome, HaveLast, IsOfNext, IsUnbegun, ReadsOn, Serves, Stands, Start, Stops, start_of}
 use Rattle.streamed_runs.specs.Reading.{HasRead}
 use Rattle.streamed_runs.specs.declared.fault.StreamCause.{StreamCause}
 use Rattle.streamed_runs.specs.declared.fault.StreamCause.TheVariants as cause
@@ -68,14 +68,7 @@ module _ {S : Type 0} (left : S → Option (List ℕ)) (chart : Chart) (start : 
   -- and were read
   next_read : (next : Option (List ℕ)) (text : List ℕ) → ReadsOn left text cards reading next
       → (rest : List ℕ) × HasRead text (with_next cards next) rest
-  next_read None text deck = (
-    [],
-    record {
-      lines = lines_of text;
-      cut = sym (append-nil (lines_of text));
-      each = subst (λ c. AllZip IsCardOf (lines_of text) c) (sym (append-nil cards)) deck.each;
-    },
-  )
+  next_read None text deck = ([], subst (λ c. HasRead text c []) (sym (append-nil cards)) (read_all text cards deck))
   next_read (Some card) text come = (come.rest, come.is_read)
 
 -- a cause of the next card is told between two cards, and no card more was read
@@ -139,6 +132,58 @@ room_of : {S : Type 0} (reading : Reading S) (cards : List (List ℕ)) (next : O
 room_of reading cards None room = tt
 room_of reading cards (Some card) room = room.1
 
+-- a text of which nothing was read
+unread : {S : Type 0} (left : S → Option (List ℕ)) (text : List ℕ) (reading : Reading S) → reading.held ≡ [] → left reading.source ≡ Some text
+    → HasToCome left text [] reading
+unread left text reading none known = record {
+  rest = text;
+  is_left = ap (λ h. prepend_known h (left reading.source)) none ∙ ap (prepend_known []) known;
+  is_read = record { lines = []; cut = refl; each = tt };
+}
+
+-- before the first card
+module _ {S W : Type 0} (left : S → Option (List ℕ)) (held : W → Option (List ℕ)) (has_failed : W → Bool) (chart : Chart) (wiring : Wiring)
+    (reading : Reading S) (writing : Writing W) (serves : Serves chart wiring) (unbegun : IsUnbegun wiring reading writing) where
+  abbrev first_bytes : HasTaken held has_failed (held writing.out.sink) [] writing.out
+  first_bytes = taken_none writing.out refl unbegun.none_wait unbegun.none_written unbegun.unbroken
+
+  pub stands_first : (run : Run) → IsStarted wiring run.machine → AreSumsOf chart.lines no_cards run.sums → run.sums.cards ≡ 0 → run.last ≡ None
+      → run.count ≡ 0 → Stands left held has_failed chart (start_of left held wiring reading writing) reading run writing
+  stands_first run started sums none last count = record {
+    cards = [];
+    lines = [];
+    fed = (started.machine, refl);
+    net = started.net;
+    sums = (last, sums, none);
+    counted = count;
+    given = unbegun.none_given;
+    well = unbegun.well;
+    read = λ text known. unread left text reading unbegun.nothing_held known;
+    form = unbegun.form;
+    written = record {
+      bytes = subst (λ b. HasTaken held has_failed (held writing.out.sink) b writing.out) (sym (open_none writing.form_lines)) first_bytes;
+      well = unbegun.unbroken;
+      page = unbegun.page;
+      line = unbegun.line;
+    };
+  }
+
+  -- memory is refused at once
+  pub stops_at_once : Stops held has_failed chart (start_of left held wiring reading writing) cause.Memory writing
+  stops_at_once =
+      let form = (form_of chart.lines).lines in
+      let none : IsDeck chart [] = record { valid = All-nil (IsValidCard chart); long = omega arith } in
+      record {
+        cards = [];
+        lines = [];
+        valid = none;
+        read = λ text known. let come = unread left text reading unbegun.nothing_held known in (come.rest, come.is_read, tt);
+        begins = report_begins chart wiring serves [] [] [] (machine_at_start wiring) [] (refl, refl) refl none;
+        stands = λ between. absurd (false≢true between);
+        written = subst (λ b. HasTaken held has_failed (held writing.out.sink) b writing.out) (sym (open_none form)) first_bytes;
+        broken = λ same. cc;
+      }
+
 module _ {S W : Type 0} {left : S → Option (List ℕ)} {held : W → Option (List ℕ)} {has_failed : W → Bool} {chart : Chart} {start : Start}
     {reading : Reading S} {run : Run} {writing : Writing W} (serves : Serves chart start.wiring)
     (stands : Stands left held has_failed chart start reading run writing) where
@@ -159,11 +204,26 @@ module _ {S W : Type 0} {left : S → Option (List ℕ)} {held : W → Option (L
   few_sums = by stands.cards stands.sums deck.long
     where
       by : (cards : List (List ℕ)) → HaveLast chart.lines cards run.last run.sums → length cards ≤ most_cards → run.sums.cards < most_cards
-      by [] have few = omega (arith, have.1.1)
-      by (card ∷ cards) have few = omega (arith, have.1.1, few)
+      by [] have few = omega (arith, have.2)
+      by (card ∷ cards) have few = omega (arith, have.2, few)
 
   pub next_number : reading.given ≡ run.count
   next_number = stands.given ∙ sym stands.counted
+
+  -- what was read next
+  pub next_is : (read_on : Reading S) (next : Option (List ℕ))
+      → ((text : List ℕ) (before : List (List ℕ)) → HasToCome left text before reading → length before ≡ run.count
+      → ReadsOn left text before read_on next)
+      → IfSome next (IsValidCard chart) → read_on.has_failed ≡ false
+      → IfSome next (λ _. (read_on.given ≡ run.count + 1) × (run.count < most_cards)) → IfNone next (IsAtEnd (left read_on.source))
+      → IsNext left chart start stands.cards read_on next
+  next_is read_on next reads valid well room all = record {
+    read = λ text known. reads text stands.cards (stands.read text known) (sym stands.counted);
+    valid = valid;
+    well = well;
+    room = subst (λ n. IfSome next (λ _. (read_on.given ≡ n + 1) × (n < most_cards))) stands.counted room;
+    all = all;
+  }
 
   -- the next card is at fault
   pub stops_at_next : (stopped : StreamCause) → IsOfNext stopped

@@ -6,7 +6,7 @@ use Rattle.std.proofs.lemmas.Bool.{false≢true}
 use Rattle.std.specs.Io.{StartsWith}
 use Rattle.std.specs.Io.KnownBytes.{Appends}
 use Rattle.page_writer.specs.Added.{added_all, line_after, page_after}
-use Rattle.page_writer.specs.Open.{Open}
+use Rattle.page_writer.specs.Open.{Open, bytes_to}
 use Rattle.page_writer.specs.Outgoing.{Breaks, Outgoing, TakesUp}
 use Rattle.page_writer.specs.Writing.{Writing}
 use Rattle.page_writer.proofs.Opens.{open_grows_by_all, order_goes_on}
@@ -22,6 +22,11 @@ begins_shorter bytes one other begins =
     let whole : bytes ≡ one ++ (other ++ rest) =
     sym (take-append-drop (length (one ++ other)) bytes) ∙ ap (λ t. t ++ rest) begins ∙ append_assoc one other rest in
     subst (λ b. StartsWith b one) (sym whole) (take-append_seam one (other ++ rest))
+
+-- nothing is written before the first line
+pub open_none : (form : ℕ) → Open [] form ≡ []
+unfolding bytes_to
+open_none form = refl
 
 -- the parts of bytes one after another
 parts_after : (bytes more old left sent new : List ℕ) → bytes ≡ old ++ left → left ++ more ≡ sent ++ new

@@ -1,6 +1,6 @@
 //! A run over a deck that comes card by card.
 
-ghost use Rattle.std.specs.Prelude.{◌≡◌, ◌×◌, ℕ, List, Some, true, IfErr, IfOk, MatchResult, OnOk};
+ghost use Rattle.std.specs.Prelude.{◌≡◌, ℕ, List, Some, true, IfErr, IfOk, MatchResult, OnOk};
 ghost use Rattle.std.specs.Io.KnownBytes.{Appends, IsAtEnd};
 ghost use Rattle.card_lines.specs.declared.fault.ReadFault.TheVariants as read;
 ghost use Rattle.page_writer.specs.Outgoing.{Breaks, TakesUp};
@@ -42,15 +42,15 @@ fn run_cards<S: Source + Drop, W: Sink + Drop>(
 }
 
 // Stops a run for a cause. What waits is written first; where the sink fails at that, or has failed before, it is told in place of the cause.
-fn stop<W: Sink + Drop>(pages: &mut PageWriter<W>, cause: StreamCause) -> StreamFault
-    ensures bytes { PutsOut W.held W.has_failed cause result pages.old.out pages.new.out }
+fn stop<W: Sink + Drop>(pages: &mut PageWriter<W>, stopped: StreamCause) -> StreamFault
+    ensures bytes { PutsOut W.held W.has_failed stopped result pages.old.out pages.new.out }
     ensures counted { result.written ≡ pages.new.out.written }
     ensures again { pages.old.out.has_failed ≡ true → (result.cause ≡ cause.Write) × (pages.new ≡ pages.old) }
     ensures sink { W.borrow pages.new.out.sink ≡ W.borrow pages.old.out.sink }
 {
     match pages.put_out() {
         Ok(()) => StreamFault {
-            cause,
+            cause: stopped,
             written: pages.written(),
         },
         Err(fault) => fault.into(),
@@ -82,7 +82,7 @@ fn run_pages<S: Source + Drop, W: Sink + Drop>(
             pages.end()?;
             Ok(u64::from(count))
         }
-        Err(cause) => Err(stop(pages, cause)),
+        Err(stopped) => Err(stop(pages, stopped)),
     }
 }
 
