@@ -61,6 +61,14 @@ impl<S: Source + Drop> CardLines<S> {
         }
     }
 
+    /// The source, as it stands. What was read and not given yet is dropped.
+    pub fn into_source(self) -> S
+        ensures { result ≡ self.source }
+    {
+        let CardLines { source, .. } = self;
+        source
+    }
+
     /// The next card, or `None` where no line is left.
     ///
     /// It reads only while it holds no whole line, and none that is surely too long, at most 82 times, and never again after the

@@ -1,0 +1,8 @@
+pub mod Feeding
+mod Ending
+mod LastCards
+mod NextCards
+mod Standing
+mod Steps
+pub mod Streams
+mod Written

@@ -1,0 +1,61 @@
+-- Laws of runs over decks whose cards come one by one.
+use Rattle.std.specs.Prelude.{◌≡◌, ℕ, ◌<◌, ◌≤◌, List, [], ◌∷◌, ◌++◌, Option, Some, None, length, option_to_list}
+use Rattle.card_code.specs.MostCards.{most_cards}
+use Rattle.chart_rules.specs.ValidCard.{IsValidCard}
+use Rattle.charts.specs.Chart.{Chart}
+use Rattle.decks.specs.FitSoFar.{misfits_of_last}
+use Rattle.machine.specs.Feeds.{FedLines, Feeds}
+use Rattle.machine.specs.Machine.{MachineState, machine_at_start}
+use Rattle.machine.specs.Runs.{MachineLines}
+use Rattle.placed_lines.specs.InOrder.{IsInOrder}
+use Rattle.placed_lines.specs.declared.placed_line.PlacedLine.{PlacedLine}
+use Rattle.report.specs.Totals.{Fits}
+use Rattle.setups.specs.Tapes.{IsForm}
+use Rattle.setups.specs.Wiring.{Wiring}
+use Rattle.streamed_runs.specs.Streams.{Streams}
+
+-- A run begins where the machine is fed a valid card.
+abbrev pub StreamsBegin : Type 0
+StreamsBegin =
+    (chart : Chart) (wiring : Wiring) (card : List ℕ) (machine : MachineState) (lines : List PlacedLine)
+    → IsValidCard chart card → Feeds wiring (machine_at_start wiring) (Some card) machine lines
+    → Streams chart wiring card [] machine lines
+
+-- It goes on where the next card is valid and not one too many, the groups that end with the card that waits have no misfit, and the machine
+-- is fed the next card.
+abbrev pub StreamsGoOn : Type 0
+StreamsGoOn =
+    (chart : Chart) (wiring : Wiring) (card : List ℕ) (cards : List (List ℕ)) (machine : MachineState) (lines : List PlacedLine)
+    (next : List ℕ) (new : MachineState) (more : List PlacedLine)
+    → Streams chart wiring card cards machine lines
+    → IsValidCard chart next → length (card ∷ cards) < most_cards
+    → misfits_of_last chart.lines card cards (Some next) ≡ []
+    → Feeds wiring machine (Some next) new more
+    → Streams chart wiring card (cards ++ next ∷ []) new (lines ++ more)
+
+-- It ends where the groups that end with the last card have no misfit and the machine is fed the end: the deck fits, and the lines placed
+-- are those of the machine's run over it.
+abbrev pub StreamsEnd : Type 0
+StreamsEnd =
+    (chart : Chart) (wiring : Wiring) (card : List ℕ) (cards : List (List ℕ)) (machine : MachineState) (lines : List PlacedLine)
+    (new : MachineState) (more : List PlacedLine)
+    → Streams chart wiring card cards machine lines
+    → misfits_of_last chart.lines card cards None ≡ []
+    → Feeds wiring machine None new more
+    → Fits chart.lines (card ∷ cards) × MachineLines wiring (card ∷ cards) (lines ++ more)
+
+-- A machine that is fed the end at once has run over the deck without cards, which fits.
+abbrev pub StreamsMayHaveNoCard : Type 0
+StreamsMayHaveNoCard =
+    (chart : Chart) (wiring : Wiring) (new : MachineState) (lines : List PlacedLine)
+    → Feeds wiring (machine_at_start wiring) None new lines
+    → Fits chart.lines [] × MachineLines wiring [] lines
+
+-- The lines that a feed places come in order after those of the feeds before it, where there are at most 999,999 cards.
+abbrev pub FeedsPlaceInOrder : Type 0
+FeedsPlaceInOrder =
+    (wiring : Wiring) (cards : List (List ℕ)) (next : Option (List ℕ)) (machine new : MachineState) (lines more : List PlacedLine)
+    → IsForm wiring.tape → length (cards ++ option_to_list next) ≤ most_cards
+    → FedLines wiring (machine_at_start wiring) cards machine lines
+    → Feeds wiring machine next new more
+    → IsInOrder wiring.tape.lines (lines ++ more)

@@ -1,0 +1,6 @@
+pub mod Causes
+pub mod HelperStanding
+pub mod Laws
+pub mod Reading
+pub mod Runs
+pub mod Streams

@@ -1,0 +1,125 @@
+//! A run over a deck that comes card by card.
+
+ghost use Rattle.std.specs.Prelude.{◌≡◌, ℕ, List, Some, true, IfErr, IfOk, MatchResult, OnOk};
+ghost use Rattle.std.specs.Io.KnownBytes.{Appends, IsAtEnd};
+ghost use Rattle.card_lines.specs.declared.fault.ReadFault.TheVariants as read;
+ghost use Rattle.page_writer.specs.Outgoing.{Breaks, TakesUp};
+ghost use Rattle.printed_reports.specs.Promises.{BeginsReport, PrintsReport};
+ghost use Rattle.report.specs.ChartForm.{form_of};
+ghost use Rattle.streamed_runs.specs.HelperStanding.{Ends, IsUnbegun, PutsOut, Serves, Stops, start_of};
+ghost use Rattle.streamed_runs.specs.Runs.{HasRun, HasStopped};
+ghost use Rattle.streamed_runs.specs.declared.fault.StreamCause.TheVariants as cause;
+
+use crate::fault::{StreamCause, StreamFault};
+use crate::run::{begin, step};
+use card_lines::CardLines;
+use chart_rules::Chart;
+use devices::{Sink, Source};
+use page_writer::PageWriter;
+use setups::Setup;
+use std::alloc::Global;
+
+// Runs the deck to its end, but for what ends the last page, and tells how many cards there were.
+fn run_cards<S: Source + Drop, W: Sink + Drop>(
+    alloc: Global,
+    chart: &Chart,
+    setup: &Setup,
+    cards: &mut CardLines<S>,
+    pages: &mut PageWriter<W>,
+) -> Result<u32, StreamCause>
+    requires serves { Serves chart.now setup.now }
+    requires unbegun { IsUnbegun setup.now cards.old pages.old }
+    ensures run { MatchResult result
+        (λ count. Ends S.left W.held W.has_failed chart.now (start_of S.left W.held setup.now cards.old pages.old) cards.new count pages.new)
+        (λ stopped. Stops W.held W.has_failed chart.now (start_of S.left W.held setup.now cards.old pages.old) stopped pages.new) }
+    ensures failed { IfErr result (λ fault. (line : ℕ) → fault ≡ cause.Card (read.Read line) → S.has_failed cards.new.source ≡ true) }
+    ensures source { S.borrow cards.new.source ≡ S.borrow cards.old.source }
+    ensures sink { W.borrow pages.new.out.sink ≡ W.borrow pages.old.out.sink }
+{
+    let mut run = begin(alloc, chart, setup)?;
+    while step(chart, cards, &mut run, pages)? {}
+    Ok(run.count)
+}
+
+// Stops a run for a cause. What waits is written first; where the sink fails at that, or has failed before, it is told in place of the cause.
+fn stop<W: Sink + Drop>(pages: &mut PageWriter<W>, stopped: StreamCause) -> StreamFault
+    ensures bytes { PutsOut W.held W.has_failed stopped result pages.old.out pages.new.out }
+    ensures counted { result.written ≡ pages.new.out.written }
+    ensures again { pages.old.out.has_failed ≡ true → (result.cause ≡ cause.Write) × (pages.new ≡ pages.old) }
+    ensures sink { W.borrow pages.new.out.sink ≡ W.borrow pages.old.out.sink }
+{
+    match pages.put_out() {
+        Ok(()) => StreamFault {
+            cause: stopped,
+            written: pages.written(),
+        },
+        Err(fault) => fault.into(),
+    }
+}
+
+// Runs the deck to its end, and ends the pages of its report.
+fn run_pages<S: Source + Drop, W: Sink + Drop>(
+    alloc: Global,
+    chart: &Chart,
+    setup: &Setup,
+    cards: &mut CardLines<S>,
+    pages: &mut PageWriter<W>,
+) -> Result<u64, StreamFault>
+    requires serves { Serves chart.now setup.now }
+    requires unbegun { IsUnbegun setup.now cards.old pages.old }
+    ensures run { IfOk result (λ count. (text : List ℕ) → S.left cards.old.source ≡ Some text → (written : List ℕ)
+        × HasRun chart.now text count written × Appends (W.held pages.old.out.sink) (W.held pages.new.out.sink) written) }
+    ensures all { OnOk result (IsAtEnd (S.left cards.new.source)) }
+    ensures stopped { IfErr result (λ fault. (text : List ℕ) → S.left cards.old.source ≡ Some text → (written : List ℕ)
+        × HasStopped chart.now text fault written × Appends (W.held pages.old.out.sink) (W.held pages.new.out.sink) written) }
+    ensures read { IfErr result (λ fault. (line : ℕ) → fault.cause ≡ cause.Card (read.Read line) → S.has_failed cards.new.source ≡ true) }
+    ensures write { IfErr result (λ fault. fault.cause ≡ cause.Write → W.has_failed pages.new.out.sink ≡ true) }
+    ensures source { S.borrow cards.new.source ≡ S.borrow cards.old.source }
+    ensures sink { W.borrow pages.new.out.sink ≡ W.borrow pages.old.out.sink }
+{
+    match run_cards(alloc, chart, setup, cards, pages) {
+        Ok(count) => {
+            pages.end()?;
+            Ok(u64::from(count))
+        }
+        Err(stopped) => Err(stop(pages, stopped)),
+    }
+}
+
+/// Runs a deck through the machine of a setup that prints the reports of a chart: cards come one by one from the source, and the pages of
+/// their report go to the sink. Answers how many cards there were. Memory is taken for the machine and for the lines of one card alone.
+///
+/// The pages are written in blocks of 8 KB; what waits for its block is written before a fault of a card or of a total is told.
+///
+/// # Errors
+///
+/// The first cause that is met, with the number of bytes written until then. For each card in turn: `Card` where the next one can't be
+/// read, `Invalid` where it is not valid; `Misfit` where a total of a group that ends with the card doesn't fit; `Memory` where a growth
+/// is refused; `Write` where the sink fails, also where it fails to take what waits before another fault is told.
+pub fn run_stream<S: Source, W: Sink>(
+    alloc: Global,
+    chart: &Chart,
+    setup: &Setup,
+    source: &mut S,
+    sink: &mut W,
+) -> Result<u64, StreamFault>
+    requires prints { PrintsReport chart.now setup.now }
+    requires begins { BeginsReport chart.now setup.now }
+    requires form { setup.now.tape.lines ≡ (form_of chart.now.lines).lines }
+    ensures run { IfOk result (λ count. (text : List ℕ) → S.left source.old ≡ Some text → (written : List ℕ)
+        × HasRun chart.now text count written × Appends (W.held sink.old) (W.held sink.new) written) }
+    ensures all { OnOk result (IsAtEnd (S.left source.new)) }
+    ensures stopped { IfErr result (λ fault. (text : List ℕ) → S.left source.old ≡ Some text → (written : List ℕ)
+        × HasStopped chart.now text fault written × Appends (W.held sink.old) (W.held sink.new) written) }
+    ensures read { IfErr result (λ fault. (line : ℕ) → fault.cause ≡ cause.Card (read.Read line) → S.has_failed source.new ≡ true) }
+    ensures write { IfErr result (λ fault. fault.cause ≡ cause.Write → W.has_failed sink.new ≡ true) }
+{
+    // What is known of the lines of every chart is told with them.
+    let _lines = chart.lines();
+    let mut cards = CardLines::new(source);
+    let mut pages = PageWriter::new(sink, u32::from(setup.tape().lines()));
+    let count = run_pages(alloc, chart, setup, &mut cards, &mut pages);
+    let _source = cards.into_source();
+    let _sink = pages.into_sink();
+    count
+}
