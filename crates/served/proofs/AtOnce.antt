@@ -1,5 +1,5 @@
 -- Units in any states can act at once: each point has its picture, and sensing that gives the states before the next point.
-use Rattle.std.proofs.Common.{◌≡◌, ◌∙◌, ap, refl, ℕ, zero, suc, ◌+◌, ◌<◌, Bool}
+use Rattle.std.proofs.Common.{◌≡◌, ◌∙◌, ap, refl, ℕ, zero, suc, ◌+◌, Bool}
 use Rattle.std.proofs.Math.Numerals.{add-one}
 use Rattle.hubs.specs.declared.hub.Hub.{Hub}
 use Rattle.setups.specs.Wiring.{Wiring}
@@ -7,7 +7,7 @@ use Rattle.net.proofs.EachPicture.{each_picture}
 use Rattle.net.specs.Cycles.{point_at}
 use Rattle.net.specs.Impulsed.{IsPicture}
 use Rattle.net.specs.declared.cycle.Cycle.{Cycle}
-use Rattle.served.specs.Laws.{GoesAtOnce, UnitsCanActAtOnce}
+use Rattle.served.specs.Laws.{UnitsCanActAtOnce}
 use Rattle.served.specs.Units.{Kind, all_close, all_emit}
 
 module _ {State : Type 0} (kind : Kind State) (wiring : Wiring) (cycle : Cycle) (count : ℕ) (units : ℕ → State) where

@@ -1,5 +1,5 @@
 -- How many steps each unit has made, and how many all have made.
-use Rattle.std.proofs.Common.{◌≡◌, ◌∙◌, ap, sym, refl, ℕ, zero, suc, ◌+◌, ◌*◌, ◌<◌, ◌≤◌, Bool, true, false, ◌⊎◌, inl, inr, List, [], ◌∷◌, length, subst, arith}
+use Rattle.std.proofs.Common.{◌≡◌, ◌∙◌, ap, sym, refl, ℕ, zero, suc, ◌+◌, ◌*◌, ◌<◌, ◌≤◌, Bool, true, false, inl, inr, List, [], ◌∷◌, length, subst, arith}
 use Rattle.std.proofs.lemmas.Bool.{cases_eq, false≢true}
 use Rattle.setups.specs.Wiring.{Wiring}
 use Rattle.net.specs.declared.cycle.Cycle.{Cycle}
@@ -61,38 +61,38 @@ module _ {State : Type 0} (kind : Kind State) (wiring : Wiring) (cycle : Cycle) 
   within_emission u old new emits within = record {
     places = λ unit is. omega (arith, emits.places unit, within.places unit is);
     emitted = λ unit is on. elim (cases_eq unit u) [
-        | inl self ↦
-            subst (λ (n : ℕ). new.places n < 14) (sym self) (omega (arith, emits.places u, emits.allowed.within))
-        | inr another ↦
-            let before = within.emitted unit is (sym (emits.other_emitted unit another) ∙ on) in
-            omega (arith, emits.places unit, before)
-      ];
+      | inl self ↦
+          subst (λ (n : ℕ). new.places n < 14) (sym self) (omega (arith, emits.places u, emits.allowed.within))
+      | inr another ↦
+          let before = within.emitted unit is (sym (emits.other_emitted unit another) ∙ on) in
+          omega (arith, emits.places unit, before)
+    ];
   }
 
   within_sensing : (u : ℕ) (old new : Served State) → Senses kind wiring cycle count u old new → IsWithin count old
       → IsWithin count new
   within_sensing u old new senses within = record {
     places = λ unit is. elim (cases_eq unit u) [
-        | inl self ↦
-            subst (λ (n : ℕ). new.places n ≤ 14) (sym self) (omega (arith, senses.own_place, senses.allowed.within))
-        | inr another ↦ omega (arith, senses.other_places unit another, within.places unit is)
-      ];
+      | inl self ↦
+          subst (λ (n : ℕ). new.places n ≤ 14) (sym self) (omega (arith, senses.own_place, senses.allowed.within))
+      | inr another ↦ omega (arith, senses.other_places unit another, within.places unit is)
+    ];
     emitted = λ unit is on. elim (cases_eq unit u) [
-        | inl self ↦
-            let silent : new.emitted unit ≡ false = ap new.emitted self ∙ senses.own_emitted in
-            absurd (false≢true (sym silent ∙ on))
-        | inr another ↦
-            let before = within.emitted unit is (sym (senses.other_emitted unit another) ∙ on) in
-            omega (arith, senses.other_places unit another, before)
-      ];
+      | inl self ↦
+          let silent : new.emitted unit ≡ false = ap new.emitted self ∙ senses.own_emitted in
+          absurd (false≢true (sym silent ∙ on))
+      | inr another ↦
+          let before = within.emitted unit is (sym (senses.other_emitted unit another) ∙ on) in
+          omega (arith, senses.other_places unit another, before)
+    ];
   }
 
   grown : (u : ℕ) (old new : Served State) → IsOneMore u old new → (unit : ℕ) → made old unit ≤ made new unit
   grown u old new more unit = elim (cases_eq unit u) [
-      | inl self ↦
-          subst (λ (n : ℕ). made old n ≤ made new n) (sym self) (omega (arith, more.own))
-      | inr another ↦ omega (arith, more.others unit another)
-    ]
+    | inl self ↦
+        subst (λ (n : ℕ). made old n ≤ made new n) (sym self) (omega (arith, more.own))
+    | inr another ↦ omega (arith, more.others unit another)
+  ]
 
   emission_more : (u : ℕ) (old new : Served State) → Emits kind cycle u old new → IsOneMore u old new
   emission_more u old new emits = record {
@@ -149,17 +149,17 @@ module _ {State : Type 0} (kind : Kind State) (wiring : Wiring) (cycle : Cycle) 
   unfolding all_made
   all_made-more zero u old new more is = absurd (omega (arith, is.0, is.1))
   all_made-more (suc n) u old new more is = elim (cases_eq u (suc n)) [
-      | inl top ↦
-          let own : made new (suc n) ≡ made old (suc n) + 1 =
-          subst (λ (m : ℕ). made new m ≡ made old m + 1) top more.own in
-          omega (arith, all_made-same n u old new more (omega (arith, top)), own)
-      | inr below ↦
-          omega (
-            arith,
-            all_made-more n u old new more (is.0, omega (arith, is.1, below)),
-            more.others (suc n) (λ same. below (sym same)),
-          )
-    ]
+    | inl top ↦
+        let own : made new (suc n) ≡ made old (suc n) + 1 =
+        subst (λ (m : ℕ). made new m ≡ made old m + 1) top more.own in
+        omega (arith, all_made-same n u old new more (omega (arith, top)), own)
+    | inr below ↦
+        omega (
+          arith,
+          all_made-more n u old new more (is.0, omega (arith, is.1, below)),
+          more.others (suc n) (λ same. below (sym same)),
+        )
+  ]
 
   pub all_made-by_steps : (steps : List Step) (old new : Served State) → Runs kind wiring cycle count steps old new
       → all_made new count ≡ all_made old count + length steps

@@ -1,16 +1,16 @@
 -- Rounds are steps, and they are few: after each round every unit that is not over has made two more steps, but for one.
-use Rattle.std.proofs.Common.{◌≡◌, ◌∙◌, ap, sym, refl, ℕ, zero, suc, ◌+◌, ◌*◌, ◌<◌, ◌≤◌, Bool, true, false, ◌⊎◌, inl, inr, List, [], ◌∷◌, ◌++◌, All, Contains, length, subst, arith}
+use Rattle.std.proofs.Common.{ap, sym, ℕ, suc, ◌+◌, ◌*◌, ◌<◌, ◌≤◌, ◌⊎◌, inl, inr, List, [], ◌∷◌, ◌++◌, All, Contains, length, subst, arith}
 use Rattle.std.proofs.lemmas.Bool.{cases_eq, cases_lt}
 use Rattle.std.proofs.lemmas.List.Elements.{All-head, All-tail}
 use Rattle.std.proofs.lemmas.Map.Made.{Contains-tail}
 use Rattle.setups.specs.Wiring.{Wiring}
 use Rattle.net.specs.declared.cycle.Cycle.{Cycle}
-use Rattle.served.proofs.Counts.{IsWithin, made, made-more, one_if, one_if-low, one_if-true, within_at_start, within_by_steps}
+use Rattle.served.proofs.Counts.{IsWithin, made, made-more, one_if-true, within_at_start, within_by_steps}
 use Rattle.served.proofs.Progress.{can_step_by_count, over_by_fewest}
 use Rattle.served.specs.Laws.{RoundsAreFew, RoundsAreSteps}
 use Rattle.served.specs.Orders.{NamesAll}
-use Rattle.served.specs.Rounds.{AreStepsOf, Round, Rounds, Turn}
-use Rattle.served.specs.Steps.{AreOver, CanStep, Runs, Served, Starts, Step}
+use Rattle.served.specs.Rounds.{Round, Rounds, Turn}
+use Rattle.served.specs.Steps.{AreOver, Runs, Served, Step}
 use Rattle.served.specs.Units.{IsUnit, Kind}
 
 module _ {State : Type 0} (kind : Kind State) (wiring : Wiring) (cycle : Cycle) (count : ℕ) where
@@ -74,17 +74,17 @@ module _ {State : Type 0} (kind : Kind State) (wiring : Wiring) (cycle : Cycle) 
       → ((other : ℕ) → IsUnit count other → IsAhead rounds old other) → IsAhead (suc rounds) new unit
   unfolding IsAhead
   turn_ahead rounds unit steps old new turn is all = elim (cases_lt (made new unit) 28) [
-      | inr over ↦ inl over
-      | inl low ↦ elim (cases_lt (made new unit + 1) (2 * suc rounds)) [
-          | inr ahead ↦ inr ahead
-          | inl behind ↦
-              absurd (turn.stops (can_step_by_count wiring count new unit is (omega (arith, low))
-              (λ on other is_other.
-              enough_ahead rounds (new.places unit) other new (omega (arith, low))
-              (omega (arith, behind, one_if-true (new.emitted unit) on))
-              (all_ahead_by rounds steps old new turn.taken all other is_other))))
-        ]
+    | inr over ↦ inl over
+    | inl low ↦ elim (cases_lt (made new unit + 1) (2 * suc rounds)) [
+      | inr ahead ↦ inr ahead
+      | inl behind ↦
+          absurd (turn.stops (can_step_by_count wiring count new unit is (omega (arith, low))
+          (λ on other is_other.
+          enough_ahead rounds (new.places unit) other new (omega (arith, low))
+          (omega (arith, behind, one_if-true (new.emitted unit) on))
+          (all_ahead_by rounds steps old new turn.taken all other is_other))))
     ]
+  ]
 
   -- and so does a round for all units of its order
   round_ahead : (rounds : ℕ) (order : List ℕ) (old new : Served State) → Round kind wiring cycle count order old new
@@ -120,17 +120,17 @@ module _ {State : Type 0} (kind : Kind State) (wiring : Wiring) (cycle : Cycle) 
   unfolding Rounds
   few_rounds rounds [] old new names run within all few = omega (arith, few)
   few_rounds rounds (order ∷ orders) old new names run within all few = elim (cases_eq rounds 15) [
-      | inl last ↦
-          absurd (run.1 (over_after old within
-          (subst (λ (n : ℕ). (unit : ℕ) → IsUnit count unit → IsAhead n old unit) last all)))
-      | inr before ↦
-          let first = round_steps order old run.0 run.2 in
-          let rest = few_rounds (suc rounds) orders run.0 new (All-tail (NamesAll count) order orders names) run.3
-          (within_by_steps kind wiring cycle count first.0 old run.0 first.1 within)
-          (λ unit is. round_ahead rounds order old run.0 run.2 all unit is (All-head (NamesAll count) order orders names unit is))
-          (omega (arith, few, before)) in
-          omega (arith, rest)
-    ]
+    | inl last ↦
+        absurd (run.1 (over_after old within
+        (subst (λ (n : ℕ). (unit : ℕ) → IsUnit count unit → IsAhead n old unit) last all)))
+    | inr before ↦
+        let first = round_steps order old run.0 run.2 in
+        let rest = few_rounds (suc rounds) orders run.0 new (All-tail (NamesAll count) order orders names) run.3
+        (within_by_steps kind wiring cycle count first.0 old run.0 first.1 within)
+        (λ unit is. round_ahead rounds order old run.0 run.2 all unit is (All-head (NamesAll count) order orders names unit is))
+        (omega (arith, few, before)) in
+        omega (arith, rest)
+  ]
 
 pub rounds_are_steps : (State : Type 0) → RoundsAreSteps State
 rounds_are_steps State kind wiring cycle count orders start last rounds =

@@ -1,6 +1,6 @@
 -- What a unit senses early is what it would sense late: on the entries that it senses, the picture of what was emitted so far is
 -- the picture of all, where each exit and each contact that may reach them is there already.
-use Rattle.std.proofs.Common.{◌≡◌, refl, ℕ, Bool, true, ◌⊎◌, inl, inr}
+use Rattle.std.proofs.Common.{◌≡◌, refl, ℕ, Bool, true, inl, inr}
 use Rattle.std.proofs.lemmas.Bool.{eq-eqb}
 use Rattle.hubs.specs.declared.hub.Hub.{Hub}
 use Rattle.setups.specs.Wiring.{Wiring}

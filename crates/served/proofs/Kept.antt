@@ -1,21 +1,20 @@
 -- While units run ahead of one another, each that has come to a point stands in the state that it has there where all act at once;
 -- the exits emitted so far and the contacts closed so far at a point are among those of that point, and those of the units that
 -- emitted and came are among them. So each schedule ends as the cycle in which all act at once.
-use Rattle.std.proofs.Common.{◌≡◌, ◌∙◌, ap, sym, refl, ℕ, zero, suc, ◌+◌, ◌<◌, ◌≤◌, ◌||◌, Bool, true, false, ◌⊎◌, inl, inr, List, [], ◌∷◌, subst, arith}
+use Rattle.std.proofs.Common.{◌≡◌, ◌∙◌, ap, sym, refl, ℕ, zero, suc, ◌+◌, ◌<◌, ◌≤◌, Bool, true, false, inl, inr, List, [], ◌∷◌, subst, arith}
 use Rattle.std.proofs.lemmas.Bool.{cases_eq, false≢true, or_cases, or_left, or_right}
 use Rattle.hubs.specs.declared.hub.Hub.{Hub}
 use Rattle.setups.specs.Wiring.{Wiring}
 use Rattle.net.specs.Cycles.{point_at}
-use Rattle.net.specs.Impulsed.{IsImpulsed}
 use Rattle.net.specs.Panel.{owner_of, reader_of}
 use Rattle.net.specs.declared.cycle.Cycle.{Cycle}
 use Rattle.served.proofs.FirstPass.{impulsed_early, impulsed_grows}
 use Rattle.served.proofs.SomeUnit.{some_unit-found, some_unit-holds, states_numbered}
 use Rattle.served.specs.Cycles.{IsAtOnce}
 use Rattle.served.specs.Laws.{SchedulesEndAsAtOnce}
-use Rattle.served.specs.Steps.{AreOver, Emits, HasEmitted, Runs, Senses, Served, Starts, Step, Takes}
+use Rattle.served.specs.Steps.{Emits, HasEmitted, Runs, Senses, Served, Starts, Step, Takes}
 use Rattle.served.specs.Steps.Step.{emission, sensing}
-use Rattle.served.specs.Units.{AgreeOnEntries, IsUnit, KeepsToItsOwn, Kind, all_close, all_emit}
+use Rattle.served.specs.Units.{IsUnit, KeepsToItsOwn, Kind, all_close, all_emit}
 use Rattle.served.specs.Waits.{MayReach}
 
 -- what is kept by each step
@@ -88,11 +87,11 @@ module _ {State : Type 0} (kind : Kind State) (wiring : Wiring) (cycle : Cycle) 
 
     exits_grow : (place : ℕ) (hub : Hub) → place < 14 → old.exits place hub ≡ true → new.exits place hub ≡ true
     exits_grow place hub low on = elim (cases_eq place (old.places u)) [
-        | inl here ↦
-            subst (λ (p : ℕ). old.exits p hub ≡ true → new.exits p hub ≡ true) (sym here)
-            (λ on. emits.own_exits hub ∙ or_left (old.exits (old.places u) hub) _ on) on
-        | inr elsewhere ↦ emits.other_exits place hub low elsewhere ∙ on
-      ]
+      | inl here ↦
+          subst (λ (p : ℕ). old.exits p hub ≡ true → new.exits p hub ≡ true) (sym here)
+          (λ on. emits.own_exits hub ∙ or_left (old.exits (old.places u) hub) _ on) on
+      | inr elsewhere ↦ emits.other_exits place hub low elsewhere ∙ on
+    ]
 
     exits_in_here : (hub : Hub) → new.exits (old.places u) hub ≡ true
         → all_emit kind count (states (old.places u)) cycle (point_at (old.places u)) hub ≡ true
@@ -108,11 +107,11 @@ module _ {State : Type 0} (kind : Kind State) (wiring : Wiring) (cycle : Cycle) 
     exits_in_emission : (place : ℕ) (hub : Hub) → place < 14 → new.exits place hub ≡ true
         → all_emit kind count (states place) cycle (point_at place) hub ≡ true
     exits_in_emission place hub low on = elim (cases_eq place (old.places u)) [
-        | inl here ↦
-            subst (λ (p : ℕ). new.exits p hub ≡ true → all_emit kind count (states p) cycle (point_at p) hub ≡ true)
-            (sym here) (exits_in_here hub) on
-        | inr elsewhere ↦ kept.exits_in place hub low (sym (emits.other_exits place hub low elsewhere) ∙ on)
-      ]
+      | inl here ↦
+          subst (λ (p : ℕ). new.exits p hub ≡ true → all_emit kind count (states p) cycle (point_at p) hub ≡ true)
+          (sym here) (exits_in_here hub) on
+      | inr elsewhere ↦ kept.exits_in place hub low (sym (emits.other_exits place hub low elsewhere) ∙ on)
+    ]
 
     own_held : (place : ℕ) (hub : Hub) → place < 14 → HasEmitted new u place
         → kind.emits (states place u) cycle (point_at place) hub ≡ true → new.exits place hub ≡ true
@@ -132,15 +131,15 @@ module _ {State : Type 0} (kind : Kind State) (wiring : Wiring) (cycle : Cycle) 
     exits_held_emission : (place other : ℕ) (hub : Hub) → place < 14 → IsUnit count other → HasEmitted new other place
         → kind.emits (states place other) cycle (point_at place) hub ≡ true → new.exits place hub ≡ true
     exits_held_emission place other hub low is has on = elim (cases_eq other u) [
-        | inl self ↦
-            subst
-            (λ (n : ℕ). HasEmitted new n place → kind.emits (states place n) cycle (point_at place) hub ≡ true
-            → new.exits place hub ≡ true)
-            (sym self) (own_held place hub low) has on
-        | inr another ↦
-            exits_grow place hub low
-            (kept.exits_held place other hub low is (emitted_before place other another has) on)
-      ]
+      | inl self ↦
+          subst
+          (λ (n : ℕ). HasEmitted new n place → kind.emits (states place n) cycle (point_at place) hub ≡ true
+          → new.exits place hub ≡ true)
+          (sym self) (own_held place hub low) has on
+      | inr another ↦
+          exits_grow place hub low
+          (kept.exits_held place other hub low is (emitted_before place other another has) on)
+    ]
 
     kept_emission : Kept new
     kept_emission = record {
@@ -171,11 +170,11 @@ module _ {State : Type 0} (kind : Kind State) (wiring : Wiring) (cycle : Cycle) 
     all_emitted : (entry : Hub) → reader_of entry ≡ u → (other : ℕ) → IsUnit count other → MayReach wiring other entry
         → HasEmitted old other (old.places u)
     all_emitted entry read other is reach = elim (cases_eq other u) [
-        | inl self ↦ inr (ap old.places self, ap old.emitted self ∙ senses.allowed.emitted)
-        | inr another ↦
-            senses.allowed.waited other is
-            (record { another = another; entry = entry; sensed = read; reached = reach })
-      ]
+      | inl self ↦ inr (ap old.places self, ap old.emitted self ∙ senses.allowed.emitted)
+      | inr another ↦
+          senses.allowed.waited other is
+          (record { another = another; entry = entry; sensed = read; reached = reach })
+    ]
 
     all_came : (other place : ℕ) → HasEmitted old other place → place ≤ old.places other
     all_came other place (inl before) = omega (arith, before)
@@ -227,26 +226,26 @@ module _ {State : Type 0} (kind : Kind State) (wiring : Wiring) (cycle : Cycle) 
 
     as_there_sensing : (unit : ℕ) → IsUnit count unit → new.units unit ≡ states (new.places unit) unit
     as_there_sensing unit is = elim (cases_eq unit u) [
-        | inl self ↦
-            subst (λ (n : ℕ). new.units n ≡ states (new.places n) n) (sym self)
-            (sensed_there ∙ ap (λ (p : ℕ). states p u) (sym senses.own_place))
-        | inr another ↦
-            senses.other_units unit another ∙ kept.as_there unit is
-            ∙ ap (λ (p : ℕ). states p unit) (sym (senses.other_places unit another))
-      ]
+      | inl self ↦
+          subst (λ (n : ℕ). new.units n ≡ states (new.places n) n) (sym self)
+          (sensed_there ∙ ap (λ (p : ℕ). states p u) (sym senses.own_place))
+      | inr another ↦
+          senses.other_units unit another ∙ kept.as_there unit is
+          ∙ ap (λ (p : ℕ). states p unit) (sym (senses.other_places unit another))
+    ]
 
     places_sensing : (unit : ℕ) → IsUnit count unit → new.places unit ≤ 14
     places_sensing unit is = elim (cases_eq unit u) [
-        | inl self ↦
-            subst (λ (n : ℕ). new.places n ≤ 14) (sym self) (omega (arith, senses.own_place, senses.allowed.within))
-        | inr another ↦ omega (arith, senses.other_places unit another, kept.places unit is)
-      ]
+      | inl self ↦
+          subst (λ (n : ℕ). new.places n ≤ 14) (sym self) (omega (arith, senses.own_place, senses.allowed.within))
+      | inr another ↦ omega (arith, senses.other_places unit another, kept.places unit is)
+    ]
 
     own_emitted_before : (place : ℕ) → HasEmitted new u place → HasEmitted old u place
     own_emitted_before place (inl before) = elim (cases_eq place (old.places u)) [
-        | inl here ↦ inr (sym here, senses.allowed.emitted)
-        | inr elsewhere ↦ inl (omega (arith, before, senses.own_place, elsewhere))
-      ]
+      | inl here ↦ inr (sym here, senses.allowed.emitted)
+      | inr elsewhere ↦ inl (omega (arith, before, senses.own_place, elsewhere))
+    ]
     own_emitted_before place (inr here) = absurd (false≢true (sym senses.own_emitted ∙ here.1))
 
     other_emitted_before : (place other : ℕ) → (other ≡ u → ⊥) → HasEmitted new other place → HasEmitted old other place
@@ -256,10 +255,10 @@ module _ {State : Type 0} (kind : Kind State) (wiring : Wiring) (cycle : Cycle) 
 
     all_emitted_before : (place other : ℕ) → HasEmitted new other place → HasEmitted old other place
     all_emitted_before place other has = elim (cases_eq other u) [
-        | inl self ↦
-            subst (λ (n : ℕ). HasEmitted new n place → HasEmitted old n place) (sym self) (own_emitted_before place) has
-        | inr another ↦ other_emitted_before place other another has
-      ]
+      | inl self ↦
+          subst (λ (n : ℕ). HasEmitted new n place → HasEmitted old n place) (sym self) (own_emitted_before place) has
+      | inr another ↦ other_emitted_before place other another has
+    ]
 
     closes_there : (hub : Hub)
         → kind.closes (new.units u) cycle (point_at (old.places u + 1)) hub
@@ -268,11 +267,11 @@ module _ {State : Type 0} (kind : Kind State) (wiring : Wiring) (cycle : Cycle) 
 
     closed_grow : (place : ℕ) (hub : Hub) → place < 14 → old.closed place hub ≡ true → new.closed place hub ≡ true
     closed_grow place hub low on = elim (cases_eq place (old.places u + 1)) [
-        | inl here ↦
-            subst (λ (p : ℕ). p < 14 → old.closed p hub ≡ true → new.closed p hub ≡ true) (sym here)
-            (λ low on. senses.own_closed hub low ∙ or_left (old.closed (old.places u + 1) hub) _ on) low on
-        | inr elsewhere ↦ senses.other_closed place hub low elsewhere ∙ on
-      ]
+      | inl here ↦
+          subst (λ (p : ℕ). p < 14 → old.closed p hub ≡ true → new.closed p hub ≡ true) (sym here)
+          (λ low on. senses.own_closed hub low ∙ or_left (old.closed (old.places u + 1) hub) _ on) low on
+      | inr elsewhere ↦ senses.other_closed place hub low elsewhere ∙ on
+    ]
 
     closed_in_here : (hub : Hub) → old.places u + 1 < 14 → new.closed (old.places u + 1) hub ≡ true
         → all_close kind count (states (old.places u + 1)) cycle (point_at (old.places u + 1)) hub ≡ true
@@ -288,40 +287,40 @@ module _ {State : Type 0} (kind : Kind State) (wiring : Wiring) (cycle : Cycle) 
     closed_in_sensing : (place : ℕ) (hub : Hub) → place < 14 → new.closed place hub ≡ true
         → all_close kind count (states place) cycle (point_at place) hub ≡ true
     closed_in_sensing place hub low on = elim (cases_eq place (old.places u + 1)) [
-        | inl here ↦
-            subst
-            (λ (p : ℕ). p < 14 → new.closed p hub ≡ true → all_close kind count (states p) cycle (point_at p) hub ≡ true)
-            (sym here) (closed_in_here hub) low on
-        | inr elsewhere ↦ kept.closed_in place hub low (sym (senses.other_closed place hub low elsewhere) ∙ on)
-      ]
+      | inl here ↦
+          subst
+          (λ (p : ℕ). p < 14 → new.closed p hub ≡ true → all_close kind count (states p) cycle (point_at p) hub ≡ true)
+          (sym here) (closed_in_here hub) low on
+      | inr elsewhere ↦ kept.closed_in place hub low (sym (senses.other_closed place hub low elsewhere) ∙ on)
+    ]
 
     own_closed_held : (place : ℕ) (hub : Hub) → place < 14 → place ≤ new.places u
         → kind.closes (states place u) cycle (point_at place) hub ≡ true → new.closed place hub ≡ true
     own_closed_held place hub low came on = elim (cases_eq place (old.places u + 1)) [
-        | inl here ↦
-            subst
-            (λ (p : ℕ). p < 14 → kind.closes (states p u) cycle (point_at p) hub ≡ true → new.closed p hub ≡ true)
-            (sym here)
-            (λ low on.
-            senses.own_closed hub low ∙ or_right (old.closed (old.places u + 1) hub) _ (closes_there hub ∙ on))
-            low on
-        | inr elsewhere ↦
-            closed_grow place hub low
-            (kept.closed_held place u hub low is_u (omega (arith, came, senses.own_place, elsewhere)) on)
-      ]
+      | inl here ↦
+          subst
+          (λ (p : ℕ). p < 14 → kind.closes (states p u) cycle (point_at p) hub ≡ true → new.closed p hub ≡ true)
+          (sym here)
+          (λ low on.
+          senses.own_closed hub low ∙ or_right (old.closed (old.places u + 1) hub) _ (closes_there hub ∙ on))
+          low on
+      | inr elsewhere ↦
+          closed_grow place hub low
+          (kept.closed_held place u hub low is_u (omega (arith, came, senses.own_place, elsewhere)) on)
+    ]
 
     closed_held_sensing : (place other : ℕ) (hub : Hub) → place < 14 → IsUnit count other → place ≤ new.places other
         → kind.closes (states place other) cycle (point_at place) hub ≡ true → new.closed place hub ≡ true
     closed_held_sensing place other hub low is came on = elim (cases_eq other u) [
-        | inl self ↦
-            subst
-            (λ (n : ℕ). place ≤ new.places n → kind.closes (states place n) cycle (point_at place) hub ≡ true
-            → new.closed place hub ≡ true)
-            (sym self) (own_closed_held place hub low) came on
-        | inr another ↦
-            closed_grow place hub low
-            (kept.closed_held place other hub low is (omega (arith, came, senses.other_places other another)) on)
-      ]
+      | inl self ↦
+          subst
+          (λ (n : ℕ). place ≤ new.places n → kind.closes (states place n) cycle (point_at place) hub ≡ true
+          → new.closed place hub ≡ true)
+          (sym self) (own_closed_held place hub low) came on
+      | inr another ↦
+          closed_grow place hub low
+          (kept.closed_held place other hub low is (omega (arith, came, senses.other_places other another)) on)
+    ]
 
     kept_sensing : Kept new
     kept_sensing = record {

@@ -1,24 +1,23 @@
 -- While the cycle is not over for all, some unit can step: the one that has made the fewest steps.
-use Rattle.std.proofs.Common.{◌≡◌, ◌∙◌, ap, sym, refl, ℕ, zero, suc, ◌+◌, ◌*◌, ◌<◌, ◌≤◌, Bool, true, false, ◌⊎◌, inl, inr, List, subst, arith}
+use Rattle.std.proofs.Common.{◌≡◌, sym, refl, ℕ, zero, suc, ◌+◌, ◌*◌, ◌<◌, ◌≤◌, Bool, true, false, ◌⊎◌, inl, inr, subst, arith}
 use Rattle.std.proofs.lemmas.Bool.{cases_eq, cases_lt}
 use Rattle.setups.specs.Wiring.{Wiring}
-use Rattle.net.specs.declared.cycle.Cycle.{Cycle}
 use Rattle.served.proofs.Counts.{IsWithin, made, one_if, one_if-low, one_if-some, one_if-true, within_at_start, within_by_steps}
 use Rattle.served.specs.Laws.{SomeUnitCanStep}
-use Rattle.served.specs.Steps.{AreOver, CanStep, HasEmitted, MayEmit, MaySense, Runs, Served, Starts, Step}
-use Rattle.served.specs.Units.{IsUnit, Kind}
+use Rattle.served.specs.Steps.{AreOver, CanStep, HasEmitted, Served}
+use Rattle.served.specs.Units.{IsUnit}
 
 -- a unit that has made as many steps as place and emission say, or more, has emitted at the place
 pub emitted_by_count : {State : Type 0} (served : Served State) (unit place : ℕ) → 2 * place + 1 ≤ made served unit
     → HasEmitted served unit place
 emitted_by_count served unit place enough = elim (cases_lt place (served.places unit)) [
-    | inl before ↦ inl before
-    | inr after ↦
-        let low = one_if-low (served.emitted unit) in
-        let here : served.places unit ≡ place = omega (arith, after, enough, low) in
-        let some : 1 ≤ one_if (served.emitted unit) = omega (arith, here, enough) in
-        inr (here, one_if-some (served.emitted unit) some)
-  ]
+  | inl before ↦ inl before
+  | inr after ↦
+      let low = one_if-low (served.emitted unit) in
+      let here : served.places unit ≡ place = omega (arith, after, enough, low) in
+      let some : 1 ≤ one_if (served.emitted unit) = omega (arith, here, enough) in
+      inr (here, one_if-some (served.emitted unit) some)
+]
 
 -- a unit whose cycle is not over can step, where no other has made fewer steps by more than it takes
 pub can_step_by_count : {State : Type 0} (wiring : Wiring) (count : ℕ) (served : Served State) (unit : ℕ) → IsUnit count unit
@@ -55,23 +54,23 @@ fewest_of served (suc count) =
     let below = fewest_of served count in
     elim (cases_lt (made served below.unit) (made served (suc (suc count)))) [
       | inl less ↦ record {
-          unit = below.unit;
-          is_unit = (below.is_unit.0, omega (arith, below.is_unit.1));
-          fewest = λ other is. elim (cases_eq other (suc (suc count))) [
-              | inl same ↦
-                  subst (λ (n : ℕ). made served below.unit ≤ made served n) (sym same) (omega (arith, less))
-              | inr lower ↦ below.fewest other (is.0, omega (arith, is.1, lower))
-            ];
-        }
+        unit = below.unit;
+        is_unit = (below.is_unit.0, omega (arith, below.is_unit.1));
+        fewest = λ other is. elim (cases_eq other (suc (suc count))) [
+          | inl same ↦
+              subst (λ (n : ℕ). made served below.unit ≤ made served n) (sym same) (omega (arith, less))
+          | inr lower ↦ below.fewest other (is.0, omega (arith, is.1, lower))
+        ];
+      }
       | inr more ↦ record {
-          unit = suc (suc count);
-          is_unit = (omega arith, omega arith);
-          fewest = λ other is. elim (cases_eq other (suc (suc count))) [
-              | inl same ↦
-                  subst (λ (n : ℕ). made served (suc (suc count)) ≤ made served n) (sym same) (omega arith)
-              | inr lower ↦ omega (arith, more, below.fewest other (is.0, omega (arith, is.1, lower)))
-            ];
-        }
+        unit = suc (suc count);
+        is_unit = (omega arith, omega arith);
+        fewest = λ other is. elim (cases_eq other (suc (suc count))) [
+          | inl same ↦
+              subst (λ (n : ℕ). made served (suc (suc count)) ≤ made served n) (sym same) (omega arith)
+          | inr lower ↦ omega (arith, more, below.fewest other (is.0, omega (arith, is.1, lower)))
+        ];
+      }
     ]
 
 -- where it is over for the unit with the fewest steps, it is over for all
@@ -90,7 +89,7 @@ some_step wiring (suc count) now within =
           inr (
             few.unit,
             can_step_by_count wiring (suc count) now few.unit few.is_unit low
-            (λ on other is. omega (arith, few.fewest other is, one_if-true (now.emitted few.unit) on)),
+                (λ on other is. omega (arith, few.fewest other is, one_if-true (now.emitted few.unit) on)),
           )
       | inr over ↦
           inl (over_by_fewest (suc count) now within (made now few.unit) (omega (arith, over)) few.fewest)

@@ -1,5 +1,5 @@
 -- Some unit passes a test; and units keep their numbers through a cycle.
-use Rattle.std.proofs.Common.{◌≡◌, ◌∙◌, ap, sym, ℕ, zero, suc, ◌+◌, ◌<◌, ◌≤◌, ◌||◌, Bool, true, false, ◌⊎◌, inl, inr, subst, arith}
+use Rattle.std.proofs.Common.{◌≡◌, ◌∙◌, ap, sym, ℕ, zero, suc, ◌≤◌, Bool, true, inl, inr, arith}
 use Rattle.std.proofs.Math.Numerals.{add-one}
 use Rattle.std.proofs.lemmas.Bool.{cases_eq, false≢true, or_cases, or_left, or_right}
 use Rattle.setups.specs.Wiring.{Wiring}
@@ -19,22 +19,22 @@ pub some_unit-found : (test : ℕ → Bool) (count : ℕ) → some_unit test cou
 unfolding some_unit
 some_unit-found test zero on = absurd (false≢true on)
 some_unit-found test (suc count) on = elim (or_cases (some_unit test count) (test (suc count)) on) [
-    | inl below ↦
-        let found = some_unit-found test count below in
-        record { unit = found.unit; is_unit = (found.is_unit.0, omega (arith, found.is_unit.1)); passes = found.passes }
-    | inr top ↦ record { unit = suc count; is_unit = (omega arith, omega arith); passes = top }
-  ]
+  | inl below ↦
+      let found = some_unit-found test count below in
+      record { unit = found.unit; is_unit = (found.is_unit.0, omega (arith, found.is_unit.1)); passes = found.passes }
+  | inr top ↦ record { unit = suc count; is_unit = (omega arith, omega arith); passes = top }
+]
 
 -- and where there is one, some unit does
 pub some_unit-holds : (test : ℕ → Bool) (count unit : ℕ) → IsUnit count unit → test unit ≡ true → some_unit test count ≡ true
 unfolding some_unit
 some_unit-holds test zero unit is on = absurd (omega (arith, is.0, is.1))
 some_unit-holds test (suc count) unit is on = elim (cases_eq unit (suc count)) [
-    | inl same ↦ or_right (some_unit test count) (test (suc count)) (ap test (sym same) ∙ on)
-    | inr other ↦
-        or_left (some_unit test count) (test (suc count))
-        (some_unit-holds test count unit (is.0, omega (arith, other, is.1)) on)
-  ]
+  | inl same ↦ or_right (some_unit test count) (test (suc count)) (ap test (sym same) ∙ on)
+  | inr other ↦
+      or_left (some_unit test count) (test (suc count))
+      (some_unit-holds test count unit (is.0, omega (arith, other, is.1)) on)
+]
 
 -- each unit stands in a state of its number through the whole cycle
 pub states_numbered :
