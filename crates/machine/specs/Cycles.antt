@@ -1,15 +1,14 @@
 -- A cycle of the machine. At each of its fourteen points all units emit by their states, wires and closed contacts make of that
 -- the picture of the impulsed hubs, and all units sense it. After the last point every unit ends the cycle.
-use Rattle.std.specs.Prelude.{◌≡◌, ℕ, zero, suc, Bool, List, slice_index_or}
+use Rattle.std.specs.Prelude.{◌≡◌, ℕ, zero, suc, Bool, List}
 pub use Rattle.placed_lines.specs.Lines.{line_at}
 use Rattle.placed_lines.specs.declared.placed_line.PlacedLine.{PlacedLine}
 use Rattle.setups.specs.Wiring.{Wiring}
 use Rattle.hubs.specs.declared.hub.Hub.{Hub}
-use Rattle.net.specs.Cycles.{points}
+pub use Rattle.net.specs.Cycles.{point_at}
 use Rattle.net.specs.Impulsed.{IsPicture}
 use Rattle.net.specs.declared.cycle.Cycle.{Cycle}
 use Rattle.net.specs.declared.cycle.Point.{Point}
-use Rattle.net.specs.declared.cycle.Point.TheVariants.{K}
 use Rattle.machine.specs.Machine.{MachineState, emits, closes, sensed, ended}
 
 -- One point: there is the picture of what the units emit by the states before it, and they sense that picture.
@@ -17,10 +16,6 @@ pub record PointStep (wiring : Wiring) (cycle : Cycle) (point : Point) (old new 
   pub picture : Hub → Bool
   pub is_picture : IsPicture wiring (emits old cycle point) (closes old cycle point) picture
   pub is_new : new ≡ sensed old cycle point picture
-
--- the point with this place in a cycle, 0 to 13
-abbrev pub point_at : ℕ → Point
-point_at place = slice_index_or points place K
 
 -- the machine before the point with this place is reached from that before the cycle by the points in between
 unfoldable pub Reached : Wiring → Cycle → ℕ → MachineState → MachineState → Type 0

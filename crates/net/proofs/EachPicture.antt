@@ -99,6 +99,18 @@ contact_in_range from (CSZ split) n is numbered =
     exit_numbered 912 1782 n _ (same_common (CSE split) from n is numbered)
 contact_in_range from other n is numbered = cc
 
+-- an impulsed hub is a hub of the panel
+pub impulsed_in_range : (wiring : Wiring) (exits closed : Hub → Bool) {hub : Hub} → IsImpulsed wiring exits closed hub
+    → is_hub_in_range hub ≡ true
+impulsed_in_range wiring exits closed impulsed =
+    impulsed_within wiring exits closed is_hub_in_range (λ hub there emits. there) leads_within impulsed
+  where
+    leads_within : (from to : Hub) → is_hub_in_range from ≡ true → LeadsOn wiring closed from to → is_hub_in_range to ≡ true
+    leads_within from to there (inl wire) = in_range to wire.to wire.entry_numbered
+    leads_within from to there (inr contact) =
+        let number = number_in_range (number_of from) there in
+        contact_in_range from to number.0 contact.0 number.1
+
 same_place : (one other : ℕ) → ◌≡◌ {A = Option ℕ} (Some (one + 1)) (Some (other + 1)) → one ≡ other
 same_place one other same = let numbers = same_Some _ _ same in omega (arith, numbers)
 

@@ -1,5 +1,5 @@
 -- Cycles and points: the numbers of levels and of the three cycles of a kind, and the fourteen points in their order.
-use Rattle.std.specs.Prelude.{ℕ, Bool, true, false, List, [], ◌∷◌}
+use Rattle.std.specs.Prelude.{ℕ, Bool, true, false, List, [], ◌∷◌, slice_index_or}
 use Rattle.card_code.specs.declared.row.Row.TheVariants as row
 use Rattle.net.specs.declared.cycle.ProgramLevel.{ProgramLevel}
 use Rattle.net.specs.declared.cycle.ProgramLevel.TheVariants.{Minor, Intermediate, Major, Final}
@@ -32,3 +32,7 @@ abbrev pub points : List Point
 points =
     C ∷ Row row.Nine ∷ Row row.Eight ∷ Row row.Seven ∷ Row row.Six ∷ Row row.Five ∷ Row row.Four ∷ Row row.Three
     ∷ Row row.Two ∷ Row row.One ∷ Row row.Zero ∷ Row row.Eleven ∷ Row row.Twelve ∷ K ∷ []
+
+-- the point with this place in a cycle, 0 to 13
+abbrev pub point_at : ℕ → Point
+point_at place = slice_index_or points place K

@@ -1,4 +1,4 @@
 pub mod CycleLemmas
-mod OwnHubs
+pub mod OwnHubs
 pub mod StorageLemmas
 pub mod WordLemmas
