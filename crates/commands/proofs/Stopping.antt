@@ -1,5 +1,5 @@
 -- Why commands stop, and which status each cause has.
-use Rattle.std.proofs.Common.{◌≡◌, ◌≢◌, ◌⊎◌, inl, inr, ap, ◌∙◌, sym, subst, arith, refl, ℕ, List, Result, Ok, Err}
+use Rattle.std.proofs.Common.{◌≡◌, ◌≢◌, ◌⊎◌, inl, inr, ap, ◌∙◌, sym, subst, arith, ℕ, Bool, List, Option, Result, Ok, Err}
 use Rattle.std.specs.Prelude.{IfErr}
 use Rattle.card_code.specs.declared.deck.DeckFault.{DeckFault}
 use Rattle.commands.specs.Refusals.{Refuses, RefusesChart, RefusesDeck, RefusesReplay, RefusesRun, cards, chart, punches, wires}
@@ -7,6 +7,7 @@ use Rattle.commands.specs.Served.{Stops, deck_unread, memory_wanting, output_unw
 use Rattle.commands.specs.declared.command.Command.{Command}
 use Rattle.commands.specs.declared.command.Command.TheVariants as command
 use Rattle.faults.proofs.Statuses.{chart_status, deck_status, memory_or_not, run_status, wiring_status}
+use Rattle.faults.specs.Lines.{IsTold}
 use Rattle.faults.specs.Status.{status_of}
 use Rattle.faults.specs.Told.{chart_told, deck_told, run_told, wiring_told}
 use Rattle.faults.specs.declared.fault.Fault.{Fault}
@@ -85,3 +86,28 @@ pub stops_for_deck : {X : Type 0} (result : Result X Fault) (unreadable : Fault)
     → IfErr result (λ told. (any : Fault) → Stops told any Unprinted) → IfErr result (λ told. Stops told unreadable Unprinted)
 stops_for_deck (Ok _) unreadable Unprinted stops = tt
 stops_for_deck (Err _) unreadable Unprinted stops = stops unreadable
+
+-- which line is told by the status of what stopped a command
+module _ (told unreadable : Fault) (Unprinted : Type 0) (status : ℕ) (is_told : Bool) (old new : Option (List ℕ))
+    (stops : Stops told unreadable Unprinted) (is_status : status ≡ status_of told) (line : IsTold told is_told old new) where
+  line_of_cause : (cause : Fault) → told ≡ cause → IsTold cause is_told old new
+  line_of_cause cause is = subst (λ (of : Fault). IsTold of is_told old new) is line
+
+  pub told_of_device : status_of unreadable ≡ 4 → status ≡ 4
+      → (Unprinted × IsTold unreadable is_told old new) ⊎ IsTold fault.Write is_told old new
+  told_of_device path four = by stops
+    where
+      by : Stops told unreadable Unprinted → (Unprinted × IsTold unreadable is_told old new) ⊎ IsTold fault.Write is_told old new
+      by (texts_refused three unprinted) = absurd (omega (arith, is_status, three, four))
+      by (deck_unread is unprinted) = inl (unprinted, line_of_cause unreadable is)
+      by (output_unwritten is) = inr (line_of_cause fault.Write is)
+      by (memory_wanting is) = absurd (omega (arith, is_status, ap status_of is, four))
+
+  pub told_of_memory : status_of unreadable ≡ 4 → status ≡ 5 → IsTold fault.Memory is_told old new
+  told_of_memory path five = by stops
+    where
+      by : Stops told unreadable Unprinted → IsTold fault.Memory is_told old new
+      by (texts_refused three unprinted) = absurd (omega (arith, is_status, three, five))
+      by (deck_unread is unprinted) = absurd (omega (arith, is_status, ap status_of is, path, five))
+      by (output_unwritten is) = absurd (omega (arith, is_status, ap status_of is, five))
+      by (memory_wanting is) = line_of_cause fault.Memory is
