@@ -126,7 +126,7 @@ fn write_told<W: Write>(alloc: Global, out: &mut W) -> Result<()> {
     };
     for fault in [Fault::from(splits), Fault::Memory] {
         let mut told = Vec::new(alloc);
-        let status = tell(&fault, &mut told);
+        let status = tell(&fault, &mut told).status;
         out.write_all(told.as_slice())?;
         writeln!(out, "status {status}")?;
     }

@@ -2,3 +2,4 @@ mod Division
 mod Exclusions
 mod Outcomes
 mod Refusing
+mod Stopping

@@ -2,7 +2,8 @@
 //!
 //! [`serve`] does one command: it checks a planning chart, wires it or runs a deck through it, or replays a deck through a wiring chart.
 //! [`chart_and_deck`] divides a text that has both, as standard input does. Why a command was not carried out is a [`Fault`] of the
-//! crate `faults`, whose [`tell`] writes it on one line; its status is the program's. The crate stands on the compiler's calls, the machine
+//! crate `faults`, whose [`tell`] writes it on one line; its status is the program's. [`serve_to_end`] answers beside the status whether
+//! that line was written whole, so its contract says which line that is. The crate stands on the compiler's calls, the machine
 //! and wiring charts, and on `tokens` for what a line END is. The program above it reads the words and opens the files.
 #![tactic(auto)]
 
@@ -15,7 +16,7 @@ mod serving;
 
 pub use answers::{check, pages, replayed, wiring_chart};
 pub use command::Command;
-pub use faults::{Fault, tell, unprinted, write_line};
+pub use faults::{Ending, Fault, tell, unprinted, write_line};
 pub use input::{chart_and_deck, read_whole};
 pub use laws::answered_texts_are_not_refused;
-pub use serving::serve;
+pub use serving::{serve, serve_to_end};

@@ -1,15 +1,16 @@
 //! One command, over any reader and writers.
 
-ghost use Rattle.std.specs.Prelude.{◌≡◌, ℕ, List, Option, IfErr, OnOk};
+ghost use Rattle.std.specs.Prelude.{◌≡◌, ◌≢◌, ◌≤◌, ◌⊎◌, ℕ, List, Option, IfErr, OnOk};
 ghost use Rattle.commands.specs.Commands.{IsNoCommand, word_of};
-ghost use Rattle.commands.specs.Served.{IsDone, IsRefused};
+ghost use Rattle.commands.specs.Served.{IsDone, IsRefused, Stops};
+ghost use Rattle.faults.specs.Lines.{IsTold};
 ghost use Rattle.faults.specs.Status.{status_of};
 
 use crate::answers::{check, pages, replayed, wiring_chart};
 use crate::command::Command;
 use crate::input::read_whole;
 use crate::output::put;
-use faults::{Fault, tell};
+use faults::{Ending, Fault, tell};
 use std::alloc::Global;
 use std::io::{Read, Write};
 use wire_chart::read_setup;
@@ -20,6 +21,7 @@ fn serve_check<'a, W: Write>(alloc: Global, text: &[u8], out: &mut W) -> Result<
         → IsDone Command.Check text.now deck (W.contents out.old) (W.contents out.new)) }
     ensures refused { IfErr result (λ told. status_of told ≡ 3
         → ((deck : Option (List ℕ)) → IsRefused Command.Check text.now deck told) × (out.new ≡ out.old)) }
+    ensures stopped { IfErr result (λ told. (unreadable : Fault) → Stops told unreadable (out.new ≡ out.old)) }
 {
     check(alloc, text)?;
     put(out, b"ok\n")
@@ -31,6 +33,7 @@ fn serve_wire<'a, W: Write>(alloc: Global, text: &[u8], out: &mut W) -> Result<(
         → IsDone Command.Wire text.now deck (W.contents out.old) (W.contents out.new)) }
     ensures refused { IfErr result (λ told. status_of told ≡ 3
         → ((deck : Option (List ℕ)) → IsRefused Command.Wire text.now deck told) × (out.new ≡ out.old)) }
+    ensures stopped { IfErr result (λ told. (unreadable : Fault) → Stops told unreadable (out.new ≡ out.old)) }
 {
     let written = wiring_chart(alloc, text)?;
     put(out, written.as_bytes())
@@ -47,6 +50,7 @@ fn serve_run<'a, R: Read + Drop, W: Write>(
     ensures done { OnOk result (IsDone Command.Run text.now (R.remaining deck) (W.contents out.old) (W.contents out.new)) }
     ensures refused { IfErr result (λ told. status_of told ≡ 3
         → IsRefused Command.Run text.now (R.remaining deck) told × (out.new ≡ out.old)) }
+    ensures stopped { IfErr result (λ told. Stops told (Fault.File path.entry) (out.new ≡ out.old)) }
 {
     let bytes = read_whole(alloc, deck, path)?;
     let printed = pages(alloc, text, bytes.as_slice())?;
@@ -64,6 +68,7 @@ fn serve_replay<'a, R: Read + Drop, W: Write>(
     ensures done { OnOk result (IsDone Command.Replay text.now (R.remaining deck) (W.contents out.old) (W.contents out.new)) }
     ensures refused { IfErr result (λ told. status_of told ≡ 3
         → IsRefused Command.Replay text.now (R.remaining deck) told × (out.new ≡ out.old)) }
+    ensures stopped { IfErr result (λ told. Stops told (Fault.File path.entry) (out.new ≡ out.old)) }
 {
     match read_whole(alloc, deck, path) {
         Ok(bytes) => {
@@ -89,6 +94,7 @@ fn carry_out<'a, R: Read + Drop, W: Write>(
     ensures done { OnOk result (IsDone command text.now (R.remaining deck) (W.contents out.old) (W.contents out.new)) }
     ensures refused { IfErr result (λ told. status_of told ≡ 3
         → IsRefused command text.now (R.remaining deck) told × (out.new ≡ out.old)) }
+    ensures stopped { IfErr result (λ told. Stops told (Fault.File path.entry) (out.new ≡ out.old)) }
 {
     match command {
         Command::Check => serve_check(alloc, text, out),
@@ -98,13 +104,50 @@ fn carry_out<'a, R: Read + Drop, W: Write>(
     }
 }
 
-/// Does one command and answers the program's status.
+/// Does one command, and tells on one line of `faults` why it was not carried out.
 ///
 /// The command is `check`, which compiles the chart `text` and prints `ok`, `wire`, which prints its wiring chart, `run`,
 /// which prints the pages of the deck, or `replay`, which prints the pages that the machine wired as the wiring chart `text` says
-/// prints of the deck, whatever is on its cards. By any other word nothing is read and nothing printed. A fault is told on one line
-/// of `faults`; `path` names the deck in it. By `replay` a fault of the wiring chart is told before one of the deck. The statuses are 0
-/// done, 2 no such command, 3 refused input, 4 file fault, 5 memory.
+/// prints of the deck, whatever is on its cards. By any other word nothing is read and nothing printed. `path` names the deck in what is
+/// told of it. By `replay` a fault of the wiring chart is told before one of the deck. The statuses are 0 done, and then nothing is told,
+/// 2 no such command, 3 refused input, 4 file fault, 5 memory. Nothing is printed by the statuses 2 and 3, nor where the deck can't be
+/// read; where the output can't be written or memory runs out, a part of the answer may have been.
+pub fn serve_to_end<R: Read + Drop, W: Write, V: Write>(
+    alloc: Global,
+    command: &str,
+    text: &[u8],
+    path: &str,
+    deck: R,
+    out: &mut W,
+    faults: &mut V,
+) -> Ending
+    ensures unknown { IsNoCommand command.now → (result.status ≡ 2) × (out.new ≡ out.old)
+        × IsTold (Fault.Unknown command.entry) result.is_told (V.contents faults.old) (V.contents faults.new) }
+    ensures mistaken { result.status ≡ 2 → IsNoCommand command.now }
+    ensures done { result.status ≡ 0 → (known : Command) × (command.now ≡ word_of known)
+        × IsDone known text.now (R.remaining deck) (W.contents out.old) (W.contents out.new) × (faults.new ≡ faults.old) }
+    ensures refused { result.status ≡ 3 → (known : Command) × (told : Fault) × (command.now ≡ word_of known)
+        × IsRefused known text.now (R.remaining deck) told × (out.new ≡ out.old)
+        × IsTold told result.is_told (V.contents faults.old) (V.contents faults.new) }
+    ensures device { result.status ≡ 4
+        → ((out.new ≡ out.old) × IsTold (Fault.File path.entry) result.is_told (V.contents faults.old) (V.contents faults.new))
+        ⊎ IsTold Fault.Write result.is_told (V.contents faults.old) (V.contents faults.new) }
+    ensures memory { result.status ≡ 5 → IsTold Fault.Memory result.is_told (V.contents faults.old) (V.contents faults.new) }
+    ensures statuses { (result.status ≢ 1) × (result.status ≤ 5) }
+{
+    let Some(known) = Command::named(command) else {
+        return tell(&Fault::Unknown { word: command }, faults);
+    };
+    match carry_out(alloc, known, text, path, deck, out) {
+        Ok(()) => Ending {
+            status: 0,
+            is_told: true,
+        },
+        Err(fault) => tell(&fault, faults),
+    }
+}
+
+/// Does one command as [`serve_to_end`] does, and answers the status alone.
 pub fn serve<R: Read + Drop, W: Write, V: Write>(
     alloc: Global,
     command: &str,
@@ -120,11 +163,5 @@ pub fn serve<R: Read + Drop, W: Write, V: Write>(
     ensures refused { result ≡ 3 → (known : Command) × (told : Fault) × (command.now ≡ word_of known)
         × IsRefused known text.now (R.remaining deck) told × (out.new ≡ out.old) }
 {
-    let Some(known) = Command::named(command) else {
-        return tell(&Fault::Unknown { word: command }, faults);
-    };
-    match carry_out(alloc, known, text, path, deck, out) {
-        Ok(()) => 0,
-        Err(fault) => tell(&fault, faults),
-    }
+    serve_to_end(alloc, command, text, path, deck, out, faults).status
 }

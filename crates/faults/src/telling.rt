@@ -1,38 +1,15 @@
 //! Telling faults.
 
-ghost use Rattle.std.specs.Prelude.{◌≡◌, ◌≤◌, ◌==◌, length};
+ghost use Rattle.std.specs.Prelude.{◌≡◌, ◌≤◌, ◌==◌, ◌++◌, codes, decimal, length, OnOk};
+ghost use Rattle.std.specs.Io.KnownBytes.{Appends};
 ghost use Rattle.std.specs.List.{position_or_len};
 ghost use Rattle.charts.specs.Name.{name_text};
+ghost use Rattle.faults.specs.Lines.{IsTold, line_of, text_of};
 ghost use Rattle.faults.specs.Status.{status_of};
 
 use crate::fault::Fault;
-use itoa::Buffer;
 use std::io;
 use std::io::Write;
-
-// Writes a word.
-fn write_word<W: Write>(out: &mut W, word: &str) -> io::Result<()> {
-    out.write_all(word.as_bytes())
-}
-
-// Writes a word and another one after it.
-fn write_words<W: Write>(out: &mut W, word: &str, other: &str) -> io::Result<()> {
-    write_word(out, word)?;
-    write_word(out, other)
-}
-
-// Writes a word and the number after it.
-fn write_figure<W: Write>(out: &mut W, word: &str, number: u64) -> io::Result<()> {
-    write_words(out, word, Buffer::new().format(number))
-}
-
-// Writes words, each with the number after it.
-fn write_figures<W: Write>(out: &mut W, figures: &[(&str, u64)]) -> io::Result<()> {
-    for (word, number) in figures {
-        write_figure(out, word, *number)?;
-    }
-    Ok(())
-}
 
 // How many characters stand before the first blank.
 fn length_before_blank(characters: &[u8]) -> usize
@@ -52,138 +29,103 @@ fn before_blank(name: &[u8]) -> &[u8]
     &name[..length_before_blank(name)]
 }
 
-// Writes a name, and the number of a card.
-fn write_name_and_card<W: Write>(out: &mut W, name: &[u8], card: u64) -> io::Result<()> {
-    out.write_all(before_blank(name))?;
-    write_figures(out, &[(" card ", card)])
-}
-
-// Writes the name of a total, and the number of a card.
-fn write_named_card<W: Write>(out: &mut W, name: &[u8], card: u64) -> io::Result<()> {
-    write_word(out, " name ")?;
-    write_name_and_card(out, name, card)
-}
-
-// Writes the text of a fault of a total.
+// Writes the words and figures of a fault of a total.
 fn write_total<W: Write>(
     out: &mut W,
-    number: u64,
-    level: u64,
+    number: u8,
+    level: u8,
     name: &[u8],
-    card: u64,
-) -> io::Result<()> {
-    write_figures(out, &[("fault ", number), (" level ", level)])?;
-    write_named_card(out, name, card)
+    card: u32,
+) -> io::Result<()>
+    ensures { OnOk result (Appends (W.contents out.old) (W.contents out.new) (codes "fault " ++ decimal number
+        ++ codes " level " ++ decimal level ++ codes " name " ++ name_text name.now ++ codes " card " ++ decimal card)) }
+{
+    write!(out, "fault {number} level {level} name ")?;
+    out.write_all(before_blank(name))?;
+    write!(out, " card {card}")
 }
 
-// Writes the text of a fault.
-fn write_text<W: Write>(fault: &Fault, out: &mut W) -> io::Result<()> {
+// Writes the words and figures of a fault.
+fn write_text<W: Write>(fault: &Fault, out: &mut W) -> io::Result<()>
+    ensures { OnOk result (Appends (W.contents out.old) (W.contents out.new) (text_of fault.now)) }
+{
     match fault {
-        Fault::Whole { number } => write_figures(out, &[("fault ", u64::from(*number))]),
-        Fault::Line { number, line } => write_figures(
-            out,
-            &[("fault ", u64::from(*number)), (" line ", u64::from(*line))],
-        ),
+        Fault::Whole { number } => write!(out, "fault {number}"),
+        Fault::Line { number, line } => write!(out, "fault {number} line {line}"),
         Fault::Cause {
             number,
             line,
             cause,
-        } => write_figures(
-            out,
-            &[
-                ("fault ", u64::from(*number)),
-                (" line ", u64::from(*line)),
-                (" cause ", u64::from(*cause)),
-            ],
-        ),
-        Fault::Card { number, card } => write_figures(
-            out,
-            &[("fault ", u64::from(*number)), (" card ", u64::from(*card))],
-        ),
+        } => write!(out, "fault {number} line {line} cause {cause}"),
+        Fault::Card { number, card } => write!(out, "fault {number} card {card}"),
         Fault::Column {
             number,
             card,
             column,
-        } => write_figures(
-            out,
-            &[
-                ("fault ", u64::from(*number)),
-                (" card ", u64::from(*card)),
-                (" column ", u64::from(*column)),
-            ],
-        ),
+        } => write!(out, "fault {number} card {card} column {column}"),
         Fault::Counters {
             number,
             width,
             wanted,
             there,
-        } => write_figures(
+        } => write!(
             out,
-            &[
-                ("fault ", u64::from(*number)),
-                (" width ", u64::from(*width)),
-                (" wanted ", *wanted as u64),
-                (" there ", u64::from(*there)),
-            ],
+            "fault {number} width {width} wanted {wanted} there {there}"
         ),
         Fault::Capacity {
             number,
             wanted,
             there,
-        } => write_figures(
-            out,
-            &[
-                ("fault ", u64::from(*number)),
-                (" wanted ", *wanted as u64),
-                (" there ", u64::from(*there)),
-            ],
-        ),
+        } => write!(out, "fault {number} wanted {wanted} there {there}"),
         Fault::Indicate {
             number,
             level,
             wanted,
             there,
-        } => write_figures(
+        } => write!(
             out,
-            &[
-                ("fault ", u64::from(*number)),
-                (" level ", u64::from(*level)),
-                (" wanted ", *wanted as u64),
-                (" there ", u64::from(*there)),
-            ],
+            "fault {number} level {level} wanted {wanted} there {there}"
         ),
         Fault::Total {
             number,
             level,
             name,
             card,
-        } => {
-            write_total(
-                out,
-                u64::from(*number),
-                u64::from(*level),
-                name,
-                u64::from(*card),
-            )
-        }
-        Fault::Unknown { word } => write_words(out, "fault command ", word),
-        Fault::File { path } => write_words(out, "fault file ", path),
-        Fault::Write => write_word(out, "fault write"),
-        Fault::Memory => write_word(out, "fault memory"),
+        } => write_total(out, *number, *level, name, *card),
+        Fault::Unknown { word } => write!(out, "fault command {word}"),
+        Fault::File { path } => write!(out, "fault file {path}"),
+        Fault::Write => write!(out, "fault write"),
+        Fault::Memory => write!(out, "fault memory"),
     }
 }
 
-/// Writes the line of a fault.
-pub fn write_line<W: Write>(fault: &Fault, out: &mut W) -> io::Result<()> {
+/// Writes the line of a fault, as the catalogue of faults has it, and LF.
+///
+/// # Errors
+///
+/// Where the writer fails. It may then have taken a part of the line.
+pub fn write_line<W: Write>(fault: &Fault, out: &mut W) -> io::Result<()>
+    ensures { OnOk result (Appends (W.contents out.old) (W.contents out.new) (line_of fault.now)) }
+{
     write_text(fault, out)?;
-    write_word(out, "\n")
+    out.write_all(b"\n")
 }
 
-/// Tells a fault on one line, and answers its status.
-pub fn tell<V: Write>(fault: &Fault, faults: &mut V) -> u8
-    ensures { result ≡ status_of fault.now }
+/// How the program ends.
+#[derive(Clone, Copy, Debug, PartialEq, Eq)]
+pub struct Ending {
+    /// Its status.
+    pub status: u8,
+    /// Whether the line of the fault, where there is one, was written whole.
+    pub is_told: bool,
+}
+
+/// Tells a fault on one line: the program ends with its status. Where the line can't be written, the status alone tells of it.
+pub fn tell<V: Write>(fault: &Fault, faults: &mut V) -> Ending
+    ensures status { result.status ≡ status_of fault.now }
+    ensures line { IsTold fault.now result.is_told (V.contents faults.old) (V.contents faults.new) }
 {
-    // Where even this can't be written, the status alone tells of the fault.
-    let _ = write_line(fault, faults);
-    fault.status()
+    let is_told = write_line(fault, faults).is_ok();
+    let status = fault.status();
+    Ending { status, is_told }
 }

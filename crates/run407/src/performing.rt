@@ -35,11 +35,11 @@ fn serve_deck(rt: &HostRuntime, command: &str, chart: &str, deck: &str) -> u8 {
     let mut faults = rt.stderr();
     let text = match read_file(rt, chart) {
         Ok(text) => text,
-        Err(fault) => return tell(&fault, &mut faults),
+        Err(fault) => return tell(&fault, &mut faults).status,
     };
     let cards = match fs::open(rt, deck) {
         Ok(cards) => cards,
-        Err(error) => return tell(&unopened(&error, deck), &mut faults),
+        Err(error) => return tell(&unopened(&error, deck), &mut faults).status,
     };
     let mut out = rt.stdout();
     serve(
@@ -58,7 +58,7 @@ fn serve_chart(rt: &HostRuntime, command: &str, chart: &str) -> u8 {
     let mut faults = rt.stderr();
     let text = match read_file(rt, chart) {
         Ok(text) => text,
-        Err(fault) => return tell(&fault, &mut faults),
+        Err(fault) => return tell(&fault, &mut faults).status,
     };
     let mut out = rt.stdout();
     serve(
@@ -76,7 +76,7 @@ fn run_standard_input(rt: &HostRuntime) -> u8 {
     let mut faults = rt.stderr();
     let text = match read_whole(rt.alloc(), rt.stdin(), "-") {
         Ok(text) => text,
-        Err(fault) => return tell(&fault, &mut faults),
+        Err(fault) => return tell(&fault, &mut faults).status,
     };
     let (chart, deck) = chart_and_deck(text.as_slice());
     let mut out = rt.stdout();
@@ -101,10 +101,10 @@ fn tell_refused(rt: &HostRuntime, refused: &Refused) -> u8
     ensures answered { refused.now ≡ Refused.Answered → result ≡ 0 }
 {
     match refused {
-        Refused::Memory => tell(&Fault::Memory, &mut rt.stderr()),
+        Refused::Memory => tell(&Fault::Memory, &mut rt.stderr()).status,
         Refused::Mistaken => USAGE,
         Refused::Answered => 0,
-        Refused::Unwritten(error) => tell(&unprinted(error), &mut rt.stderr()),
+        Refused::Unwritten(error) => tell(&unprinted(error), &mut rt.stderr()).status,
     }
 }
 
@@ -124,7 +124,7 @@ fn tell_wordless(rt: &HostRuntime, error: &io::Error) -> u8
 {
     let mut faults = rt.stderr();
     if error.kind() == IoErrorKind::OutOfMemory {
-        return tell(&Fault::Memory, &mut faults);
+        return tell(&Fault::Memory, &mut faults).status;
     }
     // Where even this can't be written, the status alone tells of it.
     let _ = faults.write_all(b"error: a word is no UTF-8 text\n");

@@ -1,7 +1,8 @@
-use Rattle.std.proofs.Common.{refl}
+use Rattle.std.proofs.Common.{refl, []}
 use Rattle.std.proofs.lemmas.Result.{err_from_is_err_and}
 use Rattle.commands.specs.declared.command.Command.TheVariants as command
 use Rattle.commands.proofs.Outcomes.{check_done, refused_for_any}
+use Rattle.commands.proofs.Stopping.{output_stops_any, texts_stop}
 use Rattle.commands.proofs.serving.serve_check.Goals as goal
 
 pub returns-in_err-check-clause-refused : goal.returns-in_err-check-clause-refused
@@ -14,3 +15,12 @@ returns-in_err-check-clause-refused g c =
 
 pub returns-clause-done : goal.returns-clause-done
 returns-clause-done g c = check_done c.put.result c.args.text.now _ _ c.in_ok-check.ensures.compiles c.put.ensures.written
+
+pub returns-in_err-check-clause-stopped : goal.returns-in_err-check-clause-stopped
+returns-in_err-check-clause-stopped g c =
+    let exit = err_from_is_err_and c.from_residual.result c.from_residual.ensures.1 in
+    rw exit.1 (λ unreadable.
+    texts_stop exit.0 unreadable _ command.Check c.args.text.now [] c.in_err-check.field-0.0 c.in_err-check.ensures.refused exit.2 refl)
+
+pub returns-clause-stopped : goal.returns-clause-stopped
+returns-clause-stopped g c = output_stops_any c.put.result _ c.put.ensures.told
