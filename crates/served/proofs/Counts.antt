@@ -31,7 +31,7 @@ unfolding one_if
 one_if-some true some = refl
 one_if-some false some = absurd (omega (arith, some))
 
--- the steps that a unit has made: two at each point that lies behind it, and one where it has emitted
+-- the steps that a unit has made: two at each point that lies after it, and one where it has emitted
 abbrev pub made : {State : Type 0} → Served State → ℕ → ℕ
 made served unit = 2 * served.places unit + one_if (served.emitted unit)
 

@@ -61,12 +61,12 @@ module _ {State : Type 0} (kind : Kind State) (wiring : Wiring) (cycle : Cycle) 
   all_ahead_by rounds steps old new runs all unit is =
       stays_ahead rounds unit old new (made-grows steps old new runs unit) (all unit is)
 
-  -- enough steps of the others for a unit that is behind
+  -- enough steps of the others for a unit that is after
   enough_ahead : (rounds place other : ℕ) (served : Served State) → place < 14 → 2 * place + 1 ≤ 2 * rounds
       → IsAhead rounds served other → 2 * place + 1 ≤ made served other
   unfolding IsAhead
-  enough_ahead rounds place other served low behind (inl over) = omega (arith, low, over)
-  enough_ahead rounds place other served low behind (inr ahead) = omega (arith, behind, ahead)
+  enough_ahead rounds place other served low after (inl over) = omega (arith, low, over)
+  enough_ahead rounds place other served low after (inr ahead) = omega (arith, after, ahead)
 
   -- a turn brings its unit a round further
   turn_ahead : (rounds unit : ℕ) (steps : List Step) (old new : Served State)
@@ -77,11 +77,11 @@ module _ {State : Type 0} (kind : Kind State) (wiring : Wiring) (cycle : Cycle) 
     | inr over ↦ inl over
     | inl low ↦ elim (cases_lt (made new unit + 1) (2 * suc rounds)) [
       | inr ahead ↦ inr ahead
-      | inl behind ↦
+      | inl after ↦
           absurd (turn.stops (can_step_by_count wiring count new unit is (omega (arith, low))
           (λ on other is_other.
           enough_ahead rounds (new.places unit) other new (omega (arith, low))
-          (omega (arith, behind, one_if-true (new.emitted unit) on))
+          (omega (arith, after, one_if-true (new.emitted unit) on))
           (all_ahead_by rounds steps old new turn.taken all other is_other))))
     ]
   ]

@@ -7,7 +7,7 @@ use Rattle.net.specs.Cycles.{level_number, ordinal_number}
 use Rattle.net.specs.Panel.{owner_of, reader_of}
 use Rattle.net.specs.declared.cycle.Cycle.{Cycle}
 use Rattle.net.specs.declared.cycle.Cycle.TheVariants.{RunIn, Card, Prog, Head}
-use Rattle.net.specs.declared.cycle.Level.TheVariants.{Minor, Intermediate, Major}
+use Rattle.net.specs.declared.cycle.ProgramLevel.TheVariants.{Minor, Intermediate, Major}
 use Rattle.net.specs.declared.cycle.Point.{Point}
 use Rattle.net.specs.declared.cycle.Point.TheVariants.{C, Row, K}
 use Rattle.program_unit.specs.Program.{ProgramState, program_emits, program_number, program_sensed, tells}

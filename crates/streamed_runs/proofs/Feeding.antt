@@ -9,7 +9,7 @@ use Rattle.machine.proofs.Order.{MachineLines-in_order}
 use Rattle.machine.proofs.SomeOutcome.{LinesFrom-some}
 use Rattle.placed_lines.specs.InOrder.{FollowInOrder, IsInOrder}
 use Rattle.placed_lines.specs.declared.placed_line.PlacedLine.{PlacedLine}
-use Rattle.setups.specs.Tapes.{IsForm}
+use Rattle.setups.specs.Tapes.{IsCarriageTape}
 use Rattle.setups.specs.Wiring.{Wiring}
 use Rattle.streamed_runs.specs.Laws.{FeedsPlaceInOrder}
 
@@ -75,7 +75,7 @@ first-in-order long page line (placed ∷ one) other order =
 
 -- what feeds of cards have placed is in order, as some run begins with it
 fed-in-order : (wiring : Wiring) (cards : List (List ℕ)) (machine : MachineState) (lines : List PlacedLine)
-    → IsForm wiring.tape → length cards ≤ most_cards → FedLines wiring (machine_at_start wiring) cards machine lines
+    → IsCarriageTape wiring.tape → length cards ≤ most_cards → FedLines wiring (machine_at_start wiring) cards machine lines
     → IsInOrder wiring.tape.lines lines
 fed-in-order wiring cards machine lines form few fed =
     let rest = LinesFrom-some wiring machine [] in

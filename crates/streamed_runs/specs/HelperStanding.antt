@@ -23,7 +23,7 @@ use Rattle.report.specs.Breaks.{no_cards}
 use Rattle.report.specs.ChartForm.{form_of}
 use Rattle.report.specs.Report.{Report}
 use Rattle.report.specs.Totals.{Fits}
-use Rattle.setups.specs.Tapes.{IsForm}
+use Rattle.setups.specs.Tapes.{IsCarriageTape}
 use Rattle.setups.specs.Wiring.{Wiring}
 use Rattle.streamed_runs.specs.Causes.{HasCause, cards_written, stops_between_cards}
 use Rattle.streamed_runs.specs.Reading.{HasRead}
@@ -38,7 +38,7 @@ pub record Serves (chart : Chart) (wiring : Wiring) : Type 0 where
   pub lawful : IsLawful chart
   pub prints : PrintsReport chart wiring
   pub begins : BeginsReport chart wiring
-  pub tape : IsForm wiring.tape
+  pub tape : IsCarriageTape wiring.tape
   pub form : wiring.tape.lines ≡ (form_of chart.lines).lines
 
 -- These cards of a text were read, and what is left of it is still to come.

@@ -10,7 +10,7 @@ use Rattle.machine.specs.Runs.{MachineLines}
 use Rattle.placed_lines.specs.InOrder.{IsInOrder}
 use Rattle.placed_lines.specs.declared.placed_line.PlacedLine.{PlacedLine}
 use Rattle.report.specs.Totals.{Fits}
-use Rattle.setups.specs.Tapes.{IsForm}
+use Rattle.setups.specs.Tapes.{IsCarriageTape}
 use Rattle.setups.specs.Wiring.{Wiring}
 use Rattle.streamed_runs.specs.Streams.{Streams}
 
@@ -55,7 +55,7 @@ StreamsMayHaveNoCard =
 abbrev pub FeedsPlaceInOrder : Type 0
 FeedsPlaceInOrder =
     (wiring : Wiring) (cards : List (List ℕ)) (next : Option (List ℕ)) (machine new : MachineState) (lines more : List PlacedLine)
-    → IsForm wiring.tape → length (cards ++ option_to_list next) ≤ most_cards
+    → IsCarriageTape wiring.tape → length (cards ++ option_to_list next) ≤ most_cards
     → FedLines wiring (machine_at_start wiring) cards machine lines
     → Feeds wiring machine next new more
     → IsInOrder wiring.tape.lines (lines ++ more)
