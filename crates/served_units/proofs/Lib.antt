@@ -5,3 +5,7 @@ pub mod Selectors
 pub mod Stations
 pub mod StorageUnits
 pub mod Carriage
+pub mod AnyUnitKeeps
+pub mod Listed
+pub mod SameUnits
+pub mod ServedRuns

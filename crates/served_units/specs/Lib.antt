@@ -1,1 +1,4 @@
 pub mod Kinds
+pub mod AnyUnit
+pub mod Runs
+pub mod Laws

@@ -4,6 +4,7 @@
 #![tactic(auto)]
 
 mod kinds;
+mod runs;
 
 pub use kinds::{
     carriage_keeps_to_its_own, comparing_keeps_to_its_own, counter_groups_keep_to_their_own,
@@ -11,3 +12,4 @@ pub use kinds::{
     program_unit_keeps_to_its_own, splits_keep_to_their_own, stations_keep_to_their_own,
     storage_units_keep_to_their_own, wheels_keep_to_their_own,
 };
+pub use runs::{served_cycles_are_cycles, served_runs_print_the_same, units_keep_to_their_own};

@@ -1,0 +1,20 @@
+//! Runs in which the units run ahead of one another. Each function does nothing: its contract is the law.
+
+ghost use Rattle.served.specs.Units.{KeepsToItsOwn};
+ghost use Rattle.served_units.specs.AnyUnit.{any_kind};
+ghost use Rattle.served_units.specs.Laws.{ServedCyclesAreCycles, ServedRunsPrintTheSame};
+
+/// All 45 units keep to their own hubs, as units of one kind.
+pub fn units_keep_to_their_own()
+    ensures { KeepsToItsOwn any_kind }
+{}
+
+/// A cycle by any schedule is the cycle of the machine in which all units act at once.
+pub fn served_cycles_are_cycles()
+    ensures { ServedCyclesAreCycles }
+{}
+
+/// The lines of a run by any schedules are those of the machine, whatever the setup and the deck are.
+pub fn served_runs_print_the_same()
+    ensures { ServedRunsPrintTheSame }
+{}
