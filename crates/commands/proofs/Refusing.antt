@@ -39,7 +39,7 @@ cards_refused text punched compiled read cause told compiles is_deck has named n
     cards compiled compiles read is_deck cause (has (λ is. not_memory (named ∙ ap run_told is))) named
 
 pub wiring_refused : (text punched : List ℕ) (cause : WiringFault) (told : Fault)
-    → (cause ≢ wiring.Memory → wiring_faults.HasDeckFault text cause) → told ≡ wiring_told cause → told ≢ fault.Memory
+    → (cause ≢ wiring.Memory → wiring_faults.HasWiringFault text cause) → told ≡ wiring_told cause → told ≢ fault.Memory
     → RefusesReplay text punched told
 wiring_refused text punched cause told has named not_memory =
     wires cause (has (λ is. not_memory (named ∙ ap wiring_told is))) named

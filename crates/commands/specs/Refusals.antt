@@ -39,7 +39,7 @@ pub data RefusesRun (text deck : List ℕ) (told : Fault) : Type 0 where
 
 -- of a wiring chart and a deck: the fault of the wiring chart, else that of the deck's text
 pub data RefusesReplay (text deck : List ℕ) (told : Fault) : Type 0 where
-  wires : (cause : WiringFault) → wiring_faults.HasDeckFault text cause → told ≡ wiring_told cause → RefusesReplay text deck told
+  wires : (cause : WiringFault) → wiring_faults.HasWiringFault text cause → told ≡ wiring_told cause → RefusesReplay text deck told
   punches : (wiring : Wiring) → ReadsAs text wiring → RefusesDeck deck told → RefusesReplay text deck told
 
 -- what a command tells of a text and a deck that it refuses
