@@ -1,0 +1,3 @@
+pub mod HelperFeeding
+pub mod HelperStanding
+pub mod Replays
