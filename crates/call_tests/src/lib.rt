@@ -30,6 +30,8 @@ mod profiles;
 #[cfg(test)]
 mod rule_answers;
 #[cfg(test)]
+mod streams;
+#[cfg(test)]
 mod wired_setups;
 #[cfg(test)]
 mod wiring_texts;

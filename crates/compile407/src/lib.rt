@@ -3,13 +3,15 @@
 //! `compile` reads a chart, checks it and wires a setup of the panel for it; `run` runs a deck of cards through the
 //! machine, wired so, and answers the bytes of its pages. These are byte by byte the chart's report of the deck, which
 //! knows fields, lines and pages, and nothing of the machine. Every chart that breaks no rule and exceeds no capacity is served, and
-//! every deck of valid cards whose totals fit.
+//! every deck of valid cards whose totals fit. `run_stream` does the same over a reader and a writer, card by card, and tells what stands
+//! written where it stops.
 #![tactic(auto)]
 
 mod compiled;
 mod compiling;
 mod laws;
 mod running;
+mod streaming;
 
 pub use compiled::Compiled;
 pub use compiling::compile;
@@ -21,3 +23,5 @@ pub use laws::{
 };
 pub use misfits::Misfit;
 pub use running::{first_misfit, run};
+pub use streamed_runs::{StreamCause, StreamFault};
+pub use streaming::run_stream;

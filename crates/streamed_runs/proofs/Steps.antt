@@ -10,7 +10,7 @@ use Rattle.card_lines.specs.Reading.{Reading}
 use Rattle.charts.specs.Chart.{Chart}
 use Rattle.chart_rules.specs.ValidCard.{IsValidCard}
 use Rattle.decks.specs.FitSoFar.{misfits_of_last}
-use Rattle.decks.specs.Stands.{last_of, report_before}
+use Rattle.decks.specs.Stands.{report_before}
 use Rattle.decks.proofs.FitSoFar.{first_told}
 use Rattle.machine.specs.Feeds.{Feeds}
 use Rattle.machine.specs.Gains.{GainsFeed}
@@ -19,7 +19,7 @@ use Rattle.machine.specs.Running.{IsStarted}
 use Rattle.misfits.specs.OpenSums.{AreSumsOf, Sums}
 use Rattle.misfits.specs.Told.{told}
 use Rattle.misfits.specs.declared.misfit.Misfit.{Misfit as Found}
-use Rattle.net.specs.Nets.{IsNetOf, NetRows}
+use Rattle.net.specs.Nets.{IsNetOf}
 use Rattle.page_writer.specs.Added.{added_all, line_after, page_after}
 use Rattle.page_writer.specs.Open.{Open}
 use Rattle.page_writer.specs.Outgoing.{Breaks, TakesUp}
@@ -33,9 +33,9 @@ use Rattle.report.specs.Misfits.{first_of, misfits}
 use Rattle.report.specs.Report.{Report}
 use Rattle.setups.specs.Wiring.{Wiring}
 use Rattle.streamed_runs.proofs.NextCards.{read_all}
-use Rattle.streamed_runs.proofs.Standing.{HaveNoMisfit, fed_deck, fed_end, fed_next, feed_in_order, none_told, report_begins, run_begins, stand_before, stand_before_last}
+use Rattle.streamed_runs.proofs.Standing.{HaveNoMisfit, fed_deck, fed_end, fed_next, feed_in_order, report_begins, run_begins, stand_before, stand_before_last}
 use Rattle.streamed_runs.proofs.Written.{breaks_more, follow, open_none, taken_none, takes_more}
-use Rattle.streamed_runs.specs.Causes.{HasCause, cards_written, stops_between_cards}
+use Rattle.streamed_runs.specs.Causes.{HasCause, cards_written}
 use Rattle.streamed_runs.specs.HelperStanding.{Ends, HasFed, HasTaken, HasToCome, HaveLast, IsOfNext, IsUnbegun, ReadsOn, Serves, Stands, Start, Stops, start_of}
 use Rattle.streamed_runs.specs.Reading.{HasRead}
 use Rattle.streamed_runs.specs.declared.fault.StreamCause.{StreamCause}

@@ -1,5 +1,5 @@
 -- What a streamed run has read and written where it ends, and where it stops.
-use Rattle.std.specs.Prelude.{◌≡◌, ℕ, true, List, ◌++◌, length}
+use Rattle.std.specs.Prelude.{◌≡◌, ℕ, true, List, length}
 use Rattle.std.specs.Io.{StartsWith}
 use Rattle.card_code.specs.Deck.{Deck}
 use Rattle.charts.specs.Chart.{Chart}

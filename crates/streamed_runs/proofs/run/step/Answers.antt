@@ -1,4 +1,4 @@
-use Rattle.std.proofs.Common.{◌≡◌, refl, sym, subst, true, false, List, [], ◌∷◌, ◌++◌, is_none, arith}
+use Rattle.std.proofs.Common.{◌≡◌, refl, sym, subst, true, false, [], ◌∷◌, ◌++◌, is_none, arith}
 use Rattle.std.proofs.lemmas.Grind.{common_steps}
 use Rattle.std.proofs.lemmas.Result.{err_from_is_err_and}
 use Rattle.streamed_runs.proofs.Standing.{none_told}

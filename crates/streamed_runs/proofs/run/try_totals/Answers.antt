@@ -1,4 +1,3 @@
-use Rattle.std.proofs.Common.{sym}
 use Rattle.streamed_runs.proofs.LastCards.{last_goes_on}
 use Rattle.streamed_runs.proofs.run.try_totals.Goals as goal
 
