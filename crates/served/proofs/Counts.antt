@@ -161,6 +161,16 @@ module _ {State : Type 0} (kind : Kind State) (wiring : Wiring) (cycle : Cycle) 
         )
   ]
 
+  pub within_step : (step : Step) (old new : Served State) → Takes kind wiring cycle count step old new → IsWithin count old
+      → IsWithin count new
+  within_step (emission u) old new takes within = within_emission u old new takes.1 within
+  within_step (sensing u) old new takes within = within_sensing u old new takes.1 within
+
+  pub one_more : (step : Step) (old new : Served State) → Takes kind wiring cycle count step old new
+      → all_made new count ≡ all_made old count + 1
+  one_more (emission u) old new takes = all_made-more count u old new (emission_more u old new takes.1) takes.0
+  one_more (sensing u) old new takes = all_made-more count u old new (sensing_more u old new takes.1) takes.0
+
   pub all_made-by_steps : (steps : List Step) (old new : Served State) → Runs kind wiring cycle count steps old new
       → all_made new count ≡ all_made old count + length steps
   unfolding Runs
@@ -207,6 +217,22 @@ module _ {State : Type 0} (kind : Kind State) (wiring : Wiring) (cycle : Cycle) 
       → made last unit ≡ 28
   made-last last within over unit is =
       omega (arith, over unit is, one_if-false (last.emitted unit) (silent_in_the_end last within unit is (over unit is)))
+
+  made-bound : (served : Served State) → IsWithin count served → (unit : ℕ) → IsUnit count unit → made served unit ≤ 28
+  made-bound served within unit is = elim (cases_eq (served.places unit) 14) [
+      | inl over ↦
+          omega (arith, over, one_if-false (served.emitted unit) (silent_in_the_end served within unit is over))
+      | inr before ↦
+          omega (arith, before, within.places unit is, one_if-low (served.emitted unit))
+    ]
+
+  pub all_made-bound : (served : Served State) → IsWithin count served → (n : ℕ) → n ≤ count → all_made served n ≤ 28 * n
+  unfolding all_made
+  all_made-bound served within zero low = omega arith
+  all_made-bound served within (suc n) low =
+      let below = all_made-bound served within n (omega (arith, low)) in
+      let top = made-bound served within (suc n) (omega arith, low) in
+      omega (arith, below, top)
 
 -- a cycle has two steps of each unit at each point
 pub cycles_have_steps : (State : Type 0) → CyclesHaveTheirSteps State

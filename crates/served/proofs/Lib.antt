@@ -5,3 +5,4 @@ pub mod AtOnce
 pub mod Progress
 pub mod Counts
 pub mod FewRounds
+pub mod SomeSteps

@@ -79,7 +79,7 @@ pub over_by_fewest : {State : Type 0} (count : ℕ) (served : Served State) → 
 over_by_fewest count served within n enough all unit is =
     omega (arith, all unit is, within.places unit is, one_if-low (served.emitted unit), enough)
 
-some_step : {State : Type 0} (wiring : Wiring) (count : ℕ) (now : Served State) → IsWithin count now
+pub some_step : {State : Type 0} (wiring : Wiring) (count : ℕ) (now : Served State) → IsWithin count now
     → AreOver count now ⊎ ((unit : ℕ) × CanStep wiring count now unit)
 some_step wiring zero now within = inl (λ unit is. absurd (omega (arith, is.0, is.1)))
 some_step wiring (suc count) now within =

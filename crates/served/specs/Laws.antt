@@ -34,6 +34,22 @@ UnitsCanActAtOnce State =
     → AreNumbered kind count units
     → GoesAtOnce kind wiring cycle count units
 
+-- steps of the units through a cycle, from given states on until it is over for all
+pub record GoesBySteps {State : Type 0} (kind : Kind State) (wiring : Wiring) (cycle : Cycle) (count : ℕ)
+    (units : ℕ → State) : Type 0 where
+  pub steps : List Step
+  pub start : Served State
+  pub last : Served State
+  pub starts : Starts kind cycle count units start
+  pub taken : Runs kind wiring cycle count steps start last
+  pub over : AreOver count last
+
+-- Units in any states can be served through a cycle.
+abbrev pub UnitsCanGoBySteps : Type 0 → Type 0
+UnitsCanGoBySteps State =
+    (kind : Kind State) (wiring : Wiring) (cycle : Cycle) (count : ℕ) (units : ℕ → State)
+    → GoesBySteps kind wiring cycle count units
+
 -- After any steps the cycle is over for all, or some unit can step.
 abbrev pub SomeUnitCanStep : Type 0 → Type 0
 SomeUnitCanStep State =

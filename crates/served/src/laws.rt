@@ -1,7 +1,7 @@
 //! Laws of units that run ahead of one another, over the states of any kind of units that keep to their own hubs. Each is a
 //! function that does nothing: its contract is the law.
 
-ghost use Rattle.served.specs.Laws.{CyclesHaveTheirSteps, RoundsAreFew, RoundsAreSteps, SchedulesEndAsAtOnce, SomeUnitCanStep, UnitsCanActAtOnce};
+ghost use Rattle.served.specs.Laws.{CyclesHaveTheirSteps, RoundsAreFew, RoundsAreSteps, SchedulesEndAsAtOnce, SomeUnitCanStep, UnitsCanActAtOnce, UnitsCanGoBySteps};
 
 /// Whatever steps the units take until the cycle is over for all, each unit ends as it does where all units act at once.
 pub fn schedules_end_as_at_once<State>()
@@ -11,6 +11,11 @@ pub fn schedules_end_as_at_once<State>()
 /// Units in any states can act at once, through all points of a cycle.
 pub fn units_can_act_at_once<State>()
     ensures { UnitsCanActAtOnce State }
+{}
+
+/// Units in any states can go through a cycle by steps until it is over for all.
+pub fn units_can_go_by_steps<State>()
+    ensures { UnitsCanGoBySteps State }
 {}
 
 /// After any steps the cycle is over for all units, or some unit can step.
