@@ -21,10 +21,10 @@ use Rattle.replays.specs.HelperStanding.{Ends, IsUnbegun, Stops, broken, refused
 use Rattle.replays.specs.Replays.{GainsFront, GainsPages}
 use Rattle.replays.specs.declared.fault.ReplayCause.{ReplayCause}
 use Rattle.replays.specs.declared.fault.ReplayCause.TheVariants as cause
-use Rattle.setups.specs.Tapes.{IsForm}
+use Rattle.setups.specs.Tapes.{IsCarriageTape}
 use Rattle.setups.specs.Wiring.{Wiring}
 
-module _ {S : Type 0} (held : S → Option (List ℕ)) (has_failed : S → Bool) (wiring : Wiring) (deck : List (List ℕ)) (form : IsForm wiring.tape)
+module _ {S : Type 0} (held : S → Option (List ℕ)) (has_failed : S → Bool) (wiring : Wiring) (deck : List (List ℕ)) (form : IsCarriageTape wiring.tape)
     (few : length deck ≤ most_cards) (begun : Writing S) (unbegun : IsUnbegun wiring begun) where
   -- the first bytes of what is written so far are the front of the pages
   front : (lines others : List PlacedLine) → MachineLines wiring deck (lines ++ others) → (sent tail : List ℕ)

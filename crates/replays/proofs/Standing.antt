@@ -25,7 +25,7 @@ use Rattle.replays.specs.HelperFeeding as feed
 use Rattle.replays.specs.HelperStanding.{Ends, IsUnbegun, Stands, Stops, TakesLines, broken, refused}
 use Rattle.replays.specs.declared.fault.ReplayCause.{ReplayCause}
 use Rattle.replays.specs.declared.fault.ReplayCause.TheVariants as cause
-use Rattle.setups.specs.Tapes.{IsForm}
+use Rattle.setups.specs.Tapes.{IsCarriageTape}
 use Rattle.setups.specs.Wiring.{Wiring}
 
 open_none : (long : ℕ) → [] ≡ Open [] long
@@ -54,7 +54,7 @@ module _ {S : Type 0} (held : S → Option (List ℕ)) (wiring : Wiring) (deck :
       let run = MachineLines-some wiring deck in
       refused [] run.0 run.1 (takes_as (open_none wiring.tape.lines) (takes_none writing.out))
 
-  module _ (form : IsForm wiring.tape) (few : length deck ≤ most_cards) (begun : Outgoing S) (next : Option (List ℕ)) (rest : List (List ℕ))
+  module _ (form : IsCarriageTape wiring.tape) (few : length deck ≤ most_cards) (begun : Outgoing S) (next : Option (List ℕ)) (rest : List (List ℕ))
       (machine : Running) (writing : Writing S) (stands : Stands held wiring deck (upcoming next rest) begun machine writing) where
     -- the run with the lines of the next feed
     run_with : (left : MachineState) (more others : List PlacedLine) → Feeds wiring machine.machine next left more
@@ -125,7 +125,7 @@ module _ {S : Type 0} (held : S → Option (List ℕ)) (wiring : Wiring) (deck :
         (subst (λ (bytes : List ℕ). Breaks held has_failed bytes begun new.out) (adds left lines feeds) (breaks_after stands.taken.taken breaks))
 
   -- a card more
-  pub stands_on : IsForm wiring.tape → length deck ≤ most_cards → (begun : Outgoing S) (card : List ℕ) (rest : List (List ℕ)) (machine left : Running)
+  pub stands_on : IsCarriageTape wiring.tape → length deck ≤ most_cards → (begun : Outgoing S) (card : List ℕ) (rest : List (List ℕ)) (machine left : Running)
       (writing new : Writing S) → Stands held wiring deck (card ∷ rest) begun machine writing → TakesFeed held machine (Some card) left writing new
       → Stands held wiring deck rest begun left new
   stands_on form few begun card rest machine left writing new stands takes = record {
@@ -136,7 +136,7 @@ module _ {S : Type 0} (held : S → Option (List ℕ)) (wiring : Wiring) (deck :
   }
 
   -- the end
-  pub ends : IsForm wiring.tape → length deck ≤ most_cards → (begun : Outgoing S) (machine left : Running) (writing new : Writing S)
+  pub ends : IsCarriageTape wiring.tape → length deck ≤ most_cards → (begun : Outgoing S) (machine left : Running) (writing new : Writing S)
       → Stands held wiring deck [] begun machine writing → TakesFeed held machine None left writing new → Ends held wiring deck begun new
   ends form few begun machine left writing new stands takes = record {
     lines = stands.lines ++ takes.lines;
@@ -146,7 +146,7 @@ module _ {S : Type 0} (held : S → Option (List ℕ)) (wiring : Wiring) (deck :
   }
 
   -- the end, or a stop in its feed
-  pub closes : {U : Type 0} (form : IsForm wiring.tape) → (few : length deck ≤ most_cards) → (has_failed : S → Bool) (begun : Outgoing S)
+  pub closes : {U : Type 0} (form : IsCarriageTape wiring.tape) → (few : length deck ≤ most_cards) → (has_failed : S → Bool) (begun : Outgoing S)
       (machine left : Running) (writing new : Writing S) → Stands held wiring deck [] begun machine writing → (result : Result U ReplayCause)
       → MatchResult result (λ _. TakesFeed held machine None left writing new) (StopsInFeed held has_failed machine None writing new)
       → MatchResult result (λ _. Ends held wiring deck begun new) (Stops held has_failed wiring deck begun new)

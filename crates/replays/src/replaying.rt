@@ -5,7 +5,7 @@ ghost use Rattle.card_code.specs.MostCards.{most_cards};
 ghost use Rattle.replays.specs.HelperStanding.{Ends, IsUnbegun, Stops};
 ghost use Rattle.replays.specs.Replays.{GainsFront, GainsPages};
 ghost use Rattle.replays.specs.declared.fault.ReplayCause.TheVariants as cause;
-ghost use Rattle.setups.specs.Tapes.{IsForm};
+ghost use Rattle.setups.specs.Tapes.{IsCarriageTape};
 
 use crate::fault::{ReplayCause, ReplayFault};
 use crate::feeding::print_feed;
@@ -24,7 +24,7 @@ fn print_deck<S: Sink + Drop>(
     pages: &mut PageWriter<S>,
 ) -> Result<(), ReplayCause>
     requires few { length cards.now ≤ most_cards }
-    requires form { IsForm setup.now.tape }
+    requires form { IsCarriageTape setup.now.tape }
     requires unbegun { IsUnbegun setup.now pages.old }
     ensures run { MatchResult result (λ _. Ends S.held setup.now cards.now pages.old.out pages.new)
         (Stops S.held S.has_failed setup.now cards.now pages.old.out pages.new) }
@@ -46,7 +46,7 @@ fn write_deck<S: Sink + Drop>(
     pages: &mut PageWriter<S>,
 ) -> Result<(), ReplayFault>
     requires few { length cards.now ≤ most_cards }
-    requires form { IsForm setup.now.tape }
+    requires form { IsCarriageTape setup.now.tape }
     requires unbegun { IsUnbegun setup.now pages.old }
     ensures pages { OnOk result (GainsPages setup.now cards.now (S.held pages.old.out.sink) (S.held pages.new.out.sink)) }
     ensures front { IfErr result (λ fault. GainsFront setup.now cards.now fault.written (S.held pages.old.out.sink)
