@@ -1,5 +1,7 @@
 //! Decks that come card by card, over readers and writers that are sound and over some that fail.
 
+ghost use Rattle.std.specs.Prelude.{◌≤◌};
+
 use crate::given::text_of;
 use card_code::read_deck;
 use card_lines::ReadFault;
@@ -41,7 +43,7 @@ fn forty_bolts(alloc: Global) -> Result<Vec<u8>, Fail> {
     Ok(deck)
 }
 
-/// Runs a deck that comes in parts of `most` bytes, or fails at a read.
+/// Runs a deck that comes in parts of at most `most` bytes, and of one at least, or fails at a read.
 fn stream(
     alloc: Global,
     compiled: &Compiled,
@@ -49,10 +51,8 @@ fn stream(
     most: usize,
     fails_at: Option<u64>,
     writer: &mut LimitedWriter,
-) -> Result<u64, StreamFault>
-    requires { 0 < most }
-{
-    let mut source = FromRead::new(LimitedReader::new(deck, most, fails_at));
+) -> Result<u64, StreamFault> {
+    let mut source = FromRead::new(LimitedReader::new(deck, most.max(1), fails_at));
     let mut sink = ToWrite::new(writer);
     run_stream(alloc, compiled, &mut source, &mut sink)
 }
