@@ -220,11 +220,11 @@ module _ {State : Type 0} (kind : Kind State) (wiring : Wiring) (cycle : Cycle) 
 
   made-bound : (served : Served State) → IsWithin count served → (unit : ℕ) → IsUnit count unit → made served unit ≤ 28
   made-bound served within unit is = elim (cases_eq (served.places unit) 14) [
-      | inl over ↦
-          omega (arith, over, one_if-false (served.emitted unit) (silent_in_the_end served within unit is over))
-      | inr before ↦
-          omega (arith, before, within.places unit is, one_if-low (served.emitted unit))
-    ]
+    | inl over ↦
+        omega (arith, over, one_if-false (served.emitted unit) (silent_in_the_end served within unit is over))
+    | inr before ↦
+        omega (arith, before, within.places unit is, one_if-low (served.emitted unit))
+  ]
 
   pub all_made-bound : (served : Served State) → IsWithin count served → (n : ℕ) → n ≤ count → all_made served n ≤ 28 * n
   unfolding all_made

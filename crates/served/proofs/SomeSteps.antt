@@ -27,9 +27,9 @@ put-own at value old = ap (λ (b : Bool). if b then value else old at) (eq-eqb a
 put-other : {A : Type 0} (at : ℕ) (value : A) (old : ℕ → A) (other : ℕ) → (other ≡ at → ⊥) → put at value old other ≡ old other
 unfolding put
 put-other at value old other another = elim (eqb_tells other at) [
-    | inl same ↦ absurd (another same.1)
-    | inr apart ↦ ap (λ (b : Bool). if b then value else old other) apart.0
-  ]
+  | inl same ↦ absurd (another same.1)
+  | inr apart ↦ ap (λ (b : Bool). if b then value else old other) apart.0
+]
 
 module _ {State : Type 0} (kind : Kind State) (wiring : Wiring) (cycle : Cycle) (count : ℕ) where
   -- the start
@@ -144,9 +144,9 @@ module _ {State : Type 0} (kind : Kind State) (wiring : Wiring) (cycle : Cycle) 
 
   step_of : (old : Served State) (unit : ℕ) → CanStep wiring count old unit → Taken old
   step_of old unit can = elim can.may [
-      | inl may ↦ record { step = emission unit; new = with_emission unit old; takes = (can.is_unit, emits_by unit old may) }
-      | inr may ↦ record { step = sensing unit; new = with_sensing unit old; takes = (can.is_unit, senses_by unit old may) }
-    ]
+    | inl may ↦ record { step = emission unit; new = with_emission unit old; takes = (can.is_unit, emits_by unit old may) }
+    | inr may ↦ record { step = sensing unit; new = with_sensing unit old; takes = (can.is_unit, senses_by unit old may) }
+  ]
 
   -- the steps to the end, of which there are not more than are left
   record ToTheEnd (now : Served State) : Type 0 where
@@ -166,22 +166,22 @@ module _ {State : Type 0} (kind : Kind State) (wiring : Wiring) (cycle : Cycle) 
 
   to_the_end : (left : ℕ) (now : Served State) → IsWithin count now → 28 * count ≤ all_made now count + left → ToTheEnd now
   to_the_end zero now within enough = elim (some_step wiring count now within) [
-      | inl over ↦ stays now over
-      | inr can ↦
-          let one = step_of now can.0 can.1 in
-          let after = within_step kind wiring cycle count one.step now one.new one.takes within in
-          let bound = all_made-bound kind wiring cycle count one.new after count (omega arith) in
-          let more = one_more kind wiring cycle count one.step now one.new one.takes in
-          absurd (omega (arith, enough, bound, more))
-    ]
+    | inl over ↦ stays now over
+    | inr can ↦
+        let one = step_of now can.0 can.1 in
+        let after = within_step kind wiring cycle count one.step now one.new one.takes within in
+        let bound = all_made-bound kind wiring cycle count one.new after count (omega arith) in
+        let more = one_more kind wiring cycle count one.step now one.new one.takes in
+        absurd (omega (arith, enough, bound, more))
+  ]
   to_the_end (suc left) now within enough = elim (some_step wiring count now within) [
-      | inl over ↦ stays now over
-      | inr can ↦
-          let one = step_of now can.0 can.1 in
-          let after = within_step kind wiring cycle count one.step now one.new one.takes within in
-          let more = one_more kind wiring cycle count one.step now one.new one.takes in
-          goes_on now one (to_the_end left one.new after (omega (arith, enough, more)))
-    ]
+    | inl over ↦ stays now over
+    | inr can ↦
+        let one = step_of now can.0 can.1 in
+        let after = within_step kind wiring cycle count one.step now one.new one.takes within in
+        let more = one_more kind wiring cycle count one.step now one.new one.takes in
+        goes_on now one (to_the_end left one.new after (omega (arith, enough, more)))
+  ]
 
 pub units_go : (State : Type 0) → UnitsCanGoBySteps State
 units_go State kind wiring cycle count units =
