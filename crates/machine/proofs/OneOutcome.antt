@@ -39,7 +39,7 @@ Reached-one wiring cycle (suc place) old one other (mid, reached, step) (also_mi
     PointStep-one wiring cycle (point_at place) also_mid one other
     (subst (λ (m : MachineState). PointStep wiring cycle (point_at place) m one) same step) also_step
 
-CycleRun-one : (wiring : Wiring) (cycle : Cycle) (old one other : MachineState)
+pub CycleRun-one : (wiring : Wiring) (cycle : Cycle) (old one other : MachineState)
     → CycleRun wiring cycle old one → CycleRun wiring cycle old other → one ≡ other
 CycleRun-one wiring cycle old one other first second =
     let same = Reached-one wiring cycle 14 old first.at_end second.at_end first.reached second.reached in

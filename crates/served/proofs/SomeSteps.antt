@@ -1,5 +1,5 @@
 -- Units in any states can go through a cycle by steps: some unit can step until it is over for all, and there are only so many steps.
-use Rattle.std.proofs.Common.{◌≡◌, ◌∙◌, ap, sym, refl, ℕ, zero, suc, ◌+◌, ◌*◌, ◌<◌, ◌≤◌, ◌||◌, Bool, true, false, ◌⊎◌, inl, inr, List, [], ◌∷◌, arith, if◌then◌else◌}
+use Rattle.std.proofs.Common.{◌≡◌, ◌∙◌, ap, sym, refl, ℕ, zero, suc, ◌+◌, ◌*◌, ◌<◌, ◌≤◌, ◌||◌, Bool, true, false, inl, inr, List, [], ◌∷◌, arith, if◌then◌else◌}
 use Rattle.std.specs.Prelude.{◌==◌}
 use Rattle.std.proofs.lemmas.Bool.{eq-eqb}
 use Rattle.std.proofs.lemmas.Bool.Decides.{eqb_tells}
@@ -11,10 +11,10 @@ use Rattle.net.specs.Impulsed.{IsPicture}
 use Rattle.net.specs.declared.cycle.Cycle.{Cycle}
 use Rattle.served.proofs.Counts.{IsWithin, all_made, all_made-bound, one_more, within_at_start, within_step}
 use Rattle.served.proofs.Progress.{some_step}
-use Rattle.served.specs.Laws.{GoesBySteps, UnitsCanGoBySteps}
+use Rattle.served.specs.Laws.{UnitsCanGoBySteps}
 use Rattle.served.specs.Steps.{AreOver, CanStep, Emits, MayEmit, MaySense, Runs, Senses, Served, Starts, Step, Takes}
 use Rattle.served.specs.Steps.Step.{emission, sensing}
-use Rattle.served.specs.Units.{IsUnit, Kind, all_close}
+use Rattle.served.specs.Units.{Kind, all_close}
 
 -- one value of a function put in the place of another
 put : {A : Type 0} → ℕ → A → (ℕ → A) → ℕ → A

@@ -3,6 +3,7 @@ use Rattle.std.proofs.Common.{◌≡◌, ◌∙◌, ap, sym, refl, ℕ, zero, su
 use Rattle.std.proofs.Math.Numerals.{add-one}
 use Rattle.std.proofs.lemmas.Simd.{map-map}
 use Rattle.hubs.specs.declared.hub.Hub.{Hub}
+use Rattle.machine.proofs.OneOutcome.{CycleRun-one}
 use Rattle.machine.specs.Cycles.{CycleRun, Reached, point_at}
 use Rattle.machine.specs.Machine.{MachineState, closes, emits, ended, machine_at_start, sensed}
 use Rattle.machine.specs.Runs.{InRun, RunsBy, cards_moved, made_ready, run_at_start}
@@ -13,13 +14,15 @@ use Rattle.net.specs.declared.cycle.Cycle.TheVariants.{RunIn, Card, Prog, Head}
 use Rattle.placed_lines.specs.declared.placed_line.PlacedLine.{PlacedLine}
 use Rattle.served.proofs.FirstPass.{impulsed_grows}
 use Rattle.served.proofs.Kept.{schedules_end}
+use Rattle.served.proofs.SomeSteps.{units_go}
 use Rattle.served.specs.Cycles.{IsAtOnce}
+use Rattle.served.specs.Laws.{GoesBySteps}
 use Rattle.served.specs.Steps.{Starts}
 use Rattle.served.specs.Units.{IsUnit}
 use Rattle.served_units.proofs.AnyUnitKeeps.{any_unit_keeps}
 use Rattle.served_units.proofs.Listed.{ended-in_order, same_by_number, sensed-in_order, unit_at-number, unit_at-sensed, units_by_number, units_close, units_emit, units_ended}
 use Rattle.served_units.proofs.SameUnits.{same_units}
-use Rattle.served_units.specs.AnyUnit.{AnyUnit, AreInOrder, any_ended, any_kind, unit_at, unit_numbers}
+use Rattle.served_units.specs.AnyUnit.{AnyUnit, AreInOrder, any_ended, any_kind, unit_at, unit_numbers, units_of}
 use Rattle.served_units.specs.Laws.{ServedCyclesAreCycles, ServedRunsPrintTheSame}
 use Rattle.served_units.specs.Runs.{ServedCycle}
 use Rattle.setups.specs.Wiring.{Wiring}
@@ -100,37 +103,54 @@ module _ (wiring : Wiring) (cycle : Cycle) (old : MachineState) (ordered : AreIn
   }
 
   -- the units at the end, by a schedule and at once
-  same_end : (new : MachineState) → ServedCycle wiring cycle old new → new ≡ ended (machine_before 14) cycle
-  same_end new served =
-      same_units new (ended (machine_before 14) cycle)
-      (served.ended
-      ∙ same_by_number (λ unit. any_ended (served.last.units unit) cycle)
+  same_ends : (goes : GoesBySteps any_kind wiring cycle 45 (unit_at old))
+      → map (λ unit. any_ended (goes.last.units unit) cycle) unit_numbers ≡ units_of (ended (machine_before 14) cycle)
+  same_ends goes =
+      same_by_number (λ unit. any_ended (goes.last.units unit) cycle)
       (λ unit. any_ended (unit_at (machine_before 14) unit) cycle)
       (λ unit is. ap (λ (one : AnyUnit). any_ended one cycle) (last_there unit is))
       ∙ sym (map-map (λ one. any_ended one cycle) (unit_at (machine_before 14)) unit_numbers)
       ∙ ap (map (λ one. any_ended one cycle)) (units_by_number (machine_before 14) (before_ordered 14))
-      ∙ sym (units_ended (machine_before 14) cycle))
+      ∙ sym (units_ended (machine_before 14) cycle)
     where
-      starts : Starts any_kind cycle 45 (unit_at (machine_before 0)) served.start
+      starts : Starts any_kind cycle 45 (unit_at (machine_before 0)) goes.start
       starts =
-          subst (λ (machine : MachineState). Starts any_kind cycle 45 (unit_at machine) served.start) (sym before_start)
-          served.starts
+          subst (λ (machine : MachineState). Starts any_kind cycle 45 (unit_at machine) goes.start) (sym before_start)
+          goes.starts
 
-      last_there : (unit : ℕ) → IsUnit 45 unit → served.last.units unit ≡ unit_at (machine_before 14) unit
+      last_there : (unit : ℕ) → IsUnit 45 unit → goes.last.units unit ≡ unit_at (machine_before 14) unit
       last_there =
-          schedules_end AnyUnit any_kind wiring cycle 45 (λ place. unit_at (machine_before place)) served.schedule
-          served.start served.last any_unit_keeps at_once starts served.taken served.over
+          schedules_end AnyUnit any_kind wiring cycle 45 (λ place. unit_at (machine_before place)) goes.steps goes.start
+          goes.last any_unit_keeps at_once starts goes.taken goes.over
 
-  stays_ordered : (new : MachineState) → ServedCycle wiring cycle old new → AreInOrder new
-  stays_ordered new served =
-      subst AreInOrder (sym (same_end new served)) (ended-in_order (machine_before 14) cycle (before_ordered 14))
+  cycle_at_once : CycleRun wiring cycle old (ended (machine_before 14) cycle)
+  cycle_at_once = record { at_end = machine_before 14; reached = reached 14; is_new = refl }
+
+  cycle_of_served : (new : MachineState) → ServedCycle wiring cycle old new → CycleRun wiring cycle old new
+  cycle_of_served new served = record {
+    at_end = machine_before 14;
+    reached = reached 14;
+    is_new = same_units new (ended (machine_before 14) cycle) (served.ended ∙ same_ends served.served);
+  }
+
+  served_of_cycle : (new : MachineState) → CycleRun wiring cycle old new → ServedCycle wiring cycle old new
+  served_of_cycle new run =
+      let goes = units_go AnyUnit any_kind wiring cycle 45 (unit_at old) in
+      record {
+        served = goes;
+        ended =
+            ap units_of (CycleRun-one wiring cycle old new (ended (machine_before 14) cycle) run cycle_at_once)
+            ∙ sym (same_ends goes);
+      }
+
+  stays_ordered : (new : MachineState) → CycleRun wiring cycle old new → AreInOrder new
+  stays_ordered new run =
+      subst AreInOrder (CycleRun-one wiring cycle old (ended (machine_before 14) cycle) new cycle_at_once run)
+      (ended-in_order (machine_before 14) cycle (before_ordered 14))
 
 pub served_cycles_are : ServedCyclesAreCycles
-served_cycles_are wiring cycle old new ordered served = record {
-  at_end = machine_before wiring cycle old ordered 14;
-  reached = reached wiring cycle old ordered 14;
-  is_new = same_end wiring cycle old ordered new served;
-}
+served_cycles_are wiring cycle old new ordered =
+    (cycle_of_served wiring cycle old ordered new, served_of_cycle wiring cycle old ordered new)
 
 -- cards that move on leave the units in their order
 moved_ordered : (machine : MachineState) (cards : List (List ℕ)) → AreInOrder machine
@@ -144,24 +164,41 @@ ready_ordered Card run ordered = moved_ordered run.machine run.hopper ordered
 ready_ordered (Prog level ordinal) run ordered = ordered
 ready_ordered (Head heading) run ordered = ordered
 
-runs_same : (wiring : Wiring) (cycles : List Cycle) (run : InRun) (lines : List PlacedLine) → AreInOrder run.machine
-    → RunsBy (ServedCycle wiring) cycles run lines → RunsBy (CycleRun wiring) cycles run lines
+-- runs by cycles of one form are runs by cycles of another, where these follow and the units stay in their order
+runs_moved : (one other : Cycle → MachineState → MachineState → Type 0)
+    → ((cycle : Cycle) (old new : MachineState) → AreInOrder old → one cycle old new → other cycle old new)
+    → ((cycle : Cycle) (old new : MachineState) → AreInOrder old → one cycle old new → AreInOrder new)
+    → (cycles : List Cycle) (run : InRun) (lines : List PlacedLine) → AreInOrder run.machine → RunsBy one cycles run lines
+    → RunsBy other cycles run lines
 unfolding RunsBy
-runs_same wiring [] run lines ordered runs = runs
-runs_same wiring (cycle ∷ cycles) run lines ordered runs =
+runs_moved one other follows stays [] run lines ordered runs = runs
+runs_moved one other follows stays (cycle ∷ cycles) run lines ordered runs =
     let ready = ready_ordered cycle run ordered in (
       runs.0,
       runs.1,
       runs.2,
-      served_cycles_are wiring cycle (made_ready cycle run).machine runs.0 ready runs.3,
-      runs_same wiring cycles (record { machine = runs.0; hopper = (made_ready cycle run).hopper }) runs.1
-          (stays_ordered wiring cycle (made_ready cycle run).machine ready runs.0 runs.3) runs.4,
+      follows cycle (made_ready cycle run).machine runs.0 ready runs.3,
+      runs_moved one other follows stays cycles (record { machine = runs.0; hopper = (made_ready cycle run).hopper }) runs.1
+          (stays cycle (made_ready cycle run).machine runs.0 ready runs.3) runs.4,
       runs.5,
     )
 
 pub served_runs_print : ServedRunsPrintTheSame
-served_runs_print wiring cards lines served = (
-  served.0,
-  runs_same wiring served.0 (run_at_start wiring cards) lines
-      (moved_ordered (machine_at_start wiring) cards refl) served.1,
-)
+served_runs_print wiring cards lines =
+    let start = moved_ordered (machine_at_start wiring) cards refl in (
+      λ served. (
+        served.0,
+        runs_moved (ServedCycle wiring) (CycleRun wiring)
+            (λ cycle old new ordered run. cycle_of_served wiring cycle old ordered new run)
+            (λ cycle old new ordered run.
+            stays_ordered wiring cycle old ordered new (cycle_of_served wiring cycle old ordered new run))
+            served.0 (run_at_start wiring cards) lines start served.1,
+      ),
+      λ run. (
+        run.0,
+        runs_moved (CycleRun wiring) (ServedCycle wiring)
+            (λ cycle old new ordered run. served_of_cycle wiring cycle old ordered new run)
+            (λ cycle old new ordered run. stays_ordered wiring cycle old ordered new run) run.0 (run_at_start wiring cards)
+            lines start run.1,
+      ),
+    )

@@ -1,5 +1,5 @@
 -- Served runs print what the machine prints.
-use Rattle.std.specs.Prelude.{ℕ, List}
+use Rattle.std.specs.Prelude.{◌↔◌, ℕ, List}
 use Rattle.machine.specs.Cycles.{CycleRun}
 use Rattle.machine.specs.Machine.{MachineState}
 use Rattle.machine.specs.Runs.{MachineLines}
@@ -9,14 +9,16 @@ use Rattle.served_units.specs.AnyUnit.{AreInOrder}
 use Rattle.served_units.specs.Runs.{ServedCycle, ServedLines}
 use Rattle.setups.specs.Wiring.{Wiring}
 
--- A cycle by any schedule is the cycle of the machine in which all units act at once.
+-- The cycles by schedules are the cycles of the machine in which all units act at once.
 abbrev pub ServedCyclesAreCycles : Type 0
 ServedCyclesAreCycles =
     (wiring : Wiring) (cycle : Cycle) (old new : MachineState)
-    → AreInOrder old → ServedCycle wiring cycle old new → CycleRun wiring cycle old new
+    → AreInOrder old
+    → ServedCycle wiring cycle old new ↔ CycleRun wiring cycle old new
 
--- The lines of a run by any schedules are those of the machine, whatever the setup and the deck are.
+-- The lines of a run by any schedules are those of the machine, and every run of the machine is one by schedules, whatever the
+-- setup and the deck are.
 abbrev pub ServedRunsPrintTheSame : Type 0
 ServedRunsPrintTheSame =
     (wiring : Wiring) (cards : List (List ℕ)) (lines : List PlacedLine)
-    → ServedLines wiring cards lines → MachineLines wiring cards lines
+    → ServedLines wiring cards lines ↔ MachineLines wiring cards lines

@@ -4,21 +4,16 @@ use Rattle.machine.specs.Machine.{MachineState}
 use Rattle.machine.specs.Runs.{RunsBy, run_at_start}
 use Rattle.net.specs.declared.cycle.Cycle.{Cycle}
 use Rattle.placed_lines.specs.declared.placed_line.PlacedLine.{PlacedLine}
+use Rattle.served.specs.Laws.{GoesBySteps}
 use Rattle.served.specs.Orders.{unit_count}
-use Rattle.served.specs.Steps.{AreOver, Runs, Served, Starts, Step}
-use Rattle.served_units.specs.AnyUnit.{AnyUnit, any_ended, any_kind, unit_at, unit_numbers, units_of}
+use Rattle.served_units.specs.AnyUnit.{any_ended, any_kind, unit_at, unit_numbers, units_of}
 use Rattle.setups.specs.Wiring.{Wiring}
 
 -- A cycle by a schedule: its steps are taken one after another until all units have sensed at the closing point, and then each unit
 -- ends the cycle.
 pub record ServedCycle (wiring : Wiring) (cycle : Cycle) (old new : MachineState) : Type 0 where
-  pub schedule : List Step
-  pub start : Served AnyUnit
-  pub last : Served AnyUnit
-  pub starts : Starts any_kind cycle unit_count (unit_at old) start
-  pub taken : Runs any_kind wiring cycle unit_count schedule start last
-  pub over : AreOver unit_count last
-  pub ended : units_of new ≡ map (λ unit. any_ended (last.units unit) cycle) unit_numbers
+  pub served : GoesBySteps any_kind wiring cycle unit_count (unit_at old)
+  pub ended : units_of new ≡ map (λ unit. any_ended (served.last.units unit) cycle) unit_numbers
 
 -- the lines of a served run over a deck
 abbrev pub ServedLines : Wiring → List (List ℕ) → List PlacedLine → Type 0

@@ -9,12 +9,13 @@ pub fn units_keep_to_their_own()
     ensures { KeepsToItsOwn any_kind }
 {}
 
-/// A cycle by any schedule is the cycle of the machine in which all units act at once.
+/// The cycles by schedules are the cycles of the machine in which all units act at once.
 pub fn served_cycles_are_cycles()
     ensures { ServedCyclesAreCycles }
 {}
 
-/// The lines of a run by any schedules are those of the machine, whatever the setup and the deck are.
+/// The lines of a run by any schedules are those of the machine, and there is a run by schedules, whatever the setup and the deck
+/// are.
 pub fn served_runs_print_the_same()
     ensures { ServedRunsPrintTheSame }
 {}
