@@ -178,14 +178,13 @@ fn a_deck_without_cards_has_no_page(rt: HostRuntime) -> Result<(), Fail> {
     Ok(())
 }
 
-/// The number of a cause and the card that it names.
-fn cause_and_card(cause: StreamCause) -> (Option<u8>, u32) {
-    let card = match cause {
-        StreamCause::Invalid { card, .. } => card,
+/// The card that a cause names.
+fn card_of(cause: &StreamCause) -> u32 {
+    match cause {
+        StreamCause::Invalid { card, .. } => *card,
         StreamCause::Misfit { misfit } => misfit.card,
         _ => 0,
-    };
-    (cause.number(), card)
+    }
 }
 
 #[test]
@@ -208,7 +207,8 @@ fn the_cause_that_is_met_first_is_told(rt: HostRuntime) -> Result<(), Fail> {
         match stream(rt.alloc(), &compiled, deck, 4096, None, &mut writer) {
             Ok(_) => assert!(rt; false),
             Err(fault) => {
-                assert!(rt; cause_and_card(fault.cause) == (Some(number), card));
+                assert_eq!(rt; fault.cause.number(), Some(number));
+                assert_eq!(rt; card_of(&fault.cause), card);
                 assert_eq!(rt; fault.written, written.len() as u64);
             },
         }
