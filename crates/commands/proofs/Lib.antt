@@ -1,5 +1,6 @@
 mod Division
 mod Exclusions
 mod Outcomes
+mod PrintedPages
 mod Refusing
 mod Stopping

@@ -7,16 +7,16 @@ use Rattle.wiring_text.specs.declared.fault.WiringFault.{WiringFault}
 use Rattle.wiring_text.specs.declared.fault.WiringFault.TheVariants as wiring
 use Rattle.commands.proofs.Refusing.{wiring_refused}
 use Rattle.commands.specs.Answers.{Answers, Compiles, IsWiringChartOf}
-use Rattle.commands.specs.Refusals.{Refuses}
+use Rattle.commands.specs.Refusals.{Refuses, RefusesReplay}
 use Rattle.faults.specs.Told.{wiring_told}
-use Rattle.commands.specs.Served.{IsDone, IsRefused}
+use Rattle.commands.specs.Served.{IsDone, IsRefused, PrintsReplay}
 use Rattle.faults.specs.Status.{status_of}
 use Rattle.commands.specs.declared.command.Command.{Command}
 use Rattle.commands.specs.declared.command.Command.TheVariants as command
 use Rattle.faults.specs.declared.fault.Fault.{Fault}
 use Rattle.faults.specs.declared.fault.Fault.TheVariants as fault
 
-refusal_is_not_memory : (told : Fault) → status_of told ≡ 3 → told ≢ fault.Memory
+pub refusal_is_not_memory : (told : Fault) → status_of told ≡ 3 → told ≢ fault.Memory
 refusal_is_not_memory told three is =
     let five : status_of told ≡ 5 = ap status_of is in
     omega (arith, three, five)
@@ -115,4 +115,27 @@ refused_for_deck (Ok _) command unread text deck Q same of_any = tt
 refused_for_deck (Err told) command unread text deck Q same of_any = λ three. (
   subst (λ (of : Command). IsRefused of text deck told) (sym same) ((of_any three).0 deck),
   (of_any three).1,
+)
+
+-- the pages of a replay are what it answers
+pub replay_done : {X E : Type 0} (result : Result X E) (text read items : List ℕ) (deck old new : Option (List ℕ)) → read ≡ items
+    → IfSome deck (λ known. items ≡ known) → OnOk result (PrintsReplay text read old new) → OnOk result (IsDone command.Replay text deck old new)
+replay_done (Ok _) text read items deck old new same is_deck prints =
+    record {
+      read = read;
+      is_deck = read_is_known deck read items same is_deck;
+      answer = prints.answer;
+      answers = prints.pages;
+      written = prints.written;
+    }
+replay_done (Err _) text read items deck old new same is_deck prints = tt
+
+-- and the texts that it refuses are those that were read
+pub replay_refused : {X : Type 0} (result : Result X Fault) (text read items : List ℕ) (deck : Option (List ℕ)) (Q : Type 0) → read ≡ items
+    → IfSome deck (λ known. items ≡ known) → IfErr result (λ told. status_of told ≡ 3 → RefusesReplay text read told × Q)
+    → IfErr result (λ told. status_of told ≡ 3 → IsRefused command.Replay text deck told × Q)
+replay_refused (Ok _) text read items deck Q same is_deck refuses = tt
+replay_refused (Err told) text read items deck Q same is_deck refuses = λ three. (
+  record { read = read; is_deck = read_is_known deck read items same is_deck; refuses = (refuses three).0 },
+  (refuses three).1,
 )

@@ -1,8 +1,8 @@
 -- What a command has done where it ends well, and what it has told where it doesn't. The deck is known where its reader tells its bytes
 -- beforehand, and what is written where the writer tells what it holds.
-use Rattle.std.specs.Prelude.{◌≡◌, ℕ, List, Option, IfSome}
+use Rattle.std.specs.Prelude.{◌≡◌, ℕ, ◌≤◌, List, Option, IfSome, length, take}
 use Rattle.std.specs.Io.KnownBytes.{Appends}
-use Rattle.commands.specs.Answers.{Answers}
+use Rattle.commands.specs.Answers.{Answers, AreReplayedPages}
 use Rattle.commands.specs.Refusals.{Refuses}
 use Rattle.commands.specs.declared.command.Command.{Command}
 use Rattle.faults.specs.Status.{status_of}
@@ -30,3 +30,17 @@ pub data Stops (told unreadable : Fault) (Unprinted : Type 0) : Type 0 where
   deck_unread : told ≡ unreadable → Unprinted → Stops told unreadable Unprinted
   output_unwritten : told ≡ fault.Write → Stops told unreadable Unprinted
   memory_wanting : told ≡ fault.Memory → Stops told unreadable Unprinted
+
+-- The pages of a wiring chart and a deck were printed after what was there.
+pub record PrintsReplay (text deck : List ℕ) (old new : Option (List ℕ)) : Type 0 where
+  pub answer : List ℕ
+  pub pages : AreReplayedPages text deck answer
+  pub written : Appends old new answer
+
+-- The first bytes of them were printed after what was there, so many.
+pub record PrintsFront (text deck : List ℕ) (old new : Option (List ℕ)) : Type 0 where
+  pub answer : List ℕ
+  pub pages : AreReplayedPages text deck answer
+  pub count : ℕ
+  pub within : count ≤ length answer
+  pub written : Appends old new (take count answer)

@@ -11,7 +11,9 @@ mod answers;
 mod command;
 mod input;
 mod laws;
+mod lent;
 mod output;
+mod replaying;
 mod serving;
 
 pub use answers::{check, pages, replayed, wiring_chart};
@@ -19,4 +21,5 @@ pub use command::Command;
 pub use faults::{Ending, Fault, tell, unprinted, write_line};
 pub use input::{chart_and_deck, read_whole};
 pub use laws::answered_texts_are_not_refused;
+pub use replaying::print_replay;
 pub use serving::{serve, serve_to_end};

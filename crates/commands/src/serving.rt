@@ -6,10 +6,11 @@ ghost use Rattle.commands.specs.Served.{IsDone, IsRefused, Stops};
 ghost use Rattle.faults.specs.Lines.{IsTold};
 ghost use Rattle.faults.specs.Status.{status_of};
 
-use crate::answers::{check, pages, replayed, wiring_chart};
+use crate::answers::{check, pages, wiring_chart};
 use crate::command::Command;
 use crate::input::read_whole;
 use crate::output::put;
+use crate::replaying::print_replay;
 use faults::{Ending, Fault, tell};
 use std::alloc::Global;
 use std::io::{Read, Write};
@@ -71,10 +72,7 @@ fn serve_replay<'a, R: Read + Drop, W: Write>(
     ensures stopped { IfErr result (λ told. Stops told (Fault.File path.entry) (out.new ≡ out.old)) }
 {
     match read_whole(alloc, deck, path) {
-        Ok(bytes) => {
-            let printed = replayed(alloc, text, bytes.as_slice())?;
-            put(out, printed.as_slice())
-        }
+        Ok(bytes) => print_replay(alloc, text, bytes.as_slice(), out),
         Err(unread) => {
             read_setup(alloc, text)?;
             Err(unread)

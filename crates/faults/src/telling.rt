@@ -4,7 +4,7 @@ ghost use Rattle.std.specs.Prelude.{◌≡◌, ◌≤◌, ◌==◌, ◌++◌, co
 ghost use Rattle.std.specs.Io.KnownBytes.{Appends};
 ghost use Rattle.std.specs.List.{position_or_len};
 ghost use Rattle.charts.specs.Name.{name_text};
-ghost use Rattle.faults.specs.Lines.{IsTold, line_of, text_of};
+ghost use Rattle.faults.specs.Lines.{IsTold, fault_line, fault_text};
 ghost use Rattle.faults.specs.Status.{status_of};
 
 use crate::fault::Fault;
@@ -47,7 +47,7 @@ fn write_total<W: Write>(
 
 // Writes the words and figures of a fault.
 fn write_text<W: Write>(fault: &Fault, out: &mut W) -> io::Result<()>
-    ensures { OnOk result (Appends (W.contents out.old) (W.contents out.new) (text_of fault.now)) }
+    ensures { OnOk result (Appends (W.contents out.old) (W.contents out.new) (fault_text fault.now)) }
 {
     match fault {
         Fault::Whole { number } => write!(out, "fault {number}"),
@@ -105,7 +105,7 @@ fn write_text<W: Write>(fault: &Fault, out: &mut W) -> io::Result<()>
 ///
 /// Where the writer fails. It may then have taken a part of the line.
 pub fn write_line<W: Write>(fault: &Fault, out: &mut W) -> io::Result<()>
-    ensures { OnOk result (Appends (W.contents out.old) (W.contents out.new) (line_of fault.now)) }
+    ensures { OnOk result (Appends (W.contents out.old) (W.contents out.new) (fault_line fault.now)) }
 {
     write_text(fault, out)?;
     out.write_all(b"\n")

@@ -1,30 +1,27 @@
 use Rattle.std.proofs.Common.{refl}
 use Rattle.std.proofs.lemmas.Result.{err_from_is_err_and}
-use Rattle.commands.specs.declared.command.Command.TheVariants as command
-use Rattle.commands.proofs.Outcomes.{done, refused, wiring_refused_for_any}
+use Rattle.commands.proofs.Outcomes.{replay_done, replay_refused, wiring_refused_for_any}
+use Rattle.commands.proofs.Stopping.{stops_for_deck}
 use Rattle.commands.proofs.serving.serve_replay.Goals as goal
 
-pub returns-in_err-printed-in-Ok-clause-refused : goal.returns-in_err-printed-in-Ok-clause-refused
-returns-in_err-printed-in-Ok-clause-refused g c =
-    let exit = err_from_is_err_and c.from_residual.result c.from_residual.ensures.1 in
-    rw exit.1 (λ three. (
-      refused command.Replay c.args.text.now c.as_slice.result.now c.in-Ok.bytes.items (g.R.Read.remaining c.args.deck)
-          c.in_err-printed-in-Ok.field-0.0 exit.0 c.as_slice.ensures.value c.in-Ok.ensures.whole c.in_err-printed-in-Ok.ensures.refused
-          exit.2 three,
-      refl,
-    ))
+pub returns-in-Ok-clause-done : goal.returns-in-Ok-clause-done
+returns-in-Ok-clause-done g c =
+    replay_done c.print_replay.result c.args.text.now c.as_slice.result.now c.in-Ok.bytes.items (g.R.Read.remaining c.args.deck) _ _
+    c.as_slice.ensures.value c.in-Ok.ensures.whole c.print_replay.ensures.pages
+
+pub returns-in-Ok-clause-refused : goal.returns-in-Ok-clause-refused
+returns-in-Ok-clause-refused g c =
+    replay_refused c.print_replay.result c.args.text.now c.as_slice.result.now c.in-Ok.bytes.items (g.R.Read.remaining c.args.deck) _
+    c.as_slice.ensures.value c.in-Ok.ensures.whole c.print_replay.ensures.refused
+
+pub returns-in-Ok-clause-stopped : goal.returns-in-Ok-clause-stopped
+returns-in-Ok-clause-stopped g c = stops_for_deck c.print_replay.result _ _ c.print_replay.ensures.stopped
 
 pub returns-in_err-read_setup-in-Err-clause-refused : goal.returns-in_err-read_setup-in-Err-clause-refused
 returns-in_err-read_setup-in-Err-clause-refused g c =
-    let exit = err_from_is_err_and c.from_residual-in_err-read_setup-in-Err.result c.from_residual-in_err-read_setup-in-Err.ensures.1 in
+    let exit = err_from_is_err_and c.from_residual.result c.from_residual.ensures.1 in
     rw exit.1 (λ three. (
       wiring_refused_for_any c.args.text.now (g.R.Read.remaining c.args.deck) c.in_err-read_setup-in-Err.field-0.0 exit.0
           c.in_err-read_setup-in-Err.ensures.fault exit.2 three,
       refl,
     ))
-
-pub returns-in_ok-printed-in-Ok-clause-done : goal.returns-in_ok-printed-in-Ok-clause-done
-returns-in_ok-printed-in-Ok-clause-done g c =
-    done c.put.result command.Replay c.args.text.now c.as_slice.result.now c.in-Ok.bytes.items c.in_ok-printed-in-Ok.printed.items
-    c.as_slice-in-Ok.result.now (g.R.Read.remaining c.args.deck) _ _ c.as_slice.ensures.value c.in-Ok.ensures.whole
-    c.in_ok-printed-in-Ok.ensures.pages c.as_slice-in-Ok.ensures.value c.put.ensures.written

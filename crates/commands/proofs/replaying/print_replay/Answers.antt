@@ -1,0 +1,37 @@
+use Rattle.std.proofs.Common.{refl, subst, sym}
+use Rattle.std.proofs.lemmas.Result.{err_from_is_err_and}
+use Rattle.card_code.specs.Deck.{Deck}
+use Rattle.commands.proofs.Outcomes.{refusal_is_not_memory}
+use Rattle.commands.proofs.PrintedPages.{printed_front, printed_whole}
+use Rattle.commands.proofs.Refusing.{deck_refused, wiring_refused}
+use Rattle.commands.specs.Refusals.{punches}
+use Rattle.commands.proofs.replaying.print_replay.Goals as goal
+
+pub returns-in_err-setup-clause-refused : goal.returns-in_err-setup-clause-refused
+returns-in_err-setup-clause-refused g c =
+    let exit = err_from_is_err_and c.from_residual.result c.from_residual.ensures.1 in
+    rw exit.1 (λ three. (
+      wiring_refused c.args.wiring.now c.args.deck.now c.in_err-setup.field-0.0 exit.0 c.in_err-setup.ensures.fault exit.2
+          (refusal_is_not_memory exit.0 three),
+      refl,
+    ))
+
+pub returns-in_err-cards-clause-refused : goal.returns-in_err-cards-clause-refused
+returns-in_err-cards-clause-refused g c =
+    let exit = err_from_is_err_and c.from_residual-in_err-cards.result c.from_residual-in_err-cards.ensures.1 in
+    rw exit.1 (λ three. (
+      punches c.in_ok-setup.setup c.in_ok-setup.ensures.read
+          (deck_refused c.args.deck.now c.in_err-cards.field-0.0 exit.0 c.in_err-cards.ensures.fault exit.2 (refusal_is_not_memory exit.0 three)),
+      refl,
+    ))
+
+pub returns-clause-pages : goal.returns-clause-pages
+returns-clause-pages g c =
+    printed_whole c.args.wiring.now c.args.deck.now c.in_ok-setup.setup c.in_ok-setup.ensures.read c.as_slice.result.now
+    (subst (Deck c.args.deck.now) (sym c.as_slice.ensures.value) c.in_ok-cards.ensures.deck) c.print_deck.result _ _ c.print_deck.ensures.pages
+
+pub returns-clause-front : goal.returns-clause-front
+returns-clause-front g c =
+    printed_front c.args.wiring.now c.args.deck.now c.in_ok-setup.setup c.in_ok-setup.ensures.read c.as_slice.result.now
+    (subst (Deck c.args.deck.now) (sym c.as_slice.ensures.value) c.in_ok-cards.ensures.deck) c.print_deck.result _ _ _
+    c.print_deck.ensures.front

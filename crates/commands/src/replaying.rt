@@ -1,0 +1,71 @@
+//! Replays, printed card by card.
+
+ghost use Rattle.std.specs.Prelude.{◌≡◌, ◌≤◌, ◌⊎◌, ℕ, length, IfErr, OnErr, OnOk};
+ghost use Rattle.card_code.specs.MostCards.{most_cards};
+ghost use Rattle.commands.specs.Refusals.{RefusesReplay};
+ghost use Rattle.commands.specs.Served.{PrintsFront, PrintsReplay, Stops};
+ghost use Rattle.faults.specs.Status.{status_of};
+ghost use Rattle.replays.specs.Replays.{GainsFront, GainsPages};
+
+use crate::lent::Lent;
+use card_code::{Card, read_deck};
+use faults::Fault;
+use replays::{ReplayCause, Replayed, replay};
+use setups::Setup;
+use std::alloc::Global;
+use std::io::Write;
+use wire_chart::read_setup;
+
+// What is told where the pages could not all be written.
+fn told_of<'a>(cause: ReplayCause, unwritten: Fault<'a>) -> Fault<'a>
+    requires { (unwritten ≡ Fault.Memory) ⊎ (unwritten ≡ Fault.Write) }
+    ensures { (result ≡ Fault.Memory) ⊎ (result ≡ Fault.Write) }
+{
+    match cause {
+        ReplayCause::Memory => Fault::Memory,
+        ReplayCause::Write => unwritten,
+    }
+}
+
+// Prints the pages of a deck on a panel that is wired so, card by card.
+fn print_deck<'a, W: Write>(
+    alloc: Global,
+    setup: &Setup,
+    cards: &[Card],
+    out: &mut W,
+) -> Result<(), Fault<'a>>
+    requires { length cards.now ≤ most_cards }
+    ensures pages { OnOk result (GainsPages setup.now cards.now (W.contents out.old) (W.contents out.new)) }
+    ensures front { OnErr result ((count : ℕ) × GainsFront setup.now cards.now count (W.contents out.old) (W.contents out.new)) }
+    ensures told { IfErr result (λ told. (told ≡ Fault.Memory) ⊎ (told ≡ Fault.Write)) }
+{
+    let Replayed { sink, written } = replay(alloc, setup, cards, Lent::new(out));
+    let unwritten = sink.told();
+    let _out = sink.into_writer();
+    match written {
+        Ok(()) => Ok(()),
+        Err(fault) => Err(told_of(fault.cause, unwritten)),
+    }
+}
+
+/// Prints the pages of a wiring chart and a deck, card by card: what the machine prints of the deck, wired so, whatever is on its cards.
+///
+/// # Errors
+///
+/// The fault of the wiring chart, else of the deck's text, and nothing is printed; `Memory` where a growth was refused and `Write` where
+/// the output can't be written, and then the front of the pages may have been printed.
+pub fn print_replay<'a, W: Write>(
+    alloc: Global,
+    wiring: &[u8],
+    deck: &[u8],
+    out: &mut W,
+) -> Result<(), Fault<'a>>
+    ensures pages { OnOk result (PrintsReplay wiring.now deck.now (W.contents out.old) (W.contents out.new)) }
+    ensures refused { IfErr result (λ told. status_of told ≡ 3 → RefusesReplay wiring.now deck.now told × (out.new ≡ out.old)) }
+    ensures stopped { IfErr result (λ told. (unreadable : Fault) → Stops told unreadable (out.new ≡ out.old)) }
+    ensures front { OnErr result ((out.new ≡ out.old) ⊎ PrintsFront wiring.now deck.now (W.contents out.old) (W.contents out.new)) }
+{
+    let setup = read_setup(alloc, wiring)?;
+    let cards = read_deck(alloc, deck)?;
+    print_deck(alloc, &setup, cards.as_slice(), out)
+}
