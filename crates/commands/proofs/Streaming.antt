@@ -113,7 +113,7 @@ run_tells : (of_run : RunFault) (told : Fault) → told ≡ run_told of_run → 
 run_tells of_run told named = refused_or_memory told (named_status run_told run_status of_run told named)
 
 cause_tells : (met : StreamCause) (told : Fault) → IsToldOf met told → Tells told
-cause_tells (cause.Card unread) told named = reading_tells unread told named
+cause_tells (cause.Card of_read) told named = reading_tells of_read told named
 cause_tells (cause.Invalid invalid card) told named = run_tells (of_card invalid card) told named
 cause_tells (cause.Misfit misfit) told named = run_tells (deck.DoesNotFit misfit.level misfit.name misfit.card) told named
 cause_tells cause.Write told (inl is) = memory is
@@ -179,7 +179,7 @@ module _ (text : List ℕ) (reader old new : Option (List ℕ)) (told unreadable
 
   run_device : (word : List ℕ) → word ≡ word_of command.Run → status ≡ 4 → Tells told → Device word
   run_device word is_word four (refused three) = absurd (omega (arith, is_status, three, four))
-  run_device word is_word four (unread card is) = inr (inr (is_word, card, line_of (fault.Unread card) is))
+  run_device word is_word four (unread card is) = inr (inr (is_word, (card, line_of (fault.Unread card) is)))
   run_device word is_word four (unwritten is) = inr (inl (line_of fault.Write is))
   run_device word is_word four (memory is) = absurd (omega (arith, is_status, ap status_of is, four))
 
