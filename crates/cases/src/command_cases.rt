@@ -4,6 +4,7 @@
 //! place of each line feed, or in a file whose name is given between parentheses. Between parentheses stand too: `(standard input)`
 //! and `(divide)` in place of a command, a text that has a chart and its deck, which are run, or of which the lengths are told;
 //! `(unreadable)` and `(1000000 blank cards)` in place of a deck; and last of all `(unwritable)`, where the output can't be written.
+//! Of a million cards the number of bytes printed stands in place of these.
 
 use crate::served::Served;
 use allocate::CapacityFault;
@@ -114,7 +115,12 @@ fn write_row<W: Write>(
         let served = serve_unwritable(alloc, command, text.as_slice(), cards.as_slice());
         return write_served(out, &served);
     }
-    write_served(out, &serve_deck(rt, command, text.as_slice(), deck)?)
+    let mut served = serve_deck(rt, command, text.as_slice(), deck)?;
+    if deck == "(1000000 blank cards)" {
+        writeln!(out, "{} bytes", served.output.len())?;
+        served.output.clear();
+    }
+    write_served(out, &served)
 }
 
 // Two lines that no text brings: a chart that wants too many splits wants too many pilots, which are asked first, and memory suffices here.

@@ -1,4 +1,4 @@
-//! Runs all cases whose answers are known: charts, wiring charts, wired panels with decks, charts with decks, and commands.
+//! Runs all cases whose answers are known: charts, wiring charts, wired panels with decks, charts with decks, decks with a fault, and commands.
 //!
 //! Each kind has a folder of `data`, and its file here says what is told of its cases. What this program must print was made outside of
 //! this repository or worked out by hand, never by the program.
@@ -9,6 +9,7 @@ mod command_cases;
 mod panel_cases;
 mod report_cases;
 mod served;
+mod stream_cases;
 mod wiring_cases;
 
 use anyhow::Result;
@@ -27,6 +28,7 @@ fn main(rt: HostRuntime) -> Result<()> {
     wiring_cases::write_all(&rt, &mut out)?;
     panel_cases::write_all(&rt, &mut out)?;
     report_cases::write_all(&rt, &mut out)?;
+    stream_cases::write_all(&rt, &mut out)?;
     command_cases::write_all(&rt, &mut out)?;
     out.flush()?;
     Ok(())

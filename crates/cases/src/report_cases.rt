@@ -1,7 +1,7 @@
 //! Compiles planning charts, runs their decks, and prints of each the wiring chart and the pages.
 //!
 //! The file `index` names the charts whose wiring is known, one a line, and `pages_index` those of which the pages alone are. Where
-//! a deck is refused, the line of its fault stands in place of its pages. The last eight charts of `pages_index` are the examples of
+//! a deck is refused, the line of its fault stands in place of its pages: what is printed before it is asked by `stream_cases`. The last eight charts of `pages_index` are the examples of
 //! `docs/GALLERY.md`, where their pages and faults are worked out by hand. The machine wired as the written wiring chart says must
 //! print the same pages; where it doesn't, the program ends with a fault.
 
@@ -25,10 +25,11 @@ fn write_case<W: Write>(
         wired.write(out)?;
     }
     let printed = Served::of(alloc, "run", chart, deck);
-    printed.write(out)?;
     if printed.status != 0 {
+        out.write_all(printed.told.as_slice())?;
         return Ok(());
     }
+    printed.write(out)?;
     let replayed = Served::of(alloc, "replay", wired.output.as_slice(), deck);
     if replayed.output.as_slice() != printed.output.as_slice() {
         bail!("the wiring chart prints other pages");

@@ -4,3 +4,4 @@ mod Outcomes
 mod PrintedPages
 mod Refusing
 mod Stopping
+mod Streaming

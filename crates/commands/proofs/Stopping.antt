@@ -15,11 +15,11 @@ use Rattle.faults.specs.declared.fault.Fault.TheVariants as fault
 use Rattle.wiring_text.specs.declared.fault.WiringFault.{WiringFault}
 
 -- what is told of a cause has its status
-named_status : {X : Type 0} (tell : X → Fault) → ((cause : X) → tell cause ≢ fault.Memory → status_of (tell cause) ≡ 3) → (cause : X)
+pub named_status : {X : Type 0} (tell : X → Fault) → ((cause : X) → tell cause ≢ fault.Memory → status_of (tell cause) ≡ 3) → (cause : X)
     (told : Fault) → told ≡ tell cause → told ≢ fault.Memory → status_of told ≡ 3
 named_status tell status cause told named not_memory = ap status_of named ∙ status cause (λ is. not_memory (named ∙ is))
 
-chart_refusal : (text : List ℕ) (told : Fault) → RefusesChart text told → told ≢ fault.Memory → status_of told ≡ 3
+pub chart_refusal : (text : List ℕ) (told : Fault) → RefusesChart text told → told ≢ fault.Memory → status_of told ≡ 3
 chart_refusal text told refuses = named_status chart_told chart_status refuses.cause told refuses.named
 
 deck_refusal : (deck : List ℕ) (told : Fault) → RefusesDeck deck told → told ≢ fault.Memory → status_of told ≡ 3

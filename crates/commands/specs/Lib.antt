@@ -4,3 +4,4 @@ pub mod Input
 pub mod Laws
 pub mod Refusals
 pub mod Served
+pub mod Streamed

@@ -15,7 +15,7 @@ use std::alloc::Global;
 use wire_chart::{read_setup, write_setup};
 
 // A planning chart with the setup that is wired for it.
-fn compilation<'a>(alloc: Global, chart: &[u8]) -> Result<Compiled, Fault<'a>>
+pub(crate) fn compilation<'a>(alloc: Global, chart: &[u8]) -> Result<Compiled, Fault<'a>>
     ensures compiles { IfOk result (λ compiled. CompilesAs chart.now compiled) }
     ensures refused { IfErr result (λ told. told ≢ Fault.Memory → RefusesChart chart.now told) }
 {

@@ -14,6 +14,7 @@ mod laws;
 mod lent;
 mod output;
 mod replaying;
+mod running;
 mod serving;
 
 pub use answers::{check, pages, replayed, wiring_chart};
@@ -22,4 +23,5 @@ pub use faults::{Ending, Fault, tell, unprinted, write_line};
 pub use input::{chart_and_deck, read_whole};
 pub use laws::answered_texts_are_not_refused;
 pub use replaying::print_replay;
+pub use running::print_run;
 pub use serving::{serve, serve_to_end};

@@ -3,14 +3,16 @@
 ghost use Rattle.std.specs.Prelude.{◌≡◌, ◌≢◌, ◌≤◌, ◌⊎◌, ℕ, List, Option, IfErr, OnOk};
 ghost use Rattle.commands.specs.Commands.{IsNoCommand, word_of};
 ghost use Rattle.commands.specs.Served.{IsDone, IsRefused, Stops};
+ghost use Rattle.commands.specs.Streamed.{HasFailed, HasRefused, HasServed};
 ghost use Rattle.faults.specs.Lines.{IsTold};
 ghost use Rattle.faults.specs.Status.{status_of};
 
-use crate::answers::{check, pages, wiring_chart};
+use crate::answers::{check, wiring_chart};
 use crate::command::Command;
 use crate::input::read_whole;
 use crate::output::put;
 use crate::replaying::print_replay;
+use crate::running::print_run;
 use faults::{Ending, Fault, tell};
 use std::alloc::Global;
 use std::io::{Read, Write};
@@ -38,24 +40,6 @@ fn serve_wire<'a, W: Write>(alloc: Global, text: &[u8], out: &mut W) -> Result<(
 {
     let written = wiring_chart(alloc, text)?;
     put(out, written.as_bytes())
-}
-
-// Prints the pages of a chart and a deck, which is read before the chart is looked at.
-fn serve_run<'a, R: Read + Drop, W: Write>(
-    alloc: Global,
-    text: &[u8],
-    path: &'a str,
-    deck: R,
-    out: &mut W,
-) -> Result<(), Fault<'a>>
-    ensures done { OnOk result (IsDone Command.Run text.now (R.remaining deck) (W.contents out.old) (W.contents out.new)) }
-    ensures refused { IfErr result (λ told. status_of told ≡ 3
-        → IsRefused Command.Run text.now (R.remaining deck) told × (out.new ≡ out.old)) }
-    ensures stopped { IfErr result (λ told. Stops told (Fault.File path.entry) (out.new ≡ out.old)) }
-{
-    let bytes = read_whole(alloc, deck, path)?;
-    let printed = pages(alloc, text, bytes.as_slice())?;
-    put(out, printed.as_slice())
 }
 
 // Prints the pages of a wiring chart and a deck. A fault of the wiring chart is told before a deck that can't be read.
@@ -89,15 +73,16 @@ fn carry_out<'a, R: Read + Drop, W: Write>(
     deck: R,
     out: &mut W,
 ) -> Result<(), Fault<'a>>
-    ensures done { OnOk result (IsDone command text.now (R.remaining deck) (W.contents out.old) (W.contents out.new)) }
+    ensures done { OnOk result (HasServed command text.now (R.remaining deck) (W.contents out.old) (W.contents out.new)) }
     ensures refused { IfErr result (λ told. status_of told ≡ 3
-        → IsRefused command text.now (R.remaining deck) told × (out.new ≡ out.old)) }
-    ensures stopped { IfErr result (λ told. Stops told (Fault.File path.entry) (out.new ≡ out.old)) }
+        → HasRefused command text.now (R.remaining deck) (W.contents out.old) (W.contents out.new) told (out.new ≡ out.old)) }
+    ensures failed { IfErr result (λ told.
+        HasFailed command text.now (R.remaining deck) (W.contents out.old) (W.contents out.new) told (Fault.File path.entry) (out.new ≡ out.old)) }
 {
     match command {
         Command::Check => serve_check(alloc, text, out),
         Command::Wire => serve_wire(alloc, text, out),
-        Command::Run => serve_run(alloc, text, path, deck, out),
+        Command::Run => print_run(alloc, text, deck, out),
         Command::Replay => serve_replay(alloc, text, path, deck, out),
     }
 }
@@ -106,10 +91,13 @@ fn carry_out<'a, R: Read + Drop, W: Write>(
 ///
 /// The command is `check`, which compiles the chart `text` and prints `ok`, `wire`, which prints its wiring chart, `run`,
 /// which prints the pages of the deck, or `replay`, which prints the pages that the machine wired as the wiring chart `text` says
-/// prints of the deck, whatever is on its cards. By any other word nothing is read and nothing printed. `path` names the deck in what is
-/// told of it. By `replay` a fault of the wiring chart is told before one of the deck. The statuses are 0 done, and then nothing is told,
-/// 2 no such command, 3 refused input, 4 file fault, 5 memory. Nothing is printed by the statuses 2 and 3, nor where the deck can't be
-/// read; where the output can't be written or memory runs out, a part of the answer may have been.
+/// prints of the deck, whatever is on its cards. By any other word nothing is read and nothing printed. `path` names the deck in what
+/// `replay` tells of one that can't be read, after a fault of the wiring chart. The statuses are 0 done, and then nothing is told, 2 no
+/// such command, 3 refused input, 4 file fault, 5 memory.
+///
+/// `run` reads and prints card by card, after the chart has compiled. A fault of a card, of a total or of the reader then leaves the lines
+/// before those of a card printed, and no byte more. The other commands print nothing by status 3, nor where the deck can't be read; by
+/// status 2 nothing is printed either. Where the output can't be written or memory runs out, a part of the answer may have been.
 pub fn serve_to_end<R: Read + Drop, W: Write, V: Write>(
     alloc: Global,
     command: &str,
@@ -123,14 +111,20 @@ pub fn serve_to_end<R: Read + Drop, W: Write, V: Write>(
         × IsTold (Fault.Unknown command.entry) result.is_told (V.contents faults.old) (V.contents faults.new) }
     ensures mistaken { result.status ≡ 2 → IsNoCommand command.now }
     ensures done { result.status ≡ 0 → (known : Command) × (command.now ≡ word_of known)
-        × IsDone known text.now (R.remaining deck) (W.contents out.old) (W.contents out.new) × (faults.new ≡ faults.old) }
+        × HasServed known text.now (R.remaining deck) (W.contents out.old) (W.contents out.new) × (faults.new ≡ faults.old) }
     ensures refused { result.status ≡ 3 → (known : Command) × (told : Fault) × (command.now ≡ word_of known)
-        × IsRefused known text.now (R.remaining deck) told × (out.new ≡ out.old)
+        × HasRefused known text.now (R.remaining deck) (W.contents out.old) (W.contents out.new) told (out.new ≡ out.old)
         × IsTold told result.is_told (V.contents faults.old) (V.contents faults.new) }
     ensures device { result.status ≡ 4
         → ((out.new ≡ out.old) × IsTold (Fault.File path.entry) result.is_told (V.contents faults.old) (V.contents faults.new))
-        ⊎ IsTold Fault.Write result.is_told (V.contents faults.old) (V.contents faults.new) }
+        ⊎ IsTold Fault.Write result.is_told (V.contents faults.old) (V.contents faults.new)
+        ⊎ ((command.now ≡ word_of Command.Run)
+        × ((card : ℕ) × IsTold (Fault.Unread card) result.is_told (V.contents faults.old) (V.contents faults.new))) }
     ensures memory { result.status ≡ 5 → IsTold Fault.Memory result.is_told (V.contents faults.old) (V.contents faults.new) }
+    ensures failed { 3 ≤ result.status → (known : Command) × (told : Fault) × (command.now ≡ word_of known)
+        × (result.status ≡ status_of told)
+        × HasFailed known text.now (R.remaining deck) (W.contents out.old) (W.contents out.new) told (Fault.File path.entry) (out.new ≡ out.old)
+        × IsTold told result.is_told (V.contents faults.old) (V.contents faults.new) }
     ensures statuses { (result.status ≢ 1) × (result.status ≤ 5) }
 {
     let Some(known) = Command::named(command) else {
@@ -157,9 +151,9 @@ pub fn serve<R: Read + Drop, W: Write, V: Write>(
 ) -> u8
     ensures unknown { IsNoCommand command.now → result ≡ 2 }
     ensures done { result ≡ 0 → (known : Command) × (command.now ≡ word_of known)
-        × IsDone known text.now (R.remaining deck) (W.contents out.old) (W.contents out.new) }
+        × HasServed known text.now (R.remaining deck) (W.contents out.old) (W.contents out.new) }
     ensures refused { result ≡ 3 → (known : Command) × (told : Fault) × (command.now ≡ word_of known)
-        × IsRefused known text.now (R.remaining deck) told × (out.new ≡ out.old) }
+        × HasRefused known text.now (R.remaining deck) (W.contents out.old) (W.contents out.new) told (out.new ≡ out.old) }
 {
     serve_to_end(alloc, command, text, path, deck, out, faults).status
 }

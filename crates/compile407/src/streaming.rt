@@ -9,7 +9,7 @@ ghost use Rattle.streamed_runs.specs.declared.fault.StreamCause.TheVariants as c
 use crate::compiled::Compiled;
 use devices::{Sink, Source};
 use std::alloc::Global;
-use streamed_runs::StreamFault;
+use streamed_runs::{StreamFault, Streamed};
 
 /// Runs a deck through the machine, wired as compiled: its cards come one by one from the source, and the pages of its report go to the
 /// sink. Answers how many cards there were; then no byte of the source is left, and exactly the report was written.
@@ -41,4 +41,28 @@ pub fn run_stream<S: Source, W: Sink>(
     let chart = compiled.chart();
     let setup = compiled.setup();
     streamed_runs::run_stream(alloc, chart, setup, source, sink)
+}
+
+/// Runs a deck as [`run_stream`] does, over a source and a sink of its own, and hands both back, also where one has failed.
+///
+/// The fault is the one that `run_stream` tells.
+pub fn stream_deck<S: Source + Drop, W: Sink + Drop>(
+    alloc: Global,
+    compiled: &Compiled,
+    source: S,
+    sink: W,
+) -> Streamed<S, W>
+    ensures run { IfOk result.run (λ count. (text : List ℕ) → S.left source ≡ Some text → (written : List ℕ)
+        × HasRun compiled.now.chart text count written × Appends (W.held sink) (W.held result.sink) written) }
+    ensures all { OnOk result.run (IsAtEnd (S.left result.source)) }
+    ensures stopped { IfErr result.run (λ fault. (text : List ℕ) → S.left source ≡ Some text → (written : List ℕ)
+        × HasStopped compiled.now.chart text fault written × Appends (W.held sink) (W.held result.sink) written) }
+    ensures read { IfErr result.run (λ fault. (line : ℕ) → fault.cause ≡ cause.Card (read.Read line) → S.has_failed result.source ≡ true) }
+    ensures write { IfErr result.run (λ fault. fault.cause ≡ cause.Write → W.has_failed result.sink ≡ true) }
+    ensures same_source { S.borrow result.source ≡ S.borrow source }
+    ensures same_sink { W.borrow result.sink ≡ W.borrow sink }
+{
+    let chart = compiled.chart();
+    let setup = compiled.setup();
+    streamed_runs::stream_deck(alloc, chart, setup, source, sink)
 }

@@ -74,5 +74,6 @@ memory_or_not (fault.Indicate number level wanted there) = inr (λ is. cc)
 memory_or_not (fault.Total number level name card) = inr (λ is. cc)
 memory_or_not (fault.Unknown word) = inr (λ is. cc)
 memory_or_not (fault.File path) = inr (λ is. cc)
+memory_or_not (fault.Unread card) = inr (λ is. cc)
 memory_or_not fault.Write = inr (λ is. cc)
 memory_or_not fault.Memory = inl refl

@@ -28,6 +28,7 @@ fault_text (fault.Total number level name card) =
     ++ codes " card " ++ decimal card
 fault_text (fault.Unknown word) = codes "fault command " ++ word.now
 fault_text (fault.File path) = codes "fault file " ++ path.now
+fault_text (fault.Unread card) = codes "fault 4 card " ++ decimal card
 fault_text fault.Write = codes "fault write"
 fault_text fault.Memory = codes "fault memory"
 

@@ -1,4 +1,4 @@
--- The program's status for a fault: 2 for a command that there isn't, 3 for refused input, 4 for a file or the output, 5 for memory.
+-- The program's status for a fault: 2 for a command that there isn't, 3 for refused input, 4 for a file, a deck that can't be read or the output, 5 for memory.
 use Rattle.std.specs.Prelude.{ℕ}
 use Rattle.faults.specs.declared.fault.Fault.{Fault}
 use Rattle.faults.specs.declared.fault.Fault.TheVariants as fault
@@ -16,5 +16,6 @@ status_of (fault.Indicate number level wanted there) = 3
 status_of (fault.Total number level name card) = 3
 status_of (fault.Unknown word) = 2
 status_of (fault.File path) = 4
+status_of (fault.Unread card) = 4
 status_of fault.Write = 4
 status_of fault.Memory = 5

@@ -76,6 +76,10 @@ pub enum Fault<'a> {
     File {
         path: &'a str,
     },
+    /// A card of a deck, by its number from 1, at which its reader failed.
+    Unread {
+        card: u32,
+    },
     /// The output can't be written.
     Write,
     /// Memory ran out.
@@ -86,13 +90,13 @@ impl Fault<'_> {
     ghost use Rattle.std.specs.Prelude.{◌≡◌};
     ghost use Rattle.faults.specs.Status.{status_of};
 
-    /// The status of the program: 2 for a command that there isn't, 3 for refused input, 4 for a file, 5 for memory.
+    /// The status of the program: 2 for a command that there isn't, 3 for refused input, 4 for a file or a deck that can't be read and for the output, 5 for memory.
     pub fn status(&self) -> u8
         ensures { result ≡ status_of self.now }
     {
         match self {
             Fault::Unknown { .. } => 2,
-            Fault::File { .. } | Fault::Write => 4,
+            Fault::File { .. } | Fault::Unread { .. } | Fault::Write => 4,
             Fault::Memory => 5,
             Fault::Whole { .. }
             | Fault::Line { .. }

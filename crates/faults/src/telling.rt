@@ -94,6 +94,7 @@ fn write_text<W: Write>(fault: &Fault, out: &mut W) -> io::Result<()>
         } => write_total(out, *number, *level, name, *card),
         Fault::Unknown { word } => write!(out, "fault command {word}"),
         Fault::File { path } => write!(out, "fault file {path}"),
+        Fault::Unread { card } => write!(out, "fault 4 card {card}"),
         Fault::Write => write!(out, "fault write"),
         Fault::Memory => write!(out, "fault memory"),
     }

@@ -12,4 +12,4 @@ mod run;
 mod running;
 
 pub use fault::{StreamCause, StreamFault};
-pub use running::run_stream;
+pub use running::{Streamed, run_stream, stream_deck};

@@ -86,6 +86,52 @@ fn run_pages<S: Source + Drop, W: Sink + Drop>(
     }
 }
 
+/// What is left of a streamed run.
+#[derive(Drop)]
+pub struct Streamed<S: Source + Drop, W: Sink + Drop> {
+    /// The source.
+    pub source: S,
+    /// The sink.
+    pub sink: W,
+    /// How many cards there were, where the deck was run to its end.
+    pub run: Result<u64, StreamFault>,
+}
+
+/// Runs a deck as [`run_stream`] does, over a source and a sink of its own, and hands both back, also where one has failed.
+///
+/// The fault is the one that `run_stream` tells.
+pub fn stream_deck<S: Source + Drop, W: Sink + Drop>(
+    alloc: Global,
+    chart: &Chart,
+    setup: &Setup,
+    source: S,
+    sink: W,
+) -> Streamed<S, W>
+    requires prints { PrintsReport chart.now setup.now }
+    requires begins { BeginsReport chart.now setup.now }
+    requires form { setup.now.tape.lines ≡ (form_of chart.now.lines).lines }
+    ensures run { IfOk result.run (λ count. (text : List ℕ) → S.left source ≡ Some text → (written : List ℕ)
+        × HasRun chart.now text count written × Appends (W.held sink) (W.held result.sink) written) }
+    ensures all { OnOk result.run (IsAtEnd (S.left result.source)) }
+    ensures stopped { IfErr result.run (λ fault. (text : List ℕ) → S.left source ≡ Some text → (written : List ℕ)
+        × HasStopped chart.now text fault written × Appends (W.held sink) (W.held result.sink) written) }
+    ensures read { IfErr result.run (λ fault. (line : ℕ) → fault.cause ≡ cause.Card (read.Read line) → S.has_failed result.source ≡ true) }
+    ensures write { IfErr result.run (λ fault. fault.cause ≡ cause.Write → W.has_failed result.sink ≡ true) }
+    ensures same_source { S.borrow result.source ≡ S.borrow source }
+    ensures same_sink { W.borrow result.sink ≡ W.borrow sink }
+{
+    // What is known of the lines of every chart is told with them.
+    let _lines = chart.lines();
+    let mut cards = CardLines::new(source);
+    let mut pages = PageWriter::new(sink, u32::from(setup.tape().lines()));
+    let run = run_pages(alloc, chart, setup, &mut cards, &mut pages);
+    Streamed {
+        source: cards.into_source(),
+        sink: pages.into_sink(),
+        run,
+    }
+}
+
 /// Runs a deck through the machine of a setup that prints the reports of a chart: cards come one by one from the source, and the pages of
 /// their report go to the sink. Answers how many cards there were. Memory is taken for the machine and for the lines of one card alone.
 ///

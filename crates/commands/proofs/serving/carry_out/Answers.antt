@@ -1,30 +1,70 @@
+use Rattle.std.proofs.Common.{refl}
 use Rattle.commands.specs.declared.command.Command.TheVariants as command
 use Rattle.commands.proofs.Outcomes.{done_for_deck, refused_for_deck}
 use Rattle.commands.proofs.Stopping.{stops_for_deck}
+use Rattle.commands.proofs.Streaming.{failed_by, refused_by, run_refused, served_by}
 use Rattle.commands.proofs.serving.carry_out.Goals as goal
 
 pub returns-in-Check-clause-done : goal.returns-in-Check-clause-done
 returns-in-Check-clause-done g c =
-    done_for_deck c.serve_check.result c.args.command command.Check c.args.text.now (g.R.Read.remaining c.args.deck) _ _ c.in-Check.is
-    c.serve_check.ensures.done
+    served_by c.serve_check.result c.args.command command.Check c.args.text.now (g.R.Read.remaining c.args.deck) _ _ c.in-Check.is
+    (done_for_deck c.serve_check.result command.Check command.Check c.args.text.now (g.R.Read.remaining c.args.deck) _ _ refl
+    c.serve_check.ensures.done)
 
 pub returns-in-Check-clause-refused : goal.returns-in-Check-clause-refused
 returns-in-Check-clause-refused g c =
-    refused_for_deck c.serve_check.result c.args.command command.Check c.args.text.now (g.R.Read.remaining c.args.deck) _ c.in-Check.is
-    c.serve_check.ensures.refused
+    refused_by c.serve_check.result c.args.command command.Check c.args.text.now (g.R.Read.remaining c.args.deck) _ _ _ c.in-Check.is
+    (refused_for_deck c.serve_check.result command.Check command.Check c.args.text.now (g.R.Read.remaining c.args.deck) _ refl
+    c.serve_check.ensures.refused)
+
+pub returns-in-Check-clause-failed : goal.returns-in-Check-clause-failed
+returns-in-Check-clause-failed g c =
+    failed_by c.serve_check.result c.args.command command.Check c.args.text.now (g.R.Read.remaining c.args.deck) _ _ _ _ c.in-Check.is
+    (stops_for_deck c.serve_check.result _ _ c.serve_check.ensures.stopped)
 
 pub returns-in-Wire-clause-done : goal.returns-in-Wire-clause-done
 returns-in-Wire-clause-done g c =
-    done_for_deck c.serve_wire.result c.args.command command.Wire c.args.text.now (g.R.Read.remaining c.args.deck) _ _ c.in-Wire.is
-    c.serve_wire.ensures.done
+    served_by c.serve_wire.result c.args.command command.Wire c.args.text.now (g.R.Read.remaining c.args.deck) _ _ c.in-Wire.is
+    (done_for_deck c.serve_wire.result command.Wire command.Wire c.args.text.now (g.R.Read.remaining c.args.deck) _ _ refl
+    c.serve_wire.ensures.done)
 
 pub returns-in-Wire-clause-refused : goal.returns-in-Wire-clause-refused
 returns-in-Wire-clause-refused g c =
-    refused_for_deck c.serve_wire.result c.args.command command.Wire c.args.text.now (g.R.Read.remaining c.args.deck) _ c.in-Wire.is
-    c.serve_wire.ensures.refused
+    refused_by c.serve_wire.result c.args.command command.Wire c.args.text.now (g.R.Read.remaining c.args.deck) _ _ _ c.in-Wire.is
+    (refused_for_deck c.serve_wire.result command.Wire command.Wire c.args.text.now (g.R.Read.remaining c.args.deck) _ refl
+    c.serve_wire.ensures.refused)
 
-pub returns-in-Check-clause-stopped : goal.returns-in-Check-clause-stopped
-returns-in-Check-clause-stopped g c = stops_for_deck c.serve_check.result _ _ c.serve_check.ensures.stopped
+pub returns-in-Wire-clause-failed : goal.returns-in-Wire-clause-failed
+returns-in-Wire-clause-failed g c =
+    failed_by c.serve_wire.result c.args.command command.Wire c.args.text.now (g.R.Read.remaining c.args.deck) _ _ _ _ c.in-Wire.is
+    (stops_for_deck c.serve_wire.result _ _ c.serve_wire.ensures.stopped)
 
-pub returns-in-Wire-clause-stopped : goal.returns-in-Wire-clause-stopped
-returns-in-Wire-clause-stopped g c = stops_for_deck c.serve_wire.result _ _ c.serve_wire.ensures.stopped
+pub returns-in-Run-clause-done : goal.returns-in-Run-clause-done
+returns-in-Run-clause-done g c =
+    served_by c.print_run.result c.args.command command.Run c.args.text.now (g.R.Read.remaining c.args.deck) _ _ c.in-Run.is
+    c.print_run.ensures.whole
+
+pub returns-in-Run-clause-refused : goal.returns-in-Run-clause-refused
+returns-in-Run-clause-refused g c =
+    refused_by c.print_run.result c.args.command command.Run c.args.text.now (g.R.Read.remaining c.args.deck) _ _ _ c.in-Run.is
+    (run_refused c.print_run.result c.args.text.now (g.R.Read.remaining c.args.deck) _ _ _ c.print_run.ensures.ends)
+
+pub returns-in-Run-clause-failed : goal.returns-in-Run-clause-failed
+returns-in-Run-clause-failed g c =
+    failed_by c.print_run.result c.args.command command.Run c.args.text.now (g.R.Read.remaining c.args.deck) _ _ _ _ c.in-Run.is
+    c.print_run.ensures.ends
+
+pub returns-in-Replay-clause-done : goal.returns-in-Replay-clause-done
+returns-in-Replay-clause-done g c =
+    served_by c.serve_replay.result c.args.command command.Replay c.args.text.now (g.R.Read.remaining c.args.deck) _ _ c.in-Replay.is
+    c.serve_replay.ensures.done
+
+pub returns-in-Replay-clause-refused : goal.returns-in-Replay-clause-refused
+returns-in-Replay-clause-refused g c =
+    refused_by c.serve_replay.result c.args.command command.Replay c.args.text.now (g.R.Read.remaining c.args.deck) _ _ _ c.in-Replay.is
+    c.serve_replay.ensures.refused
+
+pub returns-in-Replay-clause-failed : goal.returns-in-Replay-clause-failed
+returns-in-Replay-clause-failed g c =
+    failed_by c.serve_replay.result c.args.command command.Replay c.args.text.now (g.R.Read.remaining c.args.deck) _ _ _ _ c.in-Replay.is
+    c.serve_replay.ensures.stopped

@@ -1,0 +1,210 @@
+-- What a run that comes card by card prints and tells.
+use Rattle.std.proofs.Common.{◌≡◌, ◌≢◌, ◌∙◌, ◌⊎◌, inl, inr, ap, sym, subst, refl, arith, ℕ, Bool, List, Option, Some, Result, Ok, Err, IfSome}
+use Rattle.std.proofs.KnownBytes.{Appends-kept}
+use Rattle.std.specs.Prelude.{IfErr, OnOk}
+use Rattle.std.specs.Io.KnownBytes.{Appends, Keeps}
+use Rattle.card_lines.specs.declared.fault.ReadFault.{ReadFault}
+use Rattle.card_lines.specs.declared.fault.ReadFault.TheVariants as read
+use Rattle.commands.proofs.Stopping.{chart_refusal, named_status, told_of_device, told_of_memory}
+use Rattle.commands.specs.Answers.{CompilesAs}
+use Rattle.commands.specs.Commands.{word_of}
+use Rattle.commands.specs.Refusals.{RefusesChart}
+use Rattle.commands.specs.Streamed.{EndsRun, HasFailed, HasRefused, HasRunWhole, HasServed, IsToldOf, StopsInRun, chart_refused, chart_unread, read_told, run_stopped}
+use Rattle.commands.specs.declared.command.Command.{Command}
+use Rattle.commands.specs.declared.command.Command.TheVariants as command
+use Rattle.compile407.specs.Compilation.{Compilation}
+use Rattle.compile407.specs.RunFaults.{of_card}
+use Rattle.faults.proofs.Statuses.{deck_status, memory_or_not, run_status}
+use Rattle.faults.specs.Lines.{IsTold}
+use Rattle.faults.specs.Status.{status_of}
+use Rattle.faults.specs.Told.{deck_told, run_told}
+use Rattle.faults.specs.declared.deck.RunFault.{RunFault}
+use Rattle.faults.specs.declared.deck.RunFault.TheVariants as deck
+use Rattle.faults.specs.declared.fault.Fault.{Fault}
+use Rattle.faults.specs.declared.fault.Fault.TheVariants as fault
+use Rattle.streamed_runs.specs.Runs.{HasRun, HasStopped}
+use Rattle.streamed_runs.specs.declared.fault.StreamCause.{StreamCause}
+use Rattle.streamed_runs.specs.declared.fault.StreamCause.TheVariants as cause
+use Rattle.streamed_runs.specs.declared.fault.StreamFault.{StreamFault}
+
+-- the report of all bytes of the reader
+pub run_whole : (compiled : Compilation) (text : List ℕ) → CompilesAs text compiled → (reader old new : Option (List ℕ)) (count : ℕ)
+    → ((bytes : List ℕ) → reader ≡ Some bytes → (written : List ℕ) × HasRun compiled.chart bytes count written × Appends old new written)
+    → HasRunWhole text reader old new
+run_whole compiled text compiles reader old new count run = record {
+  compiled = compiled;
+  compiles = compiles;
+  whole = λ known is.
+      let ran = run known is in
+      record {
+        read = known;
+        is_deck = subst (λ (bytes : Option (List ℕ)). IfSome bytes (λ all. known ≡ all)) (sym is) refl;
+        answer = ran.0;
+        answers = record {
+          compiled = compiled;
+          compiles = compiles;
+          cards = ran.1.cards;
+          punched = ran.1.deck;
+          runnable = record { deck = ran.1.valid; fits = ran.1.fit };
+          reported = ran.1.report;
+        };
+        written = ran.2;
+      };
+}
+
+-- what was written until a run stopped stays
+pub stopped_in_run : (compiled : Compilation) (text : List ℕ) → CompilesAs text compiled → (reader old middle new : Option (List ℕ))
+    (stopped : StreamFault) (told : Fault) → IsToldOf stopped.cause told
+    → ((bytes : List ℕ) → reader ≡ Some bytes → (written : List ℕ) × HasStopped compiled.chart bytes stopped written × Appends old middle written)
+    → Keeps middle new → StopsInRun text reader old new told
+stopped_in_run compiled text compiles reader old middle new stopped told named stops keeps = record {
+  compiled = compiled;
+  compiles = compiles;
+  fault = stopped;
+  named = named;
+  stopped = λ known is.
+      let stands = stops known is in
+      (stands.0, stands.1, Appends-kept old middle new stands.0 stands.2 keeps);
+}
+
+-- the chart was refused, or memory was wanting for it
+pub ends_by_chart : (text : List ℕ) (reader old new : Option (List ℕ)) (met told : Fault) (Unprinted : Type 0)
+    → (met ≢ fault.Memory → RefusesChart text met) → told ≡ met → Unprinted → EndsRun text reader old new told Unprinted
+ends_by_chart text reader old new met told Unprinted refuses same unprinted = by (memory_or_not met)
+  where
+    by : (met ≡ fault.Memory) ⊎ (met ≢ fault.Memory) → EndsRun text reader old new told Unprinted
+    by (inl is) = chart_unread (same ∙ is) unprinted
+    by (inr not_memory) = chart_refused (subst (RefusesChart text) (sym same) (refuses not_memory)) unprinted
+
+-- what holds for any text that compiles so holds for this one
+pub whole_of_text : {X E : Type 0} (result : Result X E) (text : List ℕ) (compiled : Compilation) (reader old new : Option (List ℕ))
+    → CompilesAs text compiled → OnOk result ((any : List ℕ) → CompilesAs any compiled → HasRunWhole any reader old new)
+    → OnOk result (HasRunWhole text reader old new)
+whole_of_text (Ok _) text compiled reader old new compiles of_any = of_any text compiles
+whole_of_text (Err _) text compiled reader old new compiles of_any = tt
+
+pub ends_of_text : {X : Type 0} (result : Result X Fault) (text : List ℕ) (compiled : Compilation) (reader old new : Option (List ℕ))
+    (Unprinted : Type 0) → CompilesAs text compiled
+    → IfErr result (λ told. (any : List ℕ) → CompilesAs any compiled → StopsInRun any reader old new told)
+    → IfErr result (λ told. EndsRun text reader old new told Unprinted)
+ends_of_text (Ok _) text compiled reader old new Unprinted compiles of_any = tt
+ends_of_text (Err told) text compiled reader old new Unprinted compiles of_any = run_stopped (of_any text compiles)
+
+-- what can be told of a run
+data Tells (told : Fault) : Type 0 where
+  refused : status_of told ≡ 3 → Tells told
+  unread : (card : ℕ) → told ≡ fault.Unread card → Tells told
+  unwritten : told ≡ fault.Write → Tells told
+  memory : told ≡ fault.Memory → Tells told
+
+refused_or_memory : (told : Fault) → (told ≢ fault.Memory → status_of told ≡ 3) → Tells told
+refused_or_memory told three = by (memory_or_not told)
+  where
+    by : (told ≡ fault.Memory) ⊎ (told ≢ fault.Memory) → Tells told
+    by (inl is) = memory is
+    by (inr not_memory) = refused (three not_memory)
+
+reading_tells : (unread : ReadFault) (told : Fault) → told ≡ read_told unread → Tells told
+reading_tells (read.Deck of_deck) told named = refused_or_memory told (named_status deck_told deck_status of_deck told named)
+reading_tells (read.Read line) told named = unread line named
+reading_tells read.Failed told named = refused (ap status_of named)
+
+run_tells : (of_run : RunFault) (told : Fault) → told ≡ run_told of_run → Tells told
+run_tells of_run told named = refused_or_memory told (named_status run_told run_status of_run told named)
+
+cause_tells : (met : StreamCause) (told : Fault) → IsToldOf met told → Tells told
+cause_tells (cause.Card of_read) told named = reading_tells of_read told named
+cause_tells (cause.Invalid invalid card) told named = run_tells (of_card invalid card) told named
+cause_tells (cause.Misfit misfit) told named = run_tells (deck.DoesNotFit misfit.level misfit.name misfit.card) told named
+cause_tells cause.Write told (inl is) = memory is
+cause_tells cause.Write told (inr is) = unwritten is
+cause_tells cause.Memory told named = memory named
+
+ends_tell : (text : List ℕ) (reader old new : Option (List ℕ)) (told : Fault) (Unprinted : Type 0)
+    → EndsRun text reader old new told Unprinted → Tells told
+ends_tell text reader old new told Unprinted (chart_refused refuses unprinted) = refused_or_memory told (chart_refusal text told refuses)
+ends_tell text reader old new told Unprinted (chart_unread is unprinted) = memory is
+ends_tell text reader old new told Unprinted (run_stopped stops) = cause_tells stops.fault.cause told stops.named
+
+-- a run whose texts are refused
+refused_run : (text : List ℕ) (reader old new : Option (List ℕ)) (told : Fault) (Unprinted : Type 0)
+    → EndsRun text reader old new told Unprinted → status_of told ≡ 3 → HasRefused command.Run text reader old new told Unprinted
+refused_run text reader old new told Unprinted (chart_refused refuses unprinted) three = inl (refuses, unprinted)
+refused_run text reader old new told Unprinted (chart_unread is unprinted) three = absurd (omega (arith, ap status_of is, three))
+refused_run text reader old new told Unprinted (run_stopped stops) three = inr stops
+
+pub run_refused : {X : Type 0} (result : Result X Fault) (text : List ℕ) (reader old new : Option (List ℕ)) (Unprinted : Type 0)
+    → IfErr result (λ told. EndsRun text reader old new told Unprinted)
+    → IfErr result (λ told. status_of told ≡ 3 → HasRefused command.Run text reader old new told Unprinted)
+run_refused (Ok _) text reader old new Unprinted ends = tt
+run_refused (Err told) text reader old new Unprinted ends = refused_run text reader old new told Unprinted ends
+
+-- what holds of a command holds of the one that it is
+pub served_by : {X E : Type 0} (result : Result X E) (given known : Command) (text : List ℕ) (reader old new : Option (List ℕ))
+    → given ≡ known → OnOk result (HasServed known text reader old new) → OnOk result (HasServed given text reader old new)
+served_by (Ok _) given known text reader old new same served =
+    subst (λ (of : Command). HasServed of text reader old new) (sym same) served
+served_by (Err _) given known text reader old new same served = tt
+
+pub refused_by : {X : Type 0} (result : Result X Fault) (given known : Command) (text : List ℕ) (reader old new : Option (List ℕ))
+    (Unprinted : Type 0) → given ≡ known
+    → IfErr result (λ told. status_of told ≡ 3 → HasRefused known text reader old new told Unprinted)
+    → IfErr result (λ told. status_of told ≡ 3 → HasRefused given text reader old new told Unprinted)
+refused_by (Ok _) given known text reader old new Unprinted same has = tt
+refused_by (Err told) given known text reader old new Unprinted same has = λ three.
+    subst (λ (of : Command). HasRefused of text reader old new told Unprinted) (sym same) (has three)
+
+pub failed_by : {X : Type 0} (result : Result X Fault) (given known : Command) (text : List ℕ) (reader old new : Option (List ℕ))
+    (unreadable : Fault) (Unprinted : Type 0) → given ≡ known
+    → IfErr result (λ told. HasFailed known text reader old new told unreadable Unprinted)
+    → IfErr result (λ told. HasFailed given text reader old new told unreadable Unprinted)
+failed_by (Ok _) given known text reader old new unreadable Unprinted same has = tt
+failed_by (Err told) given known text reader old new unreadable Unprinted same has =
+    subst (λ (of : Command). HasFailed of text reader old new told unreadable Unprinted) (sym same) has
+
+widened : {A B C : Type 0} → A ⊎ B → A ⊎ B ⊎ C
+widened (inl a) = inl a
+widened (inr b) = inr (inl b)
+
+-- which line is told by the status of what stopped a command
+module _ (text : List ℕ) (reader old new : Option (List ℕ)) (told unreadable : Fault) (Unprinted : Type 0) (status : ℕ) (is_told : Bool)
+    (before after : Option (List ℕ)) (is_status : status ≡ status_of told) (line : IsTold told is_told before after)
+    (path : status_of unreadable ≡ 4) where
+  line_of : (met : Fault) → told ≡ met → IsTold met is_told before after
+  line_of met is = subst (λ (of : Fault). IsTold of is_told before after) is line
+
+  abbrev Device : List ℕ → Type 0
+  Device word = (Unprinted × IsTold unreadable is_told before after) ⊎ IsTold fault.Write is_told before after
+      ⊎ ((word ≡ word_of command.Run) × ((card : ℕ) × IsTold (fault.Unread card) is_told before after))
+
+  run_device : (word : List ℕ) → word ≡ word_of command.Run → status ≡ 4 → Tells told → Device word
+  run_device word is_word four (refused three) = absurd (omega (arith, is_status, three, four))
+  run_device word is_word four (unread card is) = inr (inr (is_word, (card, line_of (fault.Unread card) is)))
+  run_device word is_word four (unwritten is) = inr (inl (line_of fault.Write is))
+  run_device word is_word four (memory is) = absurd (omega (arith, is_status, ap status_of is, four))
+
+  run_memory : status ≡ 5 → Tells told → IsTold fault.Memory is_told before after
+  run_memory five (refused three) = absurd (omega (arith, is_status, three, five))
+  run_memory five (unread card is) = absurd (omega (arith, is_status, ap status_of is, five))
+  run_memory five (unwritten is) = absurd (omega (arith, is_status, ap status_of is, five))
+  run_memory five (memory is) = line_of fault.Memory is
+
+  pub told_of_device_by : (known : Command) (word : List ℕ) → word ≡ word_of known
+      → HasFailed known text reader old new told unreadable Unprinted → status ≡ 4 → Device word
+  told_of_device_by command.Run word is_word has four = run_device word is_word four (ends_tell text reader old new told Unprinted has)
+  told_of_device_by command.Check word is_word has four =
+      widened (told_of_device told unreadable Unprinted status is_told before after has is_status line path four)
+  told_of_device_by command.Wire word is_word has four =
+      widened (told_of_device told unreadable Unprinted status is_told before after has is_status line path four)
+  told_of_device_by command.Replay word is_word has four =
+      widened (told_of_device told unreadable Unprinted status is_told before after has is_status line path four)
+
+  pub told_of_memory_by : (known : Command) → HasFailed known text reader old new told unreadable Unprinted → status ≡ 5
+      → IsTold fault.Memory is_told before after
+  told_of_memory_by command.Run has five = run_memory five (ends_tell text reader old new told Unprinted has)
+  told_of_memory_by command.Check has five =
+      told_of_memory told unreadable Unprinted status is_told before after has is_status line path five
+  told_of_memory_by command.Wire has five =
+      told_of_memory told unreadable Unprinted status is_told before after has is_status line path five
+  told_of_memory_by command.Replay has five =
+      told_of_memory told unreadable Unprinted status is_told before after has is_status line path five
