@@ -25,7 +25,7 @@ use Rattle.wiring_reader.proofs.Answered.{one_setup}
 use Rattle.wiring_text.specs.WiringText.{IsSameSetup}
 use Rattle.wiring_table.specs.WiredFor.{WiredFor}
 use Rattle.compile407.specs.Compilation.{Compilation, IsCompiled}
-use Rattle.printed_reports.specs.Promises.{IsDeck}
+use Rattle.promises.specs.Promises.{IsDeck}
 use Rattle.compile407.specs.Headline.{IsSound, ReadSetupsPrintAlike, WiredSetupsBeginReports, WiredSetupsPrintReports, WrittenSetupsPrintReports}
 
 -- a chart that was read and breaks no rule is sound

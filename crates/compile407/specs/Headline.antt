@@ -5,7 +5,7 @@ use Rattle.placed_lines.specs.declared.placed_line.PlacedLine.{PlacedLine}
 use Rattle.chart_rules.specs.Rules.{IsLawful}
 use Rattle.charts.specs.Chart.{Chart, NumbersRise}
 use Rattle.charts.specs.Literals.{HaveLiteralTexts}
-use Rattle.printed_reports.specs.Promises.{BeginsReport, PrintsReport}
+use Rattle.promises.specs.Promises.{BeginsReport, PrintsReport}
 use Rattle.setups.specs.Tapes.{IsCarriageTape}
 use Rattle.setups.specs.Wiring.{Wiring}
 use Rattle.machine.specs.Runs.{MachineLines}

@@ -9,7 +9,7 @@ use Rattle.chart_rules.specs.declared.card.CardFault.TheVariants as card
 use Rattle.report.specs.Misfits.{Misfit, first_of, misfits}
 use Rattle.faults.specs.declared.deck.RunFault.{RunFault}
 use Rattle.faults.specs.declared.deck.RunFault.TheVariants as deck
-use Rattle.printed_reports.specs.Promises.{IsDeck}
+use Rattle.promises.specs.Promises.{IsDeck}
 
 -- the fault of a card with a number, as one of a deck
 abbrev pub of_card : CardFault → ℕ → RunFault

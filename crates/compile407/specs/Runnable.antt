@@ -3,7 +3,7 @@ use Rattle.std.specs.Prelude.{ℕ, ◌≤◌, List, replicate}
 use Rattle.chart_rules.specs.Rules.{IsLawful}
 use Rattle.charts.specs.Chart.{Chart}
 use Rattle.report.specs.Totals.{Fits}
-use Rattle.printed_reports.specs.Promises.{IsDeck}
+use Rattle.promises.specs.Promises.{IsDeck}
 
 -- the deck can be run
 pub record IsRunnable (chart : Chart) (cards : List (List ℕ)) : Type 0 where

@@ -7,7 +7,7 @@ ghost use Rattle.report.specs.Misfits.{first_of, misfits};
 ghost use Rattle.report.specs.Totals.{Fits};
 ghost use Rattle.compile407.specs.RunFaults.{HasRunFault, IsInvalidDeck, IsMisfit, of_card};
 ghost use Rattle.faults.specs.declared.deck.RunFault.TheVariants as deck;
-ghost use Rattle.printed_reports.specs.Promises.{IsDeck};
+ghost use Rattle.promises.specs.Promises.{IsDeck};
 ghost use Rattle.report.specs.Report.{Report};
 ghost use Rattle.compile407.specs.Runnable.{IsRunnable};
 ghost use Rattle.chart_rules.specs.ValidCard.{IsValidCard};

@@ -4,4 +4,3 @@ pub mod Begun
 pub mod Goes
 pub mod Content
 pub mod Going
-pub mod Promises

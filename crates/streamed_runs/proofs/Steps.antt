@@ -26,7 +26,7 @@ use Rattle.page_writer.specs.Outgoing.{Breaks, TakesUp}
 use Rattle.page_writer.specs.Writing.{Writing}
 use Rattle.placed_lines.specs.InOrder.{FollowInOrder, IsInOrder}
 use Rattle.placed_lines.specs.declared.placed_line.PlacedLine.{PlacedLine}
-use Rattle.printed_reports.specs.Promises.{IsDeck}
+use Rattle.promises.specs.Promises.{IsDeck}
 use Rattle.report.specs.Breaks.{no_cards}
 use Rattle.report.specs.ChartForm.{form_of}
 use Rattle.report.specs.Misfits.{first_of, misfits}

@@ -18,7 +18,7 @@ use Rattle.page_writer.specs.Open.{Open}
 use Rattle.page_writer.specs.Outgoing.{Breaks, Outgoing, TakesUp}
 use Rattle.page_writer.specs.Writing.{Writing}
 use Rattle.placed_lines.specs.declared.placed_line.PlacedLine.{PlacedLine}
-use Rattle.printed_reports.specs.Promises.{BeginsReport, IsDeck, PrintsReport}
+use Rattle.promises.specs.Promises.{BeginsReport, IsDeck, PrintsReport}
 use Rattle.report.specs.Breaks.{no_cards}
 use Rattle.report.specs.ChartForm.{form_of}
 use Rattle.report.specs.Report.{Report}

@@ -5,7 +5,7 @@ use Rattle.card_code.specs.Deck.{Deck}
 use Rattle.charts.specs.Chart.{Chart}
 use Rattle.decks.specs.Stands.{report_before}
 use Rattle.page_writer.specs.Open.{Open}
-use Rattle.printed_reports.specs.Promises.{IsDeck}
+use Rattle.promises.specs.Promises.{IsDeck}
 use Rattle.report.specs.ChartForm.{form_of}
 use Rattle.report.specs.Report.{Report}
 use Rattle.report.specs.Totals.{Fits}

@@ -4,7 +4,7 @@ ghost use Rattle.std.specs.Prelude.{◌≡◌, ℕ, List, Some, true, IfErr, IfO
 ghost use Rattle.std.specs.Io.KnownBytes.{Appends, IsAtEnd};
 ghost use Rattle.card_lines.specs.declared.fault.ReadFault.TheVariants as read;
 ghost use Rattle.page_writer.specs.Outgoing.{Breaks, TakesUp};
-ghost use Rattle.printed_reports.specs.Promises.{BeginsReport, PrintsReport};
+ghost use Rattle.promises.specs.Promises.{BeginsReport, PrintsReport};
 ghost use Rattle.report.specs.ChartForm.{form_of};
 ghost use Rattle.streamed_runs.specs.HelperStanding.{Ends, IsUnbegun, PutsOut, Serves, Stops, start_of};
 ghost use Rattle.streamed_runs.specs.Runs.{HasRun, HasStopped};

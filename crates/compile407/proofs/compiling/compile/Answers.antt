@@ -10,7 +10,7 @@ use Rattle.compile407.specs.ChartFaults.{HasChartFault}
 use Rattle.compile407.specs.Compilation.{Compilation}
 use Rattle.faults.specs.declared.chart.ChartFault.{ChartFault}
 use Rattle.faults.specs.declared.chart.ChartFault.TheVariants as chart
-use Rattle.printed_reports.specs.Promises.{BeginsReport, PrintsReport}
+use Rattle.promises.specs.Promises.{BeginsReport, PrintsReport}
 use Rattle.compile407.proofs.CapacityTold.{capacity_told}
 use Rattle.compile407.proofs.Headline.{sound_read, wired_setups_begin_reports, wired_setups_print_reports}
 use Rattle.compile407.proofs.compiling.compile.Goals as goal

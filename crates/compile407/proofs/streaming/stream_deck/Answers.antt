@@ -1,6 +1,6 @@
 use Rattle.std.proofs.Common.{◌∙◌, ap, sym, subst}
 use Rattle.charts.specs.Chart.{Chart}
-use Rattle.printed_reports.specs.Promises.{BeginsReport, PrintsReport}
+use Rattle.promises.specs.Promises.{BeginsReport, PrintsReport}
 use Rattle.report.specs.ChartForm.{form_of}
 use Rattle.setups.specs.Wiring.{Wiring}
 use Rattle.compile407.proofs.Headline.{wired_setups_begin_reports, wired_setups_print_reports}
