@@ -1,7 +1,7 @@
 -- What a run that comes card by card prints and tells.
 use Rattle.std.proofs.Common.{◌≡◌, ◌≢◌, ◌∙◌, ◌⊎◌, inl, inr, ap, sym, subst, refl, arith, ℕ, Bool, List, Option, Some, Result, Ok, Err, IfSome}
 use Rattle.std.proofs.KnownBytes.{Appends-kept}
-use Rattle.std.specs.Prelude.{IfErr, OnOk}
+use Rattle.std.specs.Prelude.{IfErr, IfOk, OnOk}
 use Rattle.std.specs.Io.KnownBytes.{Appends, Keeps}
 use Rattle.card_lines.specs.declared.fault.ReadFault.{ReadFault}
 use Rattle.card_lines.specs.declared.fault.ReadFault.TheVariants as read
@@ -208,3 +208,15 @@ module _ (text : List ℕ) (reader old new : Option (List ℕ)) (told unreadable
       told_of_memory told unreadable Unprinted status is_told before after has is_status line path five
   told_of_memory_by command.Replay has five =
       told_of_memory told unreadable Unprinted status is_told before after has is_status line path five
+
+-- what holds of an answer where it is one
+pub of_ok : {X E : Type 0} (Holds : X → Type 0) (result : Result X E) (value : X) → result ≡ Ok value → IfOk result Holds → Holds value
+of_ok {X = X} {E = E} Holds result value is holds = subst (λ (answer : Result X E). IfOk answer Holds) is holds
+
+-- A writer that was lent shows, once it is back, what its lender left of it: what was appended while it was lent stands after what it held.
+pub handed_back : {W N : Type 0} (contents : W → Option (List ℕ)) (written : List ℕ) {name last : N} {old lent left now : W}
+    (final : (state : W) × (name ≡ last → state ≡ now))
+    → name ≡ last → lent ≡ old → now ≡ left → Appends (contents lent) (contents left) written → Appends (contents old) (contents final.0) written
+handed_back {W = W} contents written {old = old} {lent = lent} {left = left} final is same stays holds =
+    subst (λ (state : W). Appends (contents old) (contents state) written) (sym (final.1 is ∙ stays))
+    (subst (λ (state : W). Appends (contents state) (contents left) written) same holds)
