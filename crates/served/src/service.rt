@@ -72,8 +72,8 @@ fn are_orders(orders: &[Vec<u8>]) -> bool
     true
 }
 
-// Whether a list has 45 numbers, and each unit among them.
-fn is_order(order: &[u8]) -> bool
+/// Whether a list is an order: whether it has 45 numbers, and each unit among them.
+pub fn is_order(order: &[u8]) -> bool
     ensures { (result ≡ true) ↔ IsOrder order.now }
 {
     order.len() == UNITS as usize && names_all(order)
