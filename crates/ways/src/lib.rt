@@ -1,0 +1,6 @@
+//! Ways by which impulses reach hubs: from an exit that emits, by wires of a setup and by closed contacts.
+#![tactic(auto)]
+
+mod leads;
+mod search;
+
