@@ -1,6 +1,6 @@
 -- The search layer by layer: how it begins, goes on and ends.
-use Rattle.std.proofs.Common.{⊎_elim, ◌⊎◌, inl, inr, ◌≡◌, ◌≢◌, ◌∙◌, sym, ap, subst, refl, arith, ℕ, zero, suc, ◌+◌, ◌<◌, ◌≤◌, Bool, true, false, List, [], ◌∷◌, length, slice_index_or, slice_set, replicate, Some}
-use Rattle.std.proofs.lemmas.Bool.{cases_eq, cases_lt, false≢true}
+use Rattle.std.proofs.Common.{⊎_elim, ◌⊎◌, inl, inr, ◌≡◌, ◌∙◌, sym, ap, subst, arith, ℕ, ◌+◌, ◌<◌, ◌≤◌, Bool, true, false, List, length, slice_set, replicate}
+use Rattle.std.proofs.lemmas.Bool.{cases_eq, cases_lt}
 use Rattle.std.proofs.lemmas.Grind.{common_steps}
 use Rattle.std.proofs.lemmas.List.{get_or-set_same, get_or-set_other, get_or_past, get_or-replicate, length-replicate}
 use Rattle.hubs.proofs.HubLemmas.{number_of-range}
@@ -13,6 +13,10 @@ use Rattle.ways.proofs.Passes.{missing-length}
 pub led_range : (wiring : Wiring) (closed : Hub → Bool) (from to : ℕ) → LeadsAt wiring closed from to → to < 1937
 led_range wiring closed from to leads =
     let range = number_of-range leads.entry to leads.to_numbered in let high = range.1 in omega (arith, high)
+
+pub lead_range : (wiring : Wiring) (closed : Hub → Bool) (from to : ℕ) → LeadsAt wiring closed from to → from < 1937
+lead_range wiring closed from to leads =
+    let range = number_of-range leads.exit from leads.from_numbered in let high = range.1 in omega (arith, high)
 
 pub start_range : (exits : Hub → Bool) (number : ℕ) → StartsAt exits number → number < 1937
 start_range exits number starts =

@@ -1,5 +1,5 @@
 -- What leads on between hubs, by their numbers.
-use Rattle.std.proofs.Common.{⊎_elim, ◌≡◌, ◌∙◌, sym, ap, subst, ℕ, Bool, true, Option, Some, None, inl, inr}
+use Rattle.std.proofs.Common.{⊎_elim, ◌≡◌, ◌∙◌, sym, ap, subst, ℕ, Bool, true, Some, inr}
 use Rattle.std.proofs.lemmas.Option.{same_Some}
 use Rattle.hubs.proofs.HubLemmas.{number_of-injective}
 use Rattle.hubs.specs.Hubs.{number_of}

@@ -1,5 +1,5 @@
 -- Tables of numbers of hubs: at the number of a hub stands how many hubs a shortest way to it has, 0 where there is none.
-use Rattle.std.specs.Prelude.{◌≡◌, ℕ, zero, suc, ◌+◌, ◌≤◌, ◌<◌, ◌⊎◌, Bool, true, false, List, Some, length, slice_index_or, if◌then◌else◌, nat_eq, sum_by}
+use Rattle.std.specs.Prelude.{◌≡◌, ℕ, ◌+◌, ◌≤◌, ◌<◌, ◌⊎◌, Bool, true, false, List, Some, length, slice_index_or, if◌then◌else◌, nat_eq, sum_by}
 use Rattle.hubs.specs.declared.hub.Hub.{Hub}
 use Rattle.hubs.specs.Hubs.{number_of}
 use Rattle.setups.specs.Wiring.{Wiring}
@@ -30,6 +30,14 @@ pub record IsStepTable (Leads : ℕ → ℕ → Type 0) (Starts : ℕ → Type 0
   pub root : (h : ℕ) → at steps h ≡ 1 → Starts h
   pub back : (h n : ℕ) → at steps h ≡ n + 2 → (from : ℕ) × (at steps from ≡ n + 1) × Leads from h
   pub on : (from to : ℕ) → 1 ≤ at steps from → Leads from to → (1 ≤ at steps to) × (at steps to ≤ at steps from + 1)
+
+-- What the ways of a point are known by. Read it through AreWaysOf alone.
+pub record WayTable : Type 0 where
+  pub steps : List ℕ
+
+-- the ways are those from these exits, by the wires and the closed contacts
+abbrev pub AreWaysOf : Wiring → (Hub → Bool) → (Hub → Bool) → WayTable → Type 0
+AreWaysOf wiring exits closed ways = IsStepTable (LeadsAt wiring closed) (StartsAt exits) ways.steps
 
 -- how many places of a table are 0
 unfoldable pub missing : List ℕ → ℕ

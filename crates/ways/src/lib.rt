@@ -3,4 +3,6 @@
 
 mod leads;
 mod search;
+mod ways;
 
+pub use ways::Ways;

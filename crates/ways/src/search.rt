@@ -52,7 +52,13 @@ fn spread_all(setup: &Setup, contacts: &Contacts, level: u16, steps: &mut [u16; 
 }
 
 // Goes on from one hub of a level.
-fn spread(setup: &Setup, contacts: &Contacts, from: u16, level: u16, steps: &mut [u16; PLACES]) -> bool
+fn spread(
+    setup: &Setup,
+    contacts: &Contacts,
+    from: u16,
+    level: u16,
+    steps: &mut [u16; PLACES],
+) -> bool
     requires { level ≤ 2000 }
     ensures { IsPass level (LeadsAt setup.now (has_hub contacts.now) from) steps.old steps.new result }
 {

@@ -1,4 +1,3 @@
-use Rattle.std.proofs.Common.{◌≡◌}
 use Rattle.ways.proofs.Layers.{IsLayered-start, IsLayered-next, IsStepTable-end}
 use Rattle.ways.proofs.search.search.Goals as goal
 

@@ -1,4 +1,3 @@
-use Rattle.std.proofs.Common.{◌<◌}
 use Rattle.net.specs.HubSets.{has_hub}
 use Rattle.ways.specs.Tables.{LeadsAt, IsPass, IsLedAt}
 use Rattle.ways.proofs.search.spread_all.Given as goal

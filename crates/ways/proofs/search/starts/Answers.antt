@@ -1,4 +1,4 @@
-use Rattle.std.proofs.Common.{◌≡◌, arith}
+use Rattle.std.proofs.Common.{arith}
 use Rattle.ways.proofs.Layers.{IsStartedBelow-first, IsStartTable-all}
 use Rattle.ways.proofs.search.starts.Goals as goal
 
