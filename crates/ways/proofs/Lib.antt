@@ -1,0 +1,4 @@
+pub mod Layers
+pub mod LeadsLemmas
+pub mod Passes
+pub mod WayLemmas
