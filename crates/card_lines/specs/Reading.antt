@@ -1,5 +1,5 @@
 -- Cards that come off the front of what a source gives.
-use Rattle.std.specs.Prelude.{◌≡◌, ℕ, ◌<◌, ◌⊎◌, Bool, List, ◌∷◌, ◌++◌, Option, Some, drop, take}
+use Rattle.std.specs.Prelude.{◌≡◌, ℕ, ◌<◌, ◌⊎◌, Bool, true, false, List, [], ◌∷◌, ◌++◌, Option, Some, drop, take}
 use Rattle.std.specs.Io.KnownBytes.{prepend_known}
 use Rattle.card_code.specs.Deck.{IsCardOf}
 use Rattle.card_code.specs.Lines.{lines_of, without_cr}
@@ -21,6 +21,12 @@ still_to_come left reading = prepend_known reading.held (left reading.source)
 -- a whole line, or one that is surely too long, is held
 abbrev pub IsSettled : List ℕ → Type 0
 IsSettled held = ((end : ℕ) × IsLine held end) ⊎ IsTooLong held
+
+-- No card is left: the end of the source was met, nothing but one CR at most is held, and no fault was told.
+pub record IsOver {S : Type 0} (reading : Reading S) : Type 0 where
+  pub at_end : reading.at_end ≡ true
+  pub nothing_held : without_cr reading.held ≡ []
+  pub well : reading.has_failed ≡ false
 
 -- The card after so many others is that of the first line of a text, and the text still to come then has the others.
 pub record GivesCard (given : ℕ) (text card : List ℕ) (to_come : Option (List ℕ)) : Type 0 where

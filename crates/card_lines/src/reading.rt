@@ -1,9 +1,9 @@
 //! Cards off the front of what a source gives.
 
-ghost use Rattle.std.specs.Prelude.{◌≡◌, ◌≢◌, ◌+◌, ◌≤◌, ℕ, List, Option, [], ◌∷◌, length, Some, true, false, IfOk, IfErr, IfSome, IfNone, IsErr, IsSome, OnErr, OnOk};
+ghost use Rattle.std.specs.Prelude.{◌≡◌, ◌≢◌, ◌+◌, ◌≤◌, ℕ, List, Option, [], ◌∷◌, length, Some, true, false, IfOk, IfErr, IfSome, IfNone, IsErr, IsOk, IsSome, None, Ok, OnErr, OnOk};
 ghost use Rattle.std.specs.Io.KnownBytes.{IsAtEnd, Keeps};
-ghost use Rattle.card_code.specs.Lines.{lines_of};
-ghost use Rattle.card_lines.specs.Reading.{Reading, still_to_come, IsSettled, GivesCard, HasFirstLine};
+ghost use Rattle.card_code.specs.Lines.{lines_of, without_cr};
+ghost use Rattle.card_lines.specs.Reading.{Reading, still_to_come, IsSettled, IsOver, GivesCard, HasFirstLine};
 ghost use Rattle.card_lines.specs.Front.{IsFront, IsTooLong};
 ghost use Rattle.card_lines.specs.Faults.{HasFaultNext};
 ghost use Rattle.card_lines.specs.declared.fault.ReadFault.TheVariants as read;
@@ -69,7 +69,7 @@ impl<S: Source + Drop> CardLines<S> {
         source
     }
 
-    /// The next card, or `None` where no line is left.
+    /// The next card, or `None` where no line is left, and then always.
     ///
     /// It reads only while it holds no whole line, and none that is surely too long, at most 82 times, and never again after the
     /// end of the source or a fault.
@@ -86,6 +86,8 @@ impl<S: Source + Drop> CardLines<S> {
         ensures none { IfOk result (λ found. IfNone found ((text : List ℕ) → still_to_come S.left self.old ≡ Some text →
             lines_of text ≡ [])) }
         ensures all { IfOk result (λ found. IfNone found (IsAtEnd (S.left self.new.source))) }
+        ensures over { IfOk result (λ found. IfNone found (IsOver self.new)) }
+        ensures none_again { IsOver self.old → (result ≡ Ok None) × (self.new ≡ self.old) }
         ensures fault { self.old.has_failed ≡ false → IfErr result (λ fault. (text : List ℕ) →
             still_to_come S.left self.old ≡ Some text → HasFaultNext self.old.given text fault) }
         ensures read { self.old.has_failed ≡ false → IfErr result (λ fault. (line : ℕ) → fault ≡ read.Read line →
@@ -119,6 +121,8 @@ impl<S: Source + Drop> CardLines<S> {
         ensures none { IfOk result (λ found. IfNone found ((text : List ℕ) → still_to_come S.left self.old ≡ Some text →
             lines_of text ≡ [])) }
         ensures all { IfOk result (λ found. IfNone found (IsAtEnd (S.left self.new.source))) }
+        ensures at_end { IfOk result (λ found. IfNone found ((self.new.at_end ≡ true) × (without_cr self.new.held ≡ []))) }
+        ensures none_again { IsOver self.old → (result ≡ Ok None) × (self.new ≡ self.old) }
         ensures fault { IfErr result (λ fault. (text : List ℕ) →
             still_to_come S.left self.old ≡ Some text → HasFaultNext self.old.given text fault) }
         ensures read { IfErr result (λ fault. (line : ℕ) → fault ≡ read.Read line →
@@ -153,7 +157,7 @@ impl<S: Source + Drop> CardLines<S> {
         ensures has_failed { self.new.has_failed ≡ self.old.has_failed }
         ensures failed { OnErr result (S.has_failed self.new.source ≡ true) }
         ensures unread { IsSettled self.old.held → self.new.source ≡ self.old.source }
-        ensures ended { self.old.at_end ≡ true → self.new.source ≡ self.old.source }
+        ensures ended { self.old.at_end ≡ true → (self.new ≡ self.old) × IsOk result }
         ensures counted { S.reads self.new.source ≤ S.reads self.old.source + 82 }
         ensures same { S.borrow self.new.source ≡ S.borrow self.old.source }
     {

@@ -183,12 +183,14 @@ impl<S: Sink + Drop> PageWriter<S> {
     ///
     /// # Errors
     ///
-    /// Where the sink fails, or has failed before: then it is not called. The fault tells how many bytes are written in all.
+    /// Where the sink fails, or has failed before: then it is not called. The fault tells how many bytes are written in all. The place
+    /// stays that of the last line taken up whole.
     pub fn end(&mut self) -> Result<(), WriteFault>
         ensures bytes { Takes S.held S.has_failed (last_end self.old.form_lines self.old.line) result self.old.out self.new.out }
         ensures all { OnOk result (self.new.out.waiting ≡ []) }
         ensures page { OnOk result (self.new.page ≡ (if self.old.line == 0 then self.old.page else self.old.page + 1)) }
         ensures line { OnOk result (self.new.line ≡ 0) }
+        ensures stays { OnErr result ((self.new.page ≡ self.old.page) × (self.new.line ≡ self.old.line)) }
         ensures form { self.new.form_lines ≡ self.old.form_lines }
         ensures same { S.borrow self.new.out.sink ≡ S.borrow self.old.out.sink }
         ensures again { self.old.out.has_failed ≡ true → IsErr result × (self.new ≡ self.old) }
