@@ -1,5 +1,5 @@
 -- A word with one bit more.
-use Rattle.std.proofs.Common.{◌≡◌, ◌∙◌, ap, ℕ, ◌*◌, ◌%◌, ◌^◌, ◌<◌, ◌||◌, arith, true, sym}
+use Rattle.std.proofs.Common.{◌≡◌, ◌∙◌, ap, ℕ, ◌*◌, ◌%◌, ◌^◌, ◌<◌, ◌||◌}
 use Rattle.std.specs.Prelude.{◌==◌}
 use Rattle.std.specs.Int.Bits.{bit_or}
 use Rattle.bit_sets.proofs.BitLemmas.{is_bit-or, is_bit-pow}

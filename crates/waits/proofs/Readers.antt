@@ -1,24 +1,32 @@
 -- The units that sense a hub of a set that gains one hub after another in the order of their numbers.
-use Rattle.std.proofs.Common.{◌≡◌, ◌≢◌, ◌∙◌, ap, sym, refl, ℕ, ◌+◌, ◌-◌, ◌<◌, ◌≤◌, ◌&&◌, ◌||◌, Bool, true, false, Option, Some, None, arith, inl, inr, ◌↔◌, ◌⊎◌, subst}
-use Rattle.std.specs.Prelude.{◌==◌, nat_lt}
-use Rattle.std.proofs.lemmas.Bool.{cases_eq, false≢true, eq-eqb, eqb-true, or_cases, or_left, or_right, and_parts}
+use Rattle.std.proofs.Common.{◌≡◌, ◌≢◌, ◌∙◌, ap, sym, refl, ℕ, ◌+◌, ◌-◌, ◌&&◌, ◌||◌, Bool, true, false, Option, Some, None, arith, inl, inr, ◌↔◌, ◌⊎◌, subst}
+use Rattle.std.specs.Prelude.{◌==◌, is_some, nat_lt}
+use Rattle.std.proofs.lemmas.Bool.{cases_eq, false≢true, or_cases, or_left, or_right, and_parts}
 use Rattle.std.proofs.lemmas.Bool.Decides.{nat_tests}
 use Rattle.hubs.proofs.HubLemmas.{number_of-injective}
 use Rattle.hubs.specs.declared.hub.Hub.{Hub}
-use Rattle.hubs.specs.Hubs.{number_of}
+use Rattle.hubs.specs.Hubs.{is_hub_in_range, number_of}
+use Rattle.net.specs.HubSets.{HubSet, has_hub, has_number}
 use Rattle.net.specs.Panel.{reader_of}
 use Rattle.served.specs.Orders.{unit_count}
 use Rattle.served.specs.Units.{IsUnit}
-use Rattle.waits.proofs.Below.{all_below, is_below, is_number_below, none_below}
+use Rattle.waits.proofs.Below.{is_below, is_number_below, none_below}
 use Rattle.waits.specs.Waits.{SensesOther}
 
 -- the hubs of a set with numbers below another
 abbrev pub part_below : ℕ → (Hub → Bool) → Hub → Bool
 part_below end set hub = is_below end hub && set hub
 
-both_true : (a b : Bool) → a ≡ true → b ≡ true → (a && b) ≡ true
+pub both_true : (a b : Bool) → a ≡ true → b ≡ true → (a && b) ≡ true
 both_true true b one other = other
 both_true false b one other = absurd (false≢true one)
+
+-- a stored set has hubs of the panel alone
+pub has_hub-in_range : (set : HubSet) (hub : Hub) → has_hub set hub ≡ true → is_hub_in_range hub ≡ true
+has_hub-in_range set hub on = by (number_of hub) on where
+  by : (found : Option ℕ) → has_number set found ≡ true → is_some found ≡ true
+  by None at = absurd (false≢true at)
+  by (Some n) at = refl
 
 -- at first no unit senses one
 pub none_first : (set : Hub → Bool) (unit but : ℕ) → SensesOther unit but (part_below 1 set) → ⊥

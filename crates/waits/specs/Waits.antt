@@ -1,5 +1,5 @@
 -- Words in which the bits are units: bit v - 1 stands for unit v.
-use Rattle.std.specs.Prelude.{◌≡◌, ◌≢◌, ◌↔◌, ℕ, ◌+◌, ◌≤◌, Bool, true, List, slice_index_or}
+use Rattle.std.specs.Prelude.{◌≡◌, ◌≢◌, ◌↔◌, ℕ, ◌+◌, Bool, true, List, slice_index_or}
 use Rattle.hubs.specs.declared.hub.Hub.{Hub}
 use Rattle.net.specs.HubSets.{is_bit}
 use Rattle.net.specs.Panel.{reader_of}

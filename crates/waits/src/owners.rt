@@ -12,7 +12,9 @@ pub fn owner_of(hub: Hub) -> u16
     match hub {
         Hub::FR(_) | Hub::SR(_) => 1,
         Hub::CX(_) => 2,
-        Hub::GX(group, _) | Hub::CO(group) | Hub::BAN(group, _) | Hub::BAT(group, _) => unit_of(group),
+        Hub::GX(group, _) | Hub::CO(group) | Hub::BAN(group, _) | Hub::BAT(group, _) => unit_of(
+            group,
+        ),
         Hub::SX(unit, _) => 34 + u16::from(unit),
         Hub::PIN(_, _) | Hub::PIT(_, _) => 39,
         Hub::IX(_, _) => 40,

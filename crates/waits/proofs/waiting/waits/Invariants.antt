@@ -1,4 +1,4 @@
-use Rattle.std.proofs.Common.{◌≡◌, ◌↔◌, ◌+◌, ◌<◌, ℕ, true, length, slice_index_or}
+use Rattle.std.proofs.Common.{◌≡◌, ◌↔◌, ◌+◌, ◌<◌, ℕ, true, slice_index_or}
 use Rattle.net.specs.HubSets.{is_bit}
 use Rattle.net.specs.Nets.{IsNetOf}
 use Rattle.served.specs.Waits.{WaitsFor}
