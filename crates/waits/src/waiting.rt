@@ -1,0 +1,49 @@
+//! Which units wait for which.
+
+ghost use Rattle.std.specs.Prelude.{◌≡◌, ◌↔◌, ℕ, ◌+◌, ◌≤◌, ◌<◌, ◌&&◌, ◌||◌, ◌==◌, true, slice_index_or};
+ghost use Rattle.net.specs.HubSets.{is_bit};
+ghost use Rattle.net.specs.Nets.{IsNetOf};
+ghost use Rattle.setups.specs.Wiring.{Wiring};
+ghost use Rattle.waits.specs.Waits.{AreWaits, IsAwaitedBy};
+
+use crate::bits::{has_bit, with_bit};
+use crate::sets::{all_contacts, exits_of, readers};
+use net::{Net, Picture};
+
+/// How many units the machine has. They are numbered from 1.
+pub const UNITS: usize = 45;
+
+/// For each unit, from unit 1 on, the units that it waits for: bit v - 1 stands for unit v.
+pub fn waits(net: &Net) -> [u64; UNITS]
+    ensures { (wiring : Wiring) → IsNetOf wiring net.now → AreWaits wiring result }
+{
+    let mut waits = [0; UNITS];
+    for place in 0..UNITS {
+        let waiting = waiting_for(net, place as u16 + 1);
+        note(&mut waits, place, waiting);
+    }
+    waits
+}
+
+// The units that wait for a unit: unit u is bit u - 1.
+fn waiting_for(net: &Net, unit: u16) -> u64
+    ensures { (wiring : Wiring) → IsNetOf wiring net.now → IsAwaitedBy wiring unit result }
+{
+    let mut reached = Picture::new();
+    net.picture(&exits_of(unit), &all_contacts(), &mut reached);
+    readers(&reached, unit)
+}
+
+// Notes that the units of these bits wait for the unit with a place.
+fn note(waits: &mut [u64; UNITS], place: usize, waiting: u64)
+    requires { place < 45 }
+    ensures { (unit other : ℕ) → unit < 45
+        → is_bit (slice_index_or waits.new unit 0) other
+        ≡ (is_bit (slice_index_or waits.old unit 0) other || (is_bit waiting unit && (other == place))) }
+{
+    for unit in 0..UNITS {
+        if has_bit(waiting, unit) {
+            waits[unit] = with_bit(waits[unit], place);
+        }
+    }
+}
