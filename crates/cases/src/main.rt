@@ -1,4 +1,4 @@
-//! Runs all cases whose answers are known: charts, wiring charts, wired panels with decks, charts with decks, decks with a fault, and commands.
+//! Runs all cases whose answers are known: charts, wiring charts, wired panels with decks, charts with decks, decks with a fault, commands, and hostile texts.
 //!
 //! Each kind has a folder of `data`, and its file here says what is told of its cases. What this program must print was made outside of
 //! this repository or worked out by hand, never by the program.
@@ -6,6 +6,7 @@
 
 mod chart_cases;
 mod command_cases;
+mod hostile_cases;
 mod panel_cases;
 mod report_cases;
 mod served;
@@ -30,6 +31,7 @@ fn main(rt: HostRuntime) -> Result<()> {
     report_cases::write_all(&rt, &mut out)?;
     stream_cases::write_all(&rt, &mut out)?;
     command_cases::write_all(&rt, &mut out)?;
+    hostile_cases::write_all(&rt, &mut out)?;
     out.flush()?;
     Ok(())
 }
