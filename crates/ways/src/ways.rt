@@ -47,7 +47,7 @@ impl Ways {
         }
     }
 
-    /// A shortest way to the hub, hub by hub from an exit that emits; none where the hub isn't impulsed. The setup and the contacts
+    /// A way to the hub, hub by hub from an exit that emits; none where the hub isn't impulsed. The setup and the contacts
     /// are those that the ways were found by. Fails only where no memory is left.
     pub fn way_to(
         &self,
@@ -68,7 +68,7 @@ impl Ways {
     }
 }
 
-// A shortest way to the hub with a number, by a table.
+// A way to the hub with a number, by a table.
 fn way_at(
     alloc: Global,
     setup: &Setup,
