@@ -1,17 +1,18 @@
--- Assignments of counter groups to totals: each total has a group of its own that is wide enough for it.
-use Rattle.std.specs.Prelude.{◌≡◌, ℕ, ◌≤◌, List, length, Some, slice_get}
-use Rattle.capacity.specs.Capacities.{Capacities, HasGroup}
-use Rattle.capacity.specs.declared.group.CounterGroup.{CounterGroup}
+-- Assignments of counters to totals: each total has a counter of its own that is enough for it.
+use Rattle.std.specs.Prelude.{◌≡◌, ℕ, List, length, Some, slice_get}
+use Rattle.capacity.specs.Capacities.{Capacities}
+use Rattle.plans.specs.Counters.{HasCounter, IsEnoughFor, SharesGroup}
+use Rattle.plans.specs.declared.counter.TotalCounter.{TotalCounter}
 use Rattle.wanted.specs.declared.total.Total.{Total}
 
--- Each total has a group of its own: as many groups as totals, each of the machine, wide enough for its total, and no
--- group stands twice.
-pub record IsAssignment (totals : List Total) (machine : Capacities) (groups : List CounterGroup) : Type 0 where
-  pub many : length groups ≡ length totals
-  pub there : (place : ℕ) (group : CounterGroup) → slice_get groups place ≡ Some group → HasGroup machine group
+-- Each total has a counter of its own: as many counters as totals, each with groups of the machine, enough for its total, and
+-- no group serves two totals.
+pub record IsAssignment (totals : List Total) (machine : Capacities) (counters : List TotalCounter) : Type 0 where
+  pub many : length counters ≡ length totals
+  pub there : (place : ℕ) (counter : TotalCounter) → slice_get counters place ≡ Some counter → HasCounter machine counter
   pub enough :
-      (place : ℕ) (total : Total) (group : CounterGroup) → slice_get totals place ≡ Some total
-      → slice_get groups place ≡ Some group → total.need ≤ group.width
+      (place : ℕ) (total : Total) (counter : TotalCounter) → slice_get totals place ≡ Some total
+      → slice_get counters place ≡ Some counter → IsEnoughFor total.need counter
   pub own :
-      (one other : ℕ) (group : CounterGroup) → slice_get groups one ≡ Some group
-      → slice_get groups other ≡ Some group → one ≡ other
+      (one other : ℕ) (counter its_counter : TotalCounter) → slice_get counters one ≡ Some counter
+      → slice_get counters other ≡ Some its_counter → SharesGroup counter its_counter → one ≡ other

@@ -1,32 +1,47 @@
--- A helper of the code: whether counter groups are enough for totals.
-use Rattle.std.specs.Prelude.{◌≡◌, ℕ, ◌&&◌, Bool, true, false, List, [], ◌∷◌, Option, Some, None, nat_le, slice_get}
-use Rattle.capacity.specs.Capacities.{Capacities, HasGroup}
-use Rattle.capacity.specs.declared.group.CounterGroup.{CounterGroup}
+-- A helper of the code: whether counters are enough for totals.
+use Rattle.std.specs.Prelude.{◌≡◌, ℕ, ◌+◌, ◌==◌, ◌&&◌, Bool, true, false, List, [], ◌∷◌, Option, Some, None, nat_le, nat_lt, slice_get}
+use Rattle.capacity.specs.Capacities.{Capacities}
+use Rattle.plans.specs.Counters.{HasCounter, SharesGroup}
+use Rattle.plans.specs.declared.counter.TotalCounter.{TotalCounter}
+use Rattle.plans.specs.declared.counter.TotalCounter.TheVariants as of
 use Rattle.wanted.specs.declared.total.Total.{Total}
 
--- whether there are as many groups as totals, each with at least the need of its total
-abbrev pub are_enough : List Total → List CounterGroup → Bool
+-- whether a counter is enough for a total that needs so many positions
+abbrev pub is_enough : ℕ → TotalCounter → Bool
+is_enough need (of.Single group) = nat_le need group.width
+is_enough need (of.Coupled lower upper) =
+    nat_lt 8 need && (nat_le need 16 && ((lower.width == 8) && ((upper.width == 8) && nat_lt lower.number upper.number)))
+
+-- whether there are as many counters as totals, each enough for its total
+abbrev pub are_enough : List Total → List TotalCounter → Bool
 are_enough [] [] = true
-are_enough (total ∷ totals) (group ∷ groups) = nat_le total.need group.width && are_enough totals groups
-are_enough totals groups = false
+are_enough (total ∷ totals) (counter ∷ counters) = is_enough total.need counter && are_enough totals counters
+are_enough totals counters = false
 
--- what is left of some groups where a total takes the first of them: they are enough for it and others where these are
+-- what is left of some counters where a total takes the first of them: they are enough for it and others where these are
 -- enough for the others
-abbrev pub IsLeftFor : Total → List CounterGroup → Option (List CounterGroup) → Type 0
-IsLeftFor total groups (Some left) = (others : List Total) → are_enough (total ∷ others) groups ≡ are_enough others left
-IsLeftFor total groups None = (others : List Total) → are_enough (total ∷ others) groups ≡ false
+abbrev pub IsLeftFor : Total → List TotalCounter → Option (List TotalCounter) → Type 0
+IsLeftFor total counters (Some left) = (others : List Total) → are_enough (total ∷ others) counters ≡ are_enough others left
+IsLeftFor total counters None = (others : List Total) → are_enough (total ∷ others) counters ≡ false
 
--- a machine has each of some groups
-abbrev pub AreThere : Capacities → List CounterGroup → Type 0
-AreThere machine groups = (place : ℕ) (group : CounterGroup) → slice_get groups place ≡ Some group → HasGroup machine group
+-- a machine has the groups of each of some counters
+abbrev pub AreThere : Capacities → List TotalCounter → Type 0
+AreThere machine counters = (place : ℕ) (counter : TotalCounter) → slice_get counters place ≡ Some counter → HasCounter machine counter
 
--- no group stands twice
-abbrev pub AreSingle : List CounterGroup → Type 0
-AreSingle groups =
-    (one other : ℕ) (group : CounterGroup) → slice_get groups one ≡ Some group → slice_get groups other ≡ Some group
-    → one ≡ other
+-- one of some counters shares a group with another counter
+pub record SharesWithOne (counters : List TotalCounter) (other : TotalCounter) : Type 0 where
+  pub place : ℕ
+  pub counter : TotalCounter
+  pub there : slice_get counters place ≡ Some counter
+  pub shares : SharesGroup counter other
 
--- a machine has each of some groups, and none stands twice
-pub record AreOwn (machine : Capacities) (groups : List CounterGroup) : Type 0 where
-  pub there : AreThere machine groups
-  pub own : AreSingle groups
+-- no group serves two
+abbrev pub AreSingle : List TotalCounter → Type 0
+AreSingle counters =
+    (one other : ℕ) (counter its_counter : TotalCounter) → slice_get counters one ≡ Some counter
+    → slice_get counters other ≡ Some its_counter → SharesGroup counter its_counter → one ≡ other
+
+-- a machine has the groups of each of some counters, and none serves two
+pub record AreOwn (machine : Capacities) (counters : List TotalCounter) : Type 0 where
+  pub there : AreThere machine counters
+  pub own : AreSingle counters

@@ -1,4 +1,5 @@
 pub mod Assignments
+pub mod Counters
 pub mod Excess
 pub mod Plans
 pub mod HelperEnough

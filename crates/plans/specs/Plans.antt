@@ -1,25 +1,25 @@
--- Plans: which counter group, pilot, comparing position, storage unit, split and indicate position serves what of a chart.
+-- Plans: which counter, pilot, comparing position, storage unit, split and indicate position serves what of a chart.
 use Rattle.std.specs.Prelude.{◌≡◌, ℕ, ◌+◌, ◌≤◌, ◌==◌, Bool, List, Option, length, position, option_map, option_and_then, slice_get}
 use Rattle.charts.specs.declared.chart.Line.{Line}
 use Rattle.charts.specs.declared.level.ControlLevel.TheVariants as control
-use Rattle.capacity.specs.declared.group.CounterGroup.{CounterGroup}
 use Rattle.capacity.specs.Capacities.{standard}
 use Rattle.wanted.specs.declared.total.Total.{Total}
 use Rattle.wanted.specs.declared.count.Capacity.TheVariants as of
 use Rattle.plans.specs.Excess.{IsOver}
 use Rattle.plans.specs.Assignments.{IsAssignment}
+use Rattle.plans.specs.declared.counter.TotalCounter.{TotalCounter}
 use Rattle.wanted.specs.Wanted.{Parts, Wanted, wanted_of}
 
--- a counter group for each TOTAL amount, in the order of their lines, and what the other parts serve
+-- a counter for each TOTAL amount, in the order of their lines, and what the other parts serve
 pub record Lists : Type 0 where
-  pub groups : List CounterGroup
+  pub counters : List TotalCounter
   pub parts : Parts
 
--- A plan serves what is wanted: each total has a counter group of its own of the standard machine with at least its need,
--- and there are as many groups as totals; the other parts serve what is wanted of them; and but for the counter groups no
--- capacity of the standard machine is exceeded.
+-- A plan serves what is wanted: each total has a counter of its own of the standard machine that is enough for it, and there are as
+-- many counters as totals; the other parts serve what is wanted of them; and but for the counter groups no capacity of the
+-- standard machine is exceeded.
 pub record Serves (wanted : Wanted) (plan : Lists) : Type 0 where
-  pub groups : IsAssignment wanted.totals standard plan.groups
+  pub counters : IsAssignment wanted.totals standard plan.counters
   pub parts : plan.parts ≡ wanted.parts
   pub pilots : ¬ IsOver of.Pilots wanted standard
   pub comparing : ¬ IsOver of.Comparing wanted standard
@@ -48,6 +48,6 @@ pub record IsWithinMachine (parts : Parts) : Type 0 where
 abbrev pub number_where : {X : Type 0} → (X → Bool) → List X → Option ℕ
 number_where test list = option_map (λ place. place + 1) (position test list)
 
--- the counter group of the total on a line: the one that stands where that total stands among the totals
-abbrev pub group_on : List Total → List CounterGroup → ℕ → Option CounterGroup
-group_on totals groups line = option_and_then (slice_get groups) (position (λ total. total.line == line) totals)
+-- the counter of the total on a line: the one that stands where that total stands among the totals
+abbrev pub counter_on : List Total → List TotalCounter → ℕ → Option TotalCounter
+counter_on totals counters line = option_and_then (slice_get counters) (position (λ total. total.line == line) totals)

@@ -1,31 +1,32 @@
-//! Whether counter groups are an assignment: enough for the totals of a chart, and each total has its own.
+//! Whether counters are an assignment: enough for the totals of a chart, and each total has its own.
 
-ghost use Rattle.std.specs.Prelude.{◌≡◌, ◌↔◌, IsTrue, Contains, option_map};
+ghost use Rattle.std.specs.Prelude.{◌≡◌, ◌↔◌, IsTrue, option_map};
 ghost use Rattle.capacity.specs.Capacities.{standard};
 ghost use Rattle.wanted.specs.ChartTotals.{totals_of};
 ghost use Rattle.plans.specs.Assignments.{IsAssignment};
-ghost use Rattle.plans.specs.HelperEnough.{are_enough, IsLeftFor, AreThere, AreSingle, AreOwn};
+ghost use Rattle.plans.specs.HelperEnough.{are_enough, IsLeftFor, AreThere, AreSingle, AreOwn, SharesWithOne};
 
-use capacity::{CounterGroup, Profile};
+use crate::counter::TotalCounter;
+use capacity::Profile;
 use chart_rules::Chart;
 use wanted::{Total, line_total};
 
-/// Whether each total of a chart has a group of its own of the standard machine, with at least its need, and there are no
-/// more groups.
-pub(crate) fn has_assignment(groups: &[CounterGroup], chart: &Chart) -> bool
-    ensures { IsTrue result ↔ IsAssignment (totals_of chart.now.lines) standard groups.now }
+/// Whether each total of a chart has a counter of its own of the standard machine that is enough for it, and there are no
+/// more counters.
+pub(crate) fn has_assignment(counters: &[TotalCounter], chart: &Chart) -> bool
+    ensures { IsTrue result ↔ IsAssignment (totals_of chart.now.lines) standard counters.now }
 {
-    let has_own = are_own(groups, &Profile::standard());
-    let has_enough = has_enough(groups, chart);
+    let has_own = are_own(counters, &Profile::standard());
+    let has_enough = has_enough(counters, chart);
     has_own && has_enough
 }
 
-/// Whether there are as many groups as totals, each with at least the need of its total.
-fn has_enough(groups: &[CounterGroup], chart: &Chart) -> bool
-    ensures { result ≡ are_enough (totals_of chart.now.lines) groups.now }
+/// Whether there are as many counters as totals, each enough for its total.
+fn has_enough(counters: &[TotalCounter], chart: &Chart) -> bool
+    ensures { result ≡ are_enough (totals_of chart.now.lines) counters.now }
 {
     let lines = chart.lines();
-    let mut rest = groups;
+    let mut rest = counters;
     for line in lines {
         if let Some(total) = line_total(chart, line) {
             match left_for(total, rest) {
@@ -37,45 +38,47 @@ fn has_enough(groups: &[CounterGroup], chart: &Chart) -> bool
     rest.is_empty()
 }
 
-/// What is left of some groups where a total takes the first, if that is enough for it.
-fn left_for(total: Total, groups: &[CounterGroup]) -> Option<&[CounterGroup]>
-    ensures { IsLeftFor total groups.now (option_map (λ left. left.now) result) }
+/// What is left of some counters where a total takes the first, if that is enough for it.
+fn left_for(total: Total, counters: &[TotalCounter]) -> Option<&[TotalCounter]>
+    ensures { IsLeftFor total counters.now (option_map (λ left. left.now) result) }
 {
-    match groups.split_first() {
-        Some((first, left)) if total.need <= u32::from(first.width) => Some(left),
-        _ => None,
+    let (first, left) = counters.split_first()?;
+    if first.is_enough(total.need) {
+        Some(left)
+    } else {
+        None
     }
 }
 
-/// Whether groups are those of a machine, and none stands twice.
-fn are_own(groups: &[CounterGroup], profile: &Profile) -> bool
-    ensures { IsTrue result ↔ AreOwn profile.now groups.now }
+/// Whether the groups of counters are those of a machine, and none serves two.
+fn are_own(counters: &[TotalCounter], profile: &Profile) -> bool
+    ensures { IsTrue result ↔ AreOwn profile.now counters.now }
 {
-    are_there(groups, profile) && are_single(groups)
+    are_there(counters, profile) && are_single(counters)
 }
 
-/// Whether a machine has each of some groups.
-fn are_there(groups: &[CounterGroup], profile: &Profile) -> bool
-    ensures { IsTrue result ↔ AreThere profile.now groups.now }
+/// Whether a machine has the groups of each of some counters.
+fn are_there(counters: &[TotalCounter], profile: &Profile) -> bool
+    ensures { IsTrue result ↔ AreThere profile.now counters.now }
 {
-    groups.iter().all(|group| profile.has_group(*group))
+    counters.iter().all(|counter| counter.is_there(profile))
 }
 
-/// Whether no group stands twice.
-fn are_single(groups: &[CounterGroup]) -> bool
-    ensures { IsTrue result ↔ AreSingle groups.now }
+/// Whether no group serves two counters.
+fn are_single(counters: &[TotalCounter]) -> bool
+    ensures { IsTrue result ↔ AreSingle counters.now }
 {
-    for (place, group) in groups.iter().enumerate() {
-        if stands_in(&groups[..place], *group) {
+    for (place, counter) in counters.iter().enumerate() {
+        if shares_with_one(&counters[..place], *counter) {
             return false;
         }
     }
     true
 }
 
-/// Whether a group is one of some.
-fn stands_in(groups: &[CounterGroup], group: CounterGroup) -> bool
-    ensures { IsTrue result ↔ Contains groups.now group }
+/// Whether one of some counters shares a group with another counter.
+fn shares_with_one(counters: &[TotalCounter], other: TotalCounter) -> bool
+    ensures { IsTrue result ↔ SharesWithOne counters.now other }
 {
-    groups.iter().any(|each| *each == group)
+    counters.iter().any(|each| each.shares(other))
 }

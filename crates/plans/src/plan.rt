@@ -1,20 +1,20 @@
 //! Plans.
 
 use crate::assignment::has_assignment;
+use crate::counter::TotalCounter;
 use crate::places::{number_at, place_of_line, place_of_name, place_of_position};
-use capacity::CounterGroup;
 use chart_rules::Chart;
 use charts::{ControlLevel, Name};
 use std::marker::Model;
 use wanted::{Parts, Position, has_narrow_texts, total_place};
 
-/// Which counter group, pilot, comparing position, storage unit, column split and indicate position serves what of a chart.
+/// Which counter, pilot, comparing position, storage unit, column split and indicate position serves what of a chart.
 ///
-/// Contracts see a counter group for each TOTAL amount, in the order of their lines, and what the other parts serve, in
+/// Contracts see a counter for each TOTAL amount, in the order of their lines, and what the other parts serve, in
 /// the order of their numbers, from 1. No list of these is longer than the standard machine has parts.
 #[derive(Drop)]
 pub struct Plan {
-    groups: Vec<CounterGroup>,
+    counters: Vec<TotalCounter>,
     parts: Parts,
 }
 
@@ -23,7 +23,7 @@ impl Model for Plan {
 
     ghost Value = { Lists };
 
-    ghost view = { λ plan. record { groups = plan.groups.items; parts = plan.parts } };
+    ghost view = { λ plan. record { counters = plan.counters.items; parts = plan.parts } };
 
     ghost invariant = { λ plan. IsWithinMachine plan.parts };
 }
@@ -33,35 +33,35 @@ impl Plan {
     ghost use Rattle.charts.specs.Name.{is_same_name};
     ghost use Rattle.wanted.specs.ChartTotals.{totals_of};
     ghost use Rattle.wanted.specs.Wanted.{indicate_at};
-    ghost use Rattle.plans.specs.Plans.{IsFor, IsWithinMachine, number_where, group_on};
+    ghost use Rattle.plans.specs.Plans.{IsFor, IsWithinMachine, number_where, counter_on};
     ghost use Rattle.wanted.specs.Positions.{is_same_position};
 
-    /// The plan of these counter groups and other parts.
-    pub fn of(groups: Vec<CounterGroup>, parts: Parts) -> Plan
+    /// The plan of these counters and other parts.
+    pub fn of(counters: Vec<TotalCounter>, parts: Parts) -> Plan
         requires { IsWithinMachine parts }
-        ensures groups { result.groups ≡ groups.items }
+        ensures counters { result.counters ≡ counters.items }
         ensures parts { result.parts ≡ parts }
     {
-        Plan { groups, parts }
+        Plan { counters, parts }
     }
 
-    /// Whether this is a plan of the chart: each total has a counter group of its own of the standard machine with at
-    /// least its need, and there are no more groups; the other parts serve what the chart asks for, by their numbers; and
-    /// it asks for no more of them than the standard machine has.
+    /// Whether this is a plan of the chart: each total has a counter of its own of the standard machine that is enough for
+    /// it, and there are no more counters; the other parts serve what the chart asks for, by their numbers; and it asks for
+    /// no more of them than the standard machine has.
     pub fn is_for(&self, chart: &Chart) -> bool
         ensures { IsTrue result ↔ IsFor chart.now.lines self.now }
     {
-        let has_groups = has_assignment(self.groups(), chart);
+        let has_counters = has_assignment(self.counters(), chart);
         let has_parts = self.parts.are_for(chart);
         let has_width = has_narrow_texts(chart);
-        has_groups && has_parts && has_width
+        has_counters && has_parts && has_width
     }
 
-    /// The counter groups, one for each TOTAL amount of the chart, in the order of their lines.
-    pub fn groups(&self) -> &[CounterGroup]
-        ensures { result.now ≡ self.now.groups }
+    /// The counters, one for each TOTAL amount of the chart, in the order of their lines.
+    pub fn counters(&self) -> &[TotalCounter]
+        ensures { result.now ≡ self.now.counters }
     {
-        self.groups.as_slice()
+        self.counters.as_slice()
     }
 
     /// The names of the amounts that the pilots serve, in the order of their numbers.
@@ -104,12 +104,12 @@ impl Plan {
         self.parts.indicate(level)
     }
 
-    /// The counter group of the total on a line of the chart, if a total stands there.
-    pub fn group_on(&self, chart: &Chart, line: u16) -> Option<CounterGroup>
-        ensures { result ≡ group_on (totals_of chart.now.lines) self.now.groups line }
+    /// The counter of the total on a line of the chart, if a total stands there.
+    pub fn counter_on(&self, chart: &Chart, line: u16) -> Option<TotalCounter>
+        ensures { result ≡ counter_on (totals_of chart.now.lines) self.now.counters line }
     {
         let place = total_place(chart, line)?;
-        self.groups().get(place).copied()
+        self.counters().get(place).copied()
     }
 
     /// The number of the pilot that serves the amount of a name, from 1.

@@ -6,11 +6,11 @@ use Rattle.plans.proofs.assignment.has_assignment.Goals as goal
 
 pub returns-then-has_own : goal.returns-then-has_own
 returns-then-has_own c =
-    IsAssignment-tests (totals_of c.args.chart.now.lines) standard c.args.groups.now true c.has_enough-has_enough.result
+    IsAssignment-tests (totals_of c.args.chart.now.lines) standard c.args.counters.now true c.has_enough-has_enough.result
     (rw (c.if-has_own.true, c.standard.ensures) at c.are_own-has_own.ensures) c.has_enough-has_enough.ensures
 
 pub returns-else-has_own : goal.returns-else-has_own
 returns-else-has_own c =
     rw c.if-has_own.false
-    (IsAssignment-tests (totals_of c.args.chart.now.lines) standard c.args.groups.now false c.has_enough-has_enough.result
+    (IsAssignment-tests (totals_of c.args.chart.now.lines) standard c.args.counters.now false c.has_enough-has_enough.result
     (rw (c.if-has_own.false, c.standard.ensures) at c.are_own-has_own.ensures) c.has_enough-has_enough.ensures)

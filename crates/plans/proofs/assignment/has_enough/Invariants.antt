@@ -6,5 +6,5 @@ use Rattle.plans.proofs.assignment.has_enough.Given as goal
 
 abbrev pub invariant-loop-line : goal.invariant-loop-line
 invariant-loop-line l =
-    are_enough (filter_map (λ line. line_total l.chart.lines line.number line.statement) l.lines) l.groups
+    are_enough (filter_map (λ line. line_total l.chart.lines line.number line.statement) l.lines) l.counters
     ≡ are_enough (filter_map (λ line. line_total l.chart.lines line.number line.statement) (drop l.line-index l.lines)) l.rest
