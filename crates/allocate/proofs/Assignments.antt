@@ -15,6 +15,10 @@ use Rattle.allocate.specs.HelperCounters.{HasGroupsFor}
 use Rattle.charts.specs.declared.level.Level.TheVariants as level
 use Rattle.allocate.specs.Groups.{total_at, group_at, takes_before}
 use Rattle.plans.specs.Assignments.{IsAssignment}
+use Rattle.plans.specs.Counters.{HasCounter}
+use Rattle.plans.specs.declared.counter.TotalCounter.{TotalCounter}
+use Rattle.plans.specs.declared.counter.TotalCounter.TheVariants as of
+use Rattle.allocate.proofs.Singles.{GivesGroups, lower_group, groups-given}
 use Rattle.wanted.specs.declared.total.Total.{Total}
 use Rattle.allocate.proofs.Counting.{count_below, count-strict, count-injective, count_by-below}
 use Rattle.allocate.proofs.Orders.{takes_before-trans, takes_before-total, takes_before-self, takes_before-need}
@@ -60,9 +64,13 @@ wanted_at-is totals width =
     count_by-below (λ total. leb width (class_of total.need)) totals (record { level = level.Minor; line = 0; need = 0 })
 
 -- an assignment has no more totals of a class than groups of that width
-pub none_where_over : (width : ℕ) (totals : List Total) (machine : Capacities) (groups : List CounterGroup)
-    → groups_at_least machine width < wanted_at width totals → ¬ IsAssignment totals machine groups
-none_where_over width totals machine groups over assigned =
+pub none_where_over : (width : ℕ) (totals : List Total) (machine : Capacities) (counters : List TotalCounter) → NeedsFit totals
+    → groups_at_least machine width < wanted_at width totals → ¬ IsAssignment totals machine counters
+none_where_over width totals machine counters fit over is_assignment =
+    let assigned = groups-given totals machine counters fit is_assignment in
+    let groups = map lower_group counters in
+    let got : (k : ℕ) → k < length totals → slice_get groups k ≡ Some (group_at groups k) =
+    λ k within. let low : k < length groups = let many = assigned.many in omega arith in slice_get-get_or groups k _ low in
     let few : count_below (is_wide totals width) (length totals) ≤ groups_at_least machine width =
     count-injective (is_wide totals width) (λ k. place_of machine (group_at groups k)) (length totals)
     (groups_at_least machine width)
@@ -81,9 +89,6 @@ none_where_over width totals machine groups over assigned =
     (place_of-injective machine _ _ (assigned.there j _ (got j within)) (assigned.there k _ (got k other)) same)))) in
     let count = wanted_at-is totals width in
     omega arith
-  where
-    got : (k : ℕ) → k < length totals → slice_get groups k ≡ Some (group_at groups k)
-    got k within = let low : k < length groups = let many = assigned.many in omega arith in slice_get-get_or groups k _ low
 
 -- how many totals take their groups before the one at a place
 abbrev pub rank : List Total → ℕ → ℕ
@@ -157,7 +162,7 @@ gets totals machine enough place group got =
 
 -- where the groups are enough at each width, each total can have one of its own
 pub widest_first-assigns : (totals : List Total) (machine : Capacities) → NeedsFit totals → HasGroupsFor machine totals
-    → IsAssignment totals machine (widest_first totals machine)
+    → GivesGroups totals machine (widest_first totals machine)
 widest_first-assigns totals machine fit enough =
     record {
       many = widest_first-length totals machine;
@@ -179,15 +184,12 @@ widest_first-assigns totals machine fit enough =
     }
 
 -- an assignment on a machine is one on the standard machine, which has no less
-pub IsAssignment-standard : (totals : List Total) (machine : Capacities) (groups : List CounterGroup)
-    → IsAssignment totals machine groups → IsAtMost machine standard → IsAssignment totals standard groups
-IsAssignment-standard totals machine groups assigned most =
+pub IsAssignment-standard : (totals : List Total) (machine : Capacities) (counters : List TotalCounter)
+    → IsAssignment totals machine counters → IsAtMost machine standard → IsAssignment totals standard counters
+IsAssignment-standard totals machine counters assigned most =
     record {
       many = assigned.many;
-      there =
-          λ place group got.
-          let has = assigned.there place group got in
-          record { from = has.from; to = more group.width group.number has.to };
+      there = λ place counter got. has_counter counter (assigned.there place counter got);
       enough = assigned.enough;
       own = assigned.own;
     }
@@ -196,3 +198,10 @@ IsAssignment-standard totals machine groups assigned most =
     more width number has =
         let threes = most.threes in let fours = most.fours in let sixes = most.sixes in let eights = most.eights in
         grind (arith, nat_tests)
+
+    has_group : (group : CounterGroup) → HasGroup machine group → HasGroup standard group
+    has_group group has = record { from = has.from; to = more group.width group.number has.to }
+
+    has_counter : (counter : TotalCounter) → HasCounter machine counter → HasCounter standard counter
+    has_counter (of.Single group) has = has_group group has
+    has_counter (of.Coupled lower upper) has = (has_group lower has.0, has_group upper has.1)

@@ -9,8 +9,8 @@ use Rattle.allocate.specs.HelperCounters.{HasGroupsFor}
 use Rattle.allocate.proofs.Assignments.{HasGroupsFor-from, IsAssignment-standard}
 use Rattle.allocate.proofs.Order.{NotOver-fits}
 
--- a plan within the machine that has groups for the totals, and no text that is too wide
-Serves-from : (wanted : Wanted) (plan : Lists) → IsWithinMachine plan.parts → IsAssignment wanted.totals standard plan.groups
+-- a plan within the machine that has counters for the totals, and no text that is too wide
+Serves-from : (wanted : Wanted) (plan : Lists) → IsWithinMachine plan.parts → IsAssignment wanted.totals standard plan.counters
     → plan.parts ≡ wanted.parts → [] ≡ wanted.wide_texts → Serves wanted plan
 Serves-from wanted plan within assigned same narrow =
     let pilots = ap (λ (p : Parts). length p.pilots) same in
@@ -22,7 +22,7 @@ Serves-from wanted plan within assigned same narrow =
     let major = ap (λ (p : Parts). length p.major) same in
     let width = ap length narrow in
     record {
-      groups = assigned;
+      counters = assigned;
       parts = same;
       pilots = λ over. omega arith;
       comparing = λ over. omega arith;
@@ -66,7 +66,7 @@ HasGroupsFor-fits wanted machine fits =
 
 -- a plan that serves all where what is wanted fits a machine
 pub Serves-fits : (wanted : Wanted) (machine : Capacities) (plan : Lists) → FitsMachine wanted machine → IsAtMost machine standard
-    → IsAssignment wanted.totals machine plan.groups → plan.parts ≡ wanted.parts → Serves wanted plan
+    → IsAssignment wanted.totals machine plan.counters → plan.parts ≡ wanted.parts → Serves wanted plan
 Serves-fits wanted machine plan fits most assigned same =
     Serves-from wanted plan (rw same (IsWithinMachine-fits wanted machine fits most))
-    (IsAssignment-standard wanted.totals machine plan.groups assigned most) same (wide_texts-fits wanted machine fits)
+    (IsAssignment-standard wanted.totals machine plan.counters assigned most) same (wide_texts-fits wanted machine fits)

@@ -8,4 +8,5 @@ pub mod OneFault
 pub mod OneList
 pub mod Order
 pub mod Orders
+pub mod Singles
 pub mod Taking

@@ -12,7 +12,7 @@ use Rattle.std.proofs.lemmas.List.{get_or-set_same, get_or-set_other, length-set
 use Rattle.capacity.specs.Capacities.{Capacities, groups_at_least, HasGroup}
 use Rattle.capacity.specs.declared.group.CounterGroup.{CounterGroup}
 use Rattle.allocate.specs.Groups.{total_at, group_at, takes_before, TakesBefore, is_lower, IsByRule}
-use Rattle.plans.specs.Assignments.{IsAssignment}
+use Rattle.allocate.proofs.Singles.{GivesGroups}
 use Rattle.wanted.specs.Totals.{NeedsFit, class_of, wanted_at}
 use Rattle.allocate.specs.HelperCounters.{HasGroupsFor}
 use Rattle.allocate.specs.HelperTaking.{taken_at, NoneWaitsBelow, IsNext, goes_first, IsLowest, AreAllTaken}
@@ -295,10 +295,10 @@ partly-all totals machine taken groups partly all =
 abbrev pub waiting : List (Option CounterGroup) → ℕ
 waiting taken = sum_by (λ slot. cond (is_some slot) 0 1) taken
 
--- groups by the rule are an assignment
-pub IsAssignment-by_rule : (totals : List Total) (machine : Capacities) (groups : List CounterGroup)
-    → IsByRule totals machine groups → IsAssignment totals machine groups
-IsAssignment-by_rule totals machine groups rule =
+-- groups by the rule are the totals' own
+pub GivesGroups-by_rule : (totals : List Total) (machine : Capacities) (groups : List CounterGroup)
+    → IsByRule totals machine groups → GivesGroups totals machine groups
+GivesGroups-by_rule totals machine groups rule =
     record {
       many = rule.many;
       there = λ place group got. rw (← is place group got) (rule.each place (within place group got)).there;

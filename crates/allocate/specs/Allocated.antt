@@ -1,11 +1,11 @@
--- What is allocated: the counter groups by the rule, and the other parts in the order in which they are wanted.
+-- What is allocated: the counters by the rule, and the other parts in the order in which they are wanted.
 use Rattle.std.specs.Prelude.{◌≡◌}
 use Rattle.capacity.specs.Capacities.{Capacities}
 use Rattle.wanted.specs.Wanted.{Wanted}
 use Rattle.plans.specs.Plans.{Lists}
-use Rattle.allocate.specs.Groups.{IsByRule}
+use Rattle.allocate.specs.Groups.{AreByRule}
 
--- The plan of what is wanted on a machine: the counter groups by the rule of allocation, the other parts as wanted.
+-- The plan of what is wanted on a machine: the counters by the rule of allocation, the other parts as wanted.
 pub record IsPlanOf (wanted : Wanted) (machine : Capacities) (plan : Lists) : Type 0 where
-  pub groups : IsByRule wanted.totals machine plan.groups
+  pub counters : AreByRule wanted.totals machine plan.counters
   pub parts : plan.parts ≡ wanted.parts

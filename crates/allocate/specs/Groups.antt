@@ -1,11 +1,13 @@
 -- The counter groups that totals take: by need, the greatest first, then by level, then by line, each total takes the
 -- lowest number that is free of the smallest width that is enough and still has one free.
 use Rattle.std.specs.Prelude.{◌≡◌, ◌≢◌, ℕ, ◌<◌, ◌≤◌, nat_eq, nat_lt, Bool, true, ◌&&◌, ◌||◌}
-use Rattle.std.specs.Prelude.{List, length, slice_index_or}
+use Rattle.std.specs.Prelude.{List, length, map, slice_index_or}
 use Rattle.capacity.specs.Capacities.{Capacities, HasGroup}
 use Rattle.capacity.specs.declared.group.CounterGroup.{CounterGroup}
 use Rattle.charts.specs.Levels.{level_number}
 use Rattle.charts.specs.declared.level.Level.TheVariants as level
+use Rattle.plans.specs.declared.counter.TotalCounter.{TotalCounter}
+use Rattle.plans.specs.declared.counter.TotalCounter.TheVariants as of
 use Rattle.wanted.specs.declared.total.Total.{Total}
 
 -- the total at a place of the list; past its end one that needs nothing
@@ -52,3 +54,9 @@ pub record IsLowestFree (totals : List Total) (machine : Capacities) (groups : L
 pub record IsByRule (totals : List Total) (machine : Capacities) (groups : List CounterGroup) : Type 0 where
   pub many : length groups ≡ length totals
   pub each : (place : ℕ) → place < length totals → IsLowestFree totals machine groups place
+
+-- the counters of totals, in the order of the totals: each is one group, and these are the groups that the rule gives the totals
+pub record AreByRule (totals : List Total) (machine : Capacities) (counters : List TotalCounter) : Type 0 where
+  pub groups : List CounterGroup
+  pub are_single : counters ≡ map of.Single groups
+  pub rule : IsByRule totals machine groups

@@ -1,8 +1,10 @@
 -- A helper of the code: how totals take their groups one after the other. So far each total has a group, or waits for one.
-use Rattle.std.specs.Prelude.{◌≡◌, ◌≢◌, ℕ, ◌<◌, ◌≤◌, Bool, true, false, List, length, Option, Some, None, slice_index_or}
+use Rattle.std.specs.Prelude.{◌≡◌, ◌≢◌, ℕ, ◌<◌, ◌≤◌, Bool, true, false, List, length, map, Option, Some, None, option_map, slice_index_or}
 use Rattle.capacity.specs.Capacities.{Capacities, HasGroup, groups_of}
 use Rattle.capacity.specs.declared.group.CounterGroup.{CounterGroup}
 use Rattle.allocate.specs.Groups.{takes_before, is_lower}
+use Rattle.plans.specs.declared.counter.TotalCounter.{TotalCounter}
+use Rattle.plans.specs.declared.counter.TotalCounter.TheVariants as of
 use Rattle.wanted.specs.declared.total.Total.{Total}
 
 -- the group that the total at a place has so far, if it has one
@@ -61,3 +63,7 @@ pub record IsLowest (need : ℕ) (machine : Capacities) (taken : List (Option Co
 abbrev pub AreAllTaken : ℕ → Capacities → List (Option CounterGroup) → Type 0
 AreAllTaken need machine taken =
     (group : CounterGroup) → HasGroup machine group → need ≤ group.width → IsTaken taken group
+
+-- each total has a group, and the counters of totals are these groups
+abbrev pub AreTaken : List (Option CounterGroup) → List TotalCounter → Type 0
+AreTaken taken counters = map Some counters ≡ map (option_map of.Single) taken

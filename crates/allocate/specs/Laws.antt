@@ -1,13 +1,13 @@
 -- Laws of capacities.
 use Rattle.std.specs.Prelude.{◌≡◌, ℕ, All, List}
 use Rattle.capacity.specs.Capacities.{Capacities, widths}
-use Rattle.capacity.specs.declared.group.CounterGroup.{CounterGroup}
 use Rattle.charts.specs.Chart.{Chart}
 use Rattle.chart_rules.specs.Rules.{IsLawful}
 use Rattle.wanted.specs.ChartTotals.{totals_of}
 use Rattle.allocate.specs.Exceeded.{HasCapacityFault, FitsMachine}
 use Rattle.plans.specs.Excess.{IsOver}
 use Rattle.plans.specs.Assignments.{IsAssignment}
+use Rattle.plans.specs.declared.counter.TotalCounter.{TotalCounter}
 use Rattle.wanted.specs.Wanted.{Wanted, wanted_of}
 use Rattle.wanted.specs.declared.count.Capacity.TheVariants as of
 use Rattle.allocate.specs.declared.fault.CapacityFault.{CapacityFault}
@@ -16,17 +16,17 @@ use Rattle.allocate.specs.declared.fault.CapacityFault.{CapacityFault}
 abbrev pub IsOverAt : ℕ → Chart → Capacities → Type 0
 IsOverAt width chart machine = IsOver (of.Counters width) (wanted_of chart.lines) machine
 
--- where a chart that breaks no rule exceeds the counter groups at no width, each total can have a group of its own
+-- where a chart that breaks no rule exceeds the counter groups at no width, each total can have a counter of its own
 abbrev pub ChartsWithinHaveAnAssignment : Type 0
 ChartsWithinHaveAnAssignment =
     (chart : Chart) (machine : Capacities) → IsLawful chart → All (λ width. ¬ IsOverAt width chart machine) widths
-    → (groups : List CounterGroup) × IsAssignment (totals_of chart.lines) machine groups
+    → (counters : List TotalCounter) × IsAssignment (totals_of chart.lines) machine counters
 
--- where a chart that breaks no rule exceeds the counter groups at a width, not each total can have a group of its own
+-- where a chart that breaks no rule exceeds the counter groups at a width, not each total can have a counter of its own
 abbrev pub ChartsOverHaveNone : Type 0
 ChartsOverHaveNone =
-    (chart : Chart) (machine : Capacities) (width : ℕ) (groups : List CounterGroup) → IsLawful chart
-    → IsOverAt width chart machine → ¬ IsAssignment (totals_of chart.lines) machine groups
+    (chart : Chart) (machine : Capacities) (width : ℕ) (counters : List TotalCounter) → IsLawful chart
+    → IsOverAt width chart machine → ¬ IsAssignment (totals_of chart.lines) machine counters
 
 -- what fits a machine has no fault on it
 abbrev pub FittingChartsHaveNoFault : Type 0

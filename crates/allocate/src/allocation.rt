@@ -40,6 +40,6 @@ pub fn allocate(alloc: Global, chart: &Chart, profile: &Profile) -> Result<Plan,
     // Whatever fits a profile fits the standard machine, since no profile has more.
     let pilots = profile.pilots();
     prove!(pilots <= 16);
-    let groups = assign(alloc, wanted.totals(), profile)?;
-    Ok(Plan::of(groups, wanted.into_parts()))
+    let counters = assign(alloc, wanted.totals(), profile)?;
+    Ok(Plan::of(counters, wanted.into_parts()))
 }

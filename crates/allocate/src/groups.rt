@@ -1,22 +1,23 @@
-//! The counter groups that totals take.
+//! The counters that totals take.
 
-ghost use Rattle.std.specs.Prelude.{◌≡◌, ◌<◌, ◌↔◌, length, map, Some, IsTrue, IfOk, MatchOption};
+ghost use Rattle.std.specs.Prelude.{◌≡◌, ◌<◌, ◌↔◌, length, IsTrue, IfOk, MatchOption};
 ghost use Rattle.std.specs.Option.{ForSome};
 ghost use Rattle.wanted.specs.Totals.{NeedsFit};
 ghost use Rattle.allocate.specs.HelperCounters.{HasGroupsFor};
-ghost use Rattle.allocate.specs.Groups.{IsByRule, takes_before};
+ghost use Rattle.allocate.specs.Groups.{AreByRule, takes_before};
 ghost use Rattle.plans.specs.Assignments.{IsAssignment};
 ghost use Rattle.allocate.specs.HelperTaking.{IsTaken, NoneWaits, IsNext, goes_first};
-ghost use Rattle.allocate.specs.HelperTaking.{IsLowestNumber, IsWidthTaken, IsLowest, AreAllTaken};
+ghost use Rattle.allocate.specs.HelperTaking.{IsLowestNumber, IsWidthTaken, IsLowest, AreAllTaken, AreTaken};
 
 use capacity::{CounterGroup, Profile};
+use plans::TotalCounter;
 use std::alloc::{AllocError, Global};
 use wanted::Total;
 
 // The widths of counter groups, the narrowest first.
 const WIDTHS: [u8; 4] = [3, 4, 6, 8];
 
-/// The counter groups that the totals take, in the order of the totals.
+/// The counters that the totals take, in the order of the totals: each is one group.
 ///
 /// Totals are taken by need, the greatest first, then by level, then by line. Each takes the lowest number that is free
 /// of the smallest width that is enough and still has one free. It is refused only where memory is.
@@ -24,11 +25,11 @@ pub(crate) fn assign(
     alloc: Global,
     totals: &[Total],
     profile: &Profile,
-) -> Result<Vec<CounterGroup>, AllocError>
+) -> Result<Vec<TotalCounter>, AllocError>
     requires needs { NeedsFit totals.now }
     requires enough { HasGroupsFor profile.now totals.now }
-    ensures rule { IfOk result (λ groups. IsByRule totals.now profile.now groups.items) }
-    ensures own { IfOk result (λ groups. IsAssignment totals.now profile.now groups.items) }
+    ensures rule { IfOk result (λ counters. AreByRule totals.now profile.now counters.items) }
+    ensures own { IfOk result (λ counters. IsAssignment totals.now profile.now counters.items) }
 {
     let mut taken = vec![in alloc; None; totals.len()]?;
     while let Some(place) = next_total(totals, &taken) {
@@ -128,15 +129,15 @@ fn is_taken(group: CounterGroup, taken: &[Option<CounterGroup>]) -> bool
     taken.contains(&Some(group))
 }
 
-// The groups of totals of which none waits.
-fn all_taken(alloc: Global, taken: &[Option<CounterGroup>]) -> Result<Vec<CounterGroup>, AllocError>
+// The counters of totals of which none waits.
+fn all_taken(alloc: Global, taken: &[Option<CounterGroup>]) -> Result<Vec<TotalCounter>, AllocError>
     requires { NoneWaits taken.now }
-    ensures { IfOk result (λ groups. map Some groups.items ≡ taken.now) }
+    ensures { IfOk result (λ counters. AreTaken taken.now counters.items) }
 {
-    let mut groups = Vec::new(alloc);
+    let mut counters = Vec::new(alloc);
     for slot in taken {
         let Some(group) = *slot else { unreachable!() };
-        groups.push(group)?;
+        counters.push(TotalCounter::Single { group })?;
     }
-    Ok(groups)
+    Ok(counters)
 }

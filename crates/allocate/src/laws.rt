@@ -12,7 +12,7 @@ ghost use Rattle.allocate.specs.Laws.{ChartsWithinHaveAnAssignment, ChartsOverHa
 ghost use Rattle.wanted.specs.declared.total.Total.{Total};
 
 /// For every chart that breaks no rule: no total needs more positions than the widest counter group has; where the
-/// counter groups are exceeded at no width, each total can have a group of its own; where they are exceeded at one, not
+/// counter groups are exceeded at no width, each total can have a counter of its own; where they are exceeded at one, not
 /// all can.
 pub fn totals_fit_exactly_where_no_width_is_over()
     ensures needs { (chart : Chart) → IsLawful chart → NeedsFit (totals_of chart.lines) }

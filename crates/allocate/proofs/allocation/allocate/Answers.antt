@@ -13,4 +13,4 @@ pub returns-clause-serves : goal.returns-clause-serves
 returns-clause-serves c =
     rw (← c.in_ok-wanted.ensures)
     (Serves-fits c.in_ok-wanted.wanted c.args.profile.now c.of-2.result c.in_default.ensures.none c.pilots-pilots.ensures.standard
-    (rw c.of-2.ensures.groups (rw c.totals.ensures.value at c.in_ok-groups.ensures.own)) (c.of-2.ensures.parts ∙ c.into_parts.ensures))
+    (rw c.of-2.ensures.counters (rw c.totals.ensures.value at c.in_ok-counters.ensures.own)) (c.of-2.ensures.parts ∙ c.into_parts.ensures))

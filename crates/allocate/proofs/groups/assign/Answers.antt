@@ -2,7 +2,8 @@ use Rattle.std.proofs.Common.{◌∙◌, ap, rules, length, None}
 use Rattle.std.proofs.lemmas.List.{length-replicate}
 use Rattle.std.proofs.lemmas.Result.{IfOk-weaker}
 use Rattle.allocate.specs.HelperTaking.{taken_at}
-use Rattle.allocate.proofs.Taking.{partly-none, at_none, partly-more, some_free, partly-all, IsAssignment-by_rule}
+use Rattle.allocate.proofs.Taking.{partly-none, at_none, partly-more, some_free, partly-all, GivesGroups-by_rule}
+use Rattle.allocate.proofs.Singles.{singles-assigned, taken-groups}
 use Rattle.allocate.proofs.groups.assign.Goals as goal
 
 pub loop-place-init : goal.loop-place-init
@@ -27,13 +28,20 @@ loop-place-preserved c =
 pub returns-clause-rule : goal.returns-clause-rule
 returns-clause-rule c =
     IfOk-weaker c.all_taken.result _ _
-    (λ groups all.
-    partly-all c.args.totals.now c.args.profile.now c.loop-place.taken.items groups.items c.loop-place.invariant
-    (all ∙ c.deref-2.ensures.value))
+    (λ counters all.
+    let had = taken-groups c.loop-place.taken.items counters.items (rw c.deref-2.ensures.value at all) in
+    record {
+      groups = had.groups;
+      are_single = had.single;
+      rule = partly-all c.args.totals.now c.args.profile.now c.loop-place.taken.items had.groups c.loop-place.invariant had.took;
+    })
     c.all_taken.ensures
 
 pub returns-clause-own : goal.returns-clause-own
 returns-clause-own c =
     IfOk-weaker c.all_taken.result _ _
-    (λ groups rule. IsAssignment-by_rule c.args.totals.now c.args.profile.now groups.items rule)
+    (λ counters by_rule.
+    rw by_rule.are_single
+    (singles-assigned c.args.totals.now c.args.profile.now by_rule.groups
+    (GivesGroups-by_rule c.args.totals.now c.args.profile.now by_rule.groups by_rule.rule)))
     (returns-clause-rule c)
