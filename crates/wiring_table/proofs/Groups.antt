@@ -1,7 +1,7 @@
 -- Each total of a chart has a counter group of its plan, wide enough for it, and no two totals have one.
 use Rattle.std.proofs.Common.{◌≡◌, ◌∙◌, refl, sym, ap, subst, ℕ, ◌≤◌, ◌==◌, List, Option, Some, None, option_map, option_and_then, position, slice_get, get_or, arith}
 use Rattle.std.proofs.lemmas.Bool.Decides.{nat_tests}
-use Rattle.std.proofs.lemmas.Option.{slice_get_within, slice_get-get_or}
+use Rattle.std.proofs.lemmas.Option.{slice_get_within, slice_get-get_or, get_or_from_slice_get}
 use Rattle.capacity.specs.Capacities.{HasGroup, standard}
 use Rattle.capacity.specs.declared.group.CounterGroup.{CounterGroup}
 use Rattle.charts.specs.Chart.{NumbersRise}
@@ -13,29 +13,34 @@ use Rattle.charts.proofs.Rising.{one-line}
 use Rattle.field_rules.proofs.Places.{is_same_name-equal}
 use Rattle.field_rules.specs.Fields.{field_named}
 use Rattle.hubs.specs.declared.hub.Group.{Group}
+use Rattle.plans.specs.Counters.{IsEnoughFor, single_group}
 use Rattle.plans.specs.Plans.{Lists, IsFor}
+use Rattle.plans.specs.declared.counter.TotalCounter.{TotalCounter}
+use Rattle.plans.specs.declared.counter.TotalCounter.TheVariants as of
+use Rattle.wanted.specs.Totals.{NeedsFit}
 use Rattle.wanted.specs.ChartTotals.{need_of, line_total, totals_of}
 use Rattle.wanted.specs.declared.total.Total.{Total}
 use Rattle.wiring_table.specs.Parts.{HasTotal, group_for, panel_group}
 
--- The total of a line, by its number, and its counter group.
+-- The total of a line, by its number, and its counter group, the only one of its counter.
 pub record IsServed (lines : List Line) (plan : Lists) (number : ℕ) (group : Group) : Type 0 where
   pub place : ℕ
   pub total : Total
   pub counter_group : CounterGroup
   pub is_total : slice_get (totals_of lines) place ≡ Some total
   pub line : total.line ≡ number
-  pub there : slice_get plan.groups place ≡ Some counter_group
+  pub there : slice_get plan.counters place ≡ Some (of.Single counter_group)
   pub is_group : panel_group counter_group ≡ group
 
 pub is-served : (lines : List Line) (plan : Lists) (number : ℕ) (group : Group) → group_for lines plan number ≡ Some group
     → IsServed lines plan number group
 is-served lines plan number group served = by (position (λ (t : Total). t.line == number) (totals_of lines)) refl served
   where
-    at : (place : ℕ) → position (λ (t : Total). t.line == number) (totals_of lines) ≡ Some place → (o : Option CounterGroup)
-        → slice_get plan.groups place ≡ o → option_map panel_group o ≡ Some group → IsServed lines plan number group
+    at : (place : ℕ) → position (λ (t : Total). t.line == number) (totals_of lines) ≡ Some place → (o : Option TotalCounter)
+        → slice_get plan.counters place ≡ o → option_map panel_group (option_and_then single_group o) ≡ Some group → IsServed lines plan number group
     at place is None none same = cc
-    at place is (Some found) there same =
+    at place is (Some (of.Coupled lower upper)) there same = cc
+    at place is (Some (of.Single found)) there same =
         let stands = position-stands (λ (t : Total). t.line == number) (totals_of lines) place is in
         let passes = stands.passes in
         record {
@@ -49,14 +54,21 @@ is-served lines plan number group served = by (position (λ (t : Total). t.line 
         }
 
     by : (o : Option ℕ) → position (λ (t : Total). t.line == number) (totals_of lines) ≡ o
-        → option_map panel_group (option_and_then (slice_get plan.groups) o) ≡ Some group → IsServed lines plan number group
+        → option_map panel_group (option_and_then single_group (option_and_then (slice_get plan.counters) o)) ≡ Some group
+        → IsServed lines plan number group
     by None is same = cc
-    by (Some place) is same = at place is (slice_get plan.groups place) refl same
+    by (Some place) is same = at place is (slice_get plan.counters place) refl same
 
--- each total has a counter group
-pub group-given : (lines : List Line) (plan : Lists) (name : List ℕ) (level number : ℕ) → IsFor lines plan
+-- a counter that is enough for a total that needs no more positions than a group has is one group
+single-enough : (need : ℕ) (counter : TotalCounter) → need ≤ 8 → IsEnoughFor need counter
+    → (group : CounterGroup) × (counter ≡ of.Single group)
+single-enough need (of.Single group) small enough = (group, refl)
+single-enough need (of.Coupled lower upper) small enough = absurd (omega (arith, small, enough.from))
+
+-- each total has a counter group, where none needs more positions than a group has
+pub group-given : (lines : List Line) (plan : Lists) (name : List ℕ) (level number : ℕ) → NeedsFit (totals_of lines) → IsFor lines plan
     → HasTotal lines name level number → (group : Group) × (group_for lines plan number ≡ Some group)
-group-given lines plan name level number planned total =
+group-given lines plan name level number small planned total =
     let made : Total = record { level = total.its_level; line = total.line.number; need = need_of (field_named lines total.its_name) total.digits } in
     let listed = listed-given (λ (l : Line). line_total lines l.number l.statement) lines total.line made total.listed
     (ap (line_total lines total.line.number) total.says_total) in
@@ -64,10 +76,16 @@ group-given lines plan name level number planned total =
     let (place, at) = position-passing (λ (t : Total). t.line == number) (totals_of lines) made listed (grind (arith, nat_tests, same)) in
     let stands = position-stands (λ (t : Total). t.line == number) (totals_of lines) place at in
     let within = slice_get_within (totals_of lines) place stands.element stands.there in
-    let group = get_or plan.groups place (record { width = 0; number = 0 }) in (
+    let no_counter : TotalCounter = of.Single (record { width = 0; number = 0 }) in
+    let counter = get_or plan.counters place no_counter in
+    let there : slice_get plan.counters place ≡ Some counter =
+    slice_get-get_or plan.counters place no_counter (omega (arith, within, planned.counters.many)) in
+    let need : stands.element.need ≤ 8 =
+    subst (λ (t : Total). t.need ≤ 8) (get_or_from_slice_get (totals_of lines) place stands.element stands.element stands.there) (small place stands.element within) in
+    let (group, is) = single-enough stands.element.need counter need (planned.counters.enough place stands.element counter stands.there there) in (
       panel_group group,
-      ap (λ o. option_map panel_group (option_and_then (slice_get plan.groups) o)) at
-          ∙ ap (option_map panel_group) (slice_get-get_or plan.groups place (record { width = 0; number = 0 }) (omega (arith, within, planned.groups.many))),
+      ap (λ o. option_map panel_group (option_and_then single_group (option_and_then (slice_get plan.counters) o))) at
+          ∙ ap (λ o. option_map panel_group (option_and_then single_group o)) (there ∙ ap Some is),
     )
 
 module _ (lines : List Line) (plan : Lists) (planned : IsFor lines plan) where
@@ -80,7 +98,7 @@ module _ (lines : List Line) (plan : Lists) (planned : IsFor lines plan) where
       let same_group : a.counter_group ≡ b.counter_group =
       ap (λ (g : Group). record { width = g.width; number = g.number }) (a.is_group ∙ sym b.is_group) in
       let same_place : a.place ≡ b.place =
-      planned.groups.own a.place b.place a.counter_group a.there (b.there ∙ ap Some (sym same_group)) in
+      planned.counters.own a.place b.place (of.Single a.counter_group) (of.Single b.counter_group) a.there b.there same_group in
       let same_total : Some a.total ≡ Some b.total =
       sym a.is_total ∙ ap (slice_get (totals_of lines)) same_place ∙ b.is_total in
       let total : a.total ≡ b.total = cc in
@@ -92,7 +110,7 @@ module _ (lines : List Line) (plan : Lists) (planned : IsFor lines plan) where
   group-there number group served =
       let a = is-served lines plan number group served in
       subst (λ (g : Group). HasGroup standard (record { width = g.width; number = g.number })) a.is_group
-      (planned.groups.there a.place a.counter_group a.there)
+      (planned.counters.there a.place (of.Single a.counter_group) a.there)
 
   -- and has room for its total
   pub group-room : (end : ℕ) (name : List ℕ) (level number : ℕ) (group : Group) → NumbersRise lines end
@@ -111,7 +129,7 @@ module _ (lines : List Line) (plan : Lists) (planned : IsFor lines plan) where
       let need : need_of (field_named lines name) total.digits ≡ a.total.need =
       ap (λ n. need_of (field_named lines n) total.digits) (sym (is_same_name-equal total.its_name name total.same_name)) ∙ made in
       let wide : a.counter_group.width ≡ group.width = ap (λ (g : Group). g.width) a.is_group in
-      let enough = planned.groups.enough a.place a.total a.counter_group a.is_total a.there in
+      let enough = planned.counters.enough a.place a.total (of.Single a.counter_group) a.is_total a.there in
       omega (arith, need, wide, enough)
     where
       numbered : (its : ℕ) (statement : Statement) (found : Total) → line_total lines its statement ≡ Some found → its ≡ found.line

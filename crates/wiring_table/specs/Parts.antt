@@ -1,7 +1,9 @@
 -- Which parts of the machine serve what of a chart, by its plan, and which totals of an amount come one above the other.
-use Rattle.std.specs.Prelude.{◌≡◌, ℕ, ◌<◌, ◌==◌, List, Contains, Option, option_map, true}
+use Rattle.std.specs.Prelude.{◌≡◌, ℕ, ◌<◌, ◌==◌, List, Contains, Option, option_and_then, option_map, true}
 use Rattle.wanted.specs.ChartTotals.{totals_of}
-use Rattle.plans.specs.Plans.{Lists, group_on, number_where}
+use Rattle.plans.specs.Counters.{single_group}
+use Rattle.plans.specs.Plans.{Lists, counter_on, number_where}
+use Rattle.plans.specs.declared.counter.TotalCounter.{TotalCounter}
 use Rattle.wanted.specs.Positions.{is_same_position}
 use Rattle.wanted.specs.Wanted.{indicate_at}
 use Rattle.wanted.specs.declared.position.Position.{Position}
@@ -24,9 +26,13 @@ use Rattle.hubs.specs.declared.hub.Hub.TheVariants.{CC, PIN, PIT, PX}
 abbrev pub panel_group : CounterGroup → Group
 panel_group group = record { width = group.width; number = group.number }
 
--- the counter group of the total on a line of the chart
+-- the counter of the total on a line of the chart
+abbrev pub counter_for : List Line → Lists → ℕ → Option TotalCounter
+counter_for lines plan number = counter_on (totals_of lines) plan.counters number
+
+-- the counter group of the total on a line of the chart that has only one
 abbrev pub group_for : List Line → Lists → ℕ → Option Group
-group_for lines plan number = option_map panel_group (group_on (totals_of lines) plan.groups number)
+group_for lines plan number = option_map panel_group (option_and_then single_group (counter_for lines plan number))
 
 -- the pilot of an amount
 abbrev pub pilot_for : Lists → List ℕ → Option ℕ
