@@ -46,7 +46,7 @@ pub lawful_amount : (chart : Chart) (plan : Lists) (name : List ℕ) → IsLawfu
 lawful_amount chart plan name lawful rise planned = record {
   room = λ level from has.
       let (number, total) = has_from chart.lines plan name level has in
-      let (group, served) = group-given chart.lines plan name level number planned total in
+      let (group, served) = group-given chart plan name level number lawful planned total in
       let own : IsGroupOf chart.lines plan name level group = record { number = number; total = total; served = served } in
       let room = has_room chart plan name level group rise planned own in
       let digits = digits_are chart plan name level number lawful total in

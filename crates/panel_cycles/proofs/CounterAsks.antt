@@ -192,7 +192,7 @@ module _ (chart : Chart) (plan : Lists) (wiring : Wiring) (rise : NumbersRise ch
           let next = is_number (lower amount.has level) (level_number l)
           (second_holds (amount.has (level_number l)) (lower amount.has level == level_number l) goes) in
           let under = under_from chart.lines plan name level (total_level own.total) (level_number l) has next in
-          let (lower_group, served) = group-given chart.lines plan name (level_number l) under.number at.panel.planned under.total in
+          let (lower_group, served) = group-given chart plan name (level_number l) under.number at.panel.lawful at.panel.planned under.total in
           let given : IsGroupOf chart.lines plan name (level_number l) lower_group =
           record { number = under.number; total = under.total; served = served } in
           let held : state (level_number l) ≡ held_in old (Some lower_group) =

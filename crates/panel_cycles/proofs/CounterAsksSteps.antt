@@ -353,7 +353,7 @@ module _ (chart : Chart) (plan : Lists) (wiring : Wiring) (rise : NumbersRise ch
         lower_of : (under : IsUnder chart.lines name (level_number l) level)
             → (lower_group : Group) × IsGroupOf chart.lines plan name (level_number l) lower_group
         lower_of under =
-            let (lower_group, served) = group-given chart.lines plan name (level_number l) under.number at.panel.planned under.total in
+            let (lower_group, served) = group-given chart plan name (level_number l) under.number at.panel.lawful at.panel.planned under.total in
             (lower_group, record { number = under.number; total = under.total; served = served })
 
         plus_given : (not (level_number l == level) && (goes_up && not by_minus)) ≡ true → pictures C (PL group) ≡ true

@@ -271,7 +271,7 @@ module _ (wiring : Wiring) (its : ProgramLevel) (held : List ℕ → Printed) (c
       let lawful = row.on_panel.panel.lawful in
       let amount = total-amount at.chart place line level wheel name digits mark t.field lawful listed says_it t.named in
       let few = total-digits at.chart place line level wheel name digits mark t.field lawful listed says_it t.named in
-      let (group, served) = group-given at.chart.lines at.plan name (chart_number level) line.number row.on_panel.panel.planned
+      let (group, served) = group-given at.chart at.plan name (chart_number level) line.number lawful row.on_panel.panel.planned
       (total-of at.chart.lines line level wheel name digits mark there says_it) in
       figure-arrives line place level wheel name digits mark t.field group listed there says_it
       (record { named = t.named; holds_amount = amount }) t.same served

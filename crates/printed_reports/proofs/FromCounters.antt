@@ -171,7 +171,7 @@ module _ (chart : Chart) (plan : Lists) (wiring : Wiring) (panel : IsPanel chart
             by (Some line) some =
                 let has : (amount_of chart.lines plan name).has level ≡ true = ap is_some some in
                 let (number, total) = has_from chart.lines plan name level has in
-                let (group, served) = group-given chart.lines plan name level number panel.planned total in
+                let (group, served) = group-given chart plan name level number panel.lawful panel.planned total in
                 with_total cycle card old new name field level group is (machines-ready.kept wiring cycle old new is run)
                 (whole wiring cycle old new is run) read amount small
                 (record { number = number; total = total; served = served })

@@ -16,11 +16,11 @@ use plans::Plan;
 use setups::Setup;
 use std::alloc::AllocError;
 
-/// The counter group of the total on a line of the chart.
+/// The counter group of the total on a line of the chart that has only one.
 pub(crate) fn group_for(chart: &Chart, plan: &Plan, line: u16) -> Option<Group>
     ensures { result ≡ group_for chart.now.lines plan.now line }
 {
-    let group = plan.group_on(chart, line)?;
+    let group = plan.counter_on(chart, line)?.single_group()?;
     Some(Group {
         width: group.width,
         number: group.number,

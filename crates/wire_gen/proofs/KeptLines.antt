@@ -189,7 +189,7 @@ module _ (chart : Chart) (plan : Lists) (lawful : IsLawful chart) (rise : Number
       → line.statement ≡ says.TotalAmount level wheel name digits mark → (other : ℕ)
       → IsNextHigher chart.lines name (level_number level) other → HasGroupFor chart.lines plan other digits
   upper-group level wheel name digits mark is other next_one =
-      let found = group-for chart.lines chart.end plan rise is_for name next_one.higher other next_one.total in
+      let found = group-for chart plan lawful rise is_for name next_one.higher other next_one.total in
       let less : digits ≤ next_one.total.digits =
       digits-grow chart name lawful (level_number level) next_one.higher line.number other next_one.above (total-of chart.lines line level wheel name digits mark listed is)
       next_one.total in
@@ -235,7 +235,7 @@ module _ (chart : Chart) (plan : Lists) (lawful : IsLawful chart) (rise : Number
           whole = omega (arith, decimals, enough);
         };
         enough = enough;
-        group = group-for chart.lines chart.end plan rise is_for name (level_number level) line.number own;
+        group = group-for chart plan lawful rise is_for name (level_number level) line.number own;
         upper = upper-group level wheel name digits mark is;
         alone = next-alone level name;
       })

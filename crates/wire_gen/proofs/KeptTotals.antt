@@ -2,8 +2,8 @@
 use Rattle.std.proofs.Common.{◌≡◌, ℕ, inl, inr, List, arith}
 use Rattle.std.proofs.lemmas.Bool.Decides.{nat_tests}
 use Rattle.capacity.specs.Capacities.{HasGroup, standard}
-use Rattle.charts.specs.Chart.{NumbersRise}
-use Rattle.charts.specs.declared.chart.Line.{Line}
+use Rattle.chart_rules.specs.Rules.{IsLawful}
+use Rattle.charts.specs.Chart.{Chart, NumbersRise}
 use Rattle.hubs.specs.declared.hub.Group.{Group}
 use Rattle.plans.proofs.CounterGroups.{width-cases}
 use Rattle.plans.specs.Plans.{Lists, IsFor}
@@ -27,15 +27,15 @@ on-panel group has =
       to = grind (arith, nat_tests, to);
     }
 
--- the total on a line of a chart has a counter group of its plan, with at least its digits
-pub group-for : (lines : List Line) (end : ℕ) (plan : Lists) → NumbersRise lines end → IsFor lines plan → (name : List ℕ)
-    (level number : ℕ) (total : HasTotal lines name level number) → HasGroupFor lines plan number total.digits
-group-for lines end plan rise is_for name level number total =
-    let (group, there) = group-given lines plan name level number is_for total in
-    let room = group-room lines plan is_for end name level number group rise total there in
+-- the total on a line of a lawful chart has a counter group of its plan, with at least its digits
+pub group-for : (chart : Chart) (plan : Lists) → IsLawful chart → NumbersRise chart.lines chart.end → IsFor chart.lines plan
+    → (name : List ℕ) (level number : ℕ) (total : HasTotal chart.lines name level number) → HasGroupFor chart.lines plan number total.digits
+group-for chart plan lawful rise is_for name level number total =
+    let (group, there) = group-given chart plan name level number lawful is_for total in
+    let room = group-room chart.lines plan is_for chart.end name level number group rise total there in
     record {
       group = group;
       there = there;
-      on_panel = on-panel group (group-there lines plan is_for number group there);
+      on_panel = on-panel group (group-there chart.lines plan is_for number group there);
       wide = omega (arith, room);
     }

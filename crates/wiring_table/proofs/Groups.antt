@@ -4,7 +4,7 @@ use Rattle.std.proofs.lemmas.Bool.Decides.{nat_tests}
 use Rattle.std.proofs.lemmas.Option.{slice_get_within, slice_get-get_or, get_or_from_slice_get}
 use Rattle.capacity.specs.Capacities.{HasGroup, standard}
 use Rattle.capacity.specs.declared.group.CounterGroup.{CounterGroup}
-use Rattle.charts.specs.Chart.{NumbersRise}
+use Rattle.charts.specs.Chart.{Chart, NumbersRise}
 use Rattle.charts.specs.declared.chart.Line.{Line}
 use Rattle.charts.specs.declared.statement.Statement.{Statement}
 use Rattle.charts.specs.declared.statement.Statement.TheVariants as says
@@ -17,7 +17,8 @@ use Rattle.plans.specs.Counters.{IsEnoughFor, single_group}
 use Rattle.plans.specs.Plans.{Lists, IsFor}
 use Rattle.plans.specs.declared.counter.TotalCounter.{TotalCounter}
 use Rattle.plans.specs.declared.counter.TotalCounter.TheVariants as of
-use Rattle.wanted.specs.Totals.{NeedsFit}
+use Rattle.wanted.proofs.Needs.{NeedsFit-lawful}
+use Rattle.chart_rules.specs.Rules.{IsLawful}
 use Rattle.wanted.specs.ChartTotals.{need_of, line_total, totals_of}
 use Rattle.wanted.specs.declared.total.Total.{Total}
 use Rattle.wiring_table.specs.Parts.{HasTotal, group_for, panel_group}
@@ -65,10 +66,11 @@ single-enough : (need : ℕ) (counter : TotalCounter) → need ≤ 8 → IsEnoug
 single-enough need (of.Single group) small enough = (group, refl)
 single-enough need (of.Coupled lower upper) small enough = absurd (omega (arith, small, enough.from))
 
--- each total has a counter group, where none needs more positions than a group has
-pub group-given : (lines : List Line) (plan : Lists) (name : List ℕ) (level number : ℕ) → NeedsFit (totals_of lines) → IsFor lines plan
-    → HasTotal lines name level number → (group : Group) × (group_for lines plan number ≡ Some group)
-group-given lines plan name level number small planned total =
+-- each total of a lawful chart has a counter group, since none needs more positions than a group has
+pub group-given : (chart : Chart) (plan : Lists) (name : List ℕ) (level number : ℕ) → IsLawful chart → IsFor chart.lines plan
+    → HasTotal chart.lines name level number → (group : Group) × (group_for chart.lines plan number ≡ Some group)
+group-given chart plan name level number lawful planned total =
+    let lines = chart.lines in
     let made : Total = record { level = total.its_level; line = total.line.number; need = need_of (field_named lines total.its_name) total.digits } in
     let listed = listed-given (λ (l : Line). line_total lines l.number l.statement) lines total.line made total.listed
     (ap (line_total lines total.line.number) total.says_total) in
@@ -81,7 +83,7 @@ group-given lines plan name level number small planned total =
     let there : slice_get plan.counters place ≡ Some counter =
     slice_get-get_or plan.counters place no_counter (omega (arith, within, planned.counters.many)) in
     let need : stands.element.need ≤ 8 =
-    subst (λ (t : Total). t.need ≤ 8) (get_or_from_slice_get (totals_of lines) place stands.element stands.element stands.there) (small place stands.element within) in
+    subst (λ (t : Total). t.need ≤ 8) (get_or_from_slice_get (totals_of lines) place stands.element stands.element stands.there) (NeedsFit-lawful chart lawful place stands.element within) in
     let (group, is) = single-enough stands.element.need counter need (planned.counters.enough place stands.element counter stands.there there) in (
       panel_group group,
       ap (λ o. option_map panel_group (option_and_then single_group (option_and_then (slice_get plan.counters) o))) at
