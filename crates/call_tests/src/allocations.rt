@@ -2,7 +2,7 @@
 
 use crate::given::chart_of;
 use allocate::{CapacityFault, allocate};
-use capacity::Profile;
+use capacity::{CounterGroup, Profile};
 use chart_rules::Chart;
 use charts::ControlLevel;
 use plans::Plan;
@@ -129,13 +129,16 @@ fn take_groups(
 ) -> Result<bool, Fail> {
     let chart = chart_of(alloc, lines, b"")?;
     let plan = allocate(alloc, &chart, profile)?;
-    let groups = plan.groups();
+    let counters = plan.counters();
     Ok(
-        groups.len() == wanted.len()
-            && groups
-                .iter()
-                .zip(wanted)
-                .all(|(group, pair)| (group.width, group.number) == *pair),
+        counters.len() == wanted.len()
+            && counters.iter().zip(wanted).all(|(counter, (width, number))| {
+                let group = CounterGroup {
+                    width: *width,
+                    number: *number,
+                };
+                counter.single_group() == Some(group)
+            }),
     )
 }
 
@@ -153,7 +156,10 @@ fn numbers_on(
 ) -> Result<(Option<u8>, Option<u8>, Option<u8>), Fail> {
     let chart = chart_of(alloc, lines, b"")?;
     let plan = plan_of(alloc, &chart)?;
-    let group = plan.group_on(&chart, line).map(|group| group.number);
+    let counter = plan.counter_on(&chart, line);
+    let group = counter
+        .and_then(|counter| counter.single_group())
+        .map(|group| group.number);
     Ok((group, plan.storage_unit(line), plan.split_on(line)))
 }
 
@@ -204,8 +210,9 @@ fn all_groups_in_use(rt: HostRuntime) -> Result<(), Fail> {
     let chart = chart_of(rt.alloc(), EIGHTS, TWOS)?;
     let plan = plan_of(rt.alloc(), &chart)?;
     let widths = [8, 3, 4, 6];
-    assert_eq!(rt; plan.groups().len(), 32);
-    for (place, group) in plan.groups().iter().enumerate() {
+    assert_eq!(rt; plan.counters().len(), 32);
+    for (place, counter) in plan.counters().iter().enumerate() {
+        let group = counter.single_group().ok_or("group")?;
         assert!(rt; widths.get(place / 8) == Some(&group.width));
         assert!(rt; usize::from(group.number) == place % 8 + 1);
     }
