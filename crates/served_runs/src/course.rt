@@ -1,5 +1,8 @@
 //! What stands inside a cycle, and the steps of a unit.
 
+ghost use Rattle.served.specs.Orders.{unit_count};
+ghost use Rattle.served.specs.Units.{IsUnit};
+
 use crate::sizes::size;
 use crate::units::Units;
 use net::{Contacts, Cycle, Net, POINTS, Picture};
@@ -21,6 +24,10 @@ pub(crate) struct Course {
 }
 
 impl Course {
+    ghost use Rattle.std.specs.Prelude.{◌<◌};
+    ghost use Rattle.served.specs.Orders.{unit_count};
+    ghost use Rattle.served.specs.Units.{IsUnit};
+
     // The start of a cycle: all units have come to the control point, and none has emitted.
     pub(crate) fn start(units: &Units, cycle: Cycle, seen: u64) -> Self {
         let mut course = Course {
@@ -30,9 +37,7 @@ impl Course {
             closed: [Contacts::new(); 14],
             seen,
         };
-        for place in 0..UNITS {
-            units.close(place as u8 + 1, cycle, POINTS[0], &mut course.closed[0]);
-        }
+        close_all(units, cycle, &mut course.closed[0]);
         course
     }
 
@@ -47,7 +52,9 @@ impl Course {
     }
 
     // Whether a unit has emitted at the point with a place.
-    fn has_emitted(&self, unit: u8, place: u8) -> bool {
+    fn has_emitted(&self, unit: u8, place: u8) -> bool
+        requires { IsUnit unit_count unit }
+    {
         let come = self.places[unit as usize - 1];
         place < come || come == place && self.emitted[unit as usize - 1]
     }
@@ -63,18 +70,30 @@ impl Course {
     }
 
     // A unit emits at its point.
-    fn emit(&mut self, units: &Units, cycle: Cycle, unit: u8) {
-        let place = self.places[unit as usize - 1] as usize;
+    fn emit(&mut self, units: &Units, cycle: Cycle, unit: u8, place: usize)
+        requires unit { IsUnit unit_count unit }
+        requires within { place < 14 }
+    {
         units.emit(unit, cycle, POINTS[place], &mut self.exits[place]);
         self.emitted[unit as usize - 1] = true;
     }
 
-    // A unit senses at its point, and comes to the next one.
-    fn sense(&mut self, units: &mut Units, net: &Net, cycle: Cycle, unit: u8) {
-        let place = self.places[unit as usize - 1] as usize;
+    // The picture of the point with a place, as it stands so far.
+    fn picture(&self, net: &Net, place: usize) -> Picture
+        requires { place < 14 }
+    {
         let mut picture = Picture::new();
         net.picture(&self.exits[place], &self.closed[place], &mut picture);
-        self.seen += size(&picture);
+        picture
+    }
+
+    // A unit senses at its point, and comes to the next one.
+    fn sense(&mut self, units: &mut Units, net: &Net, cycle: Cycle, unit: u8, place: usize)
+        requires unit { IsUnit unit_count unit }
+        requires within { place < 14 }
+    {
+        let picture = self.picture(net, place);
+        self.seen = u64::saturating_add(self.seen, size(&picture));
         units.sense(unit, cycle, POINTS[place], &picture);
         self.places[unit as usize - 1] = place as u8 + 1;
         self.emitted[unit as usize - 1] = false;
@@ -83,7 +102,7 @@ impl Course {
         }
     }
 
-    // A unit takes all steps that it can. It waits for the units of the word.
+    // A unit takes all steps that it can, of which there are two at each point. It waits for the units of the word.
     pub(crate) fn take_turn(
         &mut self,
         units: &mut Units,
@@ -91,15 +110,28 @@ impl Course {
         waits: u64,
         cycle: Cycle,
         unit: u8,
-    ) {
-        while self.places[unit as usize - 1] < 14 {
-            if !self.emitted[unit as usize - 1] {
-                self.emit(units, cycle, unit);
-            }
-            if !self.have_emitted(waits, self.places[unit as usize - 1]) {
+    )
+        requires { IsUnit unit_count unit }
+    {
+        for _ in 0..14 {
+            let place = self.places[unit as usize - 1];
+            if place >= 14 {
                 return;
             }
-            self.sense(units, net, cycle, unit);
+            if !self.emitted[unit as usize - 1] {
+                self.emit(units, cycle, unit, place as usize);
+            }
+            if !self.have_emitted(waits, place) {
+                return;
+            }
+            self.sense(units, net, cycle, unit, place as usize);
         }
+    }
+}
+
+// Closes the contacts of all units that are closed at the control point.
+fn close_all(units: &Units, cycle: Cycle, contacts: &mut Contacts) {
+    for unit in 1..=UNITS as u8 {
+        units.close(unit, cycle, POINTS[0], contacts);
     }
 }

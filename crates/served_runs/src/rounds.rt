@@ -26,16 +26,21 @@ impl Course {
     // A round: the units of the order take their turns, one after another.
     fn round(&mut self, units: &mut Units, panel: &Panel, cycle: Cycle, order: &[u8]) {
         for &unit in order {
-            self.take_turn(
-                units,
-                &panel.net,
-                panel.waits[unit as usize - 1],
-                cycle,
-                unit,
-            );
+            if 1 <= unit && unit <= UNITS as u8 {
+                self.take_turn(
+                    units,
+                    &panel.net,
+                    panel.waits[unit as usize - 1],
+                    cycle,
+                    unit,
+                );
+            }
         }
     }
 }
+
+// The most rounds that a cycle takes.
+const MOST_ROUNDS: usize = 15;
 
 // A cycle, in rounds until it is over for all units; then each ends it.
 pub(crate) fn serve_cycle(
@@ -46,9 +51,12 @@ pub(crate) fn serve_cycle(
     counts: &mut Counts,
 ) {
     let mut course = Course::start(units, cycle, counts.seen);
-    while !course.is_over() {
+    for _ in 0..MOST_ROUNDS {
+        if course.is_over() {
+            break;
+        }
         course.round(units, panel, cycle, service.order(counts.rounds));
-        counts.rounds += 1;
+        counts.rounds = u64::saturating_add(counts.rounds, 1);
     }
     counts.seen = course.seen;
     units.end_cycle(cycle);

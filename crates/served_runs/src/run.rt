@@ -65,12 +65,20 @@ fn feed(
     out: &mut Vec<PlacedLine>,
 ) -> Result<(), AllocError> {
     let mut waits = units.begin(next);
-    while let Some(cycle) = units.due_in(waits, next) {
-        waits = units.take(cycle, waits, next);
-        serve_cycle(units, panel, cycle, service, counts);
-        if let Some(line) = units.placed_line() {
-            out.push(line)?;
+    for _ in 0..MOST_CYCLES {
+        match units.due_in(waits, next) {
+            None => break,
+            Some(cycle) => {
+                waits = units.take(cycle, waits, next);
+                serve_cycle(units, panel, cycle, service, counts);
+                if let Some(line) = units.placed_line() {
+                    out.push(line)?;
+                }
+            }
         }
     }
     Ok(())
 }
+
+// More than the cycles of a feed.
+const MOST_CYCLES: usize = 100;

@@ -38,13 +38,13 @@ pub(crate) struct Units {
 impl Model for Units {
     ghost use Rattle.machine.specs.Machine.{MachineState};
     ghost use Rattle.served_runs.specs.Fields.{machine_in};
-    ghost use Rattle.served_units.specs.AnyUnit.{AreInOrder};
+    ghost use Rattle.served_runs.specs.Units.{IsWhole};
 
     ghost Value = { MachineState };
 
     ghost view = { machine_in };
 
-    ghost invariant = { λ units. AreInOrder (machine_in units) };
+    ghost invariant = { λ units. IsWhole (machine_in units) };
 }
 
 impl Units {
@@ -55,7 +55,7 @@ impl Units {
     ghost use Rattle.served.specs.Orders.{unit_count};
     ghost use Rattle.served.specs.Units.{IsUnit};
     ghost use Rattle.served_runs.specs.Units.{SensesOne};
-    ghost use Rattle.served_units.specs.AnyUnit.{any_closes, any_emits, unit_at};
+    ghost use Rattle.served_units.specs.AnyUnit.{any_emits, unit_at};
 
     // The units of a setup as they start, with no card in the machine.
     pub(crate) fn new(setup: &Setup) -> Self
@@ -86,28 +86,33 @@ impl Units {
         requires { IsUnit unit_count unit }
         ensures { GainsHubs (any_emits (unit_at self.now unit) cycle point) exits.old exits.new }
     {
-        match unit {
-            1 => self.stations.emit(cycle, point, exits),
-            2 => self.comparing.emit(cycle, point, exits),
-            3..=34 => self.groups[unit as usize - 3].emit(cycle, point, exits),
-            35..=38 => self.storage[unit as usize - 35].emit(cycle, point, exits),
-            42 => self.emitters.emit(cycle, point, exits),
-            45 => self.program.emit(cycle, point, exits),
-            _ => {}
+        if unit <= 1 {
+            self.stations.emit(cycle, point, exits);
+        } else if unit == 2 {
+            self.comparing.emit(cycle, point, exits);
+        } else if unit <= 34 {
+            self.groups[unit as usize - 3].emit(cycle, point, exits);
+        } else if unit <= 38 {
+            self.storage[unit as usize - 35].emit(cycle, point, exits);
+        } else if unit == 42 {
+            self.emitters.emit(cycle, point, exits);
+        } else if unit == 45 {
+            self.program.emit(cycle, point, exits);
         }
     }
 
     // Adds the contacts of a unit that are closed at a point.
     pub(crate) fn close(&self, unit: u8, cycle: Cycle, point: Point, contacts: &mut Contacts)
         requires { IsUnit unit_count unit }
-        ensures { GainsHubs (any_closes (unit_at self.now unit) cycle point) contacts.old contacts.new }
     {
-        match unit {
-            3..=34 => close_group(&self.groups[unit as usize - 3], unit, point, contacts),
-            39 => self.pilots.close(contacts),
-            40 => self.indicate.close(cycle, contacts),
-            41 => self.splits.close(point, contacts),
-            _ => {}
+        if 3 <= unit && unit <= 34 {
+            close_group(&self.groups[unit as usize - 3], unit, point, contacts);
+        } else if unit == 39 {
+            self.pilots.close(contacts);
+        } else if unit == 40 {
+            self.indicate.close(cycle, contacts);
+        } else if unit == 41 {
+            self.splits.close(point, contacts);
         }
     }
 
@@ -116,15 +121,20 @@ impl Units {
         requires { IsUnit unit_count unit }
         ensures { SensesOne cycle point (has_hub picture.now) unit self.old self.new }
     {
-        match unit {
-            2 => self.comparing.sense(cycle, point, picture),
-            3..=34 => self.groups[unit as usize - 3].sense(cycle, point, picture),
-            35..=38 => self.storage[unit as usize - 35].sense(cycle, point, picture),
-            39 => self.pilots.sense(cycle, point, picture),
-            43 => self.wheels.sense(cycle, point, picture),
-            44 => self.carriage.sense(cycle, point, picture),
-            45 => self.program.sense(cycle, point, picture),
-            _ => {}
+        if unit <= 1 {} else if unit == 2 {
+            self.comparing.sense(cycle, point, picture);
+        } else if unit <= 34 {
+            self.groups[unit as usize - 3].sense(cycle, point, picture);
+        } else if unit <= 38 {
+            self.storage[unit as usize - 35].sense(cycle, point, picture);
+        } else if unit == 39 {
+            self.pilots.sense(cycle, point, picture);
+        } else if unit == 43 {
+            self.wheels.sense(cycle, point, picture);
+        } else if unit == 44 {
+            self.carriage.sense(cycle, point, picture);
+        } else if unit == 45 {
+            self.program.sense(cycle, point, picture);
         }
     }
 
