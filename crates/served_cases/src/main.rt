@@ -5,8 +5,9 @@
 //! of this repository, never by the program.
 #![tactic(auto)]
 
-use anyhow::{Result, anyhow};
+use anyhow::Result;
 use card_code::read_deck;
+use machine::simulate;
 use page_text::page_bytes;
 use served::Service;
 use served_runs::simulate_served;
@@ -53,9 +54,13 @@ fn main(rt: HostRuntime) -> Result<()> {
         let cards = read_deck(rt.alloc(), deck.as_slice())?;
         let service = service(rt.alloc(), orders.as_str())?;
         let run = simulate_served(rt.alloc(), &setup, cards.as_slice(), &service)?;
+        let lines = simulate(rt.alloc(), &setup, cards.as_slice())?;
+        if run.lines.as_slice() != lines.as_slice() {
+            writeln!(out, "other lines than the machine's")?;
+        }
         let pages = page_bytes(
             rt.alloc(),
-            run.lines.as_slice(),
+            lines.as_slice(),
             u32::from(setup.tape().lines()),
         )?;
         out.write_all(pages.as_slice())?;
