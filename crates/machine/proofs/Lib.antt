@@ -15,6 +15,8 @@ mod Exits
 mod Moving
 mod Parts
 mod Going
+mod KeptFeeds
+mod KeptPoints
 pub mod Pictures
 mod Points
 mod Rest

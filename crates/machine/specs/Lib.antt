@@ -2,6 +2,7 @@ pub mod Machine
 pub mod Cycles
 pub mod Runs
 pub mod Feeds
+pub mod Kept
 pub mod Laws
 pub mod Running
 pub mod Fields

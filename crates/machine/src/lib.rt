@@ -10,6 +10,7 @@ mod cycle;
 mod fault;
 mod feed;
 mod groups;
+mod kept;
 pub mod laws;
 mod machine;
 mod rows;
@@ -17,6 +18,7 @@ mod run;
 mod units;
 
 pub use fault::FeedFault;
+pub use kept::{KeptCycle, KeptPoint};
 pub use machine::Machine;
 pub use placed_lines::{LINE_WHEELS, PlacedLine};
 pub use run::simulate;
