@@ -30,10 +30,10 @@ use Rattle.charts.specs.declared.statement.SignRule.{SignRule}
 use Rattle.charts.specs.declared.statement.Statement.TheVariants as says
 use Rattle.hubs.specs.declared.hub.Group.{Group}
 use Rattle.wiring_table.specs.Figures.{IsSigned, rule_of}
-use Rattle.wiring_table.specs.Parts.{HasTotal, group_for, panel_group, pilot_for}
-use Rattle.wired_panels.specs.Groups.{IsGroupOf}
+use Rattle.wiring_table.specs.Parts.{HasTotal, panel_group, pilot_for, top_for}
+use Rattle.wired_panels.specs.Groups.{IsGroupOf, IsTopOf}
 use Rattle.charts.proofs.Rising.{one-line}
-use Rattle.wiring_table.proofs.Groups.{group-own}
+use Rattle.wiring_table.proofs.Groups.{serves-own, top-serves}
 use Rattle.wiring_table.proofs.Parts.{pilot-given}
 use Rattle.wiring_table.proofs.Totals.{one-total}
 
@@ -66,7 +66,7 @@ pub one_owner : (chart : Chart) (plan : Lists) (one other : List ℕ) (level oth
     → NumbersRise chart.lines chart.end → IsFor chart.lines plan → IsGroupOf chart.lines plan one level group
     → IsGroupOf chart.lines plan other other_level group → IsSameTotal one other level other_level
 one_owner chart plan one other its_level other_level group rise planned a b =
-    let number = group-own chart.lines plan planned a.number b.number group a.served b.served in
+    let number = serves-own chart.lines plan planned a.number b.number group a.served b.served in
     let numbers : a.total.line.number ≡ b.total.line.number = a.total.is_number ∙ number ∙ sym b.total.is_number in
     let line = one-line chart.lines chart.end a.total.line b.total.line rise a.total.listed b.total.listed numbers in
     let says_same : says.TotalAmount a.total.its_level a.total.wheel a.total.its_name a.total.digits a.total.mark
@@ -81,10 +81,16 @@ one_owner chart plan one other its_level other_level group rise planned a b =
       level = sym a.total.same_level ∙ ap level_number levels ∙ b.total.same_level;
     }
 
--- a total has one counter group
-pub one_group : (chart : Chart) (plan : Lists) (name : List ℕ) (level : ℕ) (group other : Group) → IsLawful chart
-    → IsGroupOf chart.lines plan name level group → IsGroupOf chart.lines plan name level other → group ≡ other
-one_group chart plan name its_level group other lawful a b =
+-- the group with the balance of a total is one of its groups
+pub of_top : (lines : List Line) (plan : Lists) (name : List ℕ) (level : ℕ) (top : Group) → IsTopOf lines plan name level top
+    → IsGroupOf lines plan name level top
+of_top lines plan name its_level top is =
+    record { number = is.number; total = is.total; served = top-serves lines plan is.number top is.served }
+
+-- a total has one group with its balance
+pub one_top : (chart : Chart) (plan : Lists) (name : List ℕ) (level : ℕ) (top other : Group) → IsLawful chart
+    → IsTopOf chart.lines plan name level top → IsTopOf chart.lines plan name level other → top ≡ other
+one_top chart plan name its_level top other lawful a b =
     let number = one-total chart name lawful its_level a.number b.number a.total b.total in
-    let same : Some group ≡ Some other = sym a.served ∙ ap (group_for chart.lines plan) number ∙ b.served in
+    let same : Some top ≡ Some other = sym a.served ∙ ap (top_for chart.lines plan) number ∙ b.served in
     cc

@@ -17,7 +17,10 @@ use Rattle.whole_cycles.specs.OneContactDeep.{AreCarriesOpen, IsOneContactDeep, 
 use Rattle.whole_cycles.specs.OneContactDeep.IsWithinOneContact.{emits, wired, through as passed, after}
 use Rattle.wired_panels.specs.Panel.{IsPanel, Arrives}
 use Rattle.wired_panels.specs.Panel.Arrives.{straight, through}
-use Rattle.wired_panels.proofs.Chains.{carry_on, fed_by_itself, wire_orderly}
+use Rattle.plans.specs.declared.counter.TotalCounter.{TotalCounter}
+use Rattle.plans.specs.declared.counter.TotalCounter.TheVariants as of
+use Rattle.wiring_table.proofs.Groups.{counter-single}
+use Rattle.wired_panels.proofs.Chains.{ToCarry, carry_on, from_itself, from_lower, from_upper, to_carry, wire_orderly}
 
 -- tests that hold together are the same
 pub same_tests : (a b : Bool) → (a ≡ true → b ≡ true) → (b ≡ true → a ≡ true) → a ≡ b
@@ -57,7 +60,18 @@ carries-lead chart plan wiring panel exit entry wire =
 pub fed_alone : (chart : Chart) (plan : Lists) (wiring : Wiring) → IsPanel chart plan wiring → (group : Group) → IsFedAlone wiring group group
 fed_alone chart plan wiring panel group exit wire =
     let given = (panel.wired.wires exit (CI group)).0 wire in
-    fed_by_itself chart.lines plan given.line.number given.wire group refl
+    by given.line.number (to_carry chart.lines plan given.line.number given.wire)
+  where
+    -- no counter of a lawful chart has two groups
+    not_two : {lower upper : CounterGroup} → (found : CounterGroup) × (of.Coupled lower upper ≡ of.Single found) → ⊥
+    not_two (found, same) = cc
+
+    by : (number : ℕ) {x : Hub} → ToCarry chart.lines plan number group x → x ≡ CO group
+    by number (from_itself name rule is signed) = refl
+    by number (from_lower lower upper there same) =
+        absurd (not_two (counter-single chart plan panel.lawful panel.planned number (of.Coupled lower upper) there))
+    by number (from_upper lower upper there same) =
+        absurd (not_two (counter-single chart plan panel.lawful panel.planned number (of.Coupled lower upper) there))
 
 -- An entry is impulsed exactly where an impulse arrives: at a point whose exits are those of units, and where no carry passes.
 pub arrives :
