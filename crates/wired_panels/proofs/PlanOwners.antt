@@ -31,9 +31,9 @@ use Rattle.charts.specs.declared.statement.Statement.TheVariants as says
 use Rattle.hubs.specs.declared.hub.Group.{Group}
 use Rattle.wiring_table.specs.Figures.{IsSigned, rule_of}
 use Rattle.wiring_table.specs.Parts.{HasTotal, panel_group, pilot_for, top_for}
-use Rattle.wired_panels.specs.Groups.{IsGroupOf, IsTopOf}
+use Rattle.wired_panels.specs.Groups.{IsGroupOf, IsPlaceFor, IsTopOf}
 use Rattle.charts.proofs.Rising.{one-line}
-use Rattle.wiring_table.proofs.Groups.{serves-own, top-serves}
+use Rattle.wiring_table.proofs.Groups.{position-serves, serves-own, top-serves}
 use Rattle.wiring_table.proofs.Parts.{pilot-given}
 use Rattle.wiring_table.proofs.Totals.{one-total}
 
@@ -86,6 +86,12 @@ pub of_top : (lines : List Line) (plan : Lists) (name : List ℕ) (level : ℕ) 
     → IsGroupOf lines plan name level top
 of_top lines plan name its_level top is =
     record { number = is.number; total = is.total; served = top-serves lines plan is.number top is.served }
+
+-- a group with a position of a total is one of its groups
+pub of_place : (lines : List Line) (plan : Lists) {name : List ℕ} {level position : ℕ} {group : Group} {place : ℕ}
+    → IsPlaceFor lines plan name level position group place → IsGroupOf lines plan name level group
+of_place lines plan {position = position} {group = group} {place = place} is =
+    record { number = is.number; total = is.total; served = position-serves lines plan is.number position group place is.served }
 
 -- a total has one group with its balance
 pub one_top : (chart : Chart) (plan : Lists) (name : List ℕ) (level : ℕ) (top other : Group) → IsLawful chart

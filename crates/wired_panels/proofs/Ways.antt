@@ -1,5 +1,5 @@
 -- The ways of impulses to the entries of a panel that is wired for a chart.
-use Rattle.std.proofs.Common.{◌≡◌, refl, sym, ap, Bool, true, false, Some, None, is_some, ◌↔◌}
+use Rattle.std.proofs.Common.{ℕ, ◌≡◌, refl, sym, ap, Bool, true, false, Some, None, is_some, ◌↔◌}
 use Rattle.plans.specs.Plans.{Lists}
 use Rattle.charts.specs.Chart.{Chart}
 use Rattle.hubs.specs.Hubs.{is_hub_in_range, number_of}
@@ -17,7 +17,7 @@ use Rattle.whole_cycles.specs.OneContactDeep.{AreCarriesOpen, IsOneContactDeep, 
 use Rattle.whole_cycles.specs.OneContactDeep.IsWithinOneContact.{emits, wired, through as passed, after}
 use Rattle.wired_panels.specs.Panel.{IsPanel, Arrives}
 use Rattle.wired_panels.specs.Panel.Arrives.{straight, through}
-use Rattle.plans.specs.declared.counter.TotalCounter.{TotalCounter}
+use Rattle.capacity.specs.declared.group.CounterGroup.{CounterGroup}
 use Rattle.plans.specs.declared.counter.TotalCounter.TheVariants as of
 use Rattle.wiring_table.proofs.Groups.{counter-single}
 use Rattle.wired_panels.proofs.Chains.{ToCarry, carry_on, from_itself, from_lower, from_upper, to_carry, wire_orderly}
