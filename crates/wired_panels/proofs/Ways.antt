@@ -6,7 +6,7 @@ use Rattle.hubs.specs.Hubs.{is_hub_in_range, number_of}
 use Rattle.setups.specs.Wiring.{Wiring, LeadsToEntries}
 use Rattle.hubs.specs.declared.hub.Group.{Group}
 use Rattle.hubs.specs.declared.hub.Hub.{Hub}
-use Rattle.hubs.specs.declared.hub.Hub.TheVariants.{CI}
+use Rattle.hubs.specs.declared.hub.Hub.TheVariants.{CI, CO}
 use Rattle.counters.specs.Rings.{IsFedAlone}
 use Rattle.whole_cycles.specs.Carries.{CarriesLeadToCarries}
 use Rattle.net.specs.Impulsed.{IsImpulsed}
