@@ -26,16 +26,16 @@ use Rattle.report.specs.Amounts.{digits_on, is_negated, number_in}
 use Rattle.totals.specs.Amounts.{IsOnCard, HasGroups, sign_positions}
 use Rattle.wiring_table.specs.Figures.{IsAmount}
 use Rattle.wiring_table.specs.Parts.{HasTotal}
-use Rattle.panel_cycles.proofs.AmountFacts.{digits_are, group_is, has_from}
+use Rattle.panel_cycles.proofs.AmountFacts.{digits_are, has_from}
 use Rattle.panel_cycles.proofs.CounterAsksCards.{number_small}
-use Rattle.wired_panels.specs.Groups.{IsGroupOf}
-use Rattle.panel_cycles.specs.ChartAmounts.{amount_of, positions_of}
+use Rattle.panel_cycles.proofs.Singles.{IsSoleOf, sole_positions}
+use Rattle.panel_cycles.specs.ChartAmounts.{amount_of}
 use Rattle.wiring_table.proofs.Groups.{group-given, group-room}
 use Rattle.wiring_table.proofs.Totals.{digits-grow, total-digits}
 
 -- the group of a total has room for its digits and its sign
 pub has_room : (chart : Chart) (plan : Lists) (name : List ℕ) (level : ℕ) (group : Group) → NumbersRise chart.lines chart.end
-    → IsFor chart.lines plan → (own : IsGroupOf chart.lines plan name level group)
+    → IsFor chart.lines plan → (own : IsSoleOf chart.lines plan name level group)
     → own.total.digits + sign_positions (names_signed (field_named chart.lines name)) ≤ group.width
 has_room chart plan name level group rise planned own =
     group-room chart.lines plan planned chart.end name level own.number group rise own.total own.served
@@ -47,10 +47,11 @@ lawful_amount chart plan name lawful rise planned = record {
   room = λ level from has.
       let (number, total) = has_from chart.lines plan name level has in
       let (group, served) = group-given chart plan name level number lawful planned total in
-      let own : IsGroupOf chart.lines plan name level group = record { number = number; total = total; served = served } in
+      let own : IsSoleOf chart.lines plan name level group = record { number = number; total = total; served = served } in
       let room = has_room chart plan name level group rise planned own in
       let digits = digits_are chart plan name level number lawful total in
-      let width : (amount_of chart.lines plan name).width level ≡ group.width = ap positions_of (group_is chart plan name level group lawful own) in
+      let width : (amount_of chart.lines plan name).width level ≡ group.width =
+      sole_positions chart plan name level group lawful own in
       omega (arith, room, digits, width);
   growing = λ low high from less has_low has_high.
       let (n, a) = has_from chart.lines plan name low has_low in

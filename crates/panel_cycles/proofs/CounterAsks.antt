@@ -1,9 +1,10 @@
 -- What is asked of the counter group of a total in a cycle, by the pictures of the cycle.
-use Rattle.std.proofs.Common.{◌≡◌, ◌∙◌, refl, sym, ap, subst, ℕ, ◌^◌, ◌<◌, ◌==◌, ◌&&◌, Bool, true, false, List, Some, arith, if◌then◌else◌}
+use Rattle.std.proofs.Common.{◌≡◌, ◌∙◌, refl, sym, ap, subst, ℕ, ◌^◌, ◌<◌, ◌==◌, ◌&&◌, Bool, true, false, List, Some, arith, if◌then◌else◌, option_map, option_and_then}
 use Rattle.std.proofs.lemmas.Bool.Decides.{nat_tests}
 use Rattle.counter_cycles.specs.Acts.{Act, Asks, Entered, Held, IsControlled, Spells, act_controls, digit_of}
 use Rattle.counter_cycles.specs.Acts.Act.{Still}
 use Rattle.wanted.specs.ChartTotals.{names_signed}
+use Rattle.plans.specs.Counters.{single_group}
 use Rattle.plans.specs.Plans.{Lists}
 use Rattle.field_rules.specs.Fields.{field_named}
 use Rattle.charts.specs.Chart.{Chart, NumbersRise}
@@ -25,17 +26,22 @@ use Rattle.report.specs.Amounts.{digits_on, number_in, is_negated}
 use Rattle.totals.specs.Amounts.{Amount, IsSmall, Kind, act_of, lower}
 use Rattle.totals.specs.Amounts.Kind.{Entry, Prog as ProgKind, Other}
 use Rattle.wiring_table.specs.Figures.{IsAmount}
-use Rattle.panel_cycles.proofs.AmountFacts.{digits_are, group_is, has_it, lowest_from, signed_from, total_field, total_level, under_from}
+use Rattle.panel_cycles.proofs.AmountFacts.{digits_are, has_it, lowest_from, signed_from, total_field, total_level, under_from}
 use Rattle.wired_panels.proofs.Contacts.{is_set}
 use Rattle.panel_cycles.proofs.CounterAsksEntries.{card_spells, turn_spells, up_spells}
-use Rattle.panel_cycles.proofs.CounterAsksKinds.{card_act, card_controls}
+use Rattle.panel_cycles.proofs.CounterAsksKinds.{alone, card_act, card_controls}
+use Rattle.panel_cycles.proofs.Singles.{IsSoleOf, balance_of, held_at, of_sole, sole_given, sole_held, sole_of}
 use Rattle.panel_cycles.proofs.CounterAsksSteps.{first_controls, other_controls, second_controls, show_act, test_act, third_controls, turn_act}
-use Rattle.wired_panels.specs.Groups.{IsGroupOf}
+use Rattle.capacity.specs.declared.group.CounterGroup.{CounterGroup}
+use Rattle.wired_panels.specs.Groups.{IsCounterOf, IsGroupOf}
 use Rattle.panel_cycles.specs.ChartAmounts.{amount_of}
 use Rattle.wired_panels.specs.PanelCycles.{IsCardRead, IsPanelCycle}
-use Rattle.panel_cycles.specs.CounterStates.{IsKindOf, held_in, number_at, state_of}
+use Rattle.panel_cycles.specs.CounterStates.{AsksCounter, IsKindOf, number_at, state_of}
 use Rattle.panel_cycles.specs.CounterStates.IsKindOf.{card as card_kind, heading as heading_kind, program as program_kind, run_in as run_in_kind}
-use Rattle.wiring_table.proofs.Groups.{group-given}
+use Rattle.plans.specs.declared.counter.TotalCounter.{TotalCounter}
+use Rattle.plans.specs.declared.counter.TotalCounter.TheVariants as of
+use Rattle.wiring_table.proofs.Groups.{counter-single, single-serves}
+use Rattle.wiring_table.specs.Parts.{counter_for, panel_group, top_for}
 
 -- tests
 is_number : (a b : ℕ) → (a == b) ≡ true → a ≡ b
@@ -75,7 +81,7 @@ show_entered false true false size held group pictures spells = spells refl
 show_entered false false is_negative size held group pictures spells = tt
 
 module _ (chart : Chart) (plan : Lists) (wiring : Wiring) (rise : NumbersRise chart.lines chart.end) (old : MachineState)
-    (pictures : Point → Hub → Bool) (name : List ℕ) (level : ℕ) (group : Group) (own : IsGroupOf chart.lines plan name level group) where
+    (pictures : Point → Hub → Bool) (name : List ℕ) (level : ℕ) (group : Group) (own : IsSoleOf chart.lines plan name level group) where
   -- the amount, and what its totals hold
   abbrev amount : Amount
   amount = amount_of chart.lines plan name
@@ -83,13 +89,20 @@ module _ (chart : Chart) (plan : Lists) (wiring : Wiring) (rise : NumbersRise ch
   abbrev state : ℕ → Held
   state = state_of old chart.lines plan name
 
+  -- the group serves the total, and has its balance
+  abbrev grouped : IsGroupOf chart.lines plan name level group
+  grouped = of_sole chart.lines plan own
+
+  balanced : top_for chart.lines plan own.number ≡ Some group
+  balanced = balance_of chart.lines plan own
+
   -- what is asked at a level that has a total
   asked_here : (act : Act) → (if amount.has level then act else Still) ≡ act
   asked_here act = ap (λ b. if b then act else Still) (has_it chart.lines plan name level own.number own.total)
 
   -- what the group holds
-  pub held_here : (cycle : Cycle) → IsPanelCycle chart plan wiring old cycle pictures → state level ≡ held_in old (Some group)
-  held_here cycle at = ap (held_in old) (group_is chart plan name level group at.panel.lawful own)
+  pub held_here : (cycle : Cycle) → IsPanelCycle chart plan wiring old cycle pictures → state level ≡ held_at old group
+  held_here cycle at = sole_held old chart plan name level group at.panel.lawful own
 
   -- In a card cycle the lowest total is asked to add or subtract the number of the card, and the others nothing.
   pub asks_card :
@@ -103,7 +116,7 @@ module _ (chart : Chart) (plan : Lists) (wiring : Wiring) (rise : NumbersRise ch
       subst (λ act. Asks act (state level).number group pictures)
       (sym (asked_here (card_act (lower amount.has level == 0) negative size)))
       (record {
-        controls = card_controls chart plan wiring rise old pictures name level group own at card read field is_amount size;
+        controls = alone group _ pictures (card_controls chart plan wiring rise old pictures name level group grouped group balanced at card read field is_amount size);
         entered =
             card_entered (lower amount.has level == 0) negative size (state level).number group pictures
             (λ low. card_spells chart plan wiring rise old pictures name level group own at card read field is_amount
@@ -116,7 +129,7 @@ module _ (chart : Chart) (plan : Lists) (wiring : Wiring) (rise : NumbersRise ch
   asks_run_in at =
       subst (λ act. Asks act (state level).number group pictures) (sym (asked_here Still))
       (record {
-        controls = other_controls chart plan wiring rise old pictures name level group own RunIn at (λ step low is. is) (λ is. is);
+        controls = alone group _ pictures (other_controls chart plan wiring rise old pictures name level group grouped group balanced RunIn at (λ step low is. is) (λ is. is));
         entered = tt;
       })
 
@@ -125,7 +138,7 @@ module _ (chart : Chart) (plan : Lists) (wiring : Wiring) (rise : NumbersRise ch
   asks_heading heading at =
       subst (λ act. Asks act (state level).number group pictures) (sym (asked_here Still))
       (record {
-        controls = other_controls chart plan wiring rise old pictures name level group own (Head heading) at (λ step low is. is) (λ is. is);
+        controls = alone group _ pictures (other_controls chart plan wiring rise old pictures name level group grouped group balanced (Head heading) at (λ step low is. is) (λ is. is));
         entered = tt;
       })
 
@@ -137,7 +150,7 @@ module _ (chart : Chart) (plan : Lists) (wiring : Wiring) (rise : NumbersRise ch
       let t = names_signed (field_named chart.lines name) && (level_number l == level) in
       subst (λ act. Asks act (state level).number group pictures) (sym (asked_here (test_act t)))
       (record {
-        controls = first_controls chart plan wiring rise old pictures name level group own l field is_amount at;
+        controls = alone group _ pictures (first_controls chart plan wiring rise old pictures name level group grouped group balanced l field is_amount at);
         entered = test_entered t (state level).number group pictures;
       })
 
@@ -150,14 +163,14 @@ module _ (chart : Chart) (plan : Lists) (wiring : Wiring) (rise : NumbersRise ch
       let t = names_signed (field_named chart.lines name) && ((level_number l == level) && is_set old group) in
       let same : (names_signed (field_named chart.lines name) && ((level_number l == level) && (state level).latch)) ≡ t =
       ap (λ h. names_signed (field_named chart.lines name) && ((level_number l == level) && h.latch)) held in
-      let controls = second_controls chart plan wiring rise old pictures name level group own l field is_amount at in
+      let controls = alone group _ pictures (second_controls chart plan wiring rise old pictures name level group grouped group balanced l field is_amount at) in
       subst (λ act. Asks act (state level).number group pictures) (sym (asked_here _ ∙ ap turn_act same))
       (record {
         controls = controls;
         entered = turn_entered t (state level).number group pictures (λ is. spells field is_amount held is controls);
       })
     where
-      spells : (field : Field) → IsAmount chart.lines name field → state level ≡ held_in old (Some group)
+      spells : (field : Field) → IsAmount chart.lines name field → state level ≡ held_at old group
           → (names_signed (field_named chart.lines name) && ((level_number l == level) && is_set old group)) ≡ true
           → IsControlled group (act_controls (turn_act (names_signed (field_named chart.lines name) && ((level_number l == level) && is_set old group)))) pictures
           → Spells group (digit_of (state level).number) pictures
@@ -181,7 +194,7 @@ module _ (chart : Chart) (plan : Lists) (wiring : Wiring) (rise : NumbersRise ch
       let m = names_signed (field_named chart.lines name) && (state (level_number l)).latch in
       subst (λ act. Asks act (state level).number group pictures) (sym (asked_here (show_act e u m (state (level_number l)).number)))
       (record {
-        controls = third_controls chart plan wiring rise old pictures name level group own l field is_amount at (state (level_number l)).number;
+        controls = alone group _ pictures (third_controls chart plan wiring rise old pictures name level group grouped group balanced l field is_amount at (state (level_number l)).number);
         entered = show_entered e u m (state (level_number l)).number (state level).number group pictures spells;
       })
     where
@@ -192,11 +205,8 @@ module _ (chart : Chart) (plan : Lists) (wiring : Wiring) (rise : NumbersRise ch
           let next = is_number (lower amount.has level) (level_number l)
           (second_holds (amount.has (level_number l)) (lower amount.has level == level_number l) goes) in
           let under = under_from chart.lines plan name level (total_level own.total) (level_number l) has next in
-          let (lower_group, served) = group-given chart plan name (level_number l) under.number at.panel.lawful at.panel.planned under.total in
-          let given : IsGroupOf chart.lines plan name (level_number l) lower_group =
-          record { number = under.number; total = under.total; served = served } in
-          let held : state (level_number l) ≡ held_in old (Some lower_group) =
-          ap (held_in old) (group_is chart plan name (level_number l) lower_group at.panel.lawful given) in
+          let (lower_group, given) = sole_given chart plan at.panel.lawful at.panel.planned name (level_number l) under.number under.total in
+          let held = sole_held old chart plan name (level_number l) lower_group at.panel.lawful given in
           let few : number_at old.groups lower_group < 10 ^ under.total.digits =
           subst (λ d. number_at old.groups lower_group < 10 ^ d)
           (digits_are chart plan name (level_number l) under.number at.panel.lawful under.total)
@@ -224,3 +234,24 @@ module _ (chart : Chart) (plan : Lists) (wiring : Wiring) (rise : NumbersRise ch
       by (program_kind l ordinal) at small = asks_step l ordinal at small
       by run_in_kind at small = asks_run_in at
       by (heading_kind ordinal) at small = asks_heading ordinal at
+
+-- What is asked of a total is asked of its counter, which has only one group.
+pub counter_asks :
+    (chart : Chart) (plan : Lists) (wiring : Wiring) (old : MachineState) (pictures : Point → Hub → Bool) (name : List ℕ) (level : ℕ)
+    (counter : TotalCounter) (cycle : Cycle) (kind : Kind)
+    → IsPanelCycle chart plan wiring old cycle pictures → NumbersRise chart.lines chart.end
+    → IsCounterOf chart.lines plan name level counter → IsKindOf chart plan old name cycle kind
+    → IsSmall (amount_of chart.lines plan name) kind (state_of old chart.lines plan name)
+    → AsksCounter (act_of (amount_of chart.lines plan name) kind (state_of old chart.lines plan name) level)
+    (state_of old chart.lines plan name level).number counter pictures
+counter_asks chart plan wiring old pictures name level counter cycle kind at rise own is small =
+    by counter own (counter-single chart plan at.panel.lawful at.panel.planned own.number counter own.served)
+  where
+    by : (counter : TotalCounter) → IsCounterOf chart.lines plan name level counter → (group : CounterGroup) × (counter ≡ of.Single group)
+        → AsksCounter (act_of (amount_of chart.lines plan name) kind (state_of old chart.lines plan name) level)
+        (state_of old chart.lines plan name level).number counter pictures
+    by (of.Single group) own (its, same) =
+        asks chart plan wiring rise old pictures name level (panel_group group)
+        (record { number = own.number; total = own.total; served = ap (λ o. option_map panel_group (option_and_then single_group o)) own.served })
+        cycle kind at is small
+    by (of.Coupled lower upper) own (its, same) = cc

@@ -39,6 +39,7 @@ use Rattle.report.specs.Amounts.{digits_on, number_in}
 use Rattle.stations.specs.Punches.{is_punched_at, is_punched}
 use Rattle.whole_cycles.specs.Between.{IsIdle}
 use Rattle.wiring_table.specs.Figures.{IsAmount, IsSigned}
+use Rattle.wiring_table.proofs.Groups.{single-serves}
 use Rattle.wiring_table.specs.Parts.{IsLowest, group_for}
 use Rattle.wired_panels.proofs.Ways.{same_tests}
 use Rattle.panel_cycles.proofs.CounterAsksCards.{number_small, position_digit, column_row, few_digits}
@@ -50,9 +51,10 @@ use Rattle.wired_panels.proofs.CounterAsksRows.Enters.{card as enters_card, own_
 use Rattle.wired_panels.proofs.CounterAsksTold.{IsUnder}
 use Rattle.wired_panels.proofs.CounterUnits.{at_unit, counter_there, planned_unit}
 use Rattle.charts.proofs.Listed.{found-listed}
-use Rattle.wired_panels.proofs.PlanOwners.{one_group}
-use Rattle.wired_panels.specs.Groups.{IsGroupOf}
+use Rattle.wired_panels.proofs.PlanOwners.{one_top}
+use Rattle.wired_panels.specs.Groups.{IsTopOf}
 use Rattle.wired_panels.specs.PanelCycles.{IsPanelCycle, IsCardRead}
+use Rattle.panel_cycles.proofs.Singles.{IsSoleOf, balance_of, of_sole, own_place, sole_place, top_of}
 use Rattle.panel_cycles.specs.CounterStates.{number_at}
 
 -- tests
@@ -95,7 +97,7 @@ module _ (chart : Chart) (plan : Lists) (wiring : Wiring) (old : MachineState) (
       → (digit_of (number_at old.groups group) position == row_number row) ≡ true → ReadsDigit old pictures row group position
   read_digit row group position line some from served reads same =
       let (counter, listed, named) =
-      counter_there old.groups group at.between.ordered (planned_unit chart.lines plan line group at.panel.planned served) in
+      counter_there old.groups group at.between.ordered (planned_unit chart.lines plan line group at.panel.planned (single-serves chart.lines plan line group served)) in
       by counter listed named (nat_le position (length counter.digits)) refl
     where
       by : (counter : Counter) → Contains old.groups counter → counter.name ≡ group → (b : Bool)
@@ -124,10 +126,10 @@ module _ (chart : Chart) (plan : Lists) (wiring : Wiring) (old : MachineState) (
           absurd (omega (arith, zero_digit, is, some))
 
 module _ (chart : Chart) (plan : Lists) (wiring : Wiring) (rise : NumbersRise chart.lines chart.end) (old : MachineState)
-    (pictures : Point → Hub → Bool) (name : List ℕ) (level : ℕ) (group : Group) (own : IsGroupOf chart.lines plan name level group) where
+    (pictures : Point → Hub → Bool) (name : List ℕ) (level : ℕ) (group : Group) (own : IsSoleOf chart.lines plan name level group) where
   -- no total reads out in a card cycle
   pub card_silent : IsPanelCycle chart plan wiring old Card pictures → pictures C (RO group) ≡ true → ⊥
-  card_silent at on = by (read_is chart plan wiring old Card pictures at rise name level group own on)
+  card_silent at on = by (read_is chart plan wiring old Card pictures at rise name level group (of_sole chart.lines plan own) group (balance_of chart.lines plan own) on)
     where
       by : ReadsOut chart.lines (shut old Card) Card name level group → ⊥
       by (shows_it is) = is
@@ -136,7 +138,7 @@ module _ (chart : Chart) (plan : Lists) (wiring : Wiring) (rise : NumbersRise ch
   -- in the second and third program cycles of a level no total of another level reads out
   pub second_reads : (l : ProgramLevel) → IsPanelCycle chart plan wiring old (Prog l Second) pictures → pictures C (RO group) ≡ true
       → level_number l ≡ level
-  second_reads l at on = by (read_is chart plan wiring old (Prog l Second) pictures at rise name level group own on)
+  second_reads l at on = by (read_is chart plan wiring old (Prog l Second) pictures at rise name level group (of_sole chart.lines plan own) group (balance_of chart.lines plan own) on)
     where
       by : ReadsOut chart.lines (shut old (Prog l Second)) (Prog l Second) name level group → level_number l ≡ level
       by (shows_it is) = is.0
@@ -144,20 +146,20 @@ module _ (chart : Chart) (plan : Lists) (wiring : Wiring) (rise : NumbersRise ch
 
   pub third_reads : (l : ProgramLevel) → IsPanelCycle chart plan wiring old (Prog l Third) pictures → pictures C (RO group) ≡ true
       → level_number l ≡ level
-  third_reads l at on = by (read_is chart plan wiring old (Prog l Third) pictures at rise name level group own on)
+  third_reads l at on = by (read_is chart plan wiring old (Prog l Third) pictures at rise name level group (of_sole chart.lines plan own) group (balance_of chart.lines plan own) on)
     where
       by : ReadsOut chart.lines (shut old (Prog l Third)) (Prog l Third) name level group → level_number l ≡ level
       by (shows_it is) = is.0
       by (turns_it rule is its_sign closed) = is.0
 
 module _ (chart : Chart) (plan : Lists) (wiring : Wiring) (rise : NumbersRise chart.lines chart.end) (old : MachineState)
-    (pictures : Point → Hub → Bool) (name : List ℕ) (level : ℕ) (group : Group) (own : IsGroupOf chart.lines plan name level group) where
+    (pictures : Point → Hub → Bool) (name : List ℕ) (level : ℕ) (group : Group) (own : IsSoleOf chart.lines plan name level group) where
   -- a card enters its number
   pub card_spells : IsPanelCycle chart plan wiring old Card pictures → (card : List ℕ) → IsCardRead chart plan old card
       → (field : Field) → IsAmount chart.lines name field → IsLowest chart.lines name level
       → Spells group (digit_of (number_in (digits_on field card))) pictures
   card_spells at card read field amount low row some few position from to =
-      same_tests _ _ (λ on. told (enters_is chart plan wiring old Card pictures at rise name level group own row position on)) given
+      same_tests _ _ (λ on. told (enters_is chart plan wiring old Card pictures at rise name level group (of_sole chart.lines plan own) row position on)) given
     where
       on_card : IsOnCard field
       on_card = field_on_card chart name field at.panel.lawful amount.named
@@ -172,9 +174,10 @@ module _ (chart : Chart) (plan : Lists) (wiring : Wiring) (rise : NumbersRise ch
           (omega (arith, from, within, order)))
           ∙ ap (λ d. d == row_number row) (sym (position_digit field card position from within))
 
-      told : Enters chart.lines plan old pictures Card row name level group position
+      told_card : (its : Field) → Card ≡ Card → IsAmount chart.lines name its → position ≤ columns_of its
+          → is_punched_at old.stations.second row (its.last + 1 - position) ≡ true
           → (digit_of (number_in (digits_on field card)) position == row_number row) ≡ true
-      told (enters_card its is lowest its_amount its_from within punched) =
+      told_card its is its_amount within punched =
           let same_some : Some its ≡ Some field = sym its_amount.named ∙ amount.named in
           let same : its ≡ field = cc in
           let on : is_punched card row (its.last + 1 - position) ≡ true =
@@ -183,15 +186,22 @@ module _ (chart : Chart) (plan : Lists) (wiring : Wiring) (rise : NumbersRise ch
           ap (λ (f : Field). has_row (column_of card (f.last + 1 - position)) (row_number row)) (sym same)
           ∙ second_holds (is_within (its.last + 1 - position) 80) _ on in
           sym (row_of_digit (subst (λ (f : Field). position ≤ columns_of f) same within)) ∙ there
+      told : Enters chart.lines plan old pictures Card row name level group position
+          → (digit_of (number_in (digits_on field card)) position == row_number row) ≡ true
+      told (enters_card its its_position at_place is lowest its_amount its_from within punched) =
+          let its_place = (sole_place chart plan at.panel.lawful at.panel.planned at_place).1 in
+          told_card its is its_amount (subst (λ p. p ≤ columns_of its) its_place within)
+          (subst (λ p. is_punched_at old.stations.second row (its.last + 1 - p) ≡ true) its_place punched)
       told (own_digit rule its_sign its_from its_to reads) =
           absurd (card_silent chart plan wiring rise old pictures name level group own at reads.reads)
-      told (lower_digit lower_level lower under its_given its_to its_from reads) =
-          absurd (card_silent chart plan wiring rise old pictures name lower_level lower its_given at reads.reads)
+      told (lower_digit lower_level its_position lower lower_place under at_place lower_at its_to its_from reads) =
+          absurd (card_silent chart plan wiring rise old pictures name lower_level lower
+          (sole_place chart plan at.panel.lawful at.panel.planned lower_at).0 at reads.reads)
 
       given : (digit_of (number_in (digits_on field card)) position == row_number row) ≡ true
           → pictures (Row row) (GE group position) ≡ true
       given same =
-          gives_entry chart plan wiring old Card pictures at rise name level group own row position
+          gives_entry chart plan wiring old Card pictures at rise name level group (of_sole chart.lines plan own) row position
           (by (nat_le position (columns_of field)) refl)
         where
           is : digit_of (number_in (digits_on field card)) position ≡ row_number row
@@ -212,7 +222,7 @@ module _ (chart : Chart) (plan : Lists) (wiring : Wiring) (rise : NumbersRise ch
               let column : is_within (field.last + 1 - position) 80 ≡ true = grind (arith, nat_tests, low_end, high_end) in
               let punched : is_punched card row (field.last + 1 - position) ≡ true =
               rw (column, row_of_digit within ∙ same) refl in
-              enters_card field refl low amount from within
+              enters_card field position (own_place chart.lines plan own position from to) refl low amount from within
               (ap (λ o. is_punched_at o row (field.last + 1 - position)) read.second ∙ punched)
 
   -- in the second program cycle of its level a group enters its own number
@@ -220,56 +230,61 @@ module _ (chart : Chart) (plan : Lists) (wiring : Wiring) (rise : NumbersRise ch
       → (rule : SignRule) → IsSigned chart.lines name rule → pictures C (RO group) ≡ true
       → Spells group (digit_of (number_at old.groups group)) pictures
   turn_spells l at is_level rule its_sign reads_out row some few position from to =
-      same_tests _ _ (λ on. told (enters_is chart plan wiring old (Prog l Second) pictures at rise name level group own row position on)) given
+      same_tests _ _ (λ on. told (enters_is chart plan wiring old (Prog l Second) pictures at rise name level group (of_sole chart.lines plan own) row position on)) given
     where
       told : Enters chart.lines plan old pictures (Prog l Second) row name level group position
           → (digit_of (number_at old.groups group) position == row_number row) ≡ true
-      told (enters_card its is lowest its_amount its_from within punched) = cc
+      told (enters_card its its_position at_place is lowest its_amount its_from within punched) = cc
       told (own_digit its_rule signed its_from its_to reads) =
           digit_read chart plan wiring old (Prog l Second) pictures at row group position reads
-      told (lower_digit low lower under its_given its_to its_from reads) =
+      told (lower_digit low its_position lower lower_place under at_place lower_at its_to its_from reads) =
+          let its_given = (sole_place chart plan at.panel.lawful at.panel.planned lower_at).0 in
           let same = second_reads chart plan wiring rise old pictures name low lower its_given l at reads.reads in
           let below = under.below in
           absurd (omega (arith, same, is_level, below))
 
       given : (digit_of (number_at old.groups group) position == row_number row) ≡ true → pictures (Row row) (GE group position) ≡ true
       given same =
-          gives_entry chart plan wiring old (Prog l Second) pictures at rise name level group own row position
+          gives_entry chart plan wiring old (Prog l Second) pictures at rise name level group (of_sole chart.lines plan own) row position
           (own_digit rule its_sign from to
           (read_digit chart plan wiring old (Prog l Second) pictures at row group position own.number some from own.served reads_out same))
 
   -- in the third program cycle of a lower level a group enters the number of its total, if that has no more digits than it may
   pub up_spells : (l : ProgramLevel) → IsPanelCycle chart plan wiring old (Prog l Third) pictures
       → (under : IsUnder chart.lines name (level_number l) level) (lower : Group)
-      → IsGroupOf chart.lines plan name (level_number l) lower → number_at old.groups lower < 10 ^ under.total.digits
+      → IsSoleOf chart.lines plan name (level_number l) lower → number_at old.groups lower < 10 ^ under.total.digits
       → Spells group (digit_of (number_at old.groups lower)) pictures
   up_spells l at under lower lower_own small row some few position from to =
-      same_tests _ _ (λ on. told (enters_is chart plan wiring old (Prog l Third) pictures at rise name level group own row position on)) given
+      same_tests _ _ (λ on. told (enters_is chart plan wiring old (Prog l Third) pictures at rise name level group (of_sole chart.lines plan own) row position on)) given
     where
       told : Enters chart.lines plan old pictures (Prog l Third) row name level group position
           → (digit_of (number_at old.groups lower) position == row_number row) ≡ true
-      told (enters_card its is lowest its_amount its_from within punched) = cc
+      told (enters_card its its_position at_place is lowest its_amount its_from within punched) = cc
       told (own_digit its_rule signed its_from its_to reads) =
           let same = third_reads chart plan wiring rise old pictures name level group own l at reads.reads in
           let below = under.below in
           absurd (omega (arith, same, below))
-      told (lower_digit low other its_under its_given its_to its_from reads) =
+      told (lower_digit low its_position other other_place its_under at_place other_at its_to its_from reads) =
+          let (its_given, its_place) = sole_place chart plan at.panel.lawful at.panel.planned other_at in
+          let own_place_is = (sole_place chart plan at.panel.lawful at.panel.planned at_place).1 in
           let same = third_reads chart plan wiring rise old pictures name low other its_given l at reads.reads in
-          let same_group = one_group chart plan name (level_number l) other lower at.panel.lawful
-          (subst (λ k. IsGroupOf chart.lines plan name k other) (sym same) its_given) lower_own in
-          subst (λ g. (digit_of (number_at old.groups g) position == row_number row) ≡ true) same_group
-          (digit_read chart plan wiring old (Prog l Third) pictures at row other position reads)
+          let same_group = one_top chart plan name (level_number l) other lower at.panel.lawful
+          (subst (λ k. IsTopOf chart.lines plan name k other) (sym same) (top_of chart.lines plan its_given)) (top_of chart.lines plan lower_own) in
+          subst (λ p. (digit_of (number_at old.groups lower) p == row_number row) ≡ true) (sym its_place ∙ own_place_is)
+          (subst (λ g. (digit_of (number_at old.groups g) other_place == row_number row) ≡ true) same_group
+          (digit_read chart plan wiring old (Prog l Third) pictures at row other other_place reads))
 
       given : (digit_of (number_at old.groups lower) position == row_number row) ≡ true → pictures (Row row) (GE group position) ≡ true
       given same =
-          gives_entry chart plan wiring old (Prog l Third) pictures at rise name level group own row position
+          gives_entry chart plan wiring old (Prog l Third) pictures at rise name level group (of_sole chart.lines plan own) row position
           (by (nat_le position under.total.digits) refl)
         where
           is : digit_of (number_at old.groups lower) position ≡ row_number row
           is = grind (arith, nat_tests, same)
 
           reads_out : pictures C (RO lower) ≡ true
-          reads_out = gives_read chart plan wiring old (Prog l Third) pictures at rise name (level_number l) lower lower_own (shows_it (refl, refl))
+          reads_out = gives_read chart plan wiring old (Prog l Third) pictures at rise name (level_number l) lower (of_sole chart.lines plan lower_own) lower
+              (balance_of chart.lines plan lower_own) (shows_it (refl, refl))
 
           by : (b : Bool) → nat_le position under.total.digits ≡ b
               → Enters chart.lines plan old pictures (Prog l Third) row name level group position
@@ -278,6 +293,11 @@ module _ (chart : Chart) (plan : Lists) (wiring : Wiring) (rise : NumbersRise ch
               let none = digit_of-above (number_at old.groups lower) under.total.digits position small more in
               absurd (omega (arith, none, is, some))
           by true below =
-              lower_digit (level_number l) lower under lower_own (grind (arith, nat_tests, below)) from
-              (read_digit chart plan wiring old (Prog l Third) pictures at row lower position lower_own.number some from lower_own.served
-              reads_out same)
+              let reads = read_digit chart plan wiring old (Prog l Third) pictures at row lower position lower_own.number some from
+              lower_own.served reads_out same in
+              let positions = (is_counter old.groups reads.counter at.between.groups reads.listed).positions in
+              let width : reads.counter.name.width ≡ lower.width = ap (λ (g : Group). g.width) reads.named in
+              let within = reads.to in
+              lower_digit (level_number l) position lower position under (own_place chart.lines plan own position from to)
+              (own_place chart.lines plan lower_own position from (omega (arith, positions, width, within)))
+              (grind (arith, nat_tests, below)) from reads

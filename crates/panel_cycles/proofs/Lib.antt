@@ -1,6 +1,7 @@
 pub mod ToCarriage
 pub mod JacksAndTape
 pub mod AmountFacts
+pub mod Singles
 pub mod CounterAsksKinds
 pub mod CounterAsksSteps
 pub mod CounterAsksCards

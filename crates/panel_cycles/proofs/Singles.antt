@@ -31,13 +31,13 @@ abbrev pub held_at : MachineState → Group → Held
 held_at machine group = record { number = number_at machine.groups group; latch = is_set machine group }
 
 module _ (lines : List Line) (plan : Lists) {name : List ℕ} {level : ℕ} {group : Group} (sole : IsSoleOf lines plan name level group) where
-  pub of_sole : IsGroupOf lines plan name level group
+  abbrev pub of_sole : IsGroupOf lines plan name level group
   of_sole = record { number = sole.number; total = sole.total; served = single-serves lines plan sole.number group sole.served }
 
   pub balance_of : top_for lines plan sole.number ≡ Some group
   balance_of = single-top lines plan sole.number group sole.served
 
-  pub top_of : IsTopOf lines plan name level group
+  abbrev pub top_of : IsTopOf lines plan name level group
   top_of = record { number = sole.number; total = sole.total; served = balance_of }
 
   -- each position is its own place

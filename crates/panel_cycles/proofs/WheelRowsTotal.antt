@@ -39,13 +39,15 @@ use Rattle.report.specs.Amounts.{columns_in}
 use Rattle.report.specs.Edits.{last_digits}
 use Rattle.storage_units.specs.Storage.{StorageState, holds as holds_row}
 use Rattle.whole_cycles.proofs.Units.{units-by_name}
+use Rattle.counters.specs.Numbers.{number}
 use Rattle.whole_cycles.specs.Units.{IsGroup, group_at}
 use Rattle.wiring_table.specs.Figures.{IsAmount, IsText, HasPunchAt, digit_wheel, mark_wheel, mark_text}
 use Rattle.wiring_table.specs.Parts.{group_for, unit_for}
 use Rattle.wired_panels.specs.Sources.{EmitsAtControl, digit_at}
 use Rattle.wired_panels.specs.Sources.EmitsAtControl.{card as emits_card, prog as emits_prog, head as emits_head}
 use Rattle.wired_panels.specs.CycleRows.{CycleRow, is_closed}
-use Rattle.panel_cycles.specs.PrintedRows.{IsTotalRow, GroupHoldsTotal}
+use Rattle.panel_cycles.specs.PrintedRows.{IsTotalRow}
+use Rattle.plans.specs.declared.counter.TotalCounter.TheVariants as of
 use Rattle.wired_panels.proofs.ReadingOut.{total-read, text-read}
 use Rattle.charts.proofs.Rising as rising
 use Rattle.chart_rules.proofs.Laws.{good-field}
@@ -60,6 +62,11 @@ use Rattle.panel_cycles.proofs.WheelRowsFigure.FigureSends.{digit as figure_digi
 use Rattle.panel_cycles.proofs.WheelRowsFigure.{FigureSends, amount_shown, figure-sent}
 use Rattle.panel_cycles.proofs.WheelRowsText.{columns-stand, columns-sent}
 use Rattle.panel_cycles.proofs.WheelRowsUnits.{group-named, group-own, digit-of, unit-own, last-at}
+
+-- A counter group stands at the figure of a total, with its latch as the total has it.
+pub record GroupHoldsTotal (at : CycleRow) (group : Group) (printed : Printed) : Type 0 where
+  pub figure : number (group_at at.old group).digits ≡ printed.figure
+  pub latch : (group_at at.old group).latch ≡ printed.latch
 
 -- a total in a chart that breaks no rule is of an amount, in as many digits as its field has columns at least
 pub total-amount : (chart : Chart) (place : ℕ) (line : Line) (its : Level) (wheel : ℕ) (name : List ℕ) (digits : ℕ) (mark : Option Mark)
@@ -141,7 +148,8 @@ module _ (wiring : Wiring) (its : ProgramLevel) (held : List ℕ → Printed) (c
       → group_for at.chart.lines at.plan line.number ≡ Some group → at.pictures C (RO group) ≡ true → chart_number level ≡ level_number its
   group-level line level wheel name digits mark group listed says_it served out =
       let (its_name, own) = total-read wiring at row.on_panel row.rises its row.cycle group out in
-      let n = groups.group-own at.chart.lines at.plan row.on_panel.panel.planned own.number line.number group own.served served in
+      let n = groups.serves-own at.chart.lines at.plan row.on_panel.panel.planned own.number line.number group own.served
+      (groups.single-serves at.chart.lines at.plan line.number group served) in
       let total = own.total in
       let e = one-line total.line line total.listed listed (total.is_number ∙ n) in
       by total.its_level total.wheel total.its_name total.digits total.mark (sym total.says_total ∙ ap (λ l. l.statement) e ∙ says_it)
@@ -170,6 +178,15 @@ module _ (wiring : Wiring) (its : ProgramLevel) (held : List ℕ → Printed) (c
           → chart_number other ≡ level_number its → chart_number level ≡ level_number its
       by other w n same is = let e : other ≡ level = cc in sym (ap chart_number e) ∙ is
 
+  -- the group of a total that has only one stands at its figure
+  pub holds-total : (line : Line) (level : Level) (wheel : ℕ) (name : List ℕ) (digits : ℕ) (mark : Option Mark) (group : Group)
+      → Contains at.chart.lines line → line.statement ≡ says.TotalAmount level wheel name digits mark → chart_number level ≡ level_number its
+      → group_for at.chart.lines at.plan line.number ≡ Some group → GroupHoldsTotal at group (held name)
+  holds-total line level wheel name digits mark group listed says_it same served =
+      let single = groups.is-single at.chart.lines at.plan line.number group served in
+      let holds = row.totals line level wheel name digits mark (of.Single single.own) listed says_it same single.there in
+      subst (λ g. GroupHoldsTotal at g (held name)) single.is_group (record { figure = holds.figure; latch = holds.latch })
+
   -- the digit of a group is that of the total
   pub held-digit : (group : Group) (name : List ℕ) (position : ℕ) → IsGroup group → GroupHoldsTotal at group (held name) → 1 ≤ position
       → position ≤ length (group_at at.old group).digits → digit_at (group_at at.old group).digits position ≡ digit_of (held name).figure position
@@ -191,7 +208,7 @@ module _ (wiring : Wiring) (its : ProgramLevel) (held : List ℕ → Printed) (c
   digit-sends line place level wheel name digits mark field counter position listed there says_it served is from to among out long shows =
       let same = group-level line level wheel name digits mark counter.name there says_it served out in
       let named = group-named at.chart.lines at.plan line.number counter.name row.on_panel.panel.planned served in
-      let holds = row.totals line level wheel name digits mark counter.name there says_it same served in
+      let holds = holds-total line level wheel name digits mark counter.name there says_it same served in
       let own : counter ≡ group_at at.old counter.name = group-own at.old row.on_panel.between counter among in
       let digit_is : digit_at counter.digits position ≡ digit_of (held name).figure position
       = ap (λ c. digit_at c.digits position) own
@@ -213,7 +230,7 @@ module _ (wiring : Wiring) (its : ProgramLevel) (held : List ℕ → Printed) (c
       → Sends (says.TotalAmount level wheel name digits (Some mark)) (mark_wheel wheel digits (decimals_of field.kind) + k)
   mark-sends line place level wheel name digits mark field group k listed there says_it served named same punch shut =
       let group_is = group-named at.chart.lines at.plan line.number group row.on_panel.panel.planned served in
-      let holds = row.totals line level wheel name digits (Some mark) group there says_it same served in
+      let holds = holds-total line level wheel name digits (Some mark) group there says_it same served in
       let latch = right-of (is_within (3 + k) 4) (group_at at.old group).latch (sym (closed-BAT group (3 + k) group_is) ∙ shut) in
       amount-row line place level wheel name digits (Some mark) field listed says_it named same
       (figure_marked mark k refl (sym holds.latch ∙ latch) punch)

@@ -51,7 +51,7 @@ use Rattle.whole_cycles.specs.Units.{group_at, storage_at}
 use Rattle.wiring_table.specs.Figures.IsFigure.{on_total as figure_on_total}
 use Rattle.wiring_table.specs.Figures.IsLiteral.{on_total}
 use Rattle.wiring_table.specs.Figures.{IsText, IsAmount, IsSigned, HasPunchAt, rule_of, mark_text}
-use Rattle.wiring_table.specs.Parts.{group_for, panel_group}
+use Rattle.wiring_table.specs.Parts.{ServesPosition, group_for, panel_group}
 use Rattle.wiring_table.specs.Wires.LineWire.{literal, point, total_digit, total_mark_in, total_mark_out, total_text_out}
 use Rattle.wired_panels.specs.CycleRows.{CycleRow}
 use Rattle.wired_panels.specs.Groups.{IsGroupOf}
@@ -64,7 +64,7 @@ use Rattle.wired_panels.proofs.ToCounters.{with_group}
 use Rattle.wired_panels.proofs.ToWheels.{ArrivesThere, Emits, along, along_contact}
 use Rattle.wiring_table.proofs.Parts.{unit-given}
 use Rattle.wiring_table.specs.Parts.{HasTotal}
-use Rattle.wiring_table.proofs.Groups.{group-given, group-room}
+use Rattle.wiring_table.proofs.Groups.{group-given, group-room, single-place, single-serves, single-top}
 use Rattle.wiring_table.proofs.Totals.{total-of}
 use Rattle.charts.proofs.Listed.{listed-at, place-of}
 use Rattle.wired_panels.proofs.SpeakersLawful.{kept-at}
@@ -75,7 +75,7 @@ use Rattle.panel_cycles.proofs.WheelRowsField.{both-of}
 use Rattle.panel_cycles.proofs.WheelRowsFigure.FigureSends.{digit as figure_digit, point as figure_point, marked as figure_marked}
 use Rattle.panel_cycles.proofs.WheelRowsFigure.{FigureSends, amount_shown, figure-of, length-sets}
 use Rattle.panel_cycles.proofs.WheelRowsText.{literal-of, standing, columns-sent, columns-of}
-use Rattle.panel_cycles.proofs.WheelRowsTotal.{total-amount, total-digits, digits-long, digit-shown, held-digit, closed-BAT}
+use Rattle.panel_cycles.proofs.WheelRowsTotal.{holds-total, total-amount, total-digits, digits-long, digit-shown, held-digit, closed-BAT}
 use Rattle.panel_cycles.proofs.WheelRowsUnits.{group-named, group-listed, counter-is, unit-listed, unit-place}
 use Rattle.report.proofs.EditLaws.{last_digits-length}
 
@@ -171,7 +171,7 @@ module _ (wiring : Wiring) (its : ProgramLevel) (held : List ℕ → Printed) (c
       → ArrivesThere at (W v)
   figure-arrives line place level wheel name digits mark field group listed there says_it is same served (figure_digit position from to on) =
       let named = group-named at.chart.lines at.plan line.number group row.on_panel.panel.planned served in
-      let holds = row.totals line level wheel name digits mark group there says_it same served in
+      let holds = holds-total wiring its held card at row line level wheel name digits mark group there says_it same served in
       let by_name : (group_at at.old group).name ≡ group = (units-by_name.groups at.old group row.on_panel.between named).named in
       let wide = total-wide at.chart at.plan line level wheel name digits mark group row.rises row.on_panel.panel.planned there says_it served in
       let positions : length (group_at at.old group).digits ≡ group.width
@@ -180,7 +180,8 @@ module _ (wiring : Wiring) (its : ProgramLevel) (held : List ℕ → Printed) (c
       let own : IsGroupOf at.chart.lines at.plan name (level_number its) group
       = subst (λ n. IsGroupOf at.chart.lines at.plan name n group) same
       (with_group at.chart.lines at.plan level wheel name digits mark line.number group
-      (record { line = line; listed = there; numbered = refl; says_it = says_it }) served) in
+      (record { line = line; listed = there; numbered = refl; says_it = says_it })
+      (single-serves at.chart.lines at.plan line.number group served)) in
       let out : at.pictures C (RO group) ≡ true = reads-total wiring at row.on_panel row.rises its row.cycle name group own in
       let test : (digit_of (held name).figure position == row_number at.row) ≡ true
       = sym (digit-shown wiring its held card at row digits name position (row_number at.row) from to) ∙ on in
@@ -188,7 +189,9 @@ module _ (wiring : Wiring) (its : ProgramLevel) (held : List ℕ → Printed) (c
       = held-digit wiring its held card at row group name position named holds from long
       ∙ equal (digit_of (held name).figure position) (row_number at.row) test in
       along wiring at row.on_panel row.rises line there says_it
-      (total_digit level wheel name digits mark field (group_at at.old group).name position (served ∙ ap Some (sym by_name)) is from to)
+      (total_digit level wheel name digits mark field (group_at at.old group).name position position
+      (subst (λ g. ServesPosition at.chart.lines at.plan line.number position g position) (sym by_name)
+      (single-place at.chart.lines at.plan line.number group served position from (omega (arith, to, wide)))) is from to)
       (digit (group_at at.old group) position (group-listed at.old row.on_panel.between group named)
       (ap (λ g. at.pictures C (RO g)) by_name ∙ out) from long shows)
     where
@@ -202,7 +205,7 @@ module _ (wiring : Wiring) (its : ProgramLevel) (held : List ℕ → Printed) (c
   figure-arrives line place level wheel name digits None field group listed there says_it is same served (figure_marked own k marked below punch) = cc
   figure-arrives line place level wheel name digits (Some mark) field group listed there says_it is same served (figure_marked own k marked below punch) =
       let named = group-named at.chart.lines at.plan line.number group row.on_panel.panel.planned served in
-      let holds = row.totals line level wheel name digits (Some mark) group there says_it same served in
+      let holds = holds-total wiring its held card at row line level wheel name digits (Some mark) group there says_it same served in
       let (rule, ruled) = total-ruled at.chart place line level wheel name digits mark field row.on_panel.panel.lawful listed says_it is.named is.holds_amount in
       let e : own ≡ mark = cc in
       let few = mark-few own k (row_number at.row) punch in
@@ -210,10 +213,12 @@ module _ (wiring : Wiring) (its : ProgramLevel) (held : List ℕ → Printed) (c
       let signed : IsSigned at.chart.lines name rule = record { field = field; named = is.named; ruled = ruled } in
       let its_punch : HasPunchAt (mark_text mark) k (row_number at.row) = subst (λ m. HasPunchAt (mark_text m) k (row_number at.row)) e punch in
       along_contact wiring at row.on_panel row.rises line there says_it
-      (total_mark_in level wheel name digits mark rule group k (row_number at.row) served signed its_punch) (emits-its level same) refl
+      (total_mark_in level wheel name digits mark rule group k (row_number at.row)
+      (single-top at.chart.lines at.plan line.number group served) signed its_punch) (emits-its level same) refl
       (closed-BAT wiring its held card at row group (3 + k) named
       ∙ both-of (is_within (3 + k) 4) (group_at at.old group).latch within (holds.latch ∙ below))
-      (total_mark_out level wheel name digits mark rule field group k (row_number at.row) served signed is.named its_punch)
+      (total_mark_out level wheel name digits mark rule field group k (row_number at.row)
+      (single-top at.chart.lines at.plan line.number group served) signed is.named its_punch)
 
   -- a text by its storage unit
   text-arrives : (line : Line) (place : ℕ) (level : Level) (wheel : ℕ) (name : List ℕ) (field : Field) (j : ℕ)

@@ -18,7 +18,8 @@ use Rattle.counters.specs.WholeCycles.{ComesRound, after_cycle}
 use Rattle.setups.specs.Wiring.{LeadsToEntries, Wiring, is_wired}
 use Rattle.hubs.specs.declared.hub.Group.{Group}
 use Rattle.hubs.specs.declared.hub.Hub.TheVariants.{CO, CI}
-use Rattle.panel_cycles.proofs.AmountFacts.{group_is, has_from}
+use Rattle.panel_cycles.proofs.AmountFacts.{has_from}
+use Rattle.panel_cycles.proofs.Singles.{IsSoleOf, held_at, sole_given, sole_held, sole_positions}
 use Rattle.panel_cycles.proofs.CounterAsks.{asks_card, asks_heading, asks_run_in, asks_step}
 use Rattle.panel_cycles.proofs.AmountsLawful.{lawful_amount}
 use Rattle.panel_cycles.proofs.Rings.{ring_is}
@@ -26,10 +27,9 @@ use Rattle.panel_cycles.proofs.WheelRowsUnits.{group-own}
 use Rattle.wired_panels.proofs.Ways.{fed_alone, leads}
 use Rattle.wired_panels.proofs.CounterUnits.{at_unit, counter_there, planned_unit}
 use Rattle.wired_panels.proofs.AfterCycles.{cycle-of}
-use Rattle.wired_panels.specs.Groups.{IsGroupOf}
-use Rattle.panel_cycles.specs.ChartAmounts.{amount_of, positions_of, total_group, total_line}
+use Rattle.panel_cycles.specs.ChartAmounts.{amount_of, total_counter, total_line}
 use Rattle.panel_cycles.specs.CounterStates.{held_in}
-use Rattle.wiring_table.proofs.Groups.{group-given}
+use Rattle.wiring_table.proofs.Groups.{single-serves}
 use Rattle.charts.proofs.Listed.{listed-map}
 use Rattle.wired_panels.specs.Panel.{IsPanel}
 use Rattle.machine.specs.Cycles.{CycleRun}
@@ -45,18 +45,18 @@ use Rattle.whole_cycles.specs.Between.{IsBetween, IsIdle, IsReady}
 use Rattle.whole_cycles.specs.Units.{group_at}
 use Rattle.whole_cycles.specs.WholeCycles.{WholeCycle}
 use Rattle.wiring_table.specs.Figures.{IsAmount}
-use Rattle.wiring_table.specs.Parts.{group_for}
+use Rattle.wiring_table.specs.Parts.{counter_for}
 use Rattle.printed_reports.specs.Content.{held, kind_for}
 use Rattle.printed_reports.proofs.Facts.{IsRead}
 use Rattle.printed_reports.proofs.FromCycles.{whole}
 
 -- what the counter of a name holds is held in the machine for its group
 pub held_there : (machine : MachineState) (counter : Counter) (group : Group) → IsBetween machine → Contains machine.groups counter
-    → counter.name ≡ group → held_in machine (Some group) ≡ held_by counter
+    → counter.name ≡ group → held_at machine group ≡ held_by counter
 held_there machine counter group between listed named =
     let digits = at_unit (λ (c : Counter). number c.digits) 0 machine.groups counter between.ordered listed in
     let latch = at_unit (λ (c : Counter). c.latch) false machine.groups counter between.ordered listed in
-    ap (λ (g : Group). held_in machine (Some g)) (sym named)
+    ap (held_at machine) (sym named)
     ∙ (λ i. record { number = digits i; latch = latch i })
 
 -- one group through a cycle
@@ -64,9 +64,9 @@ group_done :
     (wiring : Wiring) (cycle : Cycle) (old new : MachineState) (group : Group) (act : Act) (signed : Bool)
     → IsReady wiring old → IsReady wiring new → (all : WholeCycle wiring cycle old new) → 3 ≤ unit_of group
     → is_wired wiring (CO group) (CI group) ≡ signed → IsWithinGroup group.width act
-    → Asks act (held_in old (Some group)).number group all.pictures
+    → Asks act (held_at old group).number group all.pictures
     → LeadsToEntries wiring → ((name : Group) → IsFedAlone wiring name name)
-    → held_in new (Some group) ≡ held_after signed group.width act (held_in old (Some group))
+    → held_at new group ≡ held_after signed group.width act (held_at old group)
 group_done wiring cycle old new group act signed is is_new all there ring fits asks leading fed =
     let (counter, listed, named) = counter_there old.groups group is.between.ordered there in
     let idle = All-contains IsIdle old.groups counter is.between.groups listed in
@@ -103,7 +103,7 @@ module _ (chart : Chart) (plan : Lists) (wiring : Wiring) (panel : IsPanel chart
         (cycle : Cycle) (card : List ℕ) (old new : MachineState) (name : List ℕ) (field : Field) (level : ℕ) (group : Group)
         → IsReady wiring old → (all : WholeCycle wiring cycle old new) → IsRead chart plan cycle card old → IsAmount chart.lines name field
         → IsSmall (amount_of chart.lines plan name) (kind_for cycle card field) (held chart plan old name)
-        → IsGroupOf chart.lines plan name level group
+        → IsSoleOf chart.lines plan name level group
         → Asks (act_of (amount_of chart.lines plan name) (kind_for cycle card field) (held chart plan old name) level)
         (held chart plan old name level).number group all.pictures
     asked_of_group RunIn card old new name field level group is all read amount small own =
@@ -121,28 +121,28 @@ module _ (chart : Chart) (plan : Lists) (wiring : Wiring) (panel : IsPanel chart
         → IsReady wiring old → IsReady wiring new → (all : WholeCycle wiring cycle old new) → IsRead chart plan cycle card old
         → IsAmount chart.lines name field
         → IsSmall (amount_of chart.lines plan name) (kind_for cycle card field) (held chart plan old name)
-        → IsGroupOf chart.lines plan name level group
+        → IsSoleOf chart.lines plan name level group
         → held chart plan new name level
         ≡ state_after (amount_of chart.lines plan name) (kind_for cycle card field) (held chart plan old name) level
     with_total cycle card old new name field level group is is_new all read amount small own =
         let its = amount_of chart.lines plan name in
         let act = act_of its (kind_for cycle card field) (held chart plan old name) level in
-        let is_group = group_is chart plan name level group panel.lawful own in
-        let width : its.width level ≡ group.width = ap positions_of is_group in
+        let holds = λ machine. sole_held machine chart plan name level group panel.lawful own in
+        let width : its.width level ≡ group.width = sole_positions chart plan name level group panel.lawful own in
         let room = have_room its (kind_for cycle card field) (held chart plan old name) (lawful_amount chart plan name panel.lawful rise panel.planned)
         small level (from_one own) in
         let fits : IsWithinGroup group.width act = subst (λ w. IsWithinGroup w act) width room in
         let asks = asked_of_group cycle card old new name field level group is all read amount small own in
-        let asked : Asks act (held_in old (Some group)).number group all.pictures
-        = subst (λ (h : Held). Asks act h.number group all.pictures) (ap (held_in old) is_group) asks in
-        ap (held_in new) is_group
+        let asked : Asks act (held_at old group).number group all.pictures
+        = subst (λ (h : Held). Asks act h.number group all.pictures) (holds old) asks in
+        holds new
         ∙ group_done wiring cycle old new group act its.is_signed is is_new all
-        (planned_unit chart.lines plan own.number group panel.planned own.served)
+        (planned_unit chart.lines plan own.number group panel.planned (single-serves chart.lines plan own.number group own.served))
         (ring_is chart plan wiring name level group panel rise own) fits asked (leads chart plan wiring panel)
         (fed_alone chart plan wiring panel)
-        ∙ (λ i. held_after its.is_signed (sym width i) act (held_in old (sym is_group i)))
+        ∙ (λ i. held_after its.is_signed (sym width i) act (sym (holds old) i))
       where
-        from_one : IsGroupOf chart.lines plan name level group → 1 ≤ level
+        from_one : IsSoleOf chart.lines plan name level group → 1 ≤ level
         from_one o = subst (λ n. 1 ≤ n) o.total.same_level (some_level o.total.its_level)
 
     -- the totals of an amount after a cycle
@@ -161,17 +161,16 @@ module _ (chart : Chart) (plan : Lists) (wiring : Wiring) (panel : IsPanel chart
             by : (o : Option Line) → total_line chart.lines name level ≡ o → held chart plan new name level
                 ≡ state_after (amount_of chart.lines plan name) (kind_for cycle card field) (held chart plan old name) level
             by None none =
-                let no_group : total_group chart.lines plan name level ≡ None
-                = ap (option_and_then (λ (line : Line). group_for chart.lines plan line.number)) none in
+                let no_counter : total_counter chart.lines plan name level ≡ None
+                = ap (option_and_then (λ (line : Line). counter_for chart.lines plan line.number)) none in
                 let still : act_of (amount_of chart.lines plan name) (kind_for cycle card field) (held chart plan old name) level ≡ Still
                 = ap (λ (o : Option Line). if is_some o then total_act (amount_of chart.lines plan name) (kind_for cycle card field) (held chart plan old name) level else Still) none in
-                ap (held_in new) no_group
+                ap (held_in new) no_counter
                 ∙ (λ i. held_after (amount_of chart.lines plan name).is_signed ((amount_of chart.lines plan name).width level)
-                (sym still i) (held_in old (sym no_group i)))
+                (sym still i) (held_in old (sym no_counter i)))
             by (Some line) some =
                 let has : (amount_of chart.lines plan name).has level ≡ true = ap is_some some in
                 let (number, total) = has_from chart.lines plan name level has in
-                let (group, served) = group-given chart plan name level number panel.lawful panel.planned total in
+                let (group, own) = sole_given chart plan panel.lawful panel.planned name level number total in
                 with_total cycle card old new name field level group is (machines-ready.kept wiring cycle old new is run)
-                (whole wiring cycle old new is run) read amount small
-                (record { number = number; total = total; served = served })
+                (whole wiring cycle old new is run) read amount small own
