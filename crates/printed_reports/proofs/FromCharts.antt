@@ -1,5 +1,5 @@
 -- What the rules of a chart say of its amounts, and what the totals hold before the first card.
-use Rattle.std.proofs.Common.{◌≡◌, ◌∙◌, refl, sym, ap, subst, ℕ, zero, suc, ◌-◌, ◌<◌, ◌^◌, true, false, List, [], ◌∷◌, Option, Some, None, map, replicate, slice_index_or, is_some, arith, unsigned_abs}
+use Rattle.std.proofs.Common.{◌≡◌, ◌∙◌, refl, sym, ap, subst, ℕ, zero, suc, ◌-◌, ◌<◌, ◌^◌, true, false, List, [], ◌∷◌, Option, Some, None, map, replicate, slice_index_or, is_some, arith, unsigned_abs, ◌+◌, ◌*◌}
 use Rattle.wanted.specs.ChartTotals.{names_signed}
 use Rattle.plans.specs.Plans.{Lists}
 use Rattle.field_rules.proofs.Places.{is_same_name-equal}
@@ -13,7 +13,9 @@ use Rattle.charts.specs.declared.statement.FieldKind.TheVariants as holds
 use Rattle.counters.specs.Counters.{Counter, counter_at_start}
 use Rattle.counters.specs.Numbers.{number}
 use Rattle.setups.specs.Wiring.{Wiring}
-use Rattle.hubs.specs.declared.hub.Group.{Group}
+use Rattle.plans.specs.declared.counter.TotalCounter.{TotalCounter}
+use Rattle.plans.specs.declared.counter.TotalCounter.TheVariants as of
+use Rattle.wiring_table.specs.Parts.{panel_group}
 use Rattle.panel_cycles.proofs.AmountFacts.{digits_are, has_from}
 use Rattle.panel_cycles.specs.ChartAmounts.{amount_of, total_counter}
 use Rattle.panel_cycles.specs.CounterStates.{held_in}

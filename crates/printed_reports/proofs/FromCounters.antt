@@ -127,7 +127,8 @@ module _ (chart : Chart) (plan : Lists) (wiring : Wiring) (panel : IsPanel chart
     with_total cycle card old new name field level group is is_new all read amount small own =
         let its = amount_of chart.lines plan name in
         let act = act_of its (kind_for cycle card field) (held chart plan old name) level in
-        let holds = λ machine. sole_held machine chart plan name level group panel.lawful own in
+        let holds : (machine : MachineState) → held chart plan machine name level ≡ held_at machine group =
+        λ machine. sole_held machine chart plan name level group panel.lawful own in
         let width : its.width level ≡ group.width = sole_positions chart plan name level group panel.lawful own in
         let room = have_room its (kind_for cycle card field) (held chart plan old name) (lawful_amount chart plan name panel.lawful rise panel.planned)
         small level (from_one own) in

@@ -1,5 +1,5 @@
 -- The third program cycle of a level, put together: what the groups and units hold, and the line that they print.
-use Rattle.std.proofs.Common.{◌≡◌, ◌∙◌, refl, sym, ap, subst, ℕ, ◌+◌, ◌≤◌, ◌<◌, ◌^◌, ◌==◌, nat_lt, Bool, true, false, List, Contains, Option, Some, None, length, is_some, arith, unsigned_abs}
+use Rattle.std.proofs.Common.{◌≡◌, ◌∙◌, refl, sym, ap, subst, ℕ, ◌+◌, ◌≤◌, ◌<◌, ◌^◌, ◌==◌, nat_lt, Bool, true, false, List, Contains, Option, Some, None, length, is_some, arith, unsigned_abs, option_map, option_and_then}
 use Rattle.std.proofs.lemmas.Bool.Decides.{nat_tests}
 use Rattle.wanted.specs.ChartTotals.{names_signed}
 use Rattle.capacity.specs.declared.group.CounterGroup.{CounterGroup}
