@@ -1,5 +1,5 @@
 -- Each total of a chart has a counter of its plan, enough for it, and no two totals have a group of one.
-use Rattle.std.proofs.Common.{◌≡◌, ◌∙◌, refl, sym, ap, subst, ℕ, ◌≤◌, ◌==◌, List, Option, Some, None, option_map, option_and_then, position, slice_get, get_or, ◌⊎◌, inl, inr, arith}
+use Rattle.std.proofs.Common.{◌≡◌, ◌∙◌, refl, sym, ap, subst, ℕ, ◌+◌, ◌-◌, ◌<◌, ◌≤◌, ◌==◌, nat_le, Bool, true, false, List, Option, Some, None, option_map, option_and_then, position, slice_get, get_or, ◌⊎◌, inl, inr, arith}
 use Rattle.std.proofs.lemmas.Bool.Decides.{nat_tests}
 use Rattle.std.proofs.lemmas.Option.{slice_get_within, slice_get-get_or, get_or_from_slice_get, same_Some}
 use Rattle.capacity.specs.Capacities.{HasGroup, standard}
@@ -159,11 +159,10 @@ single-enough : (need : ℕ) (counter : TotalCounter) → need ≤ 8 → IsEnoug
 single-enough need (of.Single group) small enough = (group, refl)
 single-enough need (of.Coupled lower upper) small enough = absurd (omega (arith, small, enough.from))
 
--- each total of a lawful chart has a counter group, since none needs more positions than a group has
-pub group-given : (chart : Chart) (plan : Lists) (name : List ℕ) (level number : ℕ) → IsLawful chart → IsFor chart.lines plan
-    → HasTotal chart.lines name level number → (group : Group) × (group_for chart.lines plan number ≡ Some group)
-group-given chart plan name level number lawful planned total =
-    let lines = chart.lines in
+-- each total has a counter
+pub counter-given : (lines : List Line) (plan : Lists) (name : List ℕ) (level number : ℕ) → IsFor lines plan
+    → HasTotal lines name level number → (counter : TotalCounter) × (counter_for lines plan number ≡ Some counter)
+counter-given lines plan name level number planned total =
     let made : Total = record { level = total.its_level; line = total.line.number; need = need_of (field_named lines total.its_name) total.digits } in
     let listed = listed-given (λ (l : Line). line_total lines l.number l.statement) lines total.line made total.listed
     (ap (line_total lines total.line.number) total.says_total) in
@@ -175,13 +174,7 @@ group-given chart plan name level number lawful planned total =
     let counter = get_or plan.counters place no_counter in
     let there : slice_get plan.counters place ≡ Some counter =
     slice_get-get_or plan.counters place no_counter (omega (arith, within, planned.counters.many)) in
-    let need : stands.element.need ≤ 8 =
-    subst (λ (t : Total). t.need ≤ 8) (get_or_from_slice_get (totals_of lines) place stands.element stands.element stands.there) (NeedsFit-lawful chart lawful place stands.element within) in
-    let (group, is) = single-enough stands.element.need counter need (planned.counters.enough place stands.element counter stands.there there) in (
-      panel_group group,
-      ap (λ o. option_map panel_group (option_and_then single_group (option_and_then (slice_get plan.counters) o))) at
-          ∙ ap (λ o. option_map panel_group (option_and_then single_group o)) (there ∙ ap Some is),
-    )
+    (counter, ap (option_and_then (slice_get plan.counters)) at ∙ there)
 
 module _ (chart : Chart) (plan : Lists) (lawful : IsLawful chart) (planned : IsFor chart.lines plan) where
   -- the counter of a total of a lawful chart has only one group
@@ -201,6 +194,14 @@ module _ (chart : Chart) (plan : Lists) (lawful : IsLawful chart) (planned : IsF
       let (own, is) = counter-single number serves.counter serves.there in
       ap (λ o. option_map panel_group (option_and_then single_group o)) (serves.there ∙ ap Some is)
       ∙ ap Some (subst (λ c. HasPanelGroup c group) is serves.has)
+
+-- each total of a lawful chart has a counter group, since none needs more positions than a group has
+pub group-given : (chart : Chart) (plan : Lists) (name : List ℕ) (level number : ℕ) → IsLawful chart → IsFor chart.lines plan
+    → HasTotal chart.lines name level number → (group : Group) × (group_for chart.lines plan number ≡ Some group)
+group-given chart plan name level number lawful planned total =
+    let (counter, there) = counter-given chart.lines plan name level number planned total in
+    let (group, is) = counter-single chart plan lawful planned number counter there in
+    (panel_group group, ap (λ o. option_map panel_group (option_and_then single_group o)) (there ∙ ap Some is))
 
 module _ (lines : List Line) (plan : Lists) (planned : IsFor lines plan) where
   -- one counter group serves one line
@@ -242,13 +243,12 @@ module _ (lines : List Line) (plan : Lists) (planned : IsFor lines plan) where
       → HasGroup standard (record { width = group.width; number = group.number })
   group-there number group served = serves-there number group (single-serves lines plan number group served)
 
-  -- the only one has room for its total
-  pub group-room : (end : ℕ) (name : List ℕ) (level number : ℕ) (group : Group) → NumbersRise lines end
-      → (total : HasTotal lines name level number) → group_for lines plan number ≡ Some group
-      → need_of (field_named lines name) total.digits ≤ group.width
-  group-room end name level number group rise total served =
-      let single = is-single lines plan number group served in
-      let a = is-served lines plan number (of.Single single.own) single.there in
+  -- the counter of a total is enough for it
+  pub counter-enough : (end : ℕ) (name : List ℕ) (level number : ℕ) (counter : TotalCounter) → NumbersRise lines end
+      → (total : HasTotal lines name level number) → counter_for lines plan number ≡ Some counter
+      → IsEnoughFor (need_of (field_named lines name) total.digits) counter
+  counter-enough end name level number counter rise total there =
+      let a = is-served lines plan number counter there in
       let from = given-by (λ (l : Line). line_total lines l.number l.statement) lines a.total
       (listed-at (totals_of lines) a.place a.total a.is_total) in
       let its_number : from.element.number ≡ total.line.number =
@@ -259,9 +259,7 @@ module _ (lines : List Line) (plan : Lists) (planned : IsFor lines plan) where
       ∙ from.gives) in
       let need : need_of (field_named lines name) total.digits ≡ a.total.need =
       ap (λ n. need_of (field_named lines n) total.digits) (sym (is_same_name-equal total.its_name name total.same_name)) ∙ made in
-      let wide : single.own.width ≡ group.width = ap (λ (g : Group). g.width) single.is_group in
-      let enough = planned.counters.enough a.place a.total (of.Single single.own) a.is_total a.there in
-      omega (arith, need, wide, enough)
+      subst (λ n. IsEnoughFor n counter) (sym need) (planned.counters.enough a.place a.total counter a.is_total a.there)
     where
       numbered : (its : ℕ) (statement : Statement) (found : Total) → line_total lines its statement ≡ Some found → its ≡ found.line
       numbered its (says.TotalAmount its_level wheel its_name digits mark) found is = cc
@@ -271,3 +269,97 @@ module _ (lines : List Line) (plan : Lists) (planned : IsFor lines plan) where
           → Some (record { level = total.its_level; line = its; need = need_of (field_named lines total.its_name) total.digits }) ≡ Some found
           → need_of (field_named lines total.its_name) total.digits ≡ found.need
       need-made its found is = cc
+
+  -- the only group of one has room for its total
+  pub group-room : (end : ℕ) (name : List ℕ) (level number : ℕ) (group : Group) → NumbersRise lines end
+      → (total : HasTotal lines name level number) → group_for lines plan number ≡ Some group
+      → need_of (field_named lines name) total.digits ≤ group.width
+  group-room end name level number group rise total served =
+      let single = is-single lines plan number group served in
+      let wide : single.own.width ≡ group.width = ap (λ (g : Group). g.width) single.is_group in
+      let enough = counter-enough end name level number (of.Single single.own) rise total single.there in
+      omega (arith, wide, enough)
+
+  -- the two groups of a counter differ
+  pub pair-apart : (number : ℕ) (lower upper : CounterGroup) → counter_for lines plan number ≡ Some (of.Coupled lower upper)
+      → panel_group lower ≡ panel_group upper → ⊥
+  pair-apart number lower upper there same =
+      let a = is-served lines plan number (of.Coupled lower upper) there in
+      let enough = planned.counters.enough a.place a.total (of.Coupled lower upper) a.is_total a.there in
+      let numbers : lower.number ≡ upper.number = ap (λ (g : Group). g.number) same in
+      let order = enough.order in
+      omega (arith, numbers, order)
+
+  -- so a place of a group serves one position
+  pub position-own : (number position other : ℕ) (group : Group) (place : ℕ) → ServesPosition lines plan number position group place
+      → ServesPosition lines plan number other group place → position ≡ other
+  position-own number position other group place one and_other =
+      by one.counter one.there one.at.at
+      (subst (λ c. StandsAt c other group place) (same_Some and_other.counter one.counter (sym and_other.there ∙ one.there)) and_other.at.at)
+    where
+      by : (counter : TotalCounter) → counter_for lines plan number ≡ Some counter → StandsAt counter position group place
+          → StandsAt counter other group place → position ≡ other
+      by (of.Single own) there stands stands_too = stands.1 ∙ sym stands_too.1
+      by (of.Coupled lower upper) there (inl stands) (inl stands_too) = stands.1 ∙ sym stands_too.1
+      by (of.Coupled lower upper) there (inr stands) (inr stands_too) = stands.1 ∙ sym stands_too.1
+      by (of.Coupled lower upper) there (inl stands) (inr stands_too) =
+          absurd (pair-apart number lower upper there (stands.0 ∙ sym stands_too.0))
+      by (of.Coupled lower upper) there (inr stands) (inl stands_too) =
+          absurd (pair-apart number lower upper there (stands_too.0 ∙ sym stands.0))
+
+  -- and each position of a total has a place
+  pub position-given : (end : ℕ) (name : List ℕ) (level number : ℕ) (counter : TotalCounter) → NumbersRise lines end
+      → (total : HasTotal lines name level number) → counter_for lines plan number ≡ Some counter
+      → (position : ℕ) → 1 ≤ position → position ≤ total.digits
+      → (group : Group) × (place : ℕ) × ServesPosition lines plan number position group place
+  position-given end name level number counter rise total there position from to =
+      by counter there (counter-enough end name level number counter rise total there)
+    where
+      within : (width : ℕ) → need_of (field_named lines name) total.digits ≤ width → position ≤ width
+      within width enough = omega (arith, enough, to)
+
+      by : (counter : TotalCounter) → counter_for lines plan number ≡ Some counter
+          → IsEnoughFor (need_of (field_named lines name) total.digits) counter
+          → (group : Group) × (place : ℕ) × ServesPosition lines plan number position group place
+      by (of.Single own) there enough = (
+        panel_group own,
+        position,
+        record {
+          counter = of.Single own;
+          there = there;
+          at = record { from = from; to = within own.width enough; at = (refl, refl) };
+        },
+      )
+      by (of.Coupled lower upper) there enough = split (nat_le position lower.width) refl
+        where
+          most : position ≤ 16
+          most = within 16 enough.to
+
+          split : (b : Bool) → nat_le position lower.width ≡ b
+              → (group : Group) × (place : ℕ) × ServesPosition lines plan number position group place
+          split true low = (
+            panel_group lower,
+            position,
+            record {
+              counter = of.Coupled lower upper;
+              there = there;
+              at = record { from = from; to = grind (arith, nat_tests, low); at = inl (refl, refl) };
+            },
+          )
+          split false high =
+              let more : lower.width < position = grind (arith, nat_tests, high) in
+              let last = most in
+              let lower_width = enough.lower_width in
+              let upper_width = enough.upper_width in (
+                panel_group upper,
+                position - lower.width,
+                record {
+                  counter = of.Coupled lower upper;
+                  there = there;
+                  at = record {
+                    from = omega (arith, more);
+                    to = omega (arith, more, last, lower_width, upper_width);
+                    at = inr (refl, omega (arith, more));
+                  };
+                },
+              )
