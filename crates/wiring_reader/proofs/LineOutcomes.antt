@@ -213,11 +213,11 @@ started_outcome version all form (line ∷ rest) number said stands good no_end 
     (λ so. started_outcome version all form rest (suc number) so)
 
 -- the outcome of all lines
-pub outcome : (first second : List ℕ) (others : List (List ℕ)) (form : FormNumbers)
+pub outcome : (version : Version) (first second : List ℕ) (others : List (List ℕ)) (form : FormNumbers)
     → IsFormed form.lines form.first form.overflow
-    → Outcome (first ∷ second ∷ others) form (lines_from version form.lines 3 start others)
-outcome first second others form formed =
-    started_outcome (first ∷ second ∷ others) form others 3 []
+    → Outcome version (first ∷ second ∷ others) form (lines_from version form.lines 3 start others)
+outcome version first second others form formed =
+    started_outcome version (first ∷ second ∷ others) form others 3 []
     (record { from = omega arith; size = omega arith; at = λ k within. ap (λ n. get_or (first ∷ second ∷ others) n []) (third k) })
     good
     (λ n below there is_end. absurd (omega (arith, below, there.from)))
@@ -229,7 +229,7 @@ outcome first second others form formed =
     third : (k : ℕ) → suc (suc k) ≡ 3 + k - 1
     third k = omega arith
 
-    good : (n : ℕ) → n < 3 → IsAtFault (first ∷ second ∷ others) form n → ⊥
+    good : (n : ℕ) → n < 3 → IsAtFault version (first ∷ second ∷ others) form n → ⊥
     good n below (misplaced is) = absurd (omega (arith, below, is.there.from))
     good n below (repeated is) = absurd (omega (arith, below, is.said.there.from))
     good n below (unfit fault (inl is)) = is.unfit formed

@@ -16,7 +16,7 @@ use Rattle.wiring_text.specs.declared.statement.Version.{Version}
 -- the lines of a text from a number on
 pub record Stands (all : List (List ℕ)) (number : ℕ) (rest : List (List ℕ)) : Type 0 where
   pub from : 3 ≤ number
-  pub size : number + length rest ≡ suc (length version all)
+  pub size : number + length rest ≡ suc (length all)
   pub at : (k : ℕ) → k < length rest → get_or rest k [] ≡ line_at all (number + k)
 
 -- one line on
@@ -41,7 +41,7 @@ stands_here all number line rest is = is.at 0 (omega arith) ∙ ap (line_at all)
 
 pub content_at : (version : Version) (all : List (List ℕ)) (number : ℕ) (line : List ℕ) (rest : List (List ℕ)) (content : Content)
     → Stands all number (line ∷ rest) → content_of version line ≡ content → content_of version (line_at all number) ≡ content
-content_at version all number line rest content stands is = ap (content_of version) version (sym (stands_here all number line rest stands)) ∙ is
+content_at version all number line rest content stands is = ap (content_of version) (sym (stands_here all number line rest stands)) ∙ is
 
 pub there_at : (all : List (List ℕ)) (number : ℕ) (line : List ℕ) (rest : List (List ℕ)) → Stands all number (line ∷ rest)
     → IsAfterForm all number
