@@ -7,14 +7,14 @@ use Rattle.wire_chart.proofs.write.write_wires_from.Goals as goal
 
 pub returns-then-is_empty : goal.returns-then-is_empty
 returns-then-is_empty c =
-    wires_from c.args.setup.now c.args.number c.in-Some.exit c.entries_of-entries.result.now (string_bytes c.args.text.now)
+    wires_from c.args.version c.args.form c.args.setup.now c.args.number c.in-Some.exit c.entries_of-entries.result.now (string_bytes c.args.text.now)
     (string_bytes c.args.text.now) c.in-Some.ensures.numbered c.in-Some.ensures.found c.entries_of-entries.ensures.value
-    (none_listed c.in-Some.exit c.entries_of-entries.result.now (string_bytes c.args.text.now) (λ n has. omega (arith, has.1, eqb-true (length c.entries_of-entries.result.now) 0 (sym c.if-is_empty.ensures))))
+    (none_listed c.args.version c.args.form c.in-Some.exit c.entries_of-entries.result.now (string_bytes c.args.text.now) (λ n has. omega (arith, has.1, eqb-true (length c.entries_of-entries.result.now) 0 (sym c.if-is_empty.ensures))))
 
 pub returns : goal.returns
 returns c =
     on_ok c.write_wires_to.result _ _
-    (wires_from c.args.setup.now c.args.number c.in-Some.exit c.entries_of-entries.result.now (string_bytes c.args.text.now)
+    (wires_from c.args.version c.args.form c.args.setup.now c.args.number c.in-Some.exit c.entries_of-entries.result.now (string_bytes c.args.text.now)
     (string_bytes c.write_wires_to.new.text) c.in-Some.ensures.numbered c.in-Some.ensures.found
     c.entries_of-entries.ensures.value)
     c.write_wires_to.ensures
