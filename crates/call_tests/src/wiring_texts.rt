@@ -109,13 +109,17 @@ fn wiring_charts_are_read_and_written(rt: HostRuntime) -> Result<(), Fail> {
     Ok(())
 }
 
-const RINGED: &str = "WIRING407 1\nFORM 12 1 9\nJACK LIST\nWIRE SR.1 W.1\nWIRE CO.3.1 CI.3.1\nWIRE CO.8.4 CI.8.4\nEND\n";
+const RINGED: &str =
+    "WIRING407 1\nFORM 12 1 9\nJACK LIST\nWIRE SR.1 W.1\nWIRE CO.3.1 CI.3.1\nWIRE CO.8.4 CI.8.4\nEND\n";
 
-const RINGED_IN_2: &str = "WIRING407 2\nFORM 12 1 9\nJACK LIST\nRING 3.1\nRING 8.4\nWIRE SR.1 W.1\nEND\n";
+const RINGED_IN_2: &str =
+    "WIRING407 2\nFORM 12 1 9\nJACK LIST\nRING 3.1\nRING 8.4\nWIRE SR.1 W.1\nEND\n";
 
-const COUPLED: &str = "WIRING407 1\nFORM 12 1 9\nWIRE SR.1 W.1\nWIRE CO.8.2 CI.8.1\nWIRE CO.8.1 CI.8.2\nWIRE CO.4.1 CI.4.1\nEND\n";
+const COUPLED: &str =
+    "WIRING407 1\nFORM 12 1 9\nWIRE SR.1 W.1\nWIRE CO.8.2 CI.8.1\nWIRE CO.8.1 CI.8.2\nWIRE CO.4.1 CI.4.1\nEND\n";
 
-const COUPLED_IN_2: &str = "WIRING407 2\nFORM 12 1 9\nRING 4.1\nCOUPLE 1 2\nCOUPLE 2 1\nWIRE SR.1 W.1\nEND\n";
+const COUPLED_IN_2: &str =
+    "WIRING407 2\nFORM 12 1 9\nRING 4.1\nCOUPLE 1 2\nCOUPLE 2 1\nWIRE SR.1 W.1\nEND\n";
 
 /// What is written in version 2 of the setup that a text reads as.
 fn upgraded(alloc: Global, text: &str) -> Result<String, Fail> {
@@ -136,7 +140,10 @@ fn carry_wires_are_rings_and_couples_in_version_2(rt: HostRuntime) -> Result<(),
 fn a_setup_is_written_in_version_2_where_it_joins_groups(rt: HostRuntime) -> Result<(), Fail> {
     assert_eq!(rt; written_again(rt.alloc(), RINGED_IN_2)?.as_str(), RINGED);
     assert_eq!(rt; written_again(rt.alloc(), COUPLED)?.as_str(), COUPLED_IN_2);
-    assert_eq!(rt; written_again(rt.alloc(), COUPLED_IN_2)?.as_str(), COUPLED_IN_2);
+    assert_eq!(rt;
+        written_again(rt.alloc(), COUPLED_IN_2)?.as_str(),
+        COUPLED_IN_2
+    );
     Ok(())
 }
 

@@ -15,9 +15,7 @@ ghost use Rattle.wire_chart.specs.WrittenText.{IsWritten, IsWrittenIn, JoinsGrou
 ghost use Rattle.wire_chart.specs.Writing.{GainsAllWires, GainsStops, GainsJacks, GainsWires, IsStopOf, IsStopAt, IsStopIn, IsJackAt, IsWireTo, IsWireToAny, IsWireFrom, IsWireOf};
 
 use crate::form::{WireForm, carry_into, carry_out_of, is_one_group, is_same_form, wire_form};
-use crate::words::{
-    write_jack_words, write_spaced_group, write_spaced_hub, write_spaced_number,
-};
+use crate::words::{write_jack_words, write_spaced_group, write_spaced_hub, write_spaced_number};
 use hubs::{Group, Hub, JACKS, Jack};
 use setups::{Setup, Tape};
 use std::alloc::{AllocError, Global};
@@ -100,7 +98,8 @@ fn couples_to(setup: &Setup, exit: Hub, number: u32) -> bool
         → wire_form Second (exit, entry) ≢ Couple }
 {
     match Hub::of_number(number) {
-        Some(entry) => is_same_form(wire_form(Version::Second, exit, entry), WireForm::Couple) && setup.has(exit, entry),
+        Some(entry) => is_same_form(wire_form(Version::Second, exit, entry), WireForm::Couple)
+            && setup.has(exit, entry),
         None => false,
     }
 }
