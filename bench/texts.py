@@ -114,11 +114,11 @@ def chart_fault(chart):
 
 
 def wiring_fault(wiring):
-    """By the rules for the text; no line may stand in it twice or have a hub that isn't there."""
+    """By the rules for the text; no line may stand in it twice, have a hub that isn't there or wire a carry, so that it may be of either version."""
     lines = lines_of(wiring)
     if len(lines) > 1_000_000 or any(len(line) > 60 for line in lines):
         return "71"
-    if len(lines) < 2 or words_of(lines[0]) != "WIRING407 1" or not re.fullmatch(f"FORM {NUMBER} {NUMBER} {NUMBER}", words_of(lines[1])):
+    if len(lines) < 2 or words_of(lines[0]) not in ("WIRING407 1", "WIRING407 2") or not re.fullmatch(f"FORM {NUMBER} {NUMBER} {NUMBER}", words_of(lines[1])):
         return "72"
     return fault_of_lines(lines[2:], 3, WIRING_LINE, "73", "76")
 
