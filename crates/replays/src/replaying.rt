@@ -34,7 +34,8 @@ fn print_deck<S: Sink + Drop>(
     let mut machine = Machine::new(alloc, setup)?;
     let mut lines = Vec::new(alloc);
     let mut text = deck;
-    while let Some((card, rest)) = next_card(text) {
+    while let Some(next) = next_card(text) {
+        let (card, rest) = next;
         print_feed(&mut machine, &Some(card), &mut lines, pages)?;
         text = rest;
     }
