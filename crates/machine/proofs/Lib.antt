@@ -20,4 +20,5 @@ mod KeptPoints
 pub mod Pictures
 mod Points
 mod Rest
+mod Marks
 mod UnitOrder

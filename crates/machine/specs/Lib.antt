@@ -8,5 +8,6 @@ pub mod Running
 pub mod Fields
 pub mod Ends
 pub mod Rest
+pub mod Marked
 pub mod Steady
 pub mod Gains

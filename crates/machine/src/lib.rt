@@ -13,6 +13,7 @@ mod groups;
 mod kept;
 pub mod laws;
 mod machine;
+mod marked;
 mod rows;
 mod run;
 mod units;

@@ -6,7 +6,7 @@ ghost use Rattle.net.specs.NetRows.{AddsRow};
 
 use crate::contacts::CONTACTS;
 use crate::picture::{Contacts, Picture, cut_after_hubs};
-use bit_sets::{EXITS, Rows, reach};
+use bit_sets::{EXITS, Rows, WORDS, commons_of, reach};
 use hubs::Hub;
 use setups::Setup;
 use std::alloc::{AllocError, Global};
@@ -17,14 +17,20 @@ use std::marker::Model;
 pub struct Net {
     // For each exit the row of the entries that its wires lead to. The hub with the number h is the place h - 1.
     rows: Rows,
+    // The places of the common hubs, from which contacts lead.
+    commons: [u64; WORDS],
 }
 
 impl Model for Net {
     ghost use Rattle.net.specs.Nets.{NetRows};
+    ghost use Rattle.bit_sets.specs.Contacts.{AreCommons};
+    ghost use Rattle.net.specs.declared.contacts.TheConstants.{CONTACTS};
 
     ghost Value = { NetRows };
 
     ghost view = { λ net. record { rows = net.rows } };
+
+    ghost invariant = { λ net. AreCommons CONTACTS net.commons };
 }
 
 impl Net {
@@ -45,7 +51,8 @@ impl Net {
             }
         }
         rows.bundle(alloc)?;
-        Ok(Net { rows })
+        let commons = commons_of(&CONTACTS);
+        Ok(Net { rows, commons })
     }
 
     /// Makes `out` the picture of the emitting exits: it then has exactly the impulsed hubs, whatever it had before.
@@ -56,7 +63,13 @@ impl Net {
             → IsPicture wiring (has_hub exits.now) (has_hub contacts.now) (has_hub out.new) }
     {
         out.words = exits.words;
-        reach(&self.rows, &CONTACTS, contacts.words(), &mut out.words);
+        reach(
+            &self.rows,
+            &CONTACTS,
+            &self.commons,
+            contacts.words(),
+            &mut out.words,
+        );
         // Wires lead to hubs alone. The rows do not tell so, and a cut costs next to nothing.
         cut_after_hubs(&mut out.words);
     }

@@ -1,7 +1,7 @@
 use Rattle.std.proofs.Common.{◌+◌}
 use Rattle.std.specs.Prelude.{if◌then◌else◌}
 use Rattle.bit_sets.proofs.SearchLemmas.{IsSearching, missing_below}
-use Rattle.bit_sets.proofs.search.search.Given as goal
+use Rattle.bit_sets.proofs.search.reach.Given as goal
 
 abbrev pub invariant-loop-has_new : goal.invariant-loop-has_new
 invariant-loop-has_new l = IsSearching l.rows l.runs l.fn.words l.closed l.words l.new l.has_new
