@@ -12,7 +12,8 @@ use Rattle.setups.specs.Wiring.{Wiring}
 use Rattle.wiring_text.specs.WiringText.{ReadsAs}
 
 module _ (text deck : List ℕ) (wiring : Wiring) (reads : ReadsAs text wiring) where
-  replayed_pages : (cards : List (List ℕ)) → Deck deck cards → (lines : List PlacedLine) → MachineLines wiring cards lines → AreReplayedPages text deck (Pages lines wiring.tape.lines)
+  replayed_pages : (cards : List (List ℕ)) → Deck deck cards → (lines : List PlacedLine) → MachineLines wiring cards lines
+      → AreReplayedPages text deck (Pages lines wiring.tape.lines)
   replayed_pages cards punched lines run = record {
     wiring = wiring;
     reads = reads;

@@ -1,4 +1,4 @@
-use Rattle.std.proofs.Common.{◌∙◌, ◌∷◌, ◌++◌, [], sym, ap, arith, length, length-append}
+use Rattle.std.proofs.Common.{◌∙◌, ◌∷◌, ◌++◌, [], arith, length-append}
 use Rattle.std.proofs.lemmas.Result.{err_from_is_err_and}
 use Rattle.card_code.proofs.Decks.{Deck-at_end, HasDeckFault-many, HasDeckFault-next, IsReadUpTo-push}
 use Rattle.card_code.proofs.card_by_card.check_deck.Goals as goal
