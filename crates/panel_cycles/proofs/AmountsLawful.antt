@@ -26,19 +26,23 @@ use Rattle.report.specs.Amounts.{digits_on, is_negated, number_in}
 use Rattle.totals.specs.Amounts.{IsOnCard, HasGroups, sign_positions}
 use Rattle.wiring_table.specs.Figures.{IsAmount}
 use Rattle.wiring_table.specs.Parts.{HasTotal}
-use Rattle.panel_cycles.proofs.AmountFacts.{digits_are, has_from}
+use Rattle.panel_cycles.proofs.AmountFacts.{counter_at, digits_are, has_from}
 use Rattle.panel_cycles.proofs.CounterAsksCards.{number_small}
-use Rattle.panel_cycles.proofs.Singles.{IsSoleOf, sole_positions}
-use Rattle.panel_cycles.specs.ChartAmounts.{amount_of}
-use Rattle.wiring_table.proofs.Groups.{group-given, group-room}
+use Rattle.panel_cycles.specs.ChartAmounts.{amount_of, positions_of}
+use Rattle.plans.specs.Counters.{IsEnoughFor}
+use Rattle.plans.specs.declared.counter.TotalCounter.{TotalCounter}
+use Rattle.plans.specs.declared.counter.TotalCounter.TheVariants as of
+use Rattle.wiring_table.proofs.Groups.{counter-enough, counter-given}
 use Rattle.wiring_table.proofs.Totals.{digits-grow, total-digits}
 
--- the group of a total has room for its digits and its sign
-pub has_room : (chart : Chart) (plan : Lists) (name : List ℕ) (level : ℕ) (group : Group) → NumbersRise chart.lines chart.end
-    → IsFor chart.lines plan → (own : IsSoleOf chart.lines plan name level group)
-    → own.total.digits + sign_positions (names_signed (field_named chart.lines name)) ≤ group.width
-has_room chart plan name level group rise planned own =
-    group-room chart.lines plan planned chart.end name level own.number group rise own.total own.served
+-- a counter that is enough for a total has room for its digits and its sign
+enough_room : (need : ℕ) (counter : TotalCounter) → IsEnoughFor need counter → need ≤ positions_of (Some counter)
+enough_room need (of.Single group) enough = enough
+enough_room need (of.Coupled lower upper) enough =
+    let most = enough.to in
+    let low = enough.lower_width in
+    let up = enough.upper_width in
+    omega (arith, most, low, up)
 
 -- The amounts of a lawful chart with a plan are lawful.
 pub lawful_amount : (chart : Chart) (plan : Lists) (name : List ℕ) → IsLawful chart → NumbersRise chart.lines chart.end
@@ -46,12 +50,13 @@ pub lawful_amount : (chart : Chart) (plan : Lists) (name : List ℕ) → IsLawfu
 lawful_amount chart plan name lawful rise planned = record {
   room = λ level from has.
       let (number, total) = has_from chart.lines plan name level has in
-      let (group, served) = group-given chart plan name level number lawful planned total in
-      let own : IsSoleOf chart.lines plan name level group = record { number = number; total = total; served = served } in
-      let room = has_room chart plan name level group rise planned own in
+      let (counter, there) = counter-given chart.lines plan name level number planned total in
+      let need : ℕ = need_of (field_named chart.lines name) total.digits in
+      let room : need ≤ positions_of (Some counter) =
+      enough_room need counter (counter-enough chart.lines plan planned chart.end name level number counter rise total there) in
       let digits = digits_are chart plan name level number lawful total in
-      let width : (amount_of chart.lines plan name).width level ≡ group.width =
-      sole_positions chart plan name level group lawful own in
+      let width : (amount_of chart.lines plan name).width level ≡ positions_of (Some counter) =
+      ap positions_of (counter_at chart plan name level number lawful total ∙ there) in
       omega (arith, room, digits, width);
   growing = λ low high from less has_low has_high.
       let (n, a) = has_from chart.lines plan name low has_low in

@@ -1,5 +1,5 @@
 -- The control hubs of the counter group of a total in program cycles and in others: they are impulsed as what is asked of it says.
-use Rattle.std.proofs.Common.{◌≡◌, ◌∙◌, refl, sym, ap, subst, ℕ, ◌<◌, ◌≤◌, ◌==◌, ◌&&◌, not, Bool, true, false, List, Some, arith, if◌then◌else◌}
+use Rattle.std.proofs.Common.{◌≡◌, ◌∙◌, refl, sym, ap, subst, ℕ, ◌<◌, ◌≤◌, ◌==◌, ◌&&◌, not, Bool, true, false, List, Some, option_map, arith, if◌then◌else◌}
 use Rattle.std.proofs.lemmas.Bool.{not-true, false_from_ne_true}
 use Rattle.std.proofs.lemmas.Bool.Decides.{nat_tests}
 use Rattle.counter_cycles.specs.Acts.{Act, Held, act_controls}
@@ -39,10 +39,10 @@ use Rattle.panel_cycles.specs.ChartAmounts.{amount_of}
 use Rattle.wired_panels.specs.Groups.{IsGroupOf, IsTopOf}
 use Rattle.wired_panels.specs.PanelCycles.{IsPanelCycle}
 use Rattle.panel_cycles.specs.CounterStates.{state_of}
-use Rattle.wiring_table.proofs.Groups.{top-serves}
-use Rattle.wiring_table.specs.Parts.{top_for}
+use Rattle.wiring_table.proofs.Groups.{counter-given, top-serves}
+use Rattle.wiring_table.specs.Parts.{top_for, top_group}
 use Rattle.panel_cycles.proofs.CounterAsksKinds.{AreTold}
-use Rattle.panel_cycles.proofs.Singles.{sole_given, top_latch, top_of}
+use Rattle.panel_cycles.proofs.Singles.{top_latch}
 
 -- what is asked in the three program cycles of a level: whether it is the total's, whether a negative balance is turned, and whether a
 -- total goes up, by minus or by plus
@@ -358,8 +358,10 @@ module _ (chart : Chart) (plan : Lists) (wiring : Wiring) (rise : NumbersRise ch
         lower_of : (under : IsUnder chart.lines name (level_number l) level)
             → (lower_group : Group) × IsTopOf chart.lines plan name (level_number l) lower_group
         lower_of under =
-            let (lower_group, sole) = sole_given chart plan at.panel.lawful at.panel.planned name (level_number l) under.number under.total in
-            (lower_group, top_of chart.lines plan sole)
+            let (lower_counter, there) = counter-given chart.lines plan name (level_number l) under.number at.panel.planned under.total in (
+              top_group lower_counter,
+              record { number = under.number; total = under.total; served = ap (option_map top_group) there },
+            )
 
         plus_given : (not (level_number l == level) && (goes_up && not by_minus)) ≡ true → pictures C (PL group) ≡ true
         plus_given on =

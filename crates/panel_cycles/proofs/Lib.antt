@@ -3,6 +3,7 @@ pub mod JacksAndTape
 pub mod AmountFacts
 pub mod Singles
 pub mod CounterAsksKinds
+pub mod Counters
 pub mod CounterAsksSteps
 pub mod CounterAsksCards
 pub mod CounterAsksEntries

@@ -1,5 +1,5 @@
 -- The print wheels of a panel receive, in each cycle that prints, what the lines of the chart send to its printed line.
-use Rattle.std.proofs.Common.{◌≡◌, ◌∙◌, refl, sym, ap, subst, ℕ, ◌+◌, ◌≤◌, true, false, List, [], Contains, Option, Some, None, map, slice_get, cond, length, arith}
+use Rattle.std.proofs.Common.{◌≡◌, ◌∙◌, refl, sym, ap, subst, ℕ, ◌+◌, ◌≤◌, true, false, List, [], Contains, Option, Some, None, map, slice_get, cond, arith}
 use Rattle.std.specs.List.{filter_map}
 use Rattle.card_code.specs.CardCode.{has_row}
 use Rattle.card_code.specs.Rows.{row_number}
@@ -33,8 +33,6 @@ use Rattle.net.specs.declared.cycle.Point.TheVariants.{Row}
 use Rattle.print_unit.specs.Emitters.{emitter_of}
 use Rattle.printed_lines.specs.Shown.Shown.{Characters}
 use Rattle.printed_lines.specs.Shown.{Printed, Shown, card_sends, heading_sends, set_of_character, set_on, total_sends}
-use Rattle.wiring_table.proofs.Groups.{place-single, position-serves, serving-single, top-serves}
-use Rattle.wired_panels.specs.Sources.{digit_at}
 use Rattle.wiring_table.specs.Figures.IsFigure.{on_detail as figure_on_detail, on_total as figure_on_total}
 use Rattle.wiring_table.specs.Figures.IsLiteral.{on_heading, on_detail, on_total}
 use Rattle.wiring_table.specs.Wires.LineWire.{detail_text, indicated_text_out, literal, point, detail_digit, split_digit_out, detail_mark_out, total_digit, total_mark_out, total_text_out}
@@ -184,15 +182,10 @@ module _ (wiring : Wiring) (content : Content) (at : CycleRow) (row : IsPrintedR
       in_cycle (Prog level Third) is (total.amount-row wiring level content.held content.card at (row.totals level is) line place its wheel name
       digits mark field listed says_it amount.named same (figure_point some punch))
   straight_sends line there says_it (total_digit its wheel name digits mark field _ position p serves amount low high) (digit counter _ among out _ long shows) =
-      let served = serving-single at.chart at.plan row.on_panel.panel.lawful row.on_panel.panel.planned line.number counter.name
-      (position-serves at.chart.lines at.plan line.number position counter.name p serves) in
-      let same = (place-single at.chart.lines at.plan line.number counter.name served position counter.name p serves).1 in
       let (place, listed) = place_of line there in
       let (level, is) = group-third wiring at row.on_panel row.rises counter.name row.prints out in
       in_cycle (Prog level Third) is (total.digit-sends wiring level content.held content.card at (row.totals level is) line place its wheel name
-      digits mark field counter position listed there says_it served amount low high among out
-      (subst (λ n. n ≤ length counter.digits) (sym same) long)
-      (subst (λ n. digit_at counter.digits n ≡ row_number at.row) (sym same) shows))
+      digits mark field counter position p listed there says_it serves amount low high among out long shows)
   straight_sends line there says_it (total_text_out its wheel name field _ j text within served) (column storage c among out held) =
       let (level, is) = unit-third wiring at row.on_panel storage.place row.prints out in
       in_cycle (Prog level Third) is (total.text-sends wiring level content.held content.card at (row.totals level is) line its wheel name field
@@ -229,9 +222,7 @@ module _ (wiring : Wiring) (content : Content) (at : CycleRow) (row : IsPrintedR
       says_its wire emits leads served in
       let (level, is, same) = total_of at.cycle its emitting in
       in_cycle (Prog level Third) is (total.mark-sends wiring level content.held content.card at (row.totals level is) line place its wheel name
-      digits mark field group k listed there says_it
-      (serving-single at.chart at.plan row.on_panel.panel.lawful row.on_panel.panel.planned line.number group
-      (top-serves at.chart.lines at.plan line.number group served)) named same punched shut)
+      digits mark field group k listed there says_it served named same punched shut)
   after_sends line other there among says_it says_its emits wire leads shut (detail_text wheel name field j text within) = cc
   after_sends line other there among says_it says_its emits wire leads shut (literal statement e wheel characters j r is punch) = cc
   after_sends line other there among says_it says_its emits wire leads shut (point statement e wheel figure r is some punch) = cc

@@ -27,20 +27,20 @@ use Rattle.whole_cycles.proofs.Places.{in_units, as_many, told_at}
 use Rattle.whole_cycles.proofs.Units.{units-by_name}
 use Rattle.whole_cycles.specs.Between.{IsBetween}
 use Rattle.whole_cycles.specs.Units.{IsGroup, group_at, storage_at}
-use Rattle.wiring_table.specs.Parts.{group_for, panel_group}
+use Rattle.wiring_table.specs.Parts.{ServesTotal, panel_group}
 use Rattle.wired_panels.specs.Sources.{digit_at}
 use Rattle.wired_panels.proofs.Contacts.{is_set}
-use Rattle.wiring_table.proofs.Groups.{group-there}
+use Rattle.wiring_table.proofs.Groups.{serves-there}
 
 -- the units of the storage units, in order
 storage-at : (k : ℕ) → k < 4 → get_or storage_units k 0 ≡ 35 + k
 storage-at k within = get_or-range_with_len 35 4 k 0 within
 
--- the group of a total is one of the panel
+-- a group of a total is one of the panel
 pub group-named : (lines : List Line) (plan : Lists) (number : ℕ) (group : Group) → IsFor lines plan
-    → group_for lines plan number ≡ Some group → IsGroup group
-group-named lines plan number group planned is =
-    let has = group-there lines plan planned number group is in
+    → ServesTotal lines plan number group → IsGroup group
+group-named lines plan number group planned serves =
+    let has = serves-there lines plan planned number group serves in
     let from = has.from in
     let to = has.to in
     record { width = grind (arith, nat_tests, from, to); number = grind (arith, nat_tests, from, to) }
