@@ -1,4 +1,4 @@
--- The control hubs of the counter group of a total in program cycles and in others: they are impulsed as what is asked of it says.
+-- The control hubs of a counter group of a total in program cycles and in others: they are impulsed as what is asked of it says.
 use Rattle.std.proofs.Common.{◌≡◌, ◌∙◌, refl, sym, ap, subst, ℕ, ◌<◌, ◌≤◌, ◌==◌, ◌&&◌, not, Bool, true, false, List, Some, option_map, arith, if◌then◌else◌}
 use Rattle.std.proofs.lemmas.Bool.{not-true, false_from_ne_true}
 use Rattle.std.proofs.lemmas.Bool.Decides.{nat_tests}
@@ -42,7 +42,7 @@ use Rattle.panel_cycles.specs.CounterStates.{state_of}
 use Rattle.wiring_table.proofs.Groups.{counter-given, top-serves}
 use Rattle.wiring_table.specs.Parts.{top_for, top_group}
 use Rattle.panel_cycles.proofs.CounterAsksKinds.{AreTold}
-use Rattle.panel_cycles.proofs.Singles.{top_latch}
+use Rattle.panel_cycles.proofs.Counters.{top_latch}
 
 -- what is asked in the three program cycles of a level: whether it is the total's, whether a negative balance is turned, and whether a
 -- total goes up, by minus or by plus

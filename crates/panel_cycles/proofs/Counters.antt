@@ -1,12 +1,13 @@
 -- The counter of a total: its groups serve the total, its top group has the balance, its positions stand at their places, and what is
 -- asked of each of its groups is asked of the counter.
-use Rattle.std.proofs.Common.{◌≡◌, ◌∙◌, refl, sym, ap, subst, ℕ, ◌+◌, ◌≤◌, ◌==◌, Bool, List, Option, Some, option_map, ◌⊎◌, inl, inr, arith}
+use Rattle.std.proofs.Common.{◌≡◌, ◌∙◌, refl, sym, ap, subst, ℕ, ◌+◌, ◌≤◌, ◌==◌, Bool, List, Option, Some, None, option_map, inl, inr, arith}
+use Rattle.std.proofs.lemmas.Option.{same_Some}
 use Rattle.card_code.specs.Rows.{row_number}
 use Rattle.card_code.specs.declared.row.Row.{Row as CardRow}
 use Rattle.chart_rules.specs.Rules.{IsLawful}
 use Rattle.charts.specs.Chart.{Chart}
 use Rattle.charts.specs.declared.chart.Line.{Line}
-use Rattle.counter_cycles.specs.Acts.{Act, Entered, Spells, act_controls}
+use Rattle.counter_cycles.specs.Acts.{Act, Entered, Held, Spells, act_controls}
 use Rattle.counter_cycles.specs.Pairs.{EnteredInBoth, SpellInBoth}
 use Rattle.hubs.specs.declared.hub.Group.{Group}
 use Rattle.hubs.specs.declared.hub.Hub.{Hub}
@@ -22,7 +23,8 @@ use Rattle.wiring_table.proofs.Groups.{position-own, position-serves, serves-own
 use Rattle.wired_panels.specs.Groups.{IsCounterOf, IsGroupOf, IsPlaceFor, IsTopOf}
 use Rattle.panel_cycles.proofs.AmountFacts.{counter_at}
 use Rattle.panel_cycles.proofs.CounterAsksKinds.{AreTold, alone}
-use Rattle.panel_cycles.specs.CounterStates.{AsksCounter, held_in, state_of}
+use Rattle.panel_cycles.specs.CounterStates.{AsksCounter, held_in, number_at, state_of}
+use Rattle.wired_panels.proofs.Contacts.{is_set}
 
 module _ (lines : List Line) (plan : Lists) {name : List ℕ} {level : ℕ} {counter : TotalCounter}
     (own : IsCounterOf lines plan name level counter) where
@@ -85,6 +87,21 @@ pub counter_held : (machine : MachineState) (chart : Chart) (plan : Lists) (name
     → state_of machine chart.lines plan name level ≡ held_in machine (Some counter)
 counter_held machine chart plan name level counter lawful own =
     ap (held_in machine) (counter_at chart plan name level own.number lawful own.total ∙ own.served)
+
+-- what a counter group holds
+abbrev pub held_at : MachineState → Group → Held
+held_at machine group = record { number = number_at machine.groups group; latch = is_set machine group }
+
+-- the latch of a total is that of the group with its balance
+pub top_latch : (machine : MachineState) (chart : Chart) (plan : Lists) (name : List ℕ) (level : ℕ) (top : Group) → IsLawful chart
+    → IsTopOf chart.lines plan name level top → (state_of machine chart.lines plan name level).latch ≡ is_set machine top
+top_latch machine chart plan name level top lawful own =
+    ap (λ o. (held_in machine o).latch) (counter_at chart plan name level own.number lawful own.total)
+    ∙ by (counter_for chart.lines plan own.number) own.served
+  where
+    by : (o : Option TotalCounter) → option_map top_group o ≡ Some top → (held_in machine o).latch ≡ is_set machine top
+    by None same = cc
+    by (Some counter) same = ap (is_set machine) (same_Some (top_group counter) top same)
 
 -- the entries of a counter spell digits, by its positions
 abbrev pub SpellsCounter : TotalCounter → (ℕ → ℕ) → (Point → Hub → Bool) → Type 0

@@ -1,7 +1,6 @@
 pub mod ToCarriage
 pub mod JacksAndTape
 pub mod AmountFacts
-pub mod Singles
 pub mod CounterAsksKinds
 pub mod Counters
 pub mod CounterAsksSteps

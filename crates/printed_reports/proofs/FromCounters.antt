@@ -1,5 +1,5 @@
 -- What a cycle leaves of the totals of an amount: each holds what its act makes of what it held.
-use Rattle.std.proofs.Common.{◌≡◌, ◌∙◌, refl, sym, ap, subst, ℕ, ◌≤◌, Bool, true, false, List, [], Contains, Option, Some, None, is_some, option_and_then, if◌then◌else◌, arith, ◌+◌, ◌*◌, ◌^◌, length, inl, inr}
+use Rattle.std.proofs.Common.{◌≡◌, ◌∙◌, refl, sym, ap, subst, ℕ, ◌≤◌, Bool, true, false, List, Contains, Option, Some, None, is_some, option_and_then, if◌then◌else◌, arith, ◌+◌, ◌*◌, ◌^◌, length, inl, inr}
 use Rattle.std.proofs.lemmas.List.Elements.{All-contains}
 use Rattle.counter_cycles.proofs.ActLemmas.{acts-done}
 use Rattle.counter_cycles.specs.Acts.{Act, Asks, Held, IsWithinGroup, held_after, held_by}
@@ -19,7 +19,7 @@ use Rattle.setups.specs.Wiring.{LeadsToEntries, Wiring, is_wired}
 use Rattle.hubs.specs.declared.hub.Group.{Group}
 use Rattle.hubs.specs.declared.hub.Hub.TheVariants.{CO, CI}
 use Rattle.panel_cycles.proofs.AmountFacts.{counter_at, has_from}
-use Rattle.panel_cycles.proofs.Singles.{held_at}
+use Rattle.panel_cycles.proofs.Counters.{held_at}
 use Rattle.panel_cycles.proofs.CounterAsks.{asks_card, asks_heading, asks_run_in, asks_step}
 use Rattle.panel_cycles.proofs.AmountsLawful.{lawful_amount}
 use Rattle.panel_cycles.proofs.Rings.{fed_lower, fed_single, fed_upper, goes_through, ring_pair, ring_single}
@@ -105,11 +105,11 @@ group_done wiring cycle old new group act signed is is_new all there ring fits a
     ∙ ap (λ (h : Held). held_after signed group.width act h) (sym holds)
 
 -- what two groups of a machine hold as one
-abbrev held_pair : MachineState → (upper lower : Group) → Held
+abbrev pub held_pair : MachineState → (upper lower : Group) → Held
 held_pair machine upper lower =
     record { number = number_at machine.groups upper * 10 ^ lower.width + number_at machine.groups lower; latch = is_set machine upper }
 
-pair_there : (machine : MachineState) (upper lower : Counter) → IsBetween machine → Contains machine.groups upper
+pub pair_there : (machine : MachineState) (upper lower : Counter) → IsBetween machine → Contains machine.groups upper
     → Contains machine.groups lower → IsCounter lower → held_pair machine upper.name lower.name ≡ held_by_both upper lower
 pair_there machine upper lower between listed and_listed lawful =
     let above = at_unit (λ (c : Counter). number c.digits) 0 machine.groups upper between.ordered listed in

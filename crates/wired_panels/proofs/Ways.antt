@@ -1,13 +1,10 @@
 -- The ways of impulses to the entries of a panel that is wired for a chart.
-use Rattle.std.proofs.Common.{ℕ, ◌≡◌, refl, sym, ap, Bool, true, false, Some, None, is_some, ◌↔◌}
+use Rattle.std.proofs.Common.{◌≡◌, refl, sym, ap, Bool, true, false, Some, None, is_some, ◌↔◌}
 use Rattle.plans.specs.Plans.{Lists}
 use Rattle.charts.specs.Chart.{Chart}
 use Rattle.hubs.specs.Hubs.{is_hub_in_range, number_of}
 use Rattle.setups.specs.Wiring.{Wiring, LeadsToEntries}
-use Rattle.hubs.specs.declared.hub.Group.{Group}
 use Rattle.hubs.specs.declared.hub.Hub.{Hub}
-use Rattle.hubs.specs.declared.hub.Hub.TheVariants.{CI, CO}
-use Rattle.counters.specs.Rings.{IsFedAlone}
 use Rattle.whole_cycles.specs.Carries.{CarriesLeadToCarries}
 use Rattle.net.specs.Impulsed.{IsImpulsed}
 use Rattle.net.specs.Panel.{contact_of}
@@ -17,10 +14,7 @@ use Rattle.whole_cycles.specs.OneContactDeep.{AreCarriesOpen, IsOneContactDeep, 
 use Rattle.whole_cycles.specs.OneContactDeep.IsWithinOneContact.{emits, wired, through as passed, after}
 use Rattle.wired_panels.specs.Panel.{IsPanel, Arrives}
 use Rattle.wired_panels.specs.Panel.Arrives.{straight, through}
-use Rattle.capacity.specs.declared.group.CounterGroup.{CounterGroup}
-use Rattle.plans.specs.declared.counter.TotalCounter.TheVariants as of
-use Rattle.wiring_table.proofs.Groups.{counter-single}
-use Rattle.wired_panels.proofs.Chains.{ToCarry, carry_on, from_itself, from_lower, from_upper, to_carry, wire_orderly}
+use Rattle.wired_panels.proofs.Chains.{carry_on, wire_orderly}
 
 -- tests that hold together are the same
 pub same_tests : (a b : Bool) → (a ≡ true → b ≡ true) → (b ≡ true → a ≡ true) → a ≡ b
@@ -55,23 +49,6 @@ one_deep chart plan wiring panel = record {
 pub carries-lead : (chart : Chart) (plan : Lists) (wiring : Wiring) → IsPanel chart plan wiring → CarriesLeadToCarries wiring
 carries-lead chart plan wiring panel exit entry wire =
     let given = (panel.wired.wires exit entry).0 wire in carry_on chart.lines plan given.line.number given.wire
-
--- the carry entry of a group is fed by its own carry exit alone
-pub fed_alone : (chart : Chart) (plan : Lists) (wiring : Wiring) → IsPanel chart plan wiring → (group : Group) → IsFedAlone wiring group group
-fed_alone chart plan wiring panel group exit wire =
-    let given = (panel.wired.wires exit (CI group)).0 wire in
-    by given.line.number (to_carry chart.lines plan given.line.number given.wire)
-  where
-    -- no counter of a lawful chart has two groups
-    not_two : {lower upper : CounterGroup} → (found : CounterGroup) × (of.Coupled lower upper ≡ of.Single found) → ⊥
-    not_two (found, same) = cc
-
-    by : (number : ℕ) {x : Hub} → ToCarry chart.lines plan number group x → x ≡ CO group
-    by number (from_itself name rule is signed) = refl
-    by number (from_lower lower upper there same) =
-        absurd (not_two (counter-single chart plan panel.lawful panel.planned number (of.Coupled lower upper) there))
-    by number (from_upper lower upper there same) =
-        absurd (not_two (counter-single chart plan panel.lawful panel.planned number (of.Coupled lower upper) there))
 
 -- An entry is impulsed exactly where an impulse arrives: at a point whose exits are those of units, and where no carry passes.
 pub arrives :
