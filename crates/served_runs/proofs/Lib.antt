@@ -1,3 +1,6 @@
 pub mod Dispatch
 pub mod LastUnits
 pub mod Sensing
+pub mod GroupContacts
+pub mod FullOrders
+pub mod Taken

@@ -55,7 +55,7 @@ impl Units {
     ghost use Rattle.served.specs.Orders.{unit_count};
     ghost use Rattle.served.specs.Units.{IsUnit};
     ghost use Rattle.served_runs.specs.Units.{SensesOne};
-    ghost use Rattle.served_units.specs.AnyUnit.{any_emits, unit_at};
+    ghost use Rattle.served_units.specs.AnyUnit.{any_closes, any_emits, unit_at};
 
     // The units of a setup as they start, with no card in the machine.
     pub(crate) fn new(setup: &Setup) -> Self
@@ -104,6 +104,7 @@ impl Units {
     // Adds the contacts of a unit that are closed at a point.
     pub(crate) fn close(&self, unit: u8, cycle: Cycle, point: Point, contacts: &mut Contacts)
         requires { IsUnit unit_count unit }
+        ensures { GainsHubs (any_closes (unit_at self.now unit) cycle point) contacts.old contacts.new }
     {
         if 3 <= unit && unit <= 34 {
             close_group(&self.groups[unit as usize - 3], unit, point, contacts);
