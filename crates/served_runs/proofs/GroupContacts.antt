@@ -139,6 +139,18 @@ same_group b None other unit is from = absurd (omega (arith, is, from))
 same_group b (Some n) None unit is from = grind (arith, nat_tests)
 same_group b (Some n) (Some q) unit is from = grind (arith, nat_tests)
 
+-- at first none
+pub balances-none : (unit : ℕ) (latch : Bool) (hub : Hub) → balances_to 1 unit latch hub ≡ false
+balances-none unit latch (BAN group position) = none_before position (unit_of group == unit) (not latch)
+  where
+    none_before : (position : ℕ) (own closed : Bool) → ((own && (is_within position 4 && nat_lt position 1)) && closed) ≡ false
+    none_before position own closed = grind (arith, nat_tests)
+balances-none unit latch (BAT group position) = none_before position (unit_of group == unit) latch
+  where
+    none_before : (position : ℕ) (own closed : Bool) → ((own && (is_within position 4 && nat_lt position 1)) && closed) ≡ false
+    none_before position own closed = grind (arith, nat_tests)
+balances-none unit latch hub = refl
+
 module _ (unit : ℕ) (from : 3 ≤ unit) (to : unit ≤ 34) (name : Group) (is : unit_of name ≡ unit) where
   same_ban : (k : ℕ) (group : Group) (position : ℕ) → 1 ≤ k → k ≤ 4
       → is_hub (BAN name k) (BAN group position) ≡ ((unit_of group == unit) && (is_within position 4 && (position == k)))
@@ -156,6 +168,7 @@ module _ (unit : ℕ) (from : 3 ≤ unit) (to : unit ≤ 34) (name : Group) (is 
   pub balances-more : (k : ℕ) (latch : Bool) (hub : Hub) → 1 ≤ k → k ≤ 4
       → ((balances_to k unit latch hub || (not latch && is_hub (BAN name k) hub)) || (latch && is_hub (BAT name k) hub))
       ≡ balances_to (k + 1) unit latch hub
+  unfolding is_ban is_bat
   balances-more k latch (BAN group position) first last =
       rw (same_ban k group position first last, other_kind is_bat (BAT name k) (BAN group position) refl refl)
       (more_ban k position (unit_of group == unit) (is_within position 4) latch)
@@ -184,6 +197,7 @@ module _ (unit : ℕ) (from : 3 ≤ unit) (to : unit ≤ 34) (name : Group) (is 
       → is_closing point ≡ true
       → (balances_to 5 unit counter.latch hub || (all_nines (wheels_in counter) && is_hub (CO name) hub))
       ≡ counter_closes counter cycle point hub
+  unfolding is_co
   closes-all counter cycle point (BAN group position) numbered closing =
       rw (numbered, other_kind is_co (CO name) (BAN group position) refl refl)
       (no_carry _ _ (all_nines (wheels_in counter))

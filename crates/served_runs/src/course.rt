@@ -105,9 +105,21 @@ impl Course {
         ensures { Emits any_kind cycle unit (served_in self.old) (served_in self.new) }
     {
         let place = self.places[unit as usize] as usize;
-        self.units
-            .emit(unit, cycle, POINTS[place], &mut self.exits[place]);
+        let mut exits = self.exits[place];
+        self.units.emit(unit, cycle, POINTS[place], &mut exits);
+        self.exits[place] = exits;
         self.emitted[unit as usize] = true;
+    }
+
+    // The picture of the point with a place, as it stands so far.
+    fn picture(&self, net: &Net, place: usize) -> Picture
+        requires { place < 14 }
+        ensures { (wiring : Wiring) → IsNetOf wiring net.now
+            → IsPicture wiring (is_at self.now.exits place) (is_at self.now.closed place) (has_hub result) }
+    {
+        let mut picture = Picture::new();
+        net.picture(&self.exits[place], &self.closed[place], &mut picture);
+        picture
     }
 
     // A unit senses at its point, and comes to the next one. Answers how many hubs its picture has.
@@ -120,14 +132,15 @@ impl Course {
         ensures few { result ≤ hub_count }
     {
         let place = self.places[unit as usize] as usize;
-        let mut picture = Picture::new();
-        net.picture(&self.exits[place], &self.closed[place], &mut picture);
+        let picture = self.picture(net, place);
         self.units.sense(unit, cycle, POINTS[place], &picture);
         self.places[unit as usize] += 1;
         self.emitted[unit as usize] = false;
         if place + 1 < 14 {
+            let mut closed = self.closed[place + 1];
             self.units
-                .close(unit, cycle, POINTS[place + 1], &mut self.closed[place + 1]);
+                .close(unit, cycle, POINTS[place + 1], &mut closed);
+            self.closed[place + 1] = closed;
         }
         size(&picture)
     }

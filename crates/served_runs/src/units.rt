@@ -54,7 +54,7 @@ impl Units {
     ghost use Rattle.net.specs.HubSets.{GainsHubs, has_hub};
     ghost use Rattle.served.specs.Orders.{unit_count};
     ghost use Rattle.served.specs.Units.{IsUnit};
-    ghost use Rattle.served_runs.specs.Units.{SensesOne};
+    ghost use Rattle.served_runs.specs.Units.{IsWhole, SensesOne};
     ghost use Rattle.served_units.specs.AnyUnit.{any_closes, any_emits, unit_at};
 
     // The units of a setup as they start, with no card in the machine.
@@ -80,6 +80,11 @@ impl Units {
             program: Program::new(setup),
         }
     }
+
+    // Does nothing. The units are whole.
+    pub(crate) fn known(&self)
+        ensures { IsWhole self.now }
+    {}
 
     // Adds the exits that a unit emits at a point.
     pub(crate) fn emit(&self, unit: u8, cycle: Cycle, point: Point, exits: &mut Picture)
