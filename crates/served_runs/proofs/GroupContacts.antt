@@ -3,6 +3,7 @@ use Rattle.std.proofs.Common.{◌≡◌, ◌∙◌, ap, sym, refl, ℕ, zero, su
 use Rattle.std.specs.Prelude.{◌==◌, nat_lt}
 use Rattle.std.proofs.lemmas.Bool.{false≢true}
 use Rattle.std.proofs.lemmas.Bool.Decides.{nat_tests}
+use Rattle.counters.proofs.ControlHubs.{group_place-unit}
 use Rattle.counters.specs.Counters.{Counter, counter_closes, counter_number, group_of_unit, wheels_in}
 use Rattle.counters.specs.Wheels.{all_nines}
 use Rattle.hub_table.proofs.PlaceLemmas.{width_place-range}
@@ -18,6 +19,12 @@ use Rattle.net.specs.Panel.{unit_after, unit_of}
 use Rattle.net.specs.declared.cycle.Cycle.{Cycle}
 use Rattle.net.specs.declared.cycle.Point.{Point}
 use Rattle.served_runs.specs.Contacts.{balances_to, has_before}
+
+-- the unit of the group that is a unit
+pub unit_of-named : (unit : ℕ) → 3 ≤ unit → unit ≤ 34 → unit_of (group_of_unit unit) ≡ unit
+unit_of-named unit from to =
+    let e : 2 + (unit - 2) ≡ unit = omega arith in
+    ap (unit_after 2) (group_place-unit unit from to) ∙ e
 
 up_to-within : (last n : ℕ) → is_within n last ≡ true → up_to last n ≡ Some n
 up_to-within last n within = ap (λ (b : Bool). if b then Some n else None) within

@@ -35,7 +35,7 @@ pub(crate) struct Course {
 }
 
 impl Course {
-    ghost use Rattle.std.specs.Prelude.{◌≡◌, ◌↔◌, ◌<◌, ◌≤◌, ◌+◌, ◌-◌, ◌*◌, ℕ, true};
+    ghost use Rattle.std.specs.Prelude.{◌≡◌, ◌≢◌, ◌↔◌, ◌<◌, ◌≤◌, ◌||◌, ◌+◌, ◌-◌, ◌*◌, ℕ, true};
     ghost use Rattle.served.specs.Orders.{IsOrder, unit_count};
     ghost use Rattle.served.specs.Steps.{AreOver, Emits, HasEmitted, MayEmit, MaySense, Senses, Starts};
     ghost use Rattle.served.specs.Units.{IsUnit};
@@ -44,7 +44,9 @@ impl Course {
     ghost use Rattle.net.specs.Nets.{IsNetOf};
     ghost use Rattle.served_runs.specs.Course.{IsPanelOf, is_at, served_in};
     ghost use Rattle.served_runs.specs.Seen.{RoundIs, SensesSo, TurnSees, hub_count};
-    ghost use Rattle.served_units.specs.AnyUnit.{any_kind, unit_at};
+    ghost use Rattle.hubs.specs.declared.hub.Hub.{Hub};
+    ghost use Rattle.net.specs.Cycles.{point_at};
+    ghost use Rattle.served_units.specs.AnyUnit.{any_closes, any_kind, unit_at};
     ghost use Rattle.setups.specs.Wiring.{Wiring};
 
     // The start of a cycle: all units have come to the control point, and none has emitted.
@@ -122,6 +124,27 @@ impl Course {
         picture
     }
 
+    // A unit has come to a point, and closes its contacts there.
+    fn come(&mut self, cycle: Cycle, unit: u8)
+        requires { IsUnit unit_count unit }
+        ensures units { self.new.units ≡ self.old.units }
+        ensures places { self.new.places ≡ self.old.places }
+        ensures emitted { self.new.emitted ≡ self.old.emitted }
+        ensures exits { self.new.exits ≡ self.old.exits }
+        ensures own { (hub : Hub) → (served_in self.old).places unit < 14 → is_at self.new.closed ((served_in self.old).places unit) hub
+            ≡ (is_at self.old.closed ((served_in self.old).places unit) hub
+            || any_closes (unit_at self.old.units unit) cycle (point_at ((served_in self.old).places unit)) hub) }
+        ensures others { (place : ℕ) (hub : Hub) → place < 14 → place ≢ (served_in self.old).places unit
+            → is_at self.new.closed place hub ≡ is_at self.old.closed place hub }
+    {
+        let place = self.places[unit as usize] as usize;
+        if place < 14 {
+            let mut closed = self.closed[place];
+            self.units.close(unit, cycle, POINTS[place], &mut closed);
+            self.closed[place] = closed;
+        }
+    }
+
     // A unit senses at its point, and comes to the next one. Answers how many hubs its picture has.
     fn sense(&mut self, net: &Net, cycle: Cycle, unit: u8) -> u64
         requires unit { IsUnit unit_count unit }
@@ -136,12 +159,7 @@ impl Course {
         self.units.sense(unit, cycle, POINTS[place], &picture);
         self.places[unit as usize] += 1;
         self.emitted[unit as usize] = false;
-        if place + 1 < 14 {
-            let mut closed = self.closed[place + 1];
-            self.units
-                .close(unit, cycle, POINTS[place + 1], &mut closed);
-            self.closed[place + 1] = closed;
-        }
+        self.come(cycle, unit);
         size(&picture)
     }
 

@@ -3,6 +3,7 @@ use Rattle.hubs.specs.declared.hub.Hub.{Hub}
 use Rattle.net.specs.HubSets.{has_hub}
 use Rattle.served_runs.specs.Seen.{HasUpTo, IsIn}
 use Rattle.served_runs.proofs.sizes.size.Goals as goal
+use Rattle.served_runs.proofs.sizes.size.Goals.{then-is_in, else-is_in}
 
 none_yet : (set : Hub → Bool) → HasUpTo set 0 0
 unfolding HasUpTo
@@ -19,10 +20,33 @@ one_more set (suc last) count here from is counted =
     (here, count, is, subst (λ (n : ℕ). HasUpTo set n count) one counted, refl)
 
 pub loop-number-init : goal.loop-number-init
-loop-number-init c = ?
+loop-number-init c = record { counted = none_yet (has_hub c.args.picture.now); few = omega arith }
 
 pub loop-number-preserved : goal.loop-number-preserved
-loop-number-preserved c = ?
+loop-number-preserved c =
+    elim c.if-is_in.branch [
+      | then-is_in w ↦
+          let is = subst (IsIn (has_hub c.args.picture.now) c.loop-number.number) w.if-is_in.true c.is_in.ensures in
+          rw w.count-is (record {
+            counted = one_more (has_hub c.args.picture.now) c.loop-number.number c.loop-number.count true c.loop-number.auto.number is
+                c.loop-number.invariant.counted;
+            few = omega (arith, c.loop-number.invariant.few, c.loop-number.auto.number);
+          })
+      | else-is_in w ↦
+          let is = subst (IsIn (has_hub c.args.picture.now) c.loop-number.number) w.if-is_in.false c.is_in.ensures in
+          let same : c.loop-number.count + 0 ≡ c.loop-number.count = omega arith in
+          rw w.count-is (record {
+            counted = subst (HasUpTo (has_hub c.args.picture.now) (c.loop-number.number + 1 - 1)) same
+                (one_more (has_hub c.args.picture.now) c.loop-number.number c.loop-number.count false c.loop-number.auto.number is
+                c.loop-number.invariant.counted);
+            few = omega (arith, c.loop-number.invariant.few);
+          })
+    ]
 
 pub returns : goal.returns
-returns c = ?
+returns c =
+    let last : c.loop-number.number - 1 ≡ 1936 = omega arith in
+    record {
+      size = subst (λ (n : ℕ). HasUpTo (has_hub c.args.picture.now) n c.loop-number.count) last c.loop-number.invariant.counted;
+      few = omega (arith, c.loop-number.invariant.few, last);
+    }
