@@ -4,3 +4,5 @@ pub mod Sensing
 pub mod GroupContacts
 pub mod FullOrders
 pub mod Taken
+pub mod Serving
+pub mod Running

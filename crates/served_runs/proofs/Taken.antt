@@ -1,5 +1,5 @@
 -- Steps, turns and rounds taken so far, with what was seen in them.
-use Rattle.std.proofs.Common.{◌≡◌, ◌∙◌, ap, sym, refl, ℕ, zero, suc, ◌+◌, ◌-◌, ◌<◌, ◌≤◌, true, false, inl, inr, List, [], ◌∷◌, subst, arith}
+use Rattle.std.proofs.Common.{◌≡◌, ◌∙◌, ◌↔◌, ap, sym, refl, ℕ, zero, suc, ◌+◌, ◌-◌, ◌<◌, ◌≤◌, true, false, inl, inr, List, [], ◌∷◌, subst, arith}
 use Rattle.std.proofs.lemmas.Bool.{false≢true}
 use Rattle.net.specs.HubSets.{is_bit}
 use Rattle.net.specs.declared.cycle.Cycle.{Cycle}
@@ -154,3 +154,21 @@ module _ (wiring : Wiring) (cycle : Cycle) where
   rounds_of service from rounds old now seen over so =
       moved service from from (rounds + 0) rounds old now (seen + 0) seen refl (omega arith) (omega arith)
       (so 0 now 0 (record { rounds = (over, refl); sees = refl }))
+
+-- the bits of a panel's words are what a unit waits for
+pub waits_by : (wiring : Wiring) (waits : List ℕ) (unit other : ℕ) → AreWaits wiring waits → IsUnit 45 unit → IsUnit 45 other
+    → (is_bit (slice_index_or waits (unit - 1) 0) (other - 1) ≡ true) ↔ WaitsFor wiring unit other
+waits_by wiring waits unit other are is is_other =
+    let one : unit - 1 + 1 ≡ unit = omega (arith, is.0) in
+    let two : other - 1 + 1 ≡ other = omega (arith, is_other.0) in
+    let own = are (unit - 1) (other - 1) (omega (arith, is.0), omega (arith, is.1)) in (
+      λ on.
+          subst (λ (u : ℕ). WaitsFor wiring u other) one
+          (subst (λ (v : ℕ). WaitsFor wiring (unit - 1 + 1) v) two (own.0 on).1),
+      λ waits_for.
+          own.1 (
+            (omega (arith, is_other.0), omega (arith, is_other.1)),
+            subst (λ (u : ℕ). WaitsFor wiring u (other - 1 + 1)) (sym one)
+                (subst (λ (v : ℕ). WaitsFor wiring unit v) (sym two) waits_for),
+          ),
+    )
