@@ -50,6 +50,10 @@ module _ {State : Type 0} (kind : Kind State) (wiring : Wiring) (cycle : Cycle) 
   pub IsAhead : ℕ → Served State → ℕ → Type 0
   IsAhead rounds served unit = (28 ≤ made served unit) ⊎ (2 * rounds ≤ made served unit + 1)
 
+  pub ahead_none : (served : Served State) (unit : ℕ) → IsAhead 0 served unit
+  unfolding IsAhead
+  ahead_none served unit = inr (omega arith)
+
   stays_ahead : (rounds unit : ℕ) (old new : Served State) → made old unit ≤ made new unit → IsAhead rounds old unit
       → IsAhead rounds new unit
   unfolding IsAhead

@@ -5,7 +5,7 @@ use Rattle.std.proofs.lemmas.Simd.{map-map}
 use Rattle.machine.specs.Machine.{MachineState, ended}
 use Rattle.net.specs.declared.cycle.Cycle.{Cycle}
 use Rattle.served.proofs.Counts.{IsWithin, within_at_start, within_by_steps}
-use Rattle.served.proofs.FewRounds.{IsAhead, over_after, round_ahead, round_steps}
+use Rattle.served.proofs.FewRounds.{IsAhead, ahead_none, over_after, round_ahead, round_steps}
 use Rattle.served.specs.Orders.{IsOrder}
 use Rattle.served.specs.Steps.{AreOver, Served, Starts}
 use Rattle.served.specs.Units.{IsUnit}
@@ -32,7 +32,6 @@ module _ (wiring : Wiring) (cycle : Cycle) (service : List (List ℕ)) (before :
     pub few : rounds ≤ 15
 
   pub serving_start : (start : Served AnyUnit) → Starts any_kind cycle 45 units start → IsServing start before
-  unfolding IsAhead
   serving_start start starts = record {
     start = start;
     starts = starts;
@@ -42,7 +41,7 @@ module _ (wiring : Wiring) (cycle : Cycle) (service : List (List ℕ)) (before :
     added = omega arith;
     so_far = rounds_none wiring cycle service before.rounds start;
     within = within_at_start any_kind wiring cycle 45 units start starts;
-    ahead = λ unit is. inr (omega arith);
+    ahead = λ unit is. ahead_none any_kind wiring cycle 45 start unit;
     few = omega arith;
   }
 

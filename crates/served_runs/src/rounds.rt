@@ -35,6 +35,7 @@ pub(crate) fn serve_cycle(
         counts.rounds += 1;
     }
     let mut units = course.units;
+    units.known();
     units.end_cycle(cycle);
     (units, counts)
 }

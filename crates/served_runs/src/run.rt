@@ -53,6 +53,7 @@ pub fn simulate_served(
     let mut lines = Vec::new(alloc);
     while let Some(cycle) = units.cycle_due() {
         hopper = units.make_ready(cycle, hopper);
+        units.known();
         (units, counts) = serve_cycle(units, &panel, cycle, service, counts);
         append(&mut lines, units.placed_line())?;
     }

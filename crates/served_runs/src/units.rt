@@ -84,7 +84,9 @@ impl Units {
     // Does nothing. The units are whole.
     pub(crate) fn known(&self)
         ensures { IsWhole self.now }
-    {}
+    {
+        let _more = self.stations.has_first();
+    }
 
     // Adds the exits that a unit emits at a point.
     pub(crate) fn emit(&self, unit: u8, cycle: Cycle, point: Point, exits: &mut Picture)
