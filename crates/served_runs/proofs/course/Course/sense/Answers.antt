@@ -1,9 +1,11 @@
 use Rattle.std.proofs.Common.{rules, ◌≡◌, ◌∙◌, ◌<◌, ◌+◌, ◌||◌, ℕ, Bool, false, List, length, arith, ap, sym, subst, slice_index_or, slice_set}
-use Rattle.std.proofs.lemmas.List.{get_or-set_other, get_or-set_same}
+use Rattle.std.proofs.lemmas.List.{get_or_default, get_or-set_other, get_or-set_same}
 use Rattle.machine.specs.Machine.{MachineState}
-use Rattle.net.specs.Cycles.{point_at}
+use Rattle.net.specs.Cycles.{point_at, points}
 use Rattle.net.specs.HubSets.{HubSet, has_hub}
-use Rattle.served_units.specs.AnyUnit.{AnyUnit, any_closes, unit_at}
+use Rattle.net.specs.declared.cycle.Point.{Point}
+use Rattle.net.specs.declared.cycle.Point.TheVariants.{C, K}
+use Rattle.served_units.specs.AnyUnit.{any_closes, any_sensed, unit_at}
 use Rattle.served_runs.specs.Course.{is_at}
 use Rattle.served_runs.proofs.course.Course.sense.Goals as goal
 
@@ -23,7 +25,9 @@ returns-clause-senses c wiring is_net may =
         allowed = may;
         picture = has_hub c.picture-picture.result;
         is_picture = c.picture-picture.ensures wiring is_net;
-        own_unit = ap (λ (m : MachineState). unit_at m unit) c.come.ensures.units ∙ c.sense.ensures.own;
+        own_unit = ap (λ (m : MachineState). unit_at m unit) c.come.ensures.units ∙ c.sense.ensures.own
+            ∙ ap (λ (p : Point). any_sensed (unit_at old.units unit) c.args.cycle p (has_hub c.picture-picture.result))
+            (get_or_default points place C K c.requires.within);
         other_units = λ other apart.
             ap (λ (m : MachineState). unit_at m other) c.come.ensures.units ∙ c.sense.ensures.others other apart;
         own_place = ap (λ (ps : List ℕ). slice_index_or ps unit 0) c.come.ensures.places ∙ come;
