@@ -64,7 +64,7 @@ fn main(rt: HostRuntime) -> Result<()> {
             u32::from(setup.tape().lines()),
         )?;
         out.write_all(pages.as_slice())?;
-        writeln!(out, "rounds {} seen {}", run.rounds, run.seen)?;
+        writeln!(out, "rounds {} seen {}", run.counts.rounds, run.counts.seen)?;
     }
     out.flush()?;
     Ok(())

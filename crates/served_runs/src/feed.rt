@@ -1,63 +1,52 @@
-//! A feed: the next card, or the end, and the cycles that follow.
+//! The cards of a run: they lie in a hopper, and move on before each card cycle.
 
 use crate::units::Units;
 use card_code::Card;
 use net::Cycle;
 
 impl Units {
-    ghost use Rattle.std.specs.Prelude.{◌≡◌, Some};
-    ghost use Rattle.machine.specs.Feeds.{begun, due_in, taken};
-    ghost use Rattle.machine.specs.Runs.{cycle_due, moved_on};
+    ghost use Rattle.std.specs.Prelude.{◌≡◌};
+    ghost use Rattle.machine.specs.Runs.{cards_moved, cycle_due, made_ready, moved_on};
 
-    // Begins a feed, and answers whether what is fed waits: the first card goes to first reading at once.
-    pub(crate) fn begin(&mut self, next: &Option<Card>) -> bool
-        ensures { begun self.old next.now ≡ record { machine = self.new; waits = result; next = next.now } }
+    // The cards move on by one: the next card of the hopper, if any, goes to first reading. Answers what is left in the hopper.
+    pub(crate) fn move_cards<'a>(&mut self, hopper: &'a [Card]) -> &'a [Card]
+        ensures { cards_moved self.old hopper.now ≡ record { machine = self.new; hopper = result.now } }
     {
-        if self.program.is_fresh() {
-            self.load(next);
-            false
-        } else {
-            true
+        match hopper.split_first() {
+            Some((card, others)) => {
+                self.load(Some(*card));
+                others
+            }
+            None => {
+                self.load(None);
+                hopper
+            }
         }
     }
 
-    // The cards move on by one.
-    fn load(&mut self, next: &Option<Card>)
-        ensures { self.new ≡ moved_on next.now self.old }
+    // This card, if any, comes to first reading, and the others move on by one.
+    fn load(&mut self, next: Option<Card>)
+        ensures { self.new ≡ moved_on next self.old }
     {
-        self.stations.load(*next);
+        self.stations.load(next);
     }
 
     // The cycle that is due, if any.
-    fn cycle_due(&self) -> Option<Cycle>
+    pub(crate) fn cycle_due(&self) -> Option<Cycle>
         ensures { result ≡ cycle_due self.now }
     {
         self.program
             .next_cycle(self.carriage.latch(), self.stations.has_first())
     }
 
-    // The cycle that is due in a feed, if any.
-    pub(crate) fn due_in(&self, waits: bool, _next: &Option<Card>) -> Option<Cycle>
-        ensures { result ≡ due_in (record { machine = self.now; waits = waits; next = _next.now }) }
-    {
-        if waits || !self.program.card_over(self.stations.has_first()) {
-            self.cycle_due()
-        } else {
-            None
-        }
-    }
-
-    // Takes what is fed where a card cycle is due, and answers whether something still waits.
-    pub(crate) fn take(&mut self, cycle: Cycle, waits: bool, next: &Option<Card>) -> bool
-        ensures { taken cycle (record { machine = self.old; waits = waits; next = next.now })
-            ≡ record { machine = self.new; waits = result; next = next.now } }
+    // Just before a card cycle the cards move on; before other cycles they stay. Answers what is left in the hopper.
+    pub(crate) fn make_ready<'a>(&mut self, cycle: Cycle, hopper: &'a [Card]) -> &'a [Card]
+        ensures { made_ready cycle (record { machine = self.old; hopper = hopper.now })
+            ≡ record { machine = self.new; hopper = result.now } }
     {
         match cycle {
-            Cycle::Card => {
-                self.load(next);
-                false
-            }
-            Cycle::RunIn | Cycle::Prog(_, _) | Cycle::Head(_) => waits,
+            Cycle::Card => self.move_cards(hopper),
+            Cycle::RunIn | Cycle::Prog(_, _) | Cycle::Head(_) => hopper,
         }
     }
 }

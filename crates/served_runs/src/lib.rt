@@ -3,6 +3,7 @@
 #![tactic(auto)]
 
 mod contacts;
+mod counts;
 mod course;
 mod feed;
 mod groups;
@@ -11,4 +12,5 @@ mod run;
 mod sizes;
 mod units;
 
+pub use counts::Counts;
 pub use run::{ServedRun, simulate_served};

@@ -1,63 +1,41 @@
 //! A cycle, in rounds by the orders of a service.
 
-use crate::course::Course;
+ghost use Rattle.std.specs.Prelude.{◌≤◌, ◌<◌, ◌+◌, ◌^◌};
+ghost use Rattle.served.specs.Orders.{unit_count};
+ghost use Rattle.served_runs.specs.Course.{IsPanelOf};
+ghost use Rattle.served_runs.specs.Runs.{CycleInRounds, most_rounds, most_seen};
+ghost use Rattle.setups.specs.Wiring.{Wiring};
+
+use crate::counts::Counts;
+use crate::course::{Course, Panel};
 use crate::units::Units;
-use net::{Cycle, Net};
+use net::Cycle;
 use served::Service;
-use waits::UNITS;
-
-// What is counted in a served run.
-#[derive(Clone, Copy)]
-pub(crate) struct Counts {
-    // How many rounds were taken.
-    pub(crate) rounds: u64,
-    // How many hubs the sensed pictures had.
-    pub(crate) seen: u64,
-}
-
-// The wires of a panel, and for each unit the word of the units that it waits for.
-#[derive(Drop)]
-pub(crate) struct Panel {
-    pub(crate) net: Net,
-    pub(crate) waits: [u64; UNITS],
-}
-
-impl Course {
-    // A round: the units of the order take their turns, one after another.
-    fn round(&mut self, units: &mut Units, panel: &Panel, cycle: Cycle, order: &[u8]) {
-        for &unit in order {
-            if 1 <= unit && unit <= UNITS as u8 {
-                self.take_turn(
-                    units,
-                    &panel.net,
-                    panel.waits[unit as usize - 1],
-                    cycle,
-                    unit,
-                );
-            }
-        }
-    }
-}
-
-// The most rounds that a cycle takes.
-const MOST_ROUNDS: usize = 15;
 
 // A cycle, in rounds until it is over for all units; then each ends it.
 pub(crate) fn serve_cycle(
-    units: &mut Units,
+    units: Units,
     panel: &Panel,
     cycle: Cycle,
     service: &Service,
-    counts: &mut Counts,
-) {
-    let mut course = Course::start(units, cycle, counts.seen);
-    for _ in 0..MOST_ROUNDS {
-        if course.is_over() {
-            break;
-        }
-        course.round(units, panel, cycle, service.order(counts.rounds));
-        counts.rounds = u64::saturating_add(counts.rounds, 1);
+    before: Counts,
+) -> (Units, Counts)
+    requires panel { (wiring : Wiring) × IsPanelOf wiring panel.now }
+    requires rounds { before.rounds + most_rounds < 2 ^ 64 }
+    requires seen { before.seen + most_seen < 2 ^ 64 }
+    ensures ran { (wiring : Wiring) → IsPanelOf wiring panel.now
+        → CycleInRounds wiring service.now cycle units result.0 before result.1 }
+    ensures few_rounds { result.1.rounds ≤ before.rounds + most_rounds }
+    ensures few_seen { result.1.seen ≤ before.seen + most_seen }
+{
+    let mut counts = before;
+    let mut course = Course::start(units, cycle);
+    while !course.is_over() {
+        counts.seen += course.round(panel, cycle, service.order(counts.rounds));
+        counts.rounds += 1;
     }
-    counts.seen = course.seen;
+    let mut units = course.units;
+    units.known();
     units.end_cycle(cycle);
+    (units, counts)
 }

@@ -54,8 +54,8 @@ impl Units {
     ghost use Rattle.net.specs.HubSets.{GainsHubs, has_hub};
     ghost use Rattle.served.specs.Orders.{unit_count};
     ghost use Rattle.served.specs.Units.{IsUnit};
-    ghost use Rattle.served_runs.specs.Units.{SensesOne};
-    ghost use Rattle.served_units.specs.AnyUnit.{any_emits, unit_at};
+    ghost use Rattle.served_runs.specs.Units.{IsWhole, SensesOne};
+    ghost use Rattle.served_units.specs.AnyUnit.{any_closes, any_emits, unit_at};
 
     // The units of a setup as they start, with no card in the machine.
     pub(crate) fn new(setup: &Setup) -> Self
@@ -81,6 +81,13 @@ impl Units {
         }
     }
 
+    // Does nothing. The units are whole.
+    pub(crate) fn known(&self)
+        ensures { IsWhole self.now }
+    {
+        let _more = self.stations.has_first();
+    }
+
     // Adds the exits that a unit emits at a point.
     pub(crate) fn emit(&self, unit: u8, cycle: Cycle, point: Point, exits: &mut Picture)
         requires { IsUnit unit_count unit }
@@ -104,6 +111,7 @@ impl Units {
     // Adds the contacts of a unit that are closed at a point.
     pub(crate) fn close(&self, unit: u8, cycle: Cycle, point: Point, contacts: &mut Contacts)
         requires { IsUnit unit_count unit }
+        ensures { GainsHubs (any_closes (unit_at self.now unit) cycle point) contacts.old contacts.new }
     {
         if 3 <= unit && unit <= 34 {
             close_group(&self.groups[unit as usize - 3], unit, point, contacts);
