@@ -1,15 +1,13 @@
 -- The amounts of a chart have the totals of its lines, and are lawful amounts.
-use Rattle.std.proofs.Common.{◌≡◌, ◌∙◌, refl, sym, ap, ℕ, zero, suc, ◌<◌, ◌≤◌, ◌==◌, ◌&&◌, nat_lt, Bool, true, false, List, Contains, Option, Some, None, is_some, is_none, option_and_then, arith, if◌then◌else◌}
+use Rattle.std.proofs.Common.{◌≡◌, ◌∙◌, refl, sym, ap, ℕ, zero, suc, ◌<◌, ◌≤◌, ◌==◌, nat_lt, Bool, true, false, List, Contains, Option, Some, None, is_some, is_none, option_and_then, arith, if◌then◌else◌}
 use Rattle.std.proofs.lemmas.Bool.Decides.{nat_tests}
 use Rattle.std.proofs.lemmas.Bool.{not-false, both_ways, and_parts}
 use Rattle.wanted.specs.ChartTotals.{names_signed}
 use Rattle.plans.specs.Plans.{Lists}
-use Rattle.chart_rules.proofs.Laws.{breaks-lawful}
 use Rattle.field_rules.proofs.Places.{is_same_name-equal}
 use Rattle.field_rules.specs.Fields.{field_named}
 use Rattle.field_rules.specs.Names.{names_text}
 use Rattle.chart_rules.specs.Rules.{IsLawful, breaks}
-use Rattle.chart_rules.specs.declared.rule.Rule.{Rule}
 use Rattle.chart_rules.specs.declared.rule.Rule.TheVariants as rule
 use Rattle.charts.specs.Chart.{Chart}
 use Rattle.charts.specs.Field.{sign_column, column_of_rule, is_amount}

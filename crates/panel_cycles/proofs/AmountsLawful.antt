@@ -1,31 +1,18 @@
 -- The amounts of a lawful chart with a plan are lawful amounts, and each valid card has no more digits of one than its totals.
-use Rattle.std.proofs.Common.{◌≡◌, ◌∙◌, refl, sym, ap, ℕ, ◌+◌, ◌^◌, ◌<◌, ◌≤◌, ◌&&◌, ◌||◌, nat_lt, Bool, true, false, List, Some, None, is_some, arith}
+use Rattle.std.proofs.Common.{◌≡◌, ◌∙◌, refl, ap, ℕ, ◌^◌, ◌≤◌, true, List, Some, None, is_some, arith}
 use Rattle.std.proofs.Math.Nat.{pow-le-pow_right}
-use Rattle.std.proofs.lemmas.Bool.Decides.{nat_tests}
-use Rattle.wanted.specs.ChartTotals.{names_signed, need_of, line_total}
+use Rattle.wanted.specs.ChartTotals.{names_signed, need_of}
 use Rattle.plans.specs.Plans.{Lists, IsFor}
-use Rattle.wanted.specs.declared.total.Total.{Total}
-use Rattle.field_rules.proofs.Places.{is_same_name-equal}
-use Rattle.field_rules.specs.Digits.{is_out_of_digits}
 use Rattle.field_rules.specs.Fields.{field_named}
-use Rattle.chart_rules.specs.Rules.{IsLawful, breaks}
-use Rattle.field_rules.specs.Shrink.{has_wider_below, is_wider_below}
-use Rattle.chart_rules.specs.declared.rule.Rule.TheVariants as rule
+use Rattle.chart_rules.specs.Rules.{IsLawful}
 use Rattle.charts.specs.Chart.{Chart, NumbersRise}
 use Rattle.charts.specs.Field.{columns_of, sign_column}
-use Rattle.charts.specs.Levels.{level_number}
-use Rattle.charts.specs.Name.{is_same_name}
-use Rattle.charts.specs.declared.chart.Line.{Line}
 use Rattle.charts.specs.declared.statement.Field.{Field}
 use Rattle.charts.specs.declared.statement.FieldKind.{FieldKind}
 use Rattle.charts.specs.declared.statement.FieldKind.TheVariants as holds
-use Rattle.charts.specs.declared.statement.Statement.{Statement}
-use Rattle.charts.specs.declared.statement.Statement.TheVariants as says
-use Rattle.hubs.specs.declared.hub.Group.{Group}
 use Rattle.report.specs.Amounts.{digits_on, is_negated, number_in}
-use Rattle.totals.specs.Amounts.{IsOnCard, HasGroups, sign_positions}
+use Rattle.totals.specs.Amounts.{IsOnCard, HasGroups}
 use Rattle.wiring_table.specs.Figures.{IsAmount}
-use Rattle.wiring_table.specs.Parts.{HasTotal}
 use Rattle.panel_cycles.proofs.AmountFacts.{counter_at, digits_are, has_from}
 use Rattle.panel_cycles.proofs.CounterAsksCards.{number_small}
 use Rattle.panel_cycles.specs.ChartAmounts.{amount_of, positions_of}

@@ -1,7 +1,7 @@
 -- What is asked of the counter of a total in a cycle, by the pictures of the cycle.
-use Rattle.std.proofs.Common.{◌≡◌, ◌∙◌, refl, sym, ap, subst, ℕ, ◌^◌, ◌<◌, ◌==◌, ◌&&◌, Bool, true, false, List, Some, arith, if◌then◌else◌, option_map, option_and_then}
+use Rattle.std.proofs.Common.{◌≡◌, ◌∙◌, refl, sym, ap, subst, ℕ, ◌^◌, ◌<◌, ◌==◌, ◌&&◌, Bool, true, false, List, Some, arith, if◌then◌else◌}
 use Rattle.std.proofs.lemmas.Bool.Decides.{nat_tests}
-use Rattle.counter_cycles.specs.Acts.{Act, Asks, Entered, Held, IsControlled, Spells, act_controls, digit_of}
+use Rattle.counter_cycles.specs.Acts.{Act, Held, act_controls, digit_of}
 use Rattle.counter_cycles.specs.Acts.Act.{Still}
 use Rattle.wanted.specs.ChartTotals.{names_signed}
 use Rattle.plans.specs.Plans.{Lists}
@@ -11,7 +11,6 @@ use Rattle.charts.specs.declared.statement.Field.{Field}
 use Rattle.setups.specs.Wiring.{Wiring}
 use Rattle.hubs.specs.declared.hub.Group.{Group}
 use Rattle.hubs.specs.declared.hub.Hub.{Hub}
-use Rattle.hubs.specs.declared.hub.Hub.TheVariants.{RO}
 use Rattle.machine.specs.Machine.{MachineState}
 use Rattle.net.specs.Cycles.{level_number}
 use Rattle.net.specs.declared.cycle.Cycle.{Cycle}
@@ -20,7 +19,6 @@ use Rattle.net.specs.declared.cycle.ProgramLevel.{ProgramLevel}
 use Rattle.net.specs.declared.cycle.Ordinal.{Ordinal}
 use Rattle.net.specs.declared.cycle.Ordinal.TheVariants.{First, Second, Third}
 use Rattle.net.specs.declared.cycle.Point.{Point}
-use Rattle.net.specs.declared.cycle.Point.TheVariants.{C}
 use Rattle.report.specs.Amounts.{digits_on, number_in, is_negated}
 use Rattle.totals.specs.Amounts.{Amount, IsSmall, Kind, act_of, lower}
 use Rattle.totals.specs.Amounts.Kind.{Entry, Prog as ProgKind, Other}
@@ -39,7 +37,7 @@ use Rattle.panel_cycles.specs.CounterStates.IsKindOf.{card as card_kind, heading
 use Rattle.plans.specs.declared.counter.TotalCounter.{TotalCounter}
 use Rattle.plans.specs.declared.counter.TotalCounter.TheVariants as of
 use Rattle.wiring_table.proofs.Groups.{counter-given}
-use Rattle.wiring_table.specs.Parts.{HasPanelGroup, counter_for, top_group}
+use Rattle.wiring_table.specs.Parts.{HasPanelGroup, top_group}
 
 -- tests
 is_number : (a b : ℕ) → (a == b) ≡ true → a ≡ b

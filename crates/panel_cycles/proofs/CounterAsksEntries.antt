@@ -1,4 +1,4 @@
--- What is entered spells what is asked: the number of a card, the number of the group itself, or that of the next lower total.
+-- What is entered spells what is asked: the number of a card, the number of the total itself, or that of the next lower total.
 use Rattle.std.proofs.Common.{◌≡◌, ◌∙◌, refl, sym, ap, subst, ℕ, ◌+◌, ◌-◌, ◌^◌, ◌<◌, ◌≤◌, ◌==◌, nat_le, ◌&&◌, Bool, true, false, List, Contains, Some, length, All, arith, option_map, inl, inr}
 use Rattle.std.proofs.lemmas.Bool.Decides.{nat_tests}
 use Rattle.std.proofs.lemmas.Option.{same_Some, slice_get_read}

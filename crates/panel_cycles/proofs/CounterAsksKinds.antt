@@ -1,4 +1,4 @@
--- The control hubs of the counter group of a total are impulsed as what is asked of it says, in each kind of cycle.
+-- The control hubs of a counter group of a total are impulsed as what is asked of it says, in each kind of cycle.
 use Rattle.std.proofs.Common.{◌≡◌, ◌∙◌, refl, sym, ap, ℕ, ◌≤◌, ◌==◌, ◌&&◌, not, Bool, true, false, List, Some, arith, if◌then◌else◌}
 use Rattle.std.proofs.lemmas.Bool.Decides.{nat_tests}
 use Rattle.std.proofs.lemmas.Bool.{not-true, false_from_ne_true, both_ways}

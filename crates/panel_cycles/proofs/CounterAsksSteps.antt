@@ -1,4 +1,4 @@
--- The control hubs of the counter group of a total in program cycles and in others: they are impulsed as what is asked of it says.
+-- The control hubs of a counter group of a total in program cycles and in others: they are impulsed as what is asked of it says.
 use Rattle.std.proofs.Common.{◌≡◌, ◌∙◌, refl, sym, ap, subst, ℕ, ◌<◌, ◌≤◌, ◌==◌, ◌&&◌, not, Bool, true, false, List, Some, option_map, arith, if◌then◌else◌}
 use Rattle.std.proofs.lemmas.Bool.{not-true, false_from_ne_true}
 use Rattle.std.proofs.lemmas.Bool.Decides.{nat_tests}

@@ -1,9 +1,9 @@
 -- The carries of counters: by which wires they come, and which counters form rings: those of signed totals.
-use Rattle.std.proofs.Common.{◌≡◌, ◌∙◌, refl, sym, ap, subst, ℕ, true, List, Option, Some, None, option_map, option_and_then, ◌⊎◌, inl, inr}
+use Rattle.std.proofs.Common.{◌≡◌, ◌∙◌, refl, sym, ap, subst, ℕ, true, List, Option, Some, None, option_map, option_and_then, inl, inr}
 use Rattle.capacity.specs.declared.group.CounterGroup.{CounterGroup}
 use Rattle.wanted.specs.ChartTotals.{names_signed}
 use Rattle.plans.specs.Counters.{single_group}
-use Rattle.plans.specs.Plans.{IsFor, Lists}
+use Rattle.plans.specs.Plans.{Lists}
 use Rattle.plans.specs.declared.counter.TotalCounter.{TotalCounter}
 use Rattle.plans.specs.declared.counter.TotalCounter.TheVariants as of
 use Rattle.field_rules.specs.Fields.{field_named}

@@ -2,11 +2,7 @@
 use Rattle.std.proofs.Common.{◌≡◌, ◌∙◌, refl, sym, ap, subst, ℕ, ◌+◌, ◌<◌, ◌≤◌, ◌==◌, Bool, true, false, cond, List, Contains, Option, Some, None, length, map, slice_get, option_map, arith}
 use Rattle.std.proofs.lemmas.Bool.Decides.{nat_tests}
 use Rattle.std.proofs.lemmas.List.{length-map}
-use Rattle.std.proofs.lemmas.Option.{slice_get_within, get_or_from_slice_get}
 use Rattle.counter_cycles.specs.Acts.{digit_of}
-use Rattle.wanted.specs.ChartTotals.{line_total, need_of, names_signed}
-use Rattle.plans.specs.Plans.{Lists, IsFor}
-use Rattle.wanted.specs.declared.total.Total.{Total}
 use Rattle.card_code.specs.CardCode.{has_row}
 use Rattle.card_code.specs.Rows.{row_number}
 use Rattle.field_rules.specs.Fields.{field_named, fields_of}
@@ -19,7 +15,7 @@ use Rattle.print_rules.specs.Wheels.{HasWheel}
 use Rattle.print_rules.specs.declared.items.Item.{Item}
 use Rattle.print_rules.specs.declared.items.PrintedLine.TheVariants.{Body}
 use Rattle.chart_rules.specs.declared.rule.Rule.TheVariants as rule
-use Rattle.charts.specs.Chart.{Chart, NumbersRise}
+use Rattle.charts.specs.Chart.{Chart}
 use Rattle.charts.specs.Field.{columns_of, decimals_of, is_amount}
 use Rattle.charts.specs.Levels.{level_number as chart_number}
 use Rattle.charts.specs.declared.chart.Line.{Line}
@@ -34,7 +30,6 @@ use Rattle.charts.specs.declared.statement.Statement.TheVariants as says
 use Rattle.charts.specs.declared.statement.Statement.{Statement}
 use Rattle.hub_table.specs.Ranges.{is_within}
 use Rattle.setups.specs.Wiring.{Wiring}
-use Rattle.hubs.specs.declared.hub.Group.{Group}
 use Rattle.hubs.specs.declared.hub.Hub.TheVariants.{EM, W, PX, RO, SO}
 use Rattle.net.specs.Cycles.{level_number}
 use Rattle.net.specs.declared.cycle.Cycle.TheVariants.{Prog}
@@ -52,7 +47,7 @@ use Rattle.wiring_table.specs.Figures.IsFigure.{on_total as figure_on_total}
 use Rattle.wiring_table.specs.Figures.IsLiteral.{on_total}
 use Rattle.wiring_table.specs.Figures.{IsText, IsAmount, IsSigned, HasPunchAt, rule_of, mark_text}
 use Rattle.plans.specs.declared.counter.TotalCounter.{TotalCounter}
-use Rattle.wiring_table.specs.Parts.{ServesPosition, counter_for, panel_group, top_for, top_group}
+use Rattle.wiring_table.specs.Parts.{ServesPosition, counter_for, top_for, top_group}
 use Rattle.wiring_table.specs.Wires.LineWire.{literal, point, total_digit, total_mark_in, total_mark_out, total_text_out}
 use Rattle.wired_panels.specs.CycleRows.{CycleRow}
 use Rattle.wired_panels.specs.Groups.{IsGroupOf}
@@ -64,10 +59,8 @@ use Rattle.wired_panels.proofs.ReadingOut.{reads-total, reads-text}
 use Rattle.wired_panels.proofs.ToCounters.{with_group}
 use Rattle.wired_panels.proofs.ToWheels.{ArrivesThere, Emits, along, along_contact}
 use Rattle.wiring_table.proofs.Parts.{unit-given}
-use Rattle.wiring_table.specs.Parts.{HasTotal}
 use Rattle.wiring_table.proofs.Groups as groups
 use Rattle.wiring_table.proofs.Totals.{total-of}
-use Rattle.charts.proofs.Listed.{listed-at, place-of}
 use Rattle.wired_panels.proofs.SpeakersLawful.{kept-at}
 use Rattle.panel_cycles.proofs.WheelRows.IsLineOf.{total as its_total}
 use Rattle.panel_cycles.proofs.WheelRows.{IsLineOf, SendsRow, stands_on, sent_on}

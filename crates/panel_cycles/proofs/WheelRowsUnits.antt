@@ -1,6 +1,5 @@
 -- Counter groups and storage units of a machine between cycles, by the names of their hubs.
-use Rattle.std.proofs.Common.{◌≡◌, ◌∙◌, refl, sym, ap, subst, ℕ, zero, suc, ◌+◌, ◌-◌, ◌/◌, ◌%◌, ◌^◌, ◌<◌, ◌≤◌, false, List, [], ◌∷◌, Contains, Option, Some, None, length, slice_get, get_or, inl, inr, ◌⊎◌, arith}
-use Rattle.std.specs.List.{filter_map, cons_option}
+use Rattle.std.proofs.Common.{◌≡◌, ◌∙◌, sym, ap, ℕ, zero, suc, ◌+◌, ◌-◌, ◌/◌, ◌%◌, ◌^◌, ◌<◌, ◌≤◌, false, List, [], ◌∷◌, Contains, length, get_or, inl, inr, ◌⊎◌, arith}
 use Rattle.std.proofs.lemmas.Bool.{cases_lt}
 use Rattle.std.proofs.lemmas.Bool.Decides.{nat_tests}
 use Rattle.std.proofs.lemmas.List.{get_or-map}
@@ -8,11 +7,7 @@ use Rattle.std.proofs.lemmas.List.FromFn.{get_or-range_with_len}
 use Rattle.std.proofs.lemmas.List.Elements.{Contains-get_or}
 use Rattle.counter_cycles.proofs.ShownLemmas.{digits-tell}
 use Rattle.counter_cycles.specs.Acts.{digit_of}
-use Rattle.wanted.specs.ChartTotals.{line_total}
 use Rattle.plans.specs.Plans.{Lists, IsFor}
-use Rattle.wanted.specs.declared.total.Total.{Total}
-use Rattle.capacity.specs.Capacities.{HasGroup, groups_of, standard}
-use Rattle.capacity.specs.declared.group.CounterGroup.{CounterGroup}
 use Rattle.charts.specs.declared.chart.Line.{Line}
 use Rattle.counters.specs.Counters.{Counter, counter_number, counter_of}
 use Rattle.counters.specs.Laws.{IsCounter}
@@ -27,7 +22,7 @@ use Rattle.whole_cycles.proofs.Places.{in_units, as_many, told_at}
 use Rattle.whole_cycles.proofs.Units.{units-by_name}
 use Rattle.whole_cycles.specs.Between.{IsBetween}
 use Rattle.whole_cycles.specs.Units.{IsGroup, group_at, storage_at}
-use Rattle.wiring_table.specs.Parts.{ServesTotal, panel_group}
+use Rattle.wiring_table.specs.Parts.{ServesTotal}
 use Rattle.wired_panels.specs.Sources.{digit_at}
 use Rattle.wired_panels.proofs.Contacts.{is_set}
 use Rattle.wiring_table.proofs.Groups.{serves-there}

@@ -1,5 +1,5 @@
 -- What a cycle leaves of the totals of an amount: each holds what its act makes of what it held.
-use Rattle.std.proofs.Common.{◌≡◌, ◌∙◌, refl, sym, ap, subst, ℕ, ◌≤◌, Bool, true, false, List, [], Contains, Option, Some, None, is_some, option_and_then, if◌then◌else◌, arith, ◌+◌, ◌*◌, ◌^◌, length, inl, inr}
+use Rattle.std.proofs.Common.{◌≡◌, ◌∙◌, refl, sym, ap, subst, ℕ, ◌≤◌, Bool, true, false, List, Contains, Option, Some, None, is_some, option_and_then, if◌then◌else◌, arith, ◌+◌, ◌*◌, ◌^◌, length, inl, inr}
 use Rattle.std.proofs.lemmas.List.Elements.{All-contains}
 use Rattle.counter_cycles.proofs.ActLemmas.{acts-done}
 use Rattle.counter_cycles.specs.Acts.{Act, Asks, Held, IsWithinGroup, held_after, held_by}

@@ -58,7 +58,6 @@ use Rattle.printed_lines.specs.Held.{HoldsLine}
 use Rattle.printed_lines.specs.Shown.{Printed, sent_to_total, set_on}
 use Rattle.report.specs.BodyLines.{total_line}
 use Rattle.report.specs.Breaks.{taking}
-use Rattle.report.specs.Edits as edit
 use Rattle.report.specs.Totals.{total_of}
 use Rattle.whole_cycles.proofs.Units.{units-by_name}
 use Rattle.whole_cycles.specs.Between.{IsReady}

@@ -1,5 +1,5 @@
 -- What holds of each wire of a chart: it leads from an exit to an entry, and no second contact stands after a contact.
-use Rattle.std.proofs.Common.{◌≡◌, ◌∙◌, sym, refl, ℕ, ◌&&◌, ◌||◌, not, Bool, true, false, List, Option, Some, None, ap, is_some}
+use Rattle.std.proofs.Common.{◌≡◌, sym, refl, ℕ, ◌&&◌, ◌||◌, not, Bool, true, false, List, Option, Some, None, ap, is_some}
 use Rattle.plans.specs.Plans.{Lists}
 use Rattle.charts.specs.declared.chart.Line.{Line}
 use Rattle.charts.specs.declared.statement.BodyLine.TheVariants as body

@@ -1,4 +1,4 @@
--- What impulses the control hubs of the counter group of a total.
+-- What impulses the control hubs of a counter group of a total.
 use Rattle.std.proofs.Common.{◌≡◌, ◌∙◌, refl, sym, subst, ℕ, Bool, true, List, Some, ◌⊎◌, inl, inr, arith}
 use Rattle.plans.specs.Plans.{Lists}
 use Rattle.charts.specs.Chart.{Chart, NumbersRise}

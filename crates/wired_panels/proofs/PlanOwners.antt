@@ -1,36 +1,22 @@
--- A counter group serves one total, which has one group, and each signed amount with a total has a pilot.
-use Rattle.std.proofs.Common.{◌≡◌, ◌+◌, filter, ◌∙◌, refl, sym, ap, subst, ℕ, ◌<◌, ◌≤◌, ◌==◌, Bool, true, false, List, [], ◌∷◌, ◌++◌, Contains, Option, Some, None, is_some, position, option_map, option_and_then, slice_get, get_or, length, append_assoc, ◌⊎◌, inl, inr, arith}
-use Rattle.std.proofs.lemmas.Bool.Decides.{nat_tests}
-use Rattle.std.proofs.lemmas.List.Elements.{Contains-append_cases, Contains-append_right}
-use Rattle.std.proofs.lemmas.Option.{slice_get_within, slice_get_cases}
-use Rattle.wanted.specs.ChartTotals.{line_total, totals_of, need_of}
-use Rattle.wanted.specs.Pilots.{shows, prints_name, wants_pilot, pilots_of}
-use Rattle.plans.specs.Plans.{Lists, IsFor, number_where}
-use Rattle.wanted.specs.declared.total.Total.{Total}
-use Rattle.wanted.specs.Wanted.{Parts}
-use Rattle.capacity.specs.Capacities.{HasGroup, standard}
-use Rattle.capacity.specs.declared.group.CounterGroup.{CounterGroup}
-use Rattle.chart_rules.proofs.Laws.{breaks-lawful}
+-- A counter group serves one total, one group has the balance of a total, and each signed amount with a total has a pilot.
+use Rattle.std.proofs.Common.{◌≡◌, ◌∙◌, refl, sym, ap, ℕ, ◌≤◌, true, List, Some, None, is_some, position, arith}
+use Rattle.wanted.specs.Pilots.{shows}
+use Rattle.plans.specs.Plans.{Lists, IsFor}
 use Rattle.field_rules.proofs.Places.{is_same_name-equal}
-use Rattle.field_rules.specs.Fields.{field_named, fields_of}
-use Rattle.field_rules.specs.Repeats.{repeats}
 use Rattle.chart_rules.specs.Rules.{IsLawful}
-use Rattle.chart_rules.specs.declared.rule.Rule.TheVariants as rule
 use Rattle.charts.specs.Chart.{Chart, NumbersRise}
 use Rattle.charts.specs.Field.{sign_column}
 use Rattle.charts.specs.Levels.{level_number}
-use Rattle.charts.specs.Name.{is_same_name}
 use Rattle.charts.specs.declared.chart.Line.{Line}
 use Rattle.charts.specs.declared.level.Level.{Level}
 use Rattle.charts.specs.declared.level.Level.TheVariants as level
-use Rattle.charts.specs.declared.statement.Field.{Field}
 use Rattle.charts.specs.declared.statement.FieldKind.{FieldKind}
 use Rattle.charts.specs.declared.statement.FieldKind.TheVariants as holds
 use Rattle.charts.specs.declared.statement.SignRule.{SignRule}
 use Rattle.charts.specs.declared.statement.Statement.TheVariants as says
 use Rattle.hubs.specs.declared.hub.Group.{Group}
 use Rattle.wiring_table.specs.Figures.{IsSigned, rule_of}
-use Rattle.wiring_table.specs.Parts.{HasTotal, panel_group, pilot_for, top_for}
+use Rattle.wiring_table.specs.Parts.{HasTotal, pilot_for, top_for}
 use Rattle.wired_panels.specs.Groups.{IsGroupOf, IsPlaceFor, IsTopOf}
 use Rattle.charts.proofs.Rising.{one-line}
 use Rattle.wiring_table.proofs.Groups.{position-serves, serves-own, top-serves}

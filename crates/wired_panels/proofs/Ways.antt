@@ -4,7 +4,6 @@ use Rattle.plans.specs.Plans.{Lists}
 use Rattle.charts.specs.Chart.{Chart}
 use Rattle.hubs.specs.Hubs.{is_hub_in_range, number_of}
 use Rattle.setups.specs.Wiring.{Wiring, LeadsToEntries}
-use Rattle.hubs.specs.declared.hub.Group.{Group}
 use Rattle.hubs.specs.declared.hub.Hub.{Hub}
 use Rattle.whole_cycles.specs.Carries.{CarriesLeadToCarries}
 use Rattle.net.specs.Impulsed.{IsImpulsed}
