@@ -1,1 +1,2 @@
+pub mod PlacedInRun
 pub mod Explanations

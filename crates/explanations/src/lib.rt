@@ -2,6 +2,9 @@
 //! reached the wheel.
 #![tactic(auto)]
 
+mod found;
+pub mod laws;
 mod rows;
 
+pub use found::{FoundLine, find_line};
 pub use rows::ways_to_wheel;
