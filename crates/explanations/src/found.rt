@@ -46,7 +46,10 @@ pub fn find_line(
         }
         fed += 1;
     }
-    Ok(feed_to(&mut machine, None, page, line).map(|kept| FoundLine { cards: fed, kept }))
+    match feed_to(&mut machine, None, page, line) {
+        Some(kept) => Ok(Some(FoundLine { cards: fed, kept })),
+        None => Ok(None),
+    }
 }
 
 // Feeds a machine that takes what is fed, up to the cycle that places a line at this page and this line of it.
