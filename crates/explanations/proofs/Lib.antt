@@ -1,2 +1,5 @@
 mod Feeding
 mod Printed
+mod ReadyRuns
+mod SeenRows
+mod ZeroControl
