@@ -1,0 +1,5 @@
+mod Feeding
+mod Printed
+mod ReadyRuns
+mod SeenRows
+mod ZeroControl
