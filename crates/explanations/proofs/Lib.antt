@@ -1,5 +1,0 @@
-mod Feeding
-mod Printed
-mod ReadyRuns
-mod SeenRows
-mod ZeroControl

@@ -1,4 +1,1 @@
-pub mod PlacedInRun
 pub mod Explanations
-pub mod Refusals
-pub mod Rows
