@@ -1,7 +1,7 @@
 """Texts for the built program, with what it answers on them: worked inputs, and hostile texts with their answers by rule.
 
 An input is a dict: its texts, `chart`, `wiring`, `deck`, and `both`, a chart and its deck on standard input; what commands print of
-them, `ok`, `wiring`, `pages`, as far as that is known; and `refused`, of a text that is refused the fault lines that are right. A
+them, `ok`, `wiring`, `pages`, `upgraded`, as far as that is known; and `refused`, of a text that is refused the fault lines that are right. A
 text is bytes, or pieces of bytes, or the path of a device. `room` is the address space that the program has, in bytes;
 `about`, that only commands on this text are meant.
 """
@@ -46,6 +46,16 @@ CLASH = b"CHART407 1\nFIELD NAME TEXT 1 5\nFIELD AMT AMOUNT 6 12 0\nPRINT DETAIL
 def with_deck(chart, deck, report, *refused):
     """A chart and a deck, also on standard input, with the report, or the faults of the deck."""
     return {"chart": chart, "deck": deck, "both": chart + deck, "pages": report, "refused": {"deck": refused, "both": refused}}
+
+
+def in_version_2(wiring):
+    """A wiring chart of version 1, as the program writes it, in version 2: its rings stand as such before its wires."""
+    ring = re.compile(rb"WIRE CO\.(\S+) CI\.\1$")
+    lines = wiring.splitlines()[1:]
+    rings = [ring.sub(rb"RING \1", line) for line in lines if ring.match(line)]
+    others = [line for line in lines if not ring.match(line)]
+    first = next(at for at, line in enumerate(others) if line.startswith((b"WIRE", b"END")))
+    return b"\n".join([b"WIRING407 2", *others[:first], *rings, *others[first:], b""])
 
 
 def worked_inputs():
@@ -114,11 +124,11 @@ def chart_fault(chart):
 
 
 def wiring_fault(wiring):
-    """By the rules for the text; no line may stand in it twice or have a hub that isn't there."""
+    """By the rules for the text; no line may stand in it twice, have a hub that isn't there or wire a carry, so that it may be of either version."""
     lines = lines_of(wiring)
     if len(lines) > 1_000_000 or any(len(line) > 60 for line in lines):
         return "71"
-    if len(lines) < 2 or words_of(lines[0]) != "WIRING407 1" or not re.fullmatch(f"FORM {NUMBER} {NUMBER} {NUMBER}", words_of(lines[1])):
+    if len(lines) < 2 or words_of(lines[0]) not in ("WIRING407 1", "WIRING407 2") or not re.fullmatch(f"FORM {NUMBER} {NUMBER} {NUMBER}", words_of(lines[1])):
         return "72"
     return fault_of_lines(lines[2:], 3, WIRING_LINE, "73", "76")
 

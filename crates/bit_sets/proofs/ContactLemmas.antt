@@ -1,16 +1,16 @@
 -- Closed contacts passed on by rows of bits.
-use Rattle.std.proofs.Common.{⊎_elim, ◌≡◌, ℕ, ◌+◌, ◌-◌, ◌*◌, ◌%◌, ◌^◌, ◌<◌, ◌≤◌, ◌∙◌, sym, ap, refl, arith, Bool, true, false, not, ◌&&◌, ◌||◌, List, length, slice_index_or, drop, [], ◌∷◌, add-one}
+use Rattle.std.proofs.Common.{⊎_elim, ◌⊎◌, inl, inr, ◌≡◌, ℕ, ◌+◌, ◌-◌, ◌*◌, ◌%◌, ◌^◌, ◌<◌, ◌≤◌, ◌∙◌, sym, ap, refl, arith, Bool, true, false, not, ◌&&◌, ◌||◌, List, length, slice_index_or, drop, [], ◌∷◌, add-one}
 use Rattle.std.proofs.Math.Seq.{drop-cons}
 use Rattle.std.proofs.lemmas.Grind.{common_steps}
-use Rattle.std.specs.Prelude.{nat_le, nat_lt}
+use Rattle.std.specs.Prelude.{nat_le, nat_lt, ◌==◌}
 use Rattle.std.specs.Int.{bit_not, w128}
 use Rattle.std.specs.Int.Bits.{bit_and}
 use Rattle.std.proofs.lemmas.Bool.Decides.{nat_tests}
-use Rattle.std.proofs.lemmas.Bool.{cases_lt}
+use Rattle.std.proofs.lemmas.Bool.{cases_lt, false≢true, or_cases, or_left, or_right}
 use Rattle.std.proofs.lemmas.Nat.{one_shl}
 use Rattle.std.proofs.Math.Bool.{and-false, or-false}
 use Rattle.bit_sets.specs.Bits.{is_bit, has_place, is_in_run}
-use Rattle.bit_sets.specs.Contacts.{passes_run, passes, IsRunInRange}
+use Rattle.bit_sets.specs.Contacts.{AreCommons, is_any_contact, is_contact, passes_run, passes, IsRunInRange}
 use Rattle.bit_sets.specs.declared.contacts.Run.{Run}
 use Rattle.bit_sets.proofs.BitLemmas.{is_bit-and, is_bit-not, is_bit-ones, none_set}
 
@@ -121,3 +121,53 @@ passes_last closed words runs i k old whole end before =
     let none : drop i runs ≡ [] = grind (arith, common_steps) in
     sym (ap (λ (rest : List Run). old || (nat_lt k 1984 && passes closed words rest k)) none
     ∙ ap (λ b. old || b) (and-false _) ∙ or-false _) ∙ before
+
+-- a contact leads from one of its run's common places
+contact_parts : (exits common count from to : ℕ)
+    → (nat_le exits to && (nat_lt (to - exits) count && (from == common + (to - exits)))) ≡ true
+    → (nat_le common from ≡ true) × (nat_lt (from - common) count ≡ true)
+contact_parts exits common count from to is = (grind (arith, nat_tests, is), grind (arith, nat_tests, is))
+
+-- the places that the contacts of one run more lead from
+pub commons_more :
+    (runs : List Run) (i : ℕ) (d : Run) (old now : List ℕ) (ones : ℕ) → i < length runs
+    → ((k : ℕ) → is_bit ones k ≡ nat_lt k (slice_index_or runs i d).count)
+    → ((place : ℕ) → has_place now place
+    ≡ (has_place old place || (nat_lt place 1984 && is_in_run (slice_index_or runs i d).common ones place)))
+    → ((from to : ℕ) → from < 1984 → is_any_contact runs from to ≡ true
+    → (has_place old from ≡ true) ⊎ (is_any_contact (drop i runs) from to ≡ true))
+    → (from to : ℕ) → from < 1984 → is_any_contact runs from to ≡ true
+    → (has_place now from ≡ true) ⊎ (is_any_contact (drop (i + 1) runs) from to ≡ true)
+commons_more runs i d old now ones inside bits gained before from to low contact =
+    ⊎_elim (λ there. inl (gained from ∙ or_left _ _ there)) to_come (before from to low contact) where
+      run : Run
+      run = slice_index_or runs i d
+
+      parts : drop i runs ≡ run ∷ drop (i + 1) runs
+      parts = rw (add-one, drop-cons runs i d)
+
+      here : is_contact run from to ≡ true → has_place now from ≡ true
+      here is =
+          let found = contact_parts run.exits run.common run.count from to is in
+          let row : is_in_run run.common ones from ≡ true = row_bit found.0 (bits (from - run.common) ∙ found.1) in
+          let within : nat_lt from 1984 ≡ true = grind (arith, nat_tests, low) in
+          gained from ∙ or_right (has_place old from) _ (rw (within, row) refl) where
+            row_bit : nat_le run.common from ≡ true → is_bit ones (from - run.common) ≡ true → is_in_run run.common ones from ≡ true
+            row_bit e f = rw (e, f) refl
+
+      to_come : is_any_contact (drop i runs) from to ≡ true
+          → (has_place now from ≡ true) ⊎ (is_any_contact (drop (i + 1) runs) from to ≡ true)
+      to_come is =
+          ⊎_elim (λ at. inl (here at)) inr
+          (or_cases (is_contact run from to) (is_any_contact (drop (i + 1) runs) from to)
+          (sym (ap (λ (rest : List Run). is_any_contact rest from to) parts) ∙ is))
+
+pub commons_last : (runs : List Run) (i : ℕ) (commons : List ℕ) → length runs ≤ i
+    → ((from to : ℕ) → from < 1984 → is_any_contact runs from to ≡ true
+    → (has_place commons from ≡ true) ⊎ (is_any_contact (drop i runs) from to ≡ true))
+    → AreCommons runs commons
+commons_last runs i commons end before from to low contact =
+    ⊎_elim (λ at. at) (λ rest. absurd (false≢true (sym (ap (λ (rest : List Run). is_any_contact rest from to) none) ∙ rest)))
+    (before from to low contact) where
+      none : drop i runs ≡ []
+      none = grind (arith, common_steps)

@@ -1,15 +1,16 @@
 -- Sets of places: what their words have, and what comes to them with a word.
-use Rattle.std.proofs.Common.{⊎_elim, ◌⊎◌, ◌≡◌, ◌≢◌, ℕ, ◌+◌, ◌-◌, ◌*◌, ◌/◌, ◌%◌, ◌^◌, ◌<◌, ◌≤◌, ◌∙◌, sym, ap, refl, arith, Bool, true, false, ◌&&◌, ◌||◌, List, length, replicate, slice_index_or, slice_set}
+use Rattle.std.proofs.Common.{⊎_elim, ◌⊎◌, inl, inr, ◌≡◌, ◌≢◌, ℕ, ◌+◌, ◌-◌, ◌*◌, ◌/◌, ◌%◌, ◌^◌, ◌<◌, ◌≤◌, ◌∙◌, sym, ap, refl, arith, Bool, true, false, ◌&&◌, ◌||◌, List, length, replicate, slice_index_or, slice_set}
 use Rattle.std.specs.Prelude.{nat_le, nat_lt, ◌==◌}
 use Rattle.std.specs.Int.{trailing_zeros, w64}
-use Rattle.std.specs.Int.Bits.{bit_or}
+use Rattle.std.specs.Int.Bits.{bit_and, bit_or}
+use Rattle.std.proofs.lemmas.Nat.{le_or_l, le_or_r}
 use Rattle.std.proofs.lemmas.Bool.Decides.{nat_tests}
-use Rattle.std.proofs.lemmas.Bool.{cases_eq, cases_lt}
+use Rattle.std.proofs.lemmas.Bool.{cases_eq, cases_lt, false≢true}
 use Rattle.std.proofs.Math.Bool.{and-false, or-false}
 use Rattle.std.proofs.lemmas.Grind.{common_steps}
 use Rattle.std.proofs.lemmas.List.{get_or_past, get_or-replicate}
 use Rattle.bit_sets.specs.Bits.{is_bit, has_place, is_in_run}
-use Rattle.bit_sets.proofs.BitLemmas.{is_bit-or, is_bit-zero, is_bit-above, lowest_bit, none_set}
+use Rattle.bit_sets.proofs.BitLemmas.{is_bit-and, is_bit-or, is_bit-zero, is_bit-above, lowest_bit, none_set}
 
 pub has_place-word : (words : List ℕ) (k : ℕ) → has_place words k ≡ is_bit (slice_index_or words (k / 64) 0) (k % 64)
 unfolding has_place
@@ -250,3 +251,32 @@ no_place words zero place =
     (λ (inside : place / 64 < length words). has_place-word words place ∙ none_set _ (zero (place / 64) inside) (place % 64))
     (λ outside. has_place-past words place (omega arith))
     (cases_lt (place / 64) (length words))
+
+-- two sets whose words so far have no bit in common, while none was found
+pub none-more : (one other : List ℕ) (number both : ℕ)
+    → (both ≡ 0 → (k : ℕ) → k < number → bit_and (slice_index_or one k 0) (slice_index_or other k 0) ≡ 0)
+    → bit_or both (bit_and (slice_index_or one number 0) (slice_index_or other number 0)) ≡ 0
+    → (k : ℕ) → k < number + 1 → bit_and (slice_index_or one k 0) (slice_index_or other k 0) ≡ 0
+none-more one other number both before none k low =
+    let word = bit_and (slice_index_or one number 0) (slice_index_or other number 0) in
+    let left = le_or_l both word in
+    let right = le_or_r both word in
+    elim (cases_lt k number) [
+      | inl less ↦ before (omega (arith, left, none)) k less
+      | inr more ↦ let same : k ≡ number = omega (arith, low, more) in rw same (omega (arith, right, none))
+    ]
+
+-- sets whose words have no bit in common have no place in common
+pub apart-words : (one other : List ℕ)
+    → ((k : ℕ) → k < length one → bit_and (slice_index_or one k 0) (slice_index_or other k 0) ≡ 0)
+    → (place : ℕ) → has_place one place ≡ true → has_place other place ≡ false
+apart-words one other none place at = by (cases_lt (place / 64) (length one)) where
+  by : (place / 64 < length one) ⊎ (length one ≤ place / 64) → has_place other place ≡ false
+  by (inl low) =
+      has_place-word other place
+      ∙ both _ _ (sym (has_place-word one place) ∙ at)
+      (sym (is_bit-and (slice_index_or one (place / 64) 0) (slice_index_or other (place / 64) 0) (place % 64))
+      ∙ none_set _ (none (place / 64) low) (place % 64)) where
+        both : (a b : Bool) → a ≡ true → (a && b) ≡ false → b ≡ false
+        both a b e f = grind (arith, nat_tests, e, f)
+  by (inr high) = absurd (false≢true (sym (has_place-past one place (omega (arith, high))) ∙ at))

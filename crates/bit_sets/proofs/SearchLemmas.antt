@@ -2,9 +2,10 @@
 use Rattle.std.proofs.Common.{⊎_elim, ◌⊎◌, inl, inr, ◌↔◌, ◌≡◌, ℕ, zero, suc, ◌+◌, ◌-◌, ◌<◌, ◌≤◌, ◌∙◌, sym, ap, refl, arith, Bool, true, false, not, ◌&&◌, ◌||◌, List, [], ◌∷◌, length}
 use Rattle.std.specs.Prelude.{nat_le, nat_lt, ◌==◌, if◌then◌else◌}
 use Rattle.std.proofs.lemmas.Bool.Decides.{nat_tests}
+use Rattle.std.proofs.Math.Bool.{and-false}
 use Rattle.std.proofs.lemmas.Bool.{cases_lt, false≢true, and_parts, or_right, or_left, or_cases}
 use Rattle.bit_sets.specs.Bits.{has_place}
-use Rattle.bit_sets.specs.Contacts.{is_contact, is_any_contact, passes, passes_run}
+use Rattle.bit_sets.specs.Contacts.{AreCommons, ArePlacesApart, is_contact, is_any_contact, passes, passes_run}
 use Rattle.bit_sets.specs.Reached.{IsReached}
 use Rattle.bit_sets.specs.Reached.IsReached.{emitting, by_row, by_contact}
 use Rattle.bit_sets.specs.Rows.{GainsLed, leads}
@@ -255,22 +256,35 @@ pub smaller : (now before : ℕ) (had : Bool) → had ≡ true → now ≤ befor
 smaller now before true is le = omega arith
 smaller now before false is le = cc
 
--- where no contact is closed, what the rows of the emitting places lead to is all that is reached
-pub IsReached-at_once : (rows : List (List ℕ)) (runs : List Run) (emits closed words : List ℕ) → length rows ≤ 1040
-    → ((from to : ℕ) → leads rows from to ≡ true → 1040 ≤ to) → ((place : ℕ) → has_place closed place ≡ false)
-    → GainsLed rows (has_place emits) emits words → (place : ℕ)
-    → (has_place words place ≡ true) ↔ IsReached rows runs emits closed place
-IsReached-at_once rows runs emits closed words short onward none gains place = (sound, found) where
-  sound : has_place words place ≡ true → IsReached rows runs emits closed place
-  sound at = ⊎_elim (emitting place) (λ led. by_row led.0 place (emitting led.0 led.1) led.2) (gains.only place at)
+-- where no common place is in the set once the rows of the new places are, it has all that is reached
+pub IsReached-no_common :
+    (rows : List (List ℕ)) (runs : List Run) (commons emits closed words new now : List ℕ) → length rows ≤ 1040
+    → ((from to : ℕ) → leads rows from to ≡ true → 1040 ≤ to) → length closed ≡ 31 → length now ≡ 31 → (had : Bool)
+    → IsSearching rows runs emits closed words new had → GainsLed rows (has_place new) words now
+    → AreCommons runs commons → ArePlacesApart commons now → (place : ℕ)
+    → (has_place now place ≡ true) ↔ IsReached rows runs emits closed place
+IsReached-no_common rows runs commons emits closed words new now short onward long many had searching gains are_commons apart =
+    IsReached-found rows runs emits closed now [] false refl
+    (IsSearching-next rows runs emits closed words new now [] now short onward long had false searching gains
+    (λ place. none place ∙ sym (passes_none place)) (λ place. sym (or_none (has_place now place) (none place)))
+    (λ over. none)) where
+      none : (place : ℕ) → has_place [] place ≡ false
+      none place = has_place-past [] place (omega arith)
 
-  found : {place : ℕ} → IsReached rows runs emits closed place → has_place words place ≡ true
-  found (emitting place at) = gains.kept place at
-  found (by_row from to at leads) =
-      ⊎_elim
-      (λ emits_on. gains.led from to emits_on leads)
-      (λ led.
-      let high = onward led.0 from led.2 in
-      absurd (false≢true (sym (leads-past rows from to (omega (arith, short, high))) ∙ leads)))
-      (gains.only from (found at))
-  found (by_contact from to at contact shut) = absurd (false≢true (sym (none to) ∙ shut))
+      or_none : (a : Bool) {b : Bool} → b ≡ false → (a || b) ≡ a
+      or_none a e = grind (arith, nat_tests, e)
+
+      inside : (from : ℕ) → has_place now from ≡ true → (from < 1984) ⊎ (1984 ≤ from) → from < 1984
+      inside from at (inl low) = low
+      inside from at (inr high) = absurd (false≢true (sym (has_place-past now from (omega (arith, many, high))) ∙ at))
+
+      passes_none : (place : ℕ) → (nat_lt place 1984 && passes closed now runs place) ≡ false
+      passes_none place = by (passes closed now runs place) refl where
+        by : (b : Bool) → passes closed now runs place ≡ b → (nat_lt place 1984 && passes closed now runs place) ≡ false
+        by false is = ap (λ b. nat_lt place 1984 && b) is ∙ and-false (nat_lt place 1984)
+        by true is =
+            let passed = passed_by closed now runs place is in
+            let low : passed.from < 1984 = inside passed.from passed.at (cases_lt passed.from 1984) in
+            absurd
+            (false≢true
+            (sym (apart passed.from (are_commons passed.from place low passed.contact)) ∙ passed.at))

@@ -1,5 +1,5 @@
 -- Runs of contacts: from a common place and those after it to an exit place and those after it, one by one.
-use Rattle.std.specs.Prelude.{ℕ, ◌+◌, ◌-◌, ◌<◌, ◌≤◌, ◌==◌, ◌&&◌, ◌||◌, not, nat_le, nat_lt, Bool, false, List, [], ◌∷◌}
+use Rattle.std.specs.Prelude.{◌≡◌, ℕ, ◌+◌, ◌-◌, ◌<◌, ◌≤◌, ◌==◌, ◌&&◌, ◌||◌, not, nat_le, nat_lt, Bool, true, false, List, [], ◌∷◌}
 use Rattle.bit_sets.specs.Bits.{has_place}
 use Rattle.bit_sets.specs.declared.contacts.Run.{Run}
 
@@ -30,3 +30,12 @@ pub record IsRunInRange (run : Run) : Type 0 where
   pub exits : run.exits < 1984
   pub common : run.common < 1984
   pub count : run.count ≤ 128
+
+-- each place of a set that a contact of the runs leads from is among these
+abbrev pub AreCommons : List Run → List ℕ → Type 0
+AreCommons runs commons =
+    (from to : ℕ) → from < 1984 → is_any_contact runs from to ≡ true → has_place commons from ≡ true
+
+-- two sets have no place in common
+abbrev pub ArePlacesApart : List ℕ → List ℕ → Type 0
+ArePlacesApart one other = (place : ℕ) → has_place one place ≡ true → has_place other place ≡ false

@@ -2,7 +2,7 @@
 
 ghost use Rattle.std.specs.Prelude.{◌≡◌, ℕ, ◌≤◌, ◌&&◌, nat_lt, All};
 ghost use Rattle.bit_sets.specs.Bits.{is_bit, has_place, GainsPlaces};
-ghost use Rattle.bit_sets.specs.Contacts.{passes, passes_run, IsRunInRange};
+ghost use Rattle.bit_sets.specs.Contacts.{AreCommons, passes, passes_run, IsRunInRange};
 
 use crate::places::{WORDS, put_run, run};
 
@@ -44,6 +44,18 @@ fn pass_run(contacts: Run, closed: &[u64; WORDS], words: &[u64; WORDS], new: &mu
         let bits = impulsed & run(closed, contacts.exits) & !run(words, contacts.exits);
         put_run(new, contacts.exits, bits);
     }
+}
+
+/// All places that a contact of the runs leads from.
+pub fn commons_of(runs: &[Run]) -> [u64; WORDS]
+    requires { All IsRunInRange runs.now }
+    ensures { AreCommons runs.now result }
+{
+    let mut commons = [0; WORDS];
+    for run in runs {
+        put_run(&mut commons, run.common, first_bits(run.count));
+    }
+    commons
 }
 
 // A row with so many bits from the first on, and no other.

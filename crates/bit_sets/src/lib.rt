@@ -12,7 +12,7 @@ mod places;
 mod rows;
 mod search;
 
-pub use contacts::Run;
+pub use contacts::{Run, commons_of};
 pub use places::{PLACES, WORDS, has, put_run, put_where, run};
 pub use rows::{EXITS, Rows};
 pub use search::reach;

@@ -1,6 +1,6 @@
 //! The card code row by row, and decks whose cards or faults are known.
 
-use card_code::{Card, Column, DeckFault, ROWS, Row, next_line, read_deck};
+use card_code::{Card, Column, DeckFault, ROWS, Row, check_deck, next_card, next_line, read_deck};
 use std::alloc::Global;
 use std::process::Abort;
 use std::test::Fail;
@@ -89,11 +89,28 @@ fn decks_by_their_lines(rt: HostRuntime) {
     ];
     for (text, cards) in rows {
         assert_eq!(rt; count_cards(rt.alloc(), text), Ok(cards));
+        assert_eq!(rt; check_deck(text), Ok(()));
     }
     for text in [b"A\r\r", b"A\rB"] {
         let fault = DeckFault::NoSuchCharacter { line: 1, column: 2 };
         assert_eq!(rt; count_cards(rt.alloc(), text), Err(fault));
+        assert_eq!(rt; check_deck(text), Err(fault));
     }
+}
+
+#[test]
+fn the_first_card_of_a_deck_and_the_rest(rt: HostRuntime) -> Result<(), Fail> {
+    let text: &[u8] = b"NUT\nBOLT";
+    check_deck(text)?;
+    match next_card(text) {
+        Some(next) => {
+            let (card, rest) = next;
+            assert_eq!(rt; card.column(1).to_char(), Some('N'));
+            assert_eq!(rt; rest, b"BOLT".as_slice());
+        }
+        None => assert!(rt; false),
+    }
+    Ok(())
 }
 
 #[test]

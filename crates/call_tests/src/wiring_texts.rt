@@ -5,7 +5,7 @@ use hubs::{Group, Hub, Jack};
 use setups::{SetupFault, Tape};
 use std::alloc::Global;
 use std::test::Fail;
-use wire_chart::{WiringFault, read_setup, write_setup};
+use wire_chart::{WiringFault, read_setup, write_setup, write_setup_2};
 
 const GROUP: Group = Group {
     width: 4,
@@ -109,9 +109,47 @@ fn wiring_charts_are_read_and_written(rt: HostRuntime) -> Result<(), Fail> {
     Ok(())
 }
 
+const RINGED: &str =
+    "WIRING407 1\nFORM 12 1 9\nJACK LIST\nWIRE SR.1 W.1\nWIRE CO.3.1 CI.3.1\nWIRE CO.8.4 CI.8.4\nEND\n";
+
+const RINGED_IN_2: &str =
+    "WIRING407 2\nFORM 12 1 9\nJACK LIST\nRING 3.1\nRING 8.4\nWIRE SR.1 W.1\nEND\n";
+
+const COUPLED: &str =
+    "WIRING407 1\nFORM 12 1 9\nWIRE SR.1 W.1\nWIRE CO.8.2 CI.8.1\nWIRE CO.8.1 CI.8.2\nWIRE CO.4.1 CI.4.1\nEND\n";
+
+const COUPLED_IN_2: &str =
+    "WIRING407 2\nFORM 12 1 9\nRING 4.1\nCOUPLE 1 2\nCOUPLE 2 1\nWIRE SR.1 W.1\nEND\n";
+
+/// What is written in version 2 of the setup that a text reads as.
+fn upgraded(alloc: Global, text: &str) -> Result<String, Fail> {
+    let setup = read_setup(alloc, text.as_bytes()).ok().ok_or("a setup")?;
+    Ok(write_setup_2(alloc, &setup)?)
+}
+
+#[test]
+fn carry_wires_are_rings_and_couples_in_version_2(rt: HostRuntime) -> Result<(), Fail> {
+    assert_eq!(rt; upgraded(rt.alloc(), RINGED)?.as_str(), RINGED_IN_2);
+    assert_eq!(rt; upgraded(rt.alloc(), RINGED_IN_2)?.as_str(), RINGED_IN_2);
+    assert_eq!(rt; upgraded(rt.alloc(), COUPLED)?.as_str(), COUPLED_IN_2);
+    assert_eq!(rt; upgraded(rt.alloc(), COUPLED_IN_2)?.as_str(), COUPLED_IN_2);
+    Ok(())
+}
+
+#[test]
+fn a_setup_is_written_in_version_2_where_it_joins_groups(rt: HostRuntime) -> Result<(), Fail> {
+    assert_eq!(rt; written_again(rt.alloc(), RINGED_IN_2)?.as_str(), RINGED);
+    assert_eq!(rt; written_again(rt.alloc(), COUPLED)?.as_str(), COUPLED_IN_2);
+    assert_eq!(rt;
+        written_again(rt.alloc(), COUPLED_IN_2)?.as_str(),
+        COUPLED_IN_2
+    );
+    Ok(())
+}
+
 /// Lines put in the place of one line of a wiring chart, and the fault that it has then.
 #[rattlefmt::skip]
-static FAULTS: [(usize, &str, WiringFault); 11] = [
+static FAULTS: [(usize, &str, WiringFault); 12] = [
     (17, "WIRE CC PL.4.1\nWIRE CC PL.4.1", WiringFault::LineTwice { line: 18 }),
     (10, "WIRE W.1 SR.1", WiringFault::Unfit { line: 10, fault: SetupFault::NotExit }),
     (10, "WIRE SR.1 W.0", WiringFault::Unfit { line: 10, fault: SetupFault::NotEntry }),
@@ -121,7 +159,8 @@ static FAULTS: [(usize, &str, WiringFault); 11] = [
     (3, "STOP 2 13", WiringFault::Unfit { line: 3, fault: SetupFault::TapeFault }),
     (5, "JACK LINK 121", WiringFault::NotALine { line: 5 }),
     (19, "END\n\nJACK LIST", WiringFault::NotALine { line: 21 }),
-    (1, "WIRING407 2", WiringFault::NoFirstLine),
+    (1, "WIRING407 3", WiringFault::NoFirstLine),
+    (10, "RING 3.1", WiringFault::NotALine { line: 10 }),
     (19, "  ", WiringFault::NoEnd),
 ];
 

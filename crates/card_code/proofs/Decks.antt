@@ -17,6 +17,12 @@ pub record IsReadUpTo (bytes rest : List ℕ) (cards : List (List ℕ)) : Type 0
   pub left : drop (length cards) (lines_of bytes) ≡ lines_of rest
   pub each : AllZip IsCardOf (take (length cards) (lines_of bytes)) cards
 
+-- so many cards can be read of the first lines of a text, and the others are the lines of the rest
+pub record CanBeReadUpTo (bytes rest : List ℕ) (count : ℕ) : Type 0 where
+  pub cards : List (List ℕ)
+  pub read : IsReadUpTo bytes rest cards
+  pub counted : length cards ≡ count
+
 -- a value that is there
 IsSome-of : (o : Option ℕ) (x : ℕ) → o ≡ Some x → IsSome o
 IsSome-of o x e = rw e refl

@@ -1,5 +1,5 @@
 -- A deck text: one card a line, each byte of the line a column punched by the card code.
-use Rattle.std.specs.Prelude.{◌≡◌, ℕ, ◌+◌, ◌-◌, ◌<◌, ◌≤◌, List, [], length, take, slice_index, slice_index_or, All, EachIndex, IsSome, Option, Some, None}
+use Rattle.std.specs.Prelude.{◌≡◌, ℕ, ◌+◌, ◌-◌, ◌<◌, ◌≤◌, List, [], ◌∷◌, length, take, slice_index, slice_index_or, All, EachIndex, IsSome, Option, Some, None}
 use Rattle.std.specs.List.{AllZip}
 use Rattle.card_code.specs.MostCards.{most_cards}
 use Rattle.card_code.specs.CardCode.{rows_of}
@@ -25,6 +25,17 @@ pub record IsCardOf (line card : List ℕ) : Type 0 where
 pub record Deck (bytes : List ℕ) (cards : List (List ℕ)) : Type 0 where
   pub few : length cards ≤ most_cards
   pub each : AllZip IsCardOf (lines_of bytes) cards
+
+-- a text that is a deck
+pub record IsDeckText (bytes : List ℕ) : Type 0 where
+  pub cards : List (List ℕ)
+  pub deck : Deck bytes cards
+
+-- a card comes first in the deck of a text, and the rest of the text has the others
+pub record ComesFirst (bytes card rest : List ℕ) : Type 0 where
+  pub others : List (List ℕ)
+  pub whole : Deck bytes (card ∷ others)
+  pub left : Deck rest others
 
 -- a line that a card can be punched from: at most 80 bytes, each a deck character
 pub record IsPunchable (line : List ℕ) : Type 0 where

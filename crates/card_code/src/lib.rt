@@ -1,7 +1,8 @@
 //! Punched cards and the card code: which rows stand for which character, and decks as text.
 //!
 //! A [`Column`] is a set of punched rows, and a [`Card`] has 80 columns. [`read_deck`] reads a deck
-//! text, one card a line; [`next_line`] cuts any text into lines by the same rule.
+//! text, one card a line; [`next_line`] cuts any text into lines by the same rule. [`check_deck`] and
+//! [`next_card`] read a deck card by card and keep none.
 //!
 //! ```text
 //! let cards = read_deck(alloc, b"BOLT   A01\nNUT    B22\n")?;
@@ -14,6 +15,7 @@
 #![tactic(auto)]
 
 mod card;
+mod card_by_card;
 mod code;
 mod column;
 mod deck;
@@ -21,6 +23,7 @@ mod lines;
 mod row;
 
 pub use card::{CARD_COLUMNS, Card};
+pub use card_by_card::{check_deck, next_card};
 pub use code::code_is_one_to_one;
 pub use column::Column;
 pub use deck::{DeckFault, MOST_CARDS, deck_text_is_unambiguous, read_card, read_deck};

@@ -20,16 +20,28 @@ fn deck_word<'a>(alloc: Global) -> Arg<'a> {
         .required(true)
 }
 
+// The word for the wiring chart, a file.
+fn wiring_word<'a>(alloc: Global) -> Arg<'a> {
+    Arg::new(alloc, "WIRING")
+        .help("the wiring chart, a file")
+        .required(true)
+}
+
 // The command that runs a deck through a wiring chart.
 fn replay_command<'a>(alloc: Global) -> Result<Command<'a>, Error> {
-    let wiring = Arg::new(alloc, "WIRING")
-        .help("the wiring chart, a file")
-        .required(true);
     let replay = Command::new(alloc, "replay")
         .about("Prints the pages of a deck on a wired panel")
-        .arg(wiring)?
+        .arg(wiring_word(alloc))?
         .arg(deck_word(alloc))?;
     Ok(replay)
+}
+
+// The command that writes a wiring chart in the second version of its language.
+fn upgrade_command<'a>(alloc: Global) -> Result<Command<'a>, Error> {
+    let upgrade = Command::new(alloc, "upgrade")
+        .about("Prints a wiring chart in version 2 of its language")
+        .arg(wiring_word(alloc))?;
+    Ok(upgrade)
 }
 
 /// The program's commands, each with its words.
@@ -53,6 +65,7 @@ pub fn parser<'a>(alloc: Global) -> Result<Command<'a>, Error> {
         .subcommand(run)?
         .subcommand(check)?
         .subcommand(wire)?
-        .subcommand(replay_command(alloc)?)?;
+        .subcommand(replay_command(alloc)?)?
+        .subcommand(upgrade_command(alloc)?)?;
     Ok(whole)
 }

@@ -21,6 +21,8 @@ pub enum Wanted<'a> {
     Wire { chart: &'a str },
     /// The pages of a deck by a wiring chart.
     Replay { wiring: &'a str, deck: &'a str },
+    /// A wiring chart in version 2 of its language.
+    Upgrade { wiring: &'a str },
     /// No command: a planning chart and then its deck stand on standard input.
     StandardInput,
 }
@@ -79,6 +81,9 @@ fn wanted_by<'a>(matches: &ArgMatches<'a>) -> Wanted<'a> {
         },
         Some(("wire", given)) => Wanted::Wire {
             chart: file_of(given, "CHART"),
+        },
+        Some(("upgrade", given)) => Wanted::Upgrade {
+            wiring: file_of(given, "WIRING"),
         },
         Some((_, given)) => Wanted::Check {
             chart: file_of(given, "CHART"),

@@ -39,3 +39,5 @@ answered_texts_are_not_refused command.Wire text deck answer told answers refuse
 answered_texts_are_not_refused command.Run text deck answer told answers refused = no_run_fault text deck answer told answers refused
 answered_texts_are_not_refused command.Replay text deck answer told answers refused =
     no_replay_fault text deck answer told answers refused
+answered_texts_are_not_refused command.Upgrade text deck answer told answers refused =
+    no_fault text answers.0.wiring refused.cause answers.0.reads refused.at_fault

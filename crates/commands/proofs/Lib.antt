@@ -5,3 +5,4 @@ mod PrintedPages
 mod Refusing
 mod Stopping
 mod Streaming
+mod Upgrading

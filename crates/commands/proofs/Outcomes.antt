@@ -6,7 +6,7 @@ use Rattle.wiring_text.specs.WiringFaults as wiring_faults
 use Rattle.wiring_text.specs.declared.fault.WiringFault.{WiringFault}
 use Rattle.wiring_text.specs.declared.fault.WiringFault.TheVariants as wiring
 use Rattle.commands.proofs.Refusing.{wiring_refused}
-use Rattle.commands.specs.Answers.{Answers, Compiles, IsWiringChartOf}
+use Rattle.commands.specs.Answers.{Answers, Compiles, IsUpgradeOf, IsWiringChartOf, PrintAlike}
 use Rattle.commands.specs.Refusals.{Refuses, RefusesReplay}
 use Rattle.faults.specs.Told.{wiring_told}
 use Rattle.commands.specs.Served.{IsDone, IsRefused, PrintsReplay}
@@ -63,6 +63,19 @@ wire_done (Ok _) text answer bytes old new is is_answer written = λ deck.
       written = subst (λ (put : List ℕ). Appends old new put) is_answer written;
     }
 wire_done (Err _) text answer bytes old new is is_answer written = tt
+
+pub upgrade_done : {X E : Type 0} (result : Result X E) (text answer bytes : List ℕ) (old new : Option (List ℕ)) → IsUpgradeOf text answer
+    → PrintAlike text answer → bytes ≡ answer → OnOk result (Appends old new bytes)
+    → OnOk result ((deck : Option (List ℕ)) → IsDone command.Upgrade text deck old new)
+upgrade_done (Ok _) text answer bytes old new is alike is_answer written = λ deck.
+    record {
+      read = unwrap_or deck [];
+      is_deck = is_known deck;
+      answer = answer;
+      answers = (is, alike);
+      written = subst (λ (put : List ℕ). Appends old new put) is_answer written;
+    }
+upgrade_done (Err _) text answer bytes old new is alike is_answer written = tt
 
 -- where no deck is read, the texts are refused whatever it is
 pub refused_for_any : (command : Command) (text : List ℕ) (met told : Fault)

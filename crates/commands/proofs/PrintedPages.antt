@@ -11,30 +11,31 @@ use Rattle.replays.specs.Replays.{GainsFront, GainsPages}
 use Rattle.setups.specs.Wiring.{Wiring}
 use Rattle.wiring_text.specs.WiringText.{ReadsAs}
 
-module _ (text deck : List ℕ) (wiring : Wiring) (reads : ReadsAs text wiring) (cards : List (List ℕ)) (punched : Deck deck cards) where
-  replayed_pages : (lines : List PlacedLine) → MachineLines wiring cards lines → AreReplayedPages text deck (Pages lines wiring.tape.lines)
-  replayed_pages lines run = record {
+module _ (text deck : List ℕ) (wiring : Wiring) (reads : ReadsAs text wiring) where
+  replayed_pages : (cards : List (List ℕ)) → Deck deck cards → (lines : List PlacedLine) → MachineLines wiring cards lines
+      → AreReplayedPages text deck (Pages lines wiring.tape.lines)
+  replayed_pages cards punched lines run = record {
     wiring = wiring;
     reads = reads;
     pages = record { cards = cards; punched = punched; lines = lines; run = run; printed = refl };
   }
 
-  pub printed_whole : {X E : Type 0} (result : Result X E) (old new : Option (List ℕ)) → OnOk result (GainsPages wiring cards old new)
+  pub printed_whole : {X E : Type 0} (result : Result X E) (old new : Option (List ℕ)) → OnOk result (GainsPages wiring deck old new)
       → OnOk result (PrintsReplay text deck old new)
   printed_whole (Ok _) old new gains = record {
     answer = Pages gains.lines wiring.tape.lines;
-    pages = replayed_pages gains.lines gains.run;
+    pages = replayed_pages gains.cards gains.punched gains.lines gains.run;
     written = gains.written;
   }
   printed_whole (Err _) old new gains = tt
 
   pub printed_front : {X E : Type 0} (result : Result X E) (Q : Type 0) (old new : Option (List ℕ))
-      → OnErr result ((count : ℕ) × GainsFront wiring cards count old new) → OnErr result (Q ⊎ PrintsFront text deck old new)
+      → OnErr result ((count : ℕ) × GainsFront wiring deck count old new) → OnErr result (Q ⊎ PrintsFront text deck old new)
   printed_front (Ok _) Q old new gains = tt
   printed_front (Err _) Q old new gains =
       inr (record {
         answer = Pages gains.1.lines wiring.tape.lines;
-        pages = replayed_pages gains.1.lines gains.1.run;
+        pages = replayed_pages gains.1.cards gains.1.punched gains.1.lines gains.1.run;
         count = gains.0;
         within = gains.1.within;
         written = gains.1.written;

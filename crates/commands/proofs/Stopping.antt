@@ -41,6 +41,8 @@ refusal_status command.Check text deck told = chart_refusal text told
 refusal_status command.Wire text deck told = chart_refusal text told
 refusal_status command.Run text deck told = run_refusal text deck told
 refusal_status command.Replay text deck told = replay_refusal text deck told
+refusal_status command.Upgrade text deck told = λ refuses.
+    named_status wiring_told wiring_status refuses.cause told refuses.named
 
 module _ (told unreadable : Fault) (Unprinted : Type 0) where
   -- texts are refused, or memory is wanting

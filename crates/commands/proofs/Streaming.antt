@@ -198,6 +198,8 @@ module _ (text : List ℕ) (reader old new : Option (List ℕ)) (told unreadable
       widened (told_of_device told unreadable Unprinted status is_told before after has is_status line path four)
   told_of_device_by command.Replay word is_word has four =
       widened (told_of_device told unreadable Unprinted status is_told before after has is_status line path four)
+  told_of_device_by command.Upgrade word is_word has four =
+      widened (told_of_device told unreadable Unprinted status is_told before after has is_status line path four)
 
   pub told_of_memory_by : (known : Command) → HasFailed known text reader old new told unreadable Unprinted → status ≡ 5
       → IsTold fault.Memory is_told before after
@@ -207,6 +209,8 @@ module _ (text : List ℕ) (reader old new : Option (List ℕ)) (told unreadable
   told_of_memory_by command.Wire has five =
       told_of_memory told unreadable Unprinted status is_told before after has is_status line path five
   told_of_memory_by command.Replay has five =
+      told_of_memory told unreadable Unprinted status is_told before after has is_status line path five
+  told_of_memory_by command.Upgrade has five =
       told_of_memory told unreadable Unprinted status is_told before after has is_status line path five
 
 -- what holds of an answer where it is one

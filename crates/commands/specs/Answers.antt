@@ -1,5 +1,5 @@
 -- What each command answers, from the bytes of its texts to the bytes that it prints.
-use Rattle.std.specs.Prelude.{◌≡◌, ℕ, List, codes}
+use Rattle.std.specs.Prelude.{◌≡◌, ◌↔◌, ℕ, List, codes}
 use Rattle.card_code.specs.Deck.{Deck}
 use Rattle.chart_text.specs.ChartText.{Reads}
 use Rattle.compile407.specs.Compilation.{Compilation, IsCompiled}
@@ -9,8 +9,9 @@ use Rattle.page_text.specs.Pages.{Pages}
 use Rattle.placed_lines.specs.declared.placed_line.PlacedLine.{PlacedLine}
 use Rattle.report.specs.Report.{Report}
 use Rattle.setups.specs.Wiring.{Wiring}
-use Rattle.wire_chart.specs.WrittenText.{IsWritten}
+use Rattle.wire_chart.specs.WrittenText.{IsWritten, IsWrittenIn}
 use Rattle.wiring_text.specs.WiringText.{ReadsAs}
+use Rattle.wiring_text.specs.declared.statement.Version.TheVariants.{Second}
 use Rattle.commands.specs.declared.command.Command.{Command}
 use Rattle.commands.specs.declared.command.Command.TheVariants as command
 
@@ -52,9 +53,20 @@ pub record AreReplayedPages (text deck answer : List ℕ) : Type 0 where
   pub reads : ReadsAs text wiring
   pub pages : ArePagesOn wiring deck answer
 
+-- the wiring chart of a wiring chart in version 2: the text of the setup that it reads as
+pub record IsUpgradeOf (text answer : List ℕ) : Type 0 where
+  pub wiring : Wiring
+  pub reads : ReadsAs text wiring
+  pub written : IsWrittenIn Second wiring answer
+
+-- two wiring charts have the same pages, for every deck
+abbrev pub PrintAlike : List ℕ → List ℕ → Type 0
+PrintAlike one other = (deck pages : List ℕ) → AreReplayedPages one deck pages ↔ AreReplayedPages other deck pages
+
 -- what a command answers on a text and a deck
 abbrev pub Answers : Command → List ℕ → List ℕ → List ℕ → Type 0
 Answers command.Check text deck answer = Compiles text × (answer ≡ codes "ok\n")
 Answers command.Wire text deck answer = IsWiringChartOf text answer
 Answers command.Run text deck answer = ArePagesOf text deck answer
 Answers command.Replay text deck answer = AreReplayedPages text deck answer
+Answers command.Upgrade text deck answer = IsUpgradeOf text answer × PrintAlike text answer

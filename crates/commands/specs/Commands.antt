@@ -9,6 +9,7 @@ word_of command.Run = codes "run"
 word_of command.Check = codes "check"
 word_of command.Wire = codes "wire"
 word_of command.Replay = codes "replay"
+word_of command.Upgrade = codes "upgrade"
 
 -- no command has this word
 abbrev pub IsNoCommand : List ℕ → Type 0

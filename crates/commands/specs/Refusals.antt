@@ -37,6 +37,12 @@ pub data RefusesRun (text deck : List ℕ) (told : Fault) : Type 0 where
   cards : (compiled : Compilation) → CompilesAs text compiled → (cards : List (List ℕ)) → Deck deck cards → (cause : RunFault)
       → HasRunFault compiled.chart cards cause → told ≡ run_told cause → RefusesRun text deck told
 
+-- the fault of a wiring chart is told
+pub record RefusesWiring (text : List ℕ) (told : Fault) : Type 0 where
+  pub cause : WiringFault
+  pub at_fault : wiring_faults.HasWiringFault text cause
+  pub named : told ≡ wiring_told cause
+
 -- of a wiring chart and a deck: the fault of the wiring chart, else that of the deck's text
 pub data RefusesReplay (text deck : List ℕ) (told : Fault) : Type 0 where
   wires : (cause : WiringFault) → wiring_faults.HasWiringFault text cause → told ≡ wiring_told cause → RefusesReplay text deck told
@@ -48,3 +54,4 @@ Refuses command.Check text deck told = RefusesChart text told
 Refuses command.Wire text deck told = RefusesChart text told
 Refuses command.Run text deck told = RefusesRun text deck told
 Refuses command.Replay text deck told = RefusesReplay text deck told
+Refuses command.Upgrade text deck told = RefusesWiring text told

@@ -61,6 +61,7 @@ HasServed command.Run text deck old new = HasRunWhole text deck old new
 HasServed command.Check text deck old new = IsDone command.Check text deck old new
 HasServed command.Wire text deck old new = IsDone command.Wire text deck old new
 HasServed command.Replay text deck old new = IsDone command.Replay text deck old new
+HasServed command.Upgrade text deck old new = IsDone command.Upgrade text deck old new
 
 -- What a command has told and printed where it refuses its texts: nothing is printed, but by a run whose chart compiles.
 abbrev pub HasRefused : Command → List ℕ → (deck old new : Option (List ℕ)) → Fault → (Unprinted : Type 0) → Type 0
@@ -68,6 +69,7 @@ HasRefused command.Run text deck old new told Unprinted = (RefusesChart text tol
 HasRefused command.Check text deck old new told Unprinted = IsRefused command.Check text deck told × Unprinted
 HasRefused command.Wire text deck old new told Unprinted = IsRefused command.Wire text deck told × Unprinted
 HasRefused command.Replay text deck old new told Unprinted = IsRefused command.Replay text deck told × Unprinted
+HasRefused command.Upgrade text deck old new told Unprinted = IsRefused command.Upgrade text deck told × Unprinted
 
 -- why a command was not carried out; the deck's own fault is that of its file
 abbrev pub HasFailed : Command → List ℕ → (deck old new : Option (List ℕ)) → (told unreadable : Fault) → (Unprinted : Type 0) → Type 0
@@ -75,3 +77,4 @@ HasFailed command.Run text deck old new told unreadable Unprinted = EndsRun text
 HasFailed command.Check text deck old new told unreadable Unprinted = Stops told unreadable Unprinted
 HasFailed command.Wire text deck old new told unreadable Unprinted = Stops told unreadable Unprinted
 HasFailed command.Replay text deck old new told unreadable Unprinted = Stops told unreadable Unprinted
+HasFailed command.Upgrade text deck old new told unreadable Unprinted = Stops told unreadable Unprinted

@@ -1,9 +1,11 @@
 //! What each command answers, from the bytes of its texts.
 
 ghost use Rattle.std.specs.Prelude.{◌≡◌, ◌≢◌, ℕ, List, IfOk, IfErr, OnOk, string_bytes};
-ghost use Rattle.wire_chart.specs.WrittenText.{IsWritten};
-ghost use Rattle.commands.specs.Answers.{ArePagesOf, ArePagesOn, AreReplayedPages, Compiles, CompilesAs, IsWiringChartOf};
-ghost use Rattle.commands.specs.Refusals.{RefusesChart, RefusesDeck, RefusesReplay, RefusesRun};
+ghost use Rattle.wire_chart.specs.WrittenText.{IsWritten, IsWrittenIn};
+ghost use Rattle.wiring_text.specs.WiringText.{ReadsAs};
+ghost use Rattle.wiring_text.specs.declared.statement.Version.TheVariants.{Second};
+ghost use Rattle.commands.specs.Answers.{ArePagesOf, ArePagesOn, AreReplayedPages, Compiles, CompilesAs, IsUpgradeOf, IsWiringChartOf, PrintAlike};
+ghost use Rattle.commands.specs.Refusals.{RefusesChart, RefusesDeck, RefusesReplay, RefusesRun, RefusesWiring};
 
 use card_code::read_deck;
 use compile407::{Compiled, compile, run};
@@ -12,7 +14,7 @@ use machine::simulate;
 use page_text::page_bytes;
 use setups::Setup;
 use std::alloc::Global;
-use wire_chart::{read_setup, write_setup};
+use wire_chart::{read_setup, write_setup, write_setup_2};
 
 // A planning chart with the setup that is wired for it.
 pub(crate) fn compilation<'a>(alloc: Global, chart: &[u8]) -> Result<Compiled, Fault<'a>>
@@ -102,4 +104,27 @@ pub fn replayed<'a>(alloc: Global, wiring: &[u8], deck: &[u8]) -> Result<Vec<u8>
 {
     let setup = read_setup(alloc, wiring)?;
     printed(alloc, &setup, deck)
+}
+
+// The wiring chart of a setup in version 2.
+fn rewritten<'a>(alloc: Global, setup: &Setup) -> Result<String, Fault<'a>>
+    ensures written { IfOk result (λ text. IsWrittenIn Second setup.now (string_bytes text)) }
+    ensures reads_back { IfOk result (λ text. ReadsAs (string_bytes text) setup.now) }
+    ensures memory { IfErr result (λ told. told ≡ Fault.Memory) }
+{
+    Ok(write_setup_2(alloc, setup)?)
+}
+
+/// A wiring chart of either version in version 2: the text of the setup that it reads as. It prints the same pages, for every deck.
+///
+/// # Errors
+///
+/// The fault of the wiring chart, or `Memory` where a growth was refused.
+pub fn upgraded<'a>(alloc: Global, wiring: &[u8]) -> Result<String, Fault<'a>>
+    ensures upgraded { IfOk result (λ text. IsUpgradeOf wiring.now (string_bytes text)) }
+    ensures same_pages { IfOk result (λ text. PrintAlike wiring.now (string_bytes text)) }
+    ensures refused { IfErr result (λ told. told ≢ Fault.Memory → RefusesWiring wiring.now told) }
+{
+    let setup = read_setup(alloc, wiring)?;
+    rewritten(alloc, &setup)
 }

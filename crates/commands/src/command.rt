@@ -11,6 +11,8 @@ pub enum Command {
     Wire,
     /// Prints the pages that a machine wired by a wiring chart prints of a deck.
     Replay,
+    /// Prints a wiring chart in version 2 of its language.
+    Upgrade,
 }
 
 impl Command {
@@ -27,6 +29,7 @@ impl Command {
             "check" => Some(Command::Check),
             "wire" => Some(Command::Wire),
             "replay" => Some(Command::Replay),
+            "upgrade" => Some(Command::Upgrade),
             _ => None,
         }
     }

@@ -1,6 +1,7 @@
 //! The program's commands on texts, over any reader and writers, without a word of a command line.
 //!
-//! [`serve`] does one command: it checks a planning chart, wires it or runs a deck through it, or replays a deck through a wiring chart.
+//! [`serve`] does one command: it checks a planning chart, wires it or runs a deck through it, replays a deck through a wiring chart, or
+//! prints a wiring chart in the second version of its language.
 //! [`chart_and_deck`] divides a text that has both, as standard input does. Why a command was not carried out is a [`Fault`] of the
 //! crate `faults`, whose [`tell`] writes it on one line; its status is the program's. [`serve_to_end`] answers beside the status whether
 //! that line was written whole, so its contract says which line that is. The crate stands on the compiler's calls, the machine
@@ -17,7 +18,7 @@ mod replaying;
 mod running;
 mod serving;
 
-pub use answers::{check, pages, replayed, wiring_chart};
+pub use answers::{check, pages, replayed, upgraded, wiring_chart};
 pub use command::Command;
 pub use faults::{Ending, Fault, tell, unprinted, write_line};
 pub use input::{chart_and_deck, read_whole};

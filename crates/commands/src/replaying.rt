@@ -1,14 +1,14 @@
 //! Replays, printed card by card.
 
-ghost use Rattle.std.specs.Prelude.{◌≡◌, ◌≤◌, ◌⊎◌, ℕ, length, IfErr, OnErr, OnOk};
-ghost use Rattle.card_code.specs.MostCards.{most_cards};
+ghost use Rattle.std.specs.Prelude.{◌≡◌, ◌⊎◌, ℕ, IfErr, OnErr, OnOk};
+ghost use Rattle.card_code.specs.Deck.{IsDeckText};
 ghost use Rattle.commands.specs.Refusals.{RefusesReplay};
 ghost use Rattle.commands.specs.Served.{PrintsFront, PrintsReplay, Stops};
 ghost use Rattle.faults.specs.Status.{status_of};
 ghost use Rattle.replays.specs.Replays.{GainsFront, GainsPages};
 
 use crate::lent::Lent;
-use card_code::{Card, read_deck};
+use card_code::check_deck;
 use faults::Fault;
 use replays::{ReplayCause, Replayed, replay};
 use setups::Setup;
@@ -31,15 +31,15 @@ fn told_of<'a>(cause: ReplayCause, unwritten: Fault<'a>) -> Fault<'a>
 fn print_deck<'a, W: Write>(
     alloc: Global,
     setup: &Setup,
-    cards: &[Card],
+    deck: &[u8],
     out: &mut W,
 ) -> Result<(), Fault<'a>>
-    requires { length cards.now ≤ most_cards }
-    ensures pages { OnOk result (GainsPages setup.now cards.now (W.contents out.old) (W.contents out.new)) }
-    ensures front { OnErr result ((count : ℕ) × GainsFront setup.now cards.now count (W.contents out.old) (W.contents out.new)) }
+    requires { IsDeckText deck.now }
+    ensures pages { OnOk result (GainsPages setup.now deck.now (W.contents out.old) (W.contents out.new)) }
+    ensures front { OnErr result ((count : ℕ) × GainsFront setup.now deck.now count (W.contents out.old) (W.contents out.new)) }
     ensures told { IfErr result (λ told. (told ≡ Fault.Memory) ⊎ (told ≡ Fault.Write)) }
 {
-    let Replayed { sink, written } = replay(alloc, setup, cards, Lent::new(out));
+    let Replayed { sink, written } = replay(alloc, setup, deck, Lent::new(out));
     let unwritten = sink.told();
     let _out = sink.into_writer();
     match written {
@@ -66,6 +66,6 @@ pub fn print_replay<'a, W: Write>(
     ensures front { OnErr result ((out.new ≡ out.old) ⊎ PrintsFront wiring.now deck.now (W.contents out.old) (W.contents out.new)) }
 {
     let setup = read_setup(alloc, wiring)?;
-    let cards = read_deck(alloc, deck)?;
-    print_deck(alloc, &setup, cards.as_slice(), out)
+    check_deck(deck)?;
+    print_deck(alloc, &setup, deck, out)
 }

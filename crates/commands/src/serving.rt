@@ -7,7 +7,7 @@ ghost use Rattle.commands.specs.Streamed.{HasFailed, HasRefused, HasServed};
 ghost use Rattle.faults.specs.Lines.{IsTold};
 ghost use Rattle.faults.specs.Status.{status_of};
 
-use crate::answers::{check, wiring_chart};
+use crate::answers::{check, upgraded, wiring_chart};
 use crate::command::Command;
 use crate::input::read_whole;
 use crate::output::put;
@@ -40,6 +40,18 @@ fn serve_wire<'a, W: Write>(alloc: Global, text: &[u8], out: &mut W) -> Result<(
 {
     let written = wiring_chart(alloc, text)?;
     put(out, written.as_bytes())
+}
+
+// Prints a wiring chart in version 2, for any deck as well.
+fn serve_upgrade<'a, W: Write>(alloc: Global, text: &[u8], out: &mut W) -> Result<(), Fault<'a>>
+    ensures done { OnOk result ((deck : Option (List ℕ))
+        → IsDone Command.Upgrade text.now deck (W.contents out.old) (W.contents out.new)) }
+    ensures refused { IfErr result (λ told. status_of told ≡ 3
+        → ((deck : Option (List ℕ)) → IsRefused Command.Upgrade text.now deck told) × (out.new ≡ out.old)) }
+    ensures stopped { IfErr result (λ told. (unreadable : Fault) → Stops told unreadable (out.new ≡ out.old)) }
+{
+    let rewritten = upgraded(alloc, text)?;
+    put(out, rewritten.as_bytes())
 }
 
 // Prints the pages of a wiring chart and a deck. A fault of the wiring chart is told before a deck that can't be read.
@@ -82,6 +94,7 @@ fn carry_out<'a, R: Read + Drop, W: Write>(
     match command {
         Command::Check => serve_check(alloc, text, out),
         Command::Wire => serve_wire(alloc, text, out),
+        Command::Upgrade => serve_upgrade(alloc, text, out),
         Command::Run => print_run(alloc, text, deck, out),
         Command::Replay => serve_replay(alloc, text, path, deck, out),
     }
@@ -90,8 +103,8 @@ fn carry_out<'a, R: Read + Drop, W: Write>(
 /// Does one command, and tells on one line of `faults` why it was not carried out.
 ///
 /// The command is `check`, which compiles the chart `text` and prints `ok`, `wire`, which prints its wiring chart, `run`,
-/// which prints the pages of the deck, or `replay`, which prints the pages that the machine wired as the wiring chart `text` says
-/// prints of the deck, whatever is on its cards. By any other word nothing is read and nothing printed. `path` names the deck in what
+/// which prints the pages of the deck, `replay`, which prints the pages that the machine wired as the wiring chart `text` says
+/// prints of the deck, whatever is on its cards, or `upgrade`, which prints the wiring chart in version 2. By any other word nothing is read and nothing printed. `path` names the deck in what
 /// `replay` tells of one that can't be read, after a fault of the wiring chart. The statuses are 0 done, and then nothing is told, 2 no
 /// such command, 3 refused input, 4 file fault, 5 memory.
 ///

@@ -15,7 +15,10 @@ mod Exits
 mod Moving
 mod Parts
 mod Going
+mod KeptFeeds
+mod KeptPoints
 pub mod Pictures
 mod Points
 mod Rest
+mod Marks
 mod UnitOrder

@@ -1,22 +1,23 @@
--- Counter groups that are under no control emit nothing, and sense nothing but controls and carries.
-use Rattle.std.proofs.Common.{◌≡◌, ℕ, zero, suc, ◌+◌, ◌<◌, ◌≤◌, ◌-◌, Bool, true, false, not, ◌&&◌, ◌==◌, nat_le, List, [], ◌∷◌, Option, Some, None, option_map, map, length, get_or, inl, inr, if◌then◌else◌, refl, sym, ap, ◌∙◌, arith}
-use Rattle.std.proofs.lemmas.List.Elements.{All-replicate}
+-- Counter groups that are under no control emit nothing, sense nothing but controls and carries, and end a cycle as they are.
+use Rattle.std.proofs.Common.{◌≡◌, ℕ, zero, suc, ◌+◌, ◌/◌, ◌^◌, ◌<◌, ◌≤◌, ◌-◌, Bool, true, false, not, ◌&&◌, ◌||◌, ◌==◌, nat_le, List, [], ◌∷◌, Option, Some, None, option_map, map, length, get_or, inl, inr, if◌then◌else◌, refl, sym, ap, ◌∙◌, arith, rules}
 use Rattle.std.proofs.lemmas.Bool.Decides.{nat_tests}
-use Rattle.std.proofs.lemmas.Nat.Bits.{bit_at-zero}
-use Rattle.std.specs.Int.{bit_at}
 use Rattle.std.specs.List.{list_any}
 use Rattle.std.proofs.lemmas.Bool.{and_right, cases_lt, false≢true}
 use Rattle.card_code.specs.Rows.{row_number}
-use Rattle.counters.specs.Counters.{Counter, no_controls, controls_of, counter_emits, counter_sensed, counter_ended, counter_at_start, all_taken, takes, shows, wheels_in, width_of}
-use Rattle.counters.specs.Laws.{IsDigit}
-use Rattle.counters.proofs.Idle.{idle-carries_out}
-use Rattle.counters.proofs.Sums.{turned-digits}
+use Rattle.counters.specs.Counters.{Counter, no_controls, controls_of, counter_emits, counter_number, counter_sensed, counter_ended, counter_at_start, digits_ended, all_taken, takes, top_is_nine, shows, wheels_in}
+use Rattle.counters.specs.Laws.{IsCounter}
+use Rattle.counters.proofs.Idle.{idle-carries_out, idle-turned}
+use Rattle.counters.proofs.Staying.{counters-stay}
+use Rattle.counters.specs.Wheels.{turned}
 use Rattle.counters.specs.declared.controls.Controls.{Controls}
 use Rattle.hubs.specs.Hubs.{number_of}
 use Rattle.hub_table.specs.Places.{group_place}
 use Rattle.hubs.specs.declared.hub.Group.{Group}
 use Rattle.hubs.specs.declared.hub.Hub.{Hub}
 use Rattle.hubs.specs.declared.hub.Hub.TheVariants.{CI, CO, GE, PL, MI, RO, BT}
+use Rattle.bit_sets.proofs.BitLemmas.{is_bit-low, is_bit-or, is_bit-shr, is_bit-zero}
+use Rattle.std.specs.Int.Bits.{bit_and, bit_or}
+use Rattle.std.proofs.lemmas.Nat.{and_mask}
 use Rattle.net.specs.HubSets.{HubSet, has_hub, is_bit, is_hub, is_bit_from, is_in_reach, is_in_row, is_near}
 use Rattle.net.specs.Cycles.{is_closing}
 use Rattle.net.specs.Panel.{unit_after, unit_of}
@@ -25,25 +26,40 @@ use Rattle.net.specs.declared.cycle.Point.{Point}
 use Rattle.net.specs.declared.cycle.Point.TheVariants.{C, Row, K}
 use Rattle.machine.specs.Fields.{AreInUnitOrder}
 use Rattle.machine.specs.Machine.{group_units}
-use Rattle.machine.specs.Rest.{AreApart, AreAtRest, AreBusy, AreSilent, AreAllSilent, ComeNoCarries, ComeToNoNines, HaveNoCarry, IsAtRest}
+use Rattle.machine.specs.Marked.{any_marked, marked_changed}
+use Rattle.machine.specs.Rest.{AreApart, AreBusy, AreCarriesMarked, AreSilent, AreToldMarked, ComeToNoNines, HaveNoMore, IsAtRest}
 use Rattle.machine.specs.declared.groups.Busy.{Busy}
 use Rattle.machine.proofs.ClosedContacts.{AreFrom, are_from, group_units-up, unit_of-last}
 
 -- a group at rest emits nothing
-rest-silent : (group : Counter) (cycle : Cycle) (point : Point) (exit : Hub) → IsAtRest group → counter_emits group cycle point exit ≡ false
-rest-silent group cycle C exit rest = refl
-rest-silent group cycle (Row row) exit rest =
+rest-silent : (group : Counter) (cycle : Cycle) (point : Point) (exit : Hub) → IsCounter group → IsAtRest group
+    → counter_emits group cycle point exit ≡ false
+rest-silent group cycle C exit lawful rest = refl
+rest-silent group cycle (Row row) exit lawful rest =
     ap (λ (c : Controls). c.read_out && shows group.name (row_number row) group.digits exit) rest.controls
-rest-silent group cycle K exit rest =
+rest-silent group cycle K exit lawful rest =
     ap (λ (b : Bool). b && is_hub (CO group.name) exit)
     (idle-carries_out group.controls group.digits group.entered (ap (λ (c : Controls). c.read_out) rest.controls)
-    (ap (λ (c : Controls). c.minus) rest.controls) (ap (λ (c : Controls). c.plus) rest.controls) rest.digits)
+    (ap (λ (c : Controls). c.minus) rest.controls) (ap (λ (c : Controls). c.plus) rest.controls) lawful.digits)
 
-pub rest-emits : (groups : List Counter) (cycle : Cycle) (point : Point) (exit : Hub) → AreAtRest groups
-    → list_any (λ group. counter_emits group cycle point exit) groups ≡ false
-rest-emits [] cycle point exit rest = refl
-rest-emits (group ∷ groups) cycle point exit (here, others) =
-    rw (rest-silent group cycle point exit here, rest-emits groups cycle point exit others) refl
+emits-from : (busy : Busy) (k : ℕ) (groups : List Counter) (cycle : Cycle) (point : Point) (exit : Hub) → HaveNoMore busy k groups
+    → any_marked busy.controlled k (λ group. counter_emits group cycle point exit) groups
+    ≡ list_any (λ group. counter_emits group cycle point exit) groups
+emits-from busy k [] cycle point exit held = refl
+emits-from busy k (group ∷ groups) cycle point exit (here, others) =
+    ap (λ b. b || any_marked busy.controlled (suc k) (λ group. counter_emits group cycle point exit) groups)
+    (by (is_bit busy.controlled k) here.rest)
+    ∙ ap (λ b. counter_emits group cycle point exit || b) (emits-from busy (suc k) groups cycle point exit others)
+  where
+    by : (b : Bool) → (b ≡ false → IsAtRest group) → (b && counter_emits group cycle point exit) ≡ counter_emits group cycle point exit
+    by true rest = refl
+    by false rest = sym (rest-silent group cycle point exit here.lawful (rest refl))
+
+-- what the groups emit that may be under a control is all that groups emit
+pub busy-emits : (busy : Busy) (groups : List Counter) (cycle : Cycle) (point : Point) (exit : Hub) → AreBusy busy groups
+    → any_marked busy.controlled 0 (λ group. counter_emits group cycle point exit) groups
+    ≡ list_any (λ group. counter_emits group cycle point exit) groups
+busy-emits busy groups cycle point exit held = emits-from busy 0 groups cycle point exit held
 
 silent-controls : (name : Group) (picture : Hub → Bool) → AreSilent picture name → controls_of name picture ≡ no_controls
 silent-controls name picture silent = λ i. record {
@@ -73,104 +89,188 @@ rest-stays group cycle (Row row) picture rest empty silent none = λ i.
     }
 rest-stays group cycle K picture rest empty silent none = λ i. record group { carry = (none refl ∙ sym (empty refl)) i }
 
-rest-stay : (k : ℕ) (groups : List Counter) (cycle : Cycle) (point : Point) (picture : Hub → Bool)
-    → 3 ≤ k → AreFrom k groups → (is_closing point ≡ false → AreAtRest groups) → (is_closing point ≡ true → HaveNoCarry groups)
-    → (is_closing point ≡ false → point ≡ C → AreAllSilent picture) → (is_closing point ≡ true → point ≡ K → ComeNoCarries picture)
-    → map (λ group. counter_sensed group cycle point picture) groups ≡ groups
-rest-stay k [] cycle point picture low from rest empty silent none = refl
-rest-stay k (group ∷ groups) cycle point picture low (is, from) rest empty silent none =
-    ap (λ (g : Counter). g ∷ map (λ g. counter_sensed g cycle point picture) groups)
-    (rest-stays group cycle point picture (λ before. (rest before).0) (λ at. (empty at).0)
-    (λ at. silent (ap is_closing at) at group.name (omega (arith, low, is)))
-    (λ at. none (ap is_closing at) at group.name (omega (arith, low, is))))
-    ∙ ap (λ (gs : List Counter). group ∷ gs)
-    (rest-stay (suc k) groups cycle point picture (omega (arith, low)) from (λ before. (rest before).1) (λ at. (empty at).1) silent none)
-
--- groups at rest stay so where they are told nothing
-rest-after : (k : ℕ) (groups : List Counter) (cycle : Cycle) (point : Point) (picture : Hub → Bool)
-    → 3 ≤ k → AreFrom k groups → AreAtRest groups → (point ≡ C → AreAllSilent picture)
-    → AreAtRest (map (λ group. counter_sensed group cycle point picture) groups)
-rest-after k [] cycle point picture low from rest silent = tt
-rest-after k (group ∷ groups) cycle point picture low (is, from) (here, others) silent =
-    (by point (λ at. silent at group.name (omega (arith, low, is))), rest-after (suc k) groups cycle point picture (omega (arith, low)) from others silent)
-  where
-    by : (p : Point) → (p ≡ C → AreSilent picture group.name) → IsAtRest (counter_sensed group cycle p picture)
-    by C told = record { controls = silent-controls group.name picture (told refl); digits = here.digits }
-    by (Row row) told = record { controls = here.controls; digits = here.digits }
-    by K told = record { controls = here.controls; digits = here.digits }
-
--- groups without a carry stay so where none comes in
-empty-after : (k : ℕ) (groups : List Counter) (cycle : Cycle) (point : Point) (picture : Hub → Bool)
-    → 3 ≤ k → AreFrom k groups → HaveNoCarry groups → (point ≡ K → ComeNoCarries picture)
-    → HaveNoCarry (map (λ group. counter_sensed group cycle point picture) groups)
-empty-after k [] cycle point picture low from empty none = tt
-empty-after k (group ∷ groups) cycle point picture low (is, from) (here, others) none =
-    (by point (λ at. none at group.name (omega (arith, low, is))), empty-after (suc k) groups cycle point picture (omega (arith, low)) from others none)
-  where
-    by : (p : Point) → (p ≡ K → picture (CI group.name) ≡ false) → (counter_sensed group cycle p picture).carry ≡ false
-    by C came = here
-    by (Row row) came = here
-    by K came = came refl
-
 -- What a point leaves of groups of which this was held before, and this after it.
 pub record BusyAfter (point : Point) (picture : Hub → Bool) (before after : Busy) : Type 0 where
-  pub uncontrolled : after.controlled ≡ false → before.controlled ≡ false
-  pub silent : after.controlled ≡ false → point ≡ C → AreAllSilent picture
-  pub empty : after.carried ≡ false → before.carried ≡ false
-  pub none : after.carried ≡ false → point ≡ K → ComeNoCarries picture
+  pub uncontrolled : (k : ℕ) → is_bit after.controlled k ≡ false → is_bit before.controlled k ≡ false
+  pub told : point ≡ C → AreToldMarked after.controlled picture
+  pub empty : (k : ℕ) → is_bit after.carried k ≡ false → is_bit before.carried k ≡ false
+  pub carries : point ≡ K → AreCarriesMarked after.carried picture
+
+-- the bit of a group is the one after its unit
+group_bit : (marks k : ℕ) (group : Counter) → counter_number group ≡ 3 + k → is_bit marks k ≡ false
+    → is_bit marks (counter_number group - 3) ≡ false
+group_bit marks k group is off = let place : counter_number group - 3 ≡ k = omega (arith, is) in ap (is_bit marks) place ∙ off
+
+-- which groups may change by what they sense
+abbrev pub sensing_of : Busy → Point → ℕ
+sensing_of busy point = if is_closing point then busy.carried else busy.controlled
+
+senses-from : (n k : ℕ) (groups : List Counter) (cycle : Cycle) (point : Point) (picture : Hub → Bool) (before after : Busy)
+    → n ≡ 3 + k → AreFrom n groups → HaveNoMore before k groups → BusyAfter point picture before after
+    → marked_changed (sensing_of after point) k (λ group. counter_sensed group cycle point picture) groups
+    ≡ map (λ group. counter_sensed group cycle point picture) groups
+senses-from n k [] cycle point picture before after up from held goes = refl
+senses-from n k (group ∷ groups) cycle point picture before after up (is, from) (here, others) goes =
+    ap
+    (λ (g : Counter).
+    g ∷ marked_changed (sensing_of after point) (suc k) (λ group. counter_sensed group cycle point picture) groups)
+    (by (is_bit (sensing_of after point) k) refl)
+    ∙ ap (λ (gs : List Counter). counter_sensed group cycle point picture ∷ gs)
+    (senses-from (suc n) (suc k) groups cycle point picture before after (omega (arith, up)) from others goes)
+  where
+    by : (b : Bool) → is_bit (sensing_of after point) k ≡ b
+        → (if b then counter_sensed group cycle point picture else group) ≡ counter_sensed group cycle point picture
+    by true on = refl
+    by false off =
+        let controls : is_closing point ≡ false → is_bit after.controlled k ≡ false
+        = λ e. sym (ap (λ (b : Bool). is_bit (if b then after.carried else after.controlled) k) e) ∙ off in
+        let carries : is_closing point ≡ true → is_bit after.carried k ≡ false
+        = λ e. sym (ap (λ (b : Bool). is_bit (if b then after.carried else after.controlled) k) e) ∙ off in
+        let third : 3 ≤ counter_number group = omega (arith, is, up) in
+        sym
+        (rest-stays group cycle point picture (λ e. here.rest (goes.uncontrolled k (controls e)))
+        (λ e. here.empty (goes.empty k (carries e)))
+        (λ at. goes.told at group.name third (group_bit after.controlled k group (is ∙ up) (controls (ap is_closing at))))
+        (λ at. goes.carries at group.name third (group_bit after.carried k group (is ∙ up) (carries (ap is_closing at)))))
 
 from_third : (groups : List Counter) → AreInUnitOrder groups → AreFrom 3 groups
 from_third groups ordered = are_from 3 groups group_units ordered group_units-up
 
 -- groups that have nothing to do with a point stay as they are
-pub busy-stays : (groups : List Counter) (cycle : Cycle) (point : Point) (picture : Hub → Bool) (before after : Busy)
+pub busy-senses : (groups : List Counter) (cycle : Cycle) (point : Point) (picture : Hub → Bool) (before after : Busy)
     → AreInUnitOrder groups → AreBusy before groups → BusyAfter point picture before after
-    → (if is_closing point then after.carried else after.controlled) ≡ false
-    → map (λ group. counter_sensed group cycle point picture) groups ≡ groups
-busy-stays groups cycle point picture before after ordered busy goes idle =
-    let uncontrolled : is_closing point ≡ false → after.controlled ≡ false
-    = λ e. sym (ap (λ (b : Bool). if b then after.carried else after.controlled) e) ∙ idle in
-    let empty : is_closing point ≡ true → after.carried ≡ false
-    = λ e. sym (ap (λ (b : Bool). if b then after.carried else after.controlled) e) ∙ idle in
-    rest-stay 3 groups cycle point picture (omega arith) (from_third groups ordered)
-    (λ e. busy.rest (goes.uncontrolled (uncontrolled e))) (λ e. busy.empty (goes.empty (empty e)))
-    (λ e. goes.silent (uncontrolled e)) (λ e. goes.none (empty e))
+    → marked_changed (sensing_of after point) 0 (λ group. counter_sensed group cycle point picture) groups
+    ≡ map (λ group. counter_sensed group cycle point picture) groups
+busy-senses groups cycle point picture before after ordered held goes =
+    senses-from 3 0 groups cycle point picture before after (omega arith) (from_third groups ordered) held goes
+
+-- a group at rest stays so where it is told nothing
+rest-after : (group : Counter) (cycle : Cycle) (point : Point) (picture : Hub → Bool) → IsAtRest group
+    → (point ≡ C → AreSilent picture group.name) → IsAtRest (counter_sensed group cycle point picture)
+rest-after group cycle C picture rest silent = record {
+  controls = silent-controls group.name picture (silent refl);
+  entered = rest.entered;
+}
+rest-after group cycle (Row row) picture rest silent = record {
+  controls = rest.controls;
+  entered =
+      ap
+      (λ (c : Controls).
+      if takes c (row_number row)
+      then all_taken (row_number row) (λ position. picture (GE group.name position)) group.entered
+      else group.entered)
+      rest.controls
+      ∙ rest.entered;
+}
+rest-after group cycle K picture rest silent = record { controls = rest.controls; entered = rest.entered }
+
+-- and one without a carry has none where none comes in
+empty-after : (group : Counter) (cycle : Cycle) (point : Point) (picture : Hub → Bool) → group.carry ≡ false
+    → (point ≡ K → picture (CI group.name) ≡ false) → (counter_sensed group cycle point picture).carry ≡ false
+empty-after group cycle C picture empty none = empty
+empty-after group cycle (Row row) picture empty none = empty
+empty-after group cycle K picture empty none = none refl
+
+after-from : (n k : ℕ) (groups : List Counter) (cycle : Cycle) (point : Point) (picture : Hub → Bool) (before after : Busy)
+    → n ≡ 3 + k → AreFrom n groups → HaveNoMore before k groups → BusyAfter point picture before after
+    → HaveNoMore after k (map (λ group. counter_sensed group cycle point picture) groups)
+after-from n k [] cycle point picture before after up from held goes = tt
+after-from n k (group ∷ groups) cycle point picture before after up (is, from) (here, others) goes =
+    let third : 3 ≤ counter_number group = omega (arith, is, up) in (
+      record {
+        lawful = counters-stay.sensed group cycle point picture here.lawful;
+        rest = λ off.
+            rest-after group cycle point picture (here.rest (goes.uncontrolled k off))
+            (λ at. goes.told at group.name third (group_bit after.controlled k group (is ∙ up) off));
+        empty = λ off.
+            empty-after group cycle point picture (here.empty (goes.empty k off))
+            (λ at. goes.carries at group.name third (group_bit after.carried k group (is ∙ up) off));
+      },
+      after-from (suc n) (suc k) groups cycle point picture before after (omega (arith, up)) from others goes,
+    )
 
 -- what groups may have to do after a point
 pub busy-after : (groups : List Counter) (cycle : Cycle) (point : Point) (picture : Hub → Bool) (before after : Busy)
     → AreInUnitOrder groups → AreBusy before groups → BusyAfter point picture before after
     → AreBusy after (map (λ group. counter_sensed group cycle point picture) groups)
-busy-after groups cycle point picture before after ordered busy goes = record {
-  rest = λ off.
-      rest-after 3 groups cycle point picture (omega arith) (from_third groups ordered) (busy.rest (goes.uncontrolled off)) (goes.silent off);
-  empty = λ off.
-      empty-after 3 groups cycle point picture (omega arith) (from_third groups ordered) (busy.empty (goes.empty off)) (goes.none off);
-}
+busy-after groups cycle point picture before after ordered held goes =
+    after-from 3 0 groups cycle point picture before after (omega arith) (from_third groups ordered) held goes
 
--- controls and carries end with the cycle
-ended-rest : (groups : List Counter) (cycle : Cycle) → AreAtRest (map (λ group. counter_ended group cycle) groups)
-ended-rest [] cycle = tt
-ended-rest (group ∷ groups) cycle =
-    (record { controls = refl; digits = turned-digits (wheels_in group) group.carry }, ended-rest groups cycle)
+-- a group at rest, into which no carry came, ends the cycle as it is
+rest-ends : (group : Counter) (cycle : Cycle) → IsCounter group → IsAtRest group → group.carry ≡ false → counter_ended group cycle ≡ group
+rest-ends group cycle lawful rest empty = λ i.
+    record group {
+      digits =
+          (ap (λ (carry : Bool). turned (wheels_in group) carry) empty
+          ∙ idle-turned group.controls group.digits group.entered (ap (λ (c : Controls). c.read_out) rest.controls)
+          (ap (λ (c : Controls). c.minus) rest.controls) (ap (λ (c : Controls). c.plus) rest.controls) lawful.digits
+          (lawful.positions ∙ sym lawful.entries))
+          i;
+      entered = sym rest.entered i;
+      carry = sym empty i;
+      controls = sym rest.controls i;
+      latch = ap (λ (c : Controls). if c.test then top_is_nine (digits_ended group) else group.latch) rest.controls i;
+    }
 
-ended-empty : (groups : List Counter) (cycle : Cycle) → HaveNoCarry (map (λ group. counter_ended group cycle) groups)
-ended-empty [] cycle = tt
-ended-empty (group ∷ groups) cycle = (refl, ended-empty groups cycle)
+ends-from : (marks : ℕ) (busy : Busy) (k : ℕ) (groups : List Counter) (cycle : Cycle)
+    → ((j : ℕ) → is_bit marks j ≡ (is_bit busy.controlled j || is_bit busy.carried j)) → HaveNoMore busy k groups
+    → marked_changed marks k (λ group. counter_ended group cycle) groups ≡ map (λ group. counter_ended group cycle) groups
+ends-from marks busy k [] cycle are held = refl
+ends-from marks busy k (group ∷ groups) cycle are (here, others) =
+    ap (λ (g : Counter). g ∷ marked_changed marks (suc k) (λ group. counter_ended group cycle) groups)
+    (by (is_bit marks k) (is_bit busy.controlled k) (is_bit busy.carried k) (are k) here.rest here.empty)
+    ∙ ap (λ (gs : List Counter). counter_ended group cycle ∷ gs) (ends-from marks busy (suc k) groups cycle are others)
+  where
+    by : (b controlled carried : Bool) → b ≡ (controlled || carried) → (controlled ≡ false → IsAtRest group)
+        → (carried ≡ false → group.carry ≡ false) → (if b then counter_ended group cycle else group) ≡ counter_ended group cycle
+    by true controlled carried is rest empty = refl
+    by false false false is rest empty = sym (rest-ends group cycle here.lawful (rest refl) (empty refl))
+    by false true carried is rest empty = cc
+    by false false true is rest empty = cc
 
-pub ended-busy : (groups : List Counter) (cycle : Cycle) (busy : Busy) → AreBusy busy (map (λ group. counter_ended group cycle) groups)
-ended-busy groups cycle busy = record { rest = λ off. ended-rest groups cycle; empty = λ off. ended-empty groups cycle }
+-- groups that had nothing to do end the cycle as they are
+pub busy-ends : (marks : ℕ) (busy : Busy) (groups : List Counter) (cycle : Cycle)
+    → ((j : ℕ) → is_bit marks j ≡ (is_bit busy.controlled j || is_bit busy.carried j)) → AreBusy busy groups
+    → marked_changed marks 0 (λ group. counter_ended group cycle) groups ≡ map (λ group. counter_ended group cycle) groups
+busy-ends marks busy groups cycle are held = ends-from marks busy 0 groups cycle are held
 
-start-rest : (units : List ℕ) → AreAtRest (map counter_at_start units)
-start-rest [] = tt
-start-rest (unit ∷ units) =
-    (record { controls = refl; digits = All-replicate IsDigit (width_of unit) 0 (omega arith) }, start-rest units)
+-- controls, carries and what was entered end with the cycle
+ended-from : (k : ℕ) (groups : List Counter) (cycle : Cycle) (before busy : Busy) → HaveNoMore before k groups
+    → HaveNoMore busy k (map (λ group. counter_ended group cycle) groups)
+ended-from k [] cycle before busy held = tt
+ended-from k (group ∷ groups) cycle before busy (here, others) = (
+  record {
+    lawful = counters-stay.ended group cycle here.lawful;
+    rest = λ off. record { controls = refl; entered = refl };
+    empty = λ off. refl;
+  },
+  ended-from (suc k) groups cycle before busy others,
+)
 
-start-empty : (units : List ℕ) → HaveNoCarry (map counter_at_start units)
-start-empty [] = tt
-start-empty (unit ∷ units) = (refl, start-empty units)
+pub ended-busy : (groups : List Counter) (cycle : Cycle) (before busy : Busy) → AreBusy before groups
+    → AreBusy busy (map (λ group. counter_ended group cycle) groups)
+ended-busy groups cycle before busy held = ended-from 0 groups cycle before busy held
 
-pub start-busy : (units : List ℕ) (busy : Busy) → AreBusy busy (map counter_at_start units)
-start-busy units busy = record { rest = λ off. start-rest units; empty = λ off. start-empty units }
+-- the units of counter groups
+abbrev AreGroups : List ℕ → Type 0
+AreGroups [] = Unit {0}
+AreGroups (unit ∷ units) = (nat_le 3 unit ≡ true) × (nat_le unit 34 ≡ true) × AreGroups units
+
+start-from : (k : ℕ) (units : List ℕ) (busy : Busy) → AreGroups units → HaveNoMore busy k (map counter_at_start units)
+start-from k [] busy all = tt
+start-from k (unit ∷ units) busy (from, to, all) = (
+  record {
+    lawful = counters-stay.start unit (grind (arith, nat_tests, from)) (grind (arith, nat_tests, to));
+    rest = λ off. record { controls = refl; entered = refl };
+    empty = λ off. refl;
+  },
+  start-from (suc k) units busy all,
+)
+
+pub start-busy : (busy : Busy) → AreBusy busy (map counter_at_start group_units)
+start-busy busy = start-from 0 group_units busy groups where
+  groups : AreGroups group_units
+  groups = search rules
 
 abbrev pub first_group : Group
 first_group = record { width = 3; number = 1 }
@@ -181,51 +281,98 @@ near : (place : Option ℕ) (before : ℕ) → 1268 ≤ before → before ≤ 13
 near None before low high from to = absurd (omega (arith, from))
 near (Some p) before low high from to = grind (arith, nat_tests, low, high, from, to)
 
-none-at : (first number : Option ℕ) → is_bit_from first 0 number ≡ false
-unfolding is_bit
-none-at None number = refl
-none-at (Some first) None = refl
-none-at (Some first) (Some number) =
-    and_right (nat_le first number) (bit_at 0 (number - first) == 1)
-    (ap (λ (n : ℕ). n == 1) (bit_at-zero (number - first)))
+-- the bit of a group in a row of hubs, by how many places its hub is after the first
+row_bit : (bits start before k : ℕ) (place : Option ℕ) → 3 ≤ unit_after 2 place → before + unit_after 2 place ≡ start + k + 2
+    → is_bit_from (Some start) bits (option_map (λ p. before + p) place) ≡ is_bit bits k
+row_bit bits start before k None from is = absurd (omega (arith, from))
+row_bit bits start before k (Some p) from is =
+    let place : before + p - start ≡ k = omega (arith, is) in
+    let on : nat_le start (before + p) ≡ true = grind (arith, nat_tests, is) in
+    ap (λ (b : Bool). b && is_bit bits (before + p - start)) on ∙ ap (is_bit bits) place
 
-silent-hub : (set : HubSet) (bits : ℕ) (first hub : Hub) → bits ≡ 0
+hub-at : (set : HubSet) (bits : ℕ) (first hub : Hub) (start before k : ℕ) (place : Option ℕ) → number_of first ≡ Some start
+    → number_of hub ≡ option_map (λ p. before + p) place → 3 ≤ unit_after 2 place → before + unit_after 2 place ≡ start + k + 2
     → ((other : Hub) → is_in_reach first other ≡ true → is_in_row first bits other ≡ has_hub set other)
-    → is_in_reach first hub ≡ true → has_hub set hub ≡ false
-silent-hub set bits first hub none row reach =
-    sym (row hub reach)
-    ∙ ap (λ (b : ℕ). is_in_row first b hub) none
-    ∙ none-at (number_of first) (number_of hub)
+    → is_near (Some start) (option_map (λ p. before + p) place) ≡ true
+    → has_hub set hub ≡ is_bit bits k
+hub-at set bits first hub start before k place numbered also from is row reach =
+    sym (row hub (ap (λ n. is_near n (number_of hub)) numbered ∙ ap (is_near (Some start)) also ∙ reach))
+    ∙ ap (λ n. is_bit_from n bits (number_of hub)) numbered ∙ ap (is_bit_from (Some start) bits) also
+    ∙ row_bit bits start before k place from is
 
--- where no bit of that row is set, no group is told anything
-pub none-told : (set : HubSet) (bits : ℕ) → bits ≡ 0
+-- the bits of a row in its four parts, as code joins them
+pub four_parts : (row k : ℕ)
+    → is_bit (bit_or (bit_or row (row / 2 ^ 64)) (bit_or row (row / 2 ^ 64) / 2 ^ 32)) k
+    ≡ ((is_bit row k || is_bit row (64 + k)) || (is_bit row (32 + k) || is_bit row (64 + (32 + k))))
+four_parts row k =
+    is_bit-or (bit_or row (row / 2 ^ 64)) (bit_or row (row / 2 ^ 64) / 2 ^ 32) k
+    ∙ ap (λ b. b || is_bit (bit_or row (row / 2 ^ 64) / 2 ^ 32) k) (pair k)
+    ∙ ap (λ b. (is_bit row k || is_bit row (64 + k)) || b) (is_bit-shr (bit_or row (row / 2 ^ 64)) 32 k ∙ pair (32 + k))
+  where
+    pair : (j : ℕ) → is_bit (bit_or row (row / 2 ^ 64)) j ≡ (is_bit row j || is_bit row (64 + j))
+    pair j = is_bit-or row (row / 2 ^ 64) j ∙ ap (λ b. is_bit row j || b) (is_bit-shr row 64 j)
+
+-- the low 32 bits, as code takes them
+pub is_bit-low_half : (word k : ℕ) → k < 32 → is_bit (bit_and word 0xffff_ffff) k ≡ is_bit word k
+is_bit-low_half word k low = ap (λ m. is_bit m k) (and_mask word 32) ∙ is_bit-low word 32 k low
+
+-- the groups that are told are those with a bit in one of the four parts of the row
+pub told-marked : (set : HubSet) (bits marks : ℕ)
+    → ((k : ℕ) → k < 32
+    → is_bit marks k ≡ ((is_bit bits k || is_bit bits (64 + k)) || (is_bit bits (32 + k) || is_bit bits (64 + (32 + k)))))
     → ((hub : Hub) → is_in_reach (PL first_group) hub ≡ true → is_in_row (PL first_group) bits hub ≡ has_hub set hub)
-    → AreAllSilent (has_hub set)
-none-told set bits none row name from =
+    → AreToldMarked marks (has_hub set)
+told-marked set bits marks are row name from off =
     let place = group_place name.width name.number in
     let last = unit_of-last name in
+    let k = unit_of name - 3 in
+    let u = unit_of name in
+    let parts = none_of_four (is_bit bits k) (is_bit bits (64 + k)) (is_bit bits (32 + k)) (is_bit bits (64 + (32 + k)))
+    (sym (are k (omega (arith, from, last))) ∙ off) in
+    let plus : 1268 + u ≡ 1269 + k + 2 = omega (arith, from) in
+    let minus : 1300 + u ≡ 1269 + (32 + k) + 2 = omega (arith, from) in
+    let read_out : 1332 + u ≡ 1269 + (64 + k) + 2 = omega (arith, from) in
+    let test : 1364 + u ≡ 1269 + (64 + (32 + k)) + 2 = omega (arith, from) in
     record {
-      plus = silent-hub set bits (PL first_group) (PL name) none row (near place 1268 (omega arith) (omega arith) from last);
-      minus = silent-hub set bits (PL first_group) (MI name) none row (near place 1300 (omega arith) (omega arith) from last);
-      read_out = silent-hub set bits (PL first_group) (RO name) none row (near place 1332 (omega arith) (omega arith) from last);
-      test = silent-hub set bits (PL first_group) (BT name) none row (near place 1364 (omega arith) (omega arith) from last);
+      plus =
+          hub-at set bits (PL first_group) (PL name) 1269 1268 k place refl refl from plus row
+          (near place 1268 (omega arith) (omega arith) from last)
+          ∙ parts.0;
+      minus =
+          hub-at set bits (PL first_group) (MI name) 1269 1300 (32 + k) place refl refl from minus row
+          (near place 1300 (omega arith) (omega arith) from last)
+          ∙ parts.2;
+      read_out =
+          hub-at set bits (PL first_group) (RO name) 1269 1332 (64 + k) place refl refl from read_out row
+          (near place 1332 (omega arith) (omega arith) from last)
+          ∙ parts.1;
+      test =
+          hub-at set bits (PL first_group) (BT name) 1269 1364 (64 + (32 + k)) place refl refl from test row
+          (near place 1364 (omega arith) (omega arith) from last)
+          ∙ parts.3;
     }
+  where
+    none_of_four : (a b c d : Bool) → ((a || b) || (c || d)) ≡ false
+        → (a ≡ false) × (b ≡ false) × (c ≡ false) × (d ≡ false)
+    none_of_four false false false false e = (refl, refl, refl, refl)
+    none_of_four a b c d e = cc
 
-pub no_bit : (bits : ℕ) → not (bits == 0) ≡ false → bits ≡ 0
-no_bit bits is = grind (arith, nat_tests)
-
--- nor does a carry come in where no bit of the row from the first carry entry on is set
+-- the carries that come in are the bits of the row from the first carry entry on
 near_carry : (place : Option ℕ) → 3 ≤ unit_after 2 place → unit_after 2 place < 35
     → is_near (Some 1397) (option_map (λ p. 1396 + p) place) ≡ true
 near_carry None from to = absurd (omega (arith, from))
 near_carry (Some p) from to = grind (arith, nat_tests, from, to)
 
-pub none-comes : (set : HubSet) (bits : ℕ) → bits ≡ 0
+pub carries-marked : (set : HubSet) (bits marks : ℕ) → ((k : ℕ) → k < 32 → is_bit marks k ≡ is_bit bits k)
     → ((hub : Hub) → is_in_reach (CI first_group) hub ≡ true → is_in_row (CI first_group) bits hub ≡ has_hub set hub)
-    → ComeNoCarries (has_hub set)
-none-comes set bits none row name from =
-    silent-hub set bits (CI first_group) (CI name) none row
-    (near_carry (group_place name.width name.number) from (unit_of-last name))
+    → AreCarriesMarked marks (has_hub set)
+carries-marked set bits marks are row name from off =
+    let place = group_place name.width name.number in
+    let last = unit_of-last name in
+    let u = unit_of name in
+    let here : 1396 + u ≡ 1397 + (u - 3) + 2 = omega (arith, from) in
+    hub-at set bits (CI first_group) (CI name) 1397 1396 (u - 3) place refl refl from here row (near_carry place from last)
+    ∙ sym (are (u - 3) (omega (arith, from, last))) ∙ off
 
 -- carries that come to groups are bits of that row, so no group at nines gets one where no place has both
 bit_of : (bits : ℕ) (place : Option ℕ) → 3 ≤ unit_after 2 place
@@ -244,9 +391,9 @@ none-nines set bits nines apart row name from on =
     (sym (bit_of bits (group_place name.width name.number) from)
     ∙ row (CI name) (near_carry (group_place name.width name.number) from (unit_of-last name)) ∙ on)
 
--- no bit, no carry
-pub none-at_all : (set : HubSet) (nines : List Bool) → ComeNoCarries (has_hub set) → ComeToNoNines (has_hub set) nines
-none-at_all set nines none name from on = absurd (false≢true (sym (none name from) ∙ on))
+-- where no bit is set, none meets a group at nines
+pub apart-none : (bits : ℕ) (nines : List Bool) → bits ≡ 0 → AreApart bits nines
+apart-none bits nines none place on = absurd (false≢true (sym (ap (λ n. is_bit n place) none ∙ is_bit-zero place) ∙ on))
 
 -- what a list of tests tells at a place is what the thing there tells
 pub told-at : (tells : Counter → Bool) (groups : List Counter) (place : ℕ) (group default : Counter) → place < length groups
@@ -264,3 +411,10 @@ apart-more bits tests place before here k within on = elim (cases_lt k place) [
   | inl less ↦ before k less on
   | inr more ↦ let same : k ≡ place = omega (arith, within, more) in rw same (here (ap (is_bit bits) (sym same) ∙ on))
 ]
+
+-- a bit that two words joined don't have
+pub neither : (a b k : ℕ) → is_bit (bit_or a b) k ≡ false → (is_bit a k ≡ false) × (is_bit b k ≡ false)
+neither a b k off = both _ _ (sym (is_bit-or a b k) ∙ off) where
+  both : (x y : Bool) → (x || y) ≡ false → (x ≡ false) × (y ≡ false)
+  both false false e = (refl, refl)
+  both x y e = cc

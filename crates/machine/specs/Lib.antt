@@ -2,10 +2,12 @@ pub mod Machine
 pub mod Cycles
 pub mod Runs
 pub mod Feeds
+pub mod Kept
 pub mod Laws
 pub mod Running
 pub mod Fields
 pub mod Ends
 pub mod Rest
+pub mod Marked
 pub mod Steady
 pub mod Gains

@@ -1,8 +1,8 @@
--- Helper words: a counter group that is under no control emits nothing and changes nothing until the end of a cycle, but that a carry
--- may come in at the closing point.
-use Rattle.std.specs.Prelude.{◌≡◌, ℕ, ◌≤◌, All, Bool, true, false, List, [], ◌∷◌, slice_index_or}
+-- Helper words: a counter group that is under no control emits nothing and changes nothing in a cycle, but that a carry may come in at
+-- the closing point.
+use Rattle.std.specs.Prelude.{◌≡◌, ℕ, suc, ◌-◌, ◌≤◌, Bool, true, false, List, [], ◌∷◌, replicate, slice_index_or}
 use Rattle.counters.specs.Counters.{Counter, no_controls}
-use Rattle.counters.specs.Laws.{IsDigit}
+use Rattle.counters.specs.Laws.{IsCounter}
 use Rattle.hubs.specs.declared.hub.Group.{Group}
 use Rattle.hubs.specs.declared.hub.Hub.{Hub}
 use Rattle.hubs.specs.declared.hub.Hub.TheVariants.{CI, PL, MI, RO, BT}
@@ -11,26 +11,27 @@ use Rattle.net.specs.Panel.{unit_of}
 use Rattle.selectors.specs.Contacts.{is_nines}
 use Rattle.machine.specs.declared.groups.Busy.{Busy}
 
--- a group is under no control, and holds digits
+-- a group is under no control, and nothing is entered
 pub record IsAtRest (group : Counter) : Type 0 where
   pub controls : group.controls ≡ no_controls
-  pub digits : All IsDigit group.digits
+  pub entered : group.entered ≡ replicate group.name.width 0
 
--- so is each group
-abbrev pub AreAtRest : List Counter → Type 0
-AreAtRest [] = Unit {0}
-AreAtRest (group ∷ groups) = IsAtRest group × AreAtRest groups
+-- A group of the panel has no more to do than what is held of it: where it isn't held to be under a control it is at rest, and where no
+-- carry is held to have come in it has none.
+pub record HasNoMore (controlled carried : Bool) (group : Counter) : Type 0 where
+  pub lawful : IsCounter group
+  pub rest : controlled ≡ false → IsAtRest group
+  pub empty : carried ≡ false → group.carry ≡ false
 
--- a carry came into none of the groups
-abbrev pub HaveNoCarry : List Counter → Type 0
-HaveNoCarry [] = Unit {0}
-HaveNoCarry (group ∷ groups) = (group.carry ≡ false) × HaveNoCarry groups
+-- so it is with each group by its bits, where the first of these stands at place k
+abbrev pub HaveNoMore : Busy → ℕ → List Counter → Type 0
+HaveNoMore busy k [] = Unit {0}
+HaveNoMore busy k (group ∷ groups) =
+    HasNoMore (is_bit busy.controlled k) (is_bit busy.carried k) group × HaveNoMore busy (suc k) groups
 
--- The groups have no more to do than what is held of them: where none is held to be under a control all are at rest, and where no
--- carry is held to have come in none has one.
-pub record AreBusy (busy : Busy) (groups : List Counter) : Type 0 where
-  pub rest : busy.controlled ≡ false → AreAtRest groups
-  pub empty : busy.carried ≡ false → HaveNoCarry groups
+-- The groups have no more to do than what is held of them.
+abbrev pub AreBusy : Busy → List Counter → Type 0
+AreBusy busy groups = HaveNoMore busy 0 groups
 
 -- no control hub of a group is impulsed
 pub record AreSilent (picture : Hub → Bool) (name : Group) : Type 0 where
@@ -39,13 +40,14 @@ pub record AreSilent (picture : Hub → Bool) (name : Group) : Type 0 where
   pub read_out : picture (RO name) ≡ false
   pub test : picture (BT name) ≡ false
 
--- no control hub of any group is impulsed
-abbrev pub AreAllSilent : (Hub → Bool) → Type 0
-AreAllSilent picture = (name : Group) → 3 ≤ unit_of name → AreSilent picture name
+-- no control hub is impulsed of a group whose bit is not set; the first group of the panel, unit 3, has bit 0
+abbrev pub AreToldMarked : ℕ → (Hub → Bool) → Type 0
+AreToldMarked marks picture = (name : Group) → 3 ≤ unit_of name → is_bit marks (unit_of name - 3) ≡ false → AreSilent picture name
 
--- no carry entry of any group is impulsed
-abbrev pub ComeNoCarries : (Hub → Bool) → Type 0
-ComeNoCarries picture = (name : Group) → 3 ≤ unit_of name → picture (CI name) ≡ false
+-- no carry entry is impulsed of a group whose bit is not set
+abbrev pub AreCarriesMarked : ℕ → (Hub → Bool) → Type 0
+AreCarriesMarked marks picture =
+    (name : Group) → 3 ≤ unit_of name → is_bit marks (unit_of name - 3) ≡ false → picture (CI name) ≡ false
 
 -- no place of a list of tests has both its bit and its test
 abbrev pub AreApart : ℕ → List Bool → Type 0

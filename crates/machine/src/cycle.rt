@@ -35,7 +35,7 @@ impl Units {
     }
 
     // The closed contacts of a cycle but for those of the carries.
-    fn closed(&self, cycle: Cycle) -> Closed
+    pub(crate) fn closed(&self, cycle: Cycle) -> Closed
         ensures { AreSteady cycle result self.now }
     {
         let steady = steady_contacts(cycle, &self.pilots, &self.indicate, &latches(&self.groups));
@@ -47,7 +47,7 @@ impl Units {
     }
 
     // A point: all units emit, and then all sense the picture that wires and closed contacts make of that.
-    fn step(&mut self, net: &Net, closed: &Closed, cycle: Cycle, point: Point)
+    pub(crate) fn step(&mut self, net: &Net, closed: &Closed, cycle: Cycle, point: Point)
         requires { AreSteady cycle closed.now self.old }
         ensures step { (wiring : Wiring) → IsNetOf wiring net.now → PointStep wiring cycle point self.old self.new }
         ensures senses { SensesSome cycle point self.old self.new }

@@ -19,7 +19,7 @@ impl Units {
     ghost use Rattle.machine.specs.Runs.{moved_on, cycle_due};
 
     // Begins a feed, and answers whether what is fed waits: the first card goes to first reading at once.
-    fn begin(&mut self, next: &Option<Card>) -> bool
+    pub(crate) fn begin(&mut self, next: &Option<Card>) -> bool
         ensures { begun self.old next.now ≡ record { machine = self.new; waits = result; next = next.now } }
     {
         if self.program.is_fresh() {
@@ -46,7 +46,7 @@ impl Units {
     }
 
     // The cycle that is due in a feed, if any.
-    fn due_in(&self, waits: bool, _next: &Option<Card>) -> Option<Cycle>
+    pub(crate) fn due_in(&self, waits: bool, _next: &Option<Card>) -> Option<Cycle>
         ensures { result ≡ due_in (record { machine = self.now; waits = waits; next = _next.now }) }
     {
         if waits || !self.program.card_over(self.stations.has_first()) {
@@ -57,7 +57,7 @@ impl Units {
     }
 
     // Takes what is fed where a card cycle is due, and answers whether something still waits.
-    fn take(&mut self, cycle: Cycle, waits: bool, next: &Option<Card>) -> bool
+    pub(crate) fn take(&mut self, cycle: Cycle, waits: bool, next: &Option<Card>) -> bool
         ensures { taken cycle (record { machine = self.old; waits = waits; next = next.now })
             ≡ record { machine = self.new; waits = result; next = next.now } }
     {

@@ -1,16 +1,16 @@
-//! The counter groups of a machine. In a cycle in which no group is told anything at the control point, none emits, and none senses
-//! anything but a carry.
+//! The counter groups of a machine. A group that is told nothing at the control point emits nothing in the cycle, and senses nothing
+//! but a carry: so the groups that may have work are noted, a bit for each, and the others are left alone.
 
-ghost use Rattle.std.specs.Prelude.{◌≡◌, ◌<◌, false, map};
+ghost use Rattle.std.specs.Prelude.{◌≡◌, ℕ, ◌<◌, false, map};
 ghost use Rattle.std.specs.List.{list_any};
-ghost use Rattle.counters.specs.Counters.{counter_at_start, counter_emits, counter_sensed};
+ghost use Rattle.counters.specs.Counters.{counter_at_start, counter_emits, counter_ended, counter_sensed};
 ghost use Rattle.net.specs.HubSets.{GainsHubs, has_hub, is_bit};
 ghost use Rattle.machine.specs.Fields.{AreInUnitOrder};
 ghost use Rattle.machine.specs.Machine.{group_units};
-ghost use Rattle.machine.specs.Rest.{AreAllSilent, AreApart, AreBusy, ComeNoCarries, ComeToNoNines};
+ghost use Rattle.machine.specs.Rest.{AreApart, AreBusy, AreCarriesMarked, AreToldMarked, ComeToNoNines};
 ghost use Rattle.machine.specs.Steady.{balance_latches, nines_of};
 
-use crate::rows::{emit_all, sense_all};
+use crate::marked::{emit_marked, end_marked, sense_marked};
 use counters::Group;
 use hubs::Hub;
 use net::{Cycle, Picture, Point};
@@ -62,55 +62,55 @@ pub(crate) fn groups() -> [Group; GROUPS]
     ]
 }
 
-// What the counter groups may have to do in a cycle.
+// What the counter groups may have to do in a cycle. The group at place k, unit k + 3, has bit k.
 #[derive(Clone, Copy)]
 pub(crate) struct Busy {
-    // Whether a group may be under a control.
-    pub(crate) controlled: bool,
-    // Whether a carry may have come into a group.
-    pub(crate) carried: bool,
+    // The groups that may be under a control.
+    pub(crate) controlled: u64,
+    // The groups into which a carry may have come.
+    pub(crate) carried: u64,
 }
 
 impl Busy {
-    ghost use Rattle.std.specs.Prelude.{◌≡◌, false, if◌then◌else◌};
+    ghost use Rattle.std.specs.Prelude.{◌≡◌, ℕ, ◌||◌, false, if◌then◌else◌};
     ghost use Rattle.net.specs.Cycles.{is_closing};
-    ghost use Rattle.net.specs.HubSets.{has_hub};
+    ghost use Rattle.net.specs.HubSets.{has_hub, is_bit};
     ghost use Rattle.net.specs.declared.cycle.Point.TheVariants.{C, K};
-    ghost use Rattle.machine.specs.Rest.{AreAllSilent, ComeNoCarries};
+    ghost use Rattle.machine.specs.Rest.{AreCarriesMarked, AreToldMarked};
 
     // No group is told anything, and no carry came in.
     pub(crate) fn none() -> Self
-        ensures controlled { result.controlled ≡ false }
-        ensures carried { result.carried ≡ false }
+        ensures controlled { result.controlled ≡ 0 }
+        ensures carried { result.carried ≡ 0 }
     {
         Busy {
-            controlled: false,
-            carried: false,
+            controlled: 0,
+            carried: 0,
         }
     }
 
     // What they may have to do after a point at which this picture is sensed.
     fn after(self, point: Point, picture: &Picture) -> Self
-        ensures uncontrolled { result.controlled ≡ false → self.controlled ≡ false }
-        ensures silent { result.controlled ≡ false → point ≡ C → AreAllSilent (has_hub picture.now) }
-        ensures empty { result.carried ≡ false → self.carried ≡ false }
-        ensures none { result.carried ≡ false → point ≡ K → ComeNoCarries (has_hub picture.now) }
+        ensures uncontrolled { (k : ℕ) → is_bit result.controlled k ≡ false → is_bit self.controlled k ≡ false }
+        ensures told { point ≡ C → AreToldMarked result.controlled (has_hub picture.now) }
+        ensures empty { (k : ℕ) → is_bit result.carried k ≡ false → is_bit self.carried k ≡ false }
+        ensures carries { point ≡ K → AreCarriesMarked result.carried (has_hub picture.now) }
     {
         match point {
             Point::C => Busy {
-                controlled: self.controlled || is_any_told(picture),
+                controlled: self.controlled | told(picture),
                 carried: self.carried,
             },
             Point::Row(_) => self,
             Point::K => Busy {
                 controlled: self.controlled,
-                carried: self.carried || comes_any_carry(picture),
+                carried: self.carried | carries(picture),
             },
         }
     }
 
-    // Whether a group may change by what it senses at a point: by a carry at the closing point, at others by its controls.
-    fn senses(self, point: Point) -> bool
+    // The groups that may change by what they sense at a point: by a carry at the closing point, at others by their controls.
+    fn sensing(self, point: Point) -> u64
         ensures { result ≡ (if is_closing point then self.carried else self.controlled) }
     {
         match point {
@@ -118,9 +118,16 @@ impl Busy {
             Point::K => self.carried,
         }
     }
+
+    // The groups that may change at the end of the cycle.
+    fn ending(self) -> u64
+        ensures { (k : ℕ) → is_bit result k ≡ (is_bit self.controlled k || is_bit self.carried k) }
+    {
+        self.controlled | self.carried
+    }
 }
 
-// All groups emit. None does where none is under a control.
+// All groups emit. One that is under no control emits nothing.
 pub(crate) fn emit_groups(
     groups: &[Group; GROUPS],
     busy: Busy,
@@ -131,12 +138,11 @@ pub(crate) fn emit_groups(
     requires { AreBusy busy groups.now }
     ensures { GainsHubs (λ exit. list_any (λ group. counter_emits group cycle point exit) groups.now) exits.old exits.new }
 {
-    if busy.controlled {
-        emit_all(groups, cycle, point, exits);
-    }
+    emit_marked(groups, busy.controlled, cycle, point, exits);
 }
 
-// All groups sense the picture, and stay as they are where none has to do with it. Answers what they may have to do from then on.
+// All groups sense the picture, and stay as they are where they have nothing to do with it. Answers what they may have to do from then
+// on.
 pub(crate) fn sense_groups(
     groups: &mut [Group; GROUPS],
     busy: Busy,
@@ -150,24 +156,39 @@ pub(crate) fn sense_groups(
     ensures busy { AreBusy result groups.new }
 {
     let busy = busy.after(point, picture);
-    if busy.senses(point) {
-        sense_all(groups, cycle, point, picture);
-    }
+    sense_marked(groups, busy.sensing(point), cycle, point, picture);
     busy
 }
 
-// Whether a control hub of some group is impulsed: the hubs PL, MI, RO and BT of all groups follow one another.
-fn is_any_told(picture: &Picture) -> bool
-    ensures { result ≡ false → AreAllSilent (has_hub picture.now) }
+// All groups end the cycle, and stay as they are where they had nothing to do in it.
+pub(crate) fn end_groups(groups: &mut [Group; GROUPS], busy: Busy, cycle: Cycle)
+    requires { AreBusy busy groups.old }
+    ensures { groups.new ≡ map (λ group. counter_ended group cycle) groups.old }
 {
-    picture.row(Hub::PL(FIRST)) != 0
+    end_marked(groups, busy.ending(), cycle);
 }
 
-// Whether the carry entry of some group is impulsed, or one of the hubs that follow on them.
-fn comes_any_carry(picture: &Picture) -> bool
-    ensures { result ≡ false → ComeNoCarries (has_hub picture.now) }
+// The groups of which a control hub is impulsed: their hubs PL, MI, RO and BT follow one another, 32 of each.
+fn told(picture: &Picture) -> u64
+    ensures { AreToldMarked result (has_hub picture.now) }
 {
-    picture.row(Hub::CI(FIRST)) != 0
+    let row = picture.row(Hub::PL(FIRST));
+    let pairs = row | row >> 64;
+    low_bits(pairs | pairs >> 32)
+}
+
+// The groups of which the carry entry is impulsed.
+fn carries(picture: &Picture) -> u64
+    ensures { AreCarriesMarked result (has_hub picture.now) }
+{
+    low_bits(picture.row(Hub::CI(FIRST)))
+}
+
+// The first 32 bits of a word.
+fn low_bits(word: u128) -> u64
+    ensures { (k : ℕ) → k < 32 → is_bit result k ≡ is_bit word k }
+{
+    (word & 0xffff_ffff) as u64
 }
 
 // Whether a carry comes to a group that stands at nines.

@@ -10,13 +10,16 @@ mod cycle;
 mod fault;
 mod feed;
 mod groups;
+mod kept;
 pub mod laws;
 mod machine;
+mod marked;
 mod rows;
 mod run;
 mod units;
 
 pub use fault::FeedFault;
+pub use kept::{KeptCycle, KeptPoint};
 pub use machine::Machine;
 pub use placed_lines::{LINE_WHEELS, PlacedLine};
 pub use run::simulate;

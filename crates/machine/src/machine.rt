@@ -1,6 +1,7 @@
 //! The machine, fed card by card.
 
 use crate::fault::FeedFault;
+use crate::kept::KeptCycle;
 use crate::units::Units;
 use card_code::{Card, MOST_CARDS};
 use net::Net;
@@ -45,6 +46,10 @@ impl Machine {
     ghost use Rattle.std.specs.Prelude.{◌≡◌, ◌⊎◌, Some, None, Ok, Err, Option, IfOk, IfErr, OnOk, OnErr, true, false};
     ghost use Rattle.machine.specs.Running.{IsStarted, refusal, fed};
     ghost use Rattle.machine.specs.Gains.{GainsFeed, GainsPrefix};
+    ghost use Rattle.machine.specs.Kept.{FeedsPast, PlacedInFeed};
+    ghost use Rattle.net.specs.Nets.{IsNetOf};
+    ghost use Rattle.setups.specs.Wiring.{Wiring};
+    ghost use Rattle.std.specs.Prelude.{IfSome};
     ghost use Rattle.machine.specs.declared.fault.FeedFault.{FeedFault};
     ghost use Rattle.machine.specs.declared.fault.FeedFault.TheVariants.{Memory};
 
@@ -93,6 +98,42 @@ impl Machine {
             None => self.is_ended = true,
         }
         Ok(())
+    }
+
+    /// Feeds the next card, or the end, as [`Machine::feed`] does, up to the cycle that places a line at this page and this line of
+    /// it: answers that cycle with its points and the line, and takes nothing more then. `None` where no cycle of the feed does; then all
+    /// of them ran.
+    ///
+    /// Refused as a feed is, but never for want of memory: then nothing changes.
+    pub fn feed_to(
+        &mut self,
+        next: Option<Card>,
+        page: u64,
+        line: u32,
+    ) -> Result<Option<KeptCycle>, FeedFault>
+        ensures found { (wiring : Wiring) → IsNetOf wiring self.old.net
+            → IfOk result (λ found. IfSome found (PlacedInFeed wiring self.old.machine next)) }
+        ensures page { IfOk result (λ found. IfSome found (λ kept. kept.line.page ≡ page)) }
+        ensures line { IfOk result (λ found. IfSome found (λ kept. kept.line.line ≡ line)) }
+        ensures past { (wiring : Wiring) → IsNetOf wiring self.old.net → result ≡ Ok None
+            → FeedsPast wiring self.old.machine next self.new.machine page line }
+        ensures goes_on { result ≡ Ok None → self.new ≡ fed next self.new.machine self.old }
+        ensures refused { (fault : FeedFault) → refusal self.old next ≡ Some fault → result ≡ Err fault }
+        ensures faults { IfErr result (λ fault. refusal self.old next ≡ Some fault) }
+        ensures unchanged { (fault : FeedFault) → refusal self.old next ≡ Some fault → self.new ≡ self.old }
+    {
+        if let Some(fault) = self.refusal(&next) {
+            return Err(fault);
+        }
+        if let Some(kept) = self.units.feed_to(&self.net, &next, page, line) {
+            self.is_spoiled = true;
+            return Ok(Some(kept));
+        }
+        match next {
+            Some(_) => self.cards += 1,
+            None => self.is_ended = true,
+        }
+        Ok(None)
     }
 
     // Why a feed is refused, if it is.

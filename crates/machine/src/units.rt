@@ -1,6 +1,6 @@
 //! The units of a machine.
 
-use crate::groups::{Busy, emit_groups, groups, sense_groups};
+use crate::groups::{Busy, emit_groups, end_groups, groups, sense_groups};
 use crate::rows::{emit_all, end_all, sense_all};
 use carriage::Carriage;
 use counters::Group;
@@ -108,7 +108,7 @@ impl Units {
         ensures { self.new ≡ ended self.old cycle }
     {
         self.comparing.end_cycle(cycle);
-        end_all(&mut self.groups, cycle);
+        end_groups(&mut self.groups, self.busy, cycle);
         self.busy = Busy::none();
         end_all(&mut self.storage, cycle);
         self.pilots.end_cycle(cycle);

@@ -1,5 +1,5 @@
 -- Laws of impulsed hubs, for those who show hubs impulsed or not.
-use Rattle.std.proofs.Common.{◌≡◌, ◌∙◌, sym, Bool, true, false, not, ◌&&◌, ◌↔◌, Some, inl, inr}
+use Rattle.std.proofs.Common.{◌≡◌, ◌∙◌, refl, sym, Bool, true, false, not, ◌&&◌, ◌↔◌, Some, inl, inr}
 use Rattle.std.proofs.lemmas.Bool.{and_parts, false≢true}
 use Rattle.hub_table.specs.HubTable.{row_of}
 use Rattle.hubs.specs.Hubs.{is_entry_hub, is_exit_hub, is_hub_in_range, letters_of}
@@ -7,7 +7,7 @@ use Rattle.setups.specs.Wiring.{LeadsToEntries, Wiring}
 use Rattle.hubs.specs.declared.hub.Hub.{Hub}
 use Rattle.net.specs.Impulsed.{IsImpulsed, IsPicture}
 use Rattle.net.specs.Impulsed.IsImpulsed.{emitting, led_on}
-use Rattle.net.specs.Laws.{AreAllOpen, EmitsOrIsFed, FollowsLeads, HoldsHubs, IsLeastSet}
+use Rattle.net.specs.Laws.{AreAllOpen, EmitsOrIsFed, FollowsLeads, HoldsHubs, IsLeastSet, WiresMakeThePicture}
 use Rattle.net.specs.Panel.{contact_of}
 
 -- a set that holds the exits and what its hubs lead on to holds the impulsed hubs
@@ -90,3 +90,16 @@ impulsed_fed wiring exits closed hub to_entries open_all = (
   λ at. fed_from_impulsed wiring exits closed to_entries open_all at,
   impulsed_from_fed wiring exits closed hub to_entries,
 )
+
+-- where no contact is reached, wires make the picture
+pub wires_make : WiresMakeThePicture
+wires_make wiring exits closed picture to_entries reaches is =
+    picture_more wiring exits (λ hub. false) closed picture (λ hub never. absurd (false≢true never))
+    (λ common hub contact on shut. absurd (apart common hub contact ((is common).0 on)))
+    (λ hub. (λ on. (open_fed hub).1 ((is hub).0 on), λ at. (is hub).1 ((open_fed hub).0 at))) where
+      apart : (common hub : Hub) → contact_of hub ≡ Some common → EmitsOrIsFed wiring exits common → ⊥
+      apart common hub contact (inl emits) = false≢true (sym (reaches.silent common hub contact) ∙ emits.1)
+      apart common hub contact (inr fed) = reaches.unwired common hub fed.exit contact fed.wire
+
+      open_fed : (hub : Hub) → IsImpulsed wiring exits (λ other. false) hub ↔ EmitsOrIsFed wiring exits hub
+      open_fed hub = impulsed_fed wiring exits (λ other. false) hub to_entries (λ other. refl)

@@ -7,3 +7,4 @@ pub mod PanelContacts
 pub mod Pictures
 pub mod Rows
 pub mod Sets
+pub mod LinkLemmas

@@ -11,7 +11,7 @@ use Rattle.hubs.specs.declared.hub.Hub.{Hub}
 use Rattle.hubs.specs.Hubs.{number_of}
 use Rattle.setups.specs.Wiring.{Wiring, HasWire, IsLawfulWiring}
 use Rattle.bit_sets.specs.Rows.{leads}
-use Rattle.net.specs.NetRows.{AddsRow}
+use Rattle.net.specs.NetRows.{Adds, AddsRow}
 use Rattle.net.specs.Nets.{IsNetOf, NetRows, leads_by}
 
 -- a test of two parts, one of them with two equations
@@ -29,25 +29,25 @@ added_is old f p t q new e = (gone old e, come) where
   come (inr at) = let one = at.0 in let other = at.1 in grind (arith, nat_tests)
 
 -- no entry, nothing more
-pub AddsRow-none : (rows : List (List ℕ)) (place : ℕ) → AddsRow rows rows place []
-AddsRow-none rows place from to = (λ at. inl at, back) where
-  back : (leads rows from to ≡ true) ⊎ ((from ≡ place) × Contains [] (to + 1)) → leads rows from to ≡ true
+pub Adds-none : (tells : ℕ → ℕ → Bool) (place : ℕ) → Adds tells tells place []
+Adds-none tells place from to = (λ at. inl at, back) where
+  back : (tells from to ≡ true) ⊎ ((from ≡ place) × Contains [] (to + 1)) → tells from to ≡ true
   back (inl at) = at
   back (inr at) = let listed = at.1 in absurd (omega (arith, listed.1))
 
 -- one entry more
-pub AddsRow-more : (start old new : List (List ℕ)) (place : ℕ) (entries : List ℕ) (i d entry : ℕ) → i < length entries
+pub Adds-more : (start old new : ℕ → ℕ → Bool) (place : ℕ) (entries : List ℕ) (i d entry : ℕ) → i < length entries
     → slice_index_or entries i d ≡ entry → 1 ≤ entry
-    → ((f t : ℕ) → leads new f t ≡ (leads old f t || ((f == place) && (t == entry - 1))))
-    → AddsRow start old place (take i entries) → AddsRow start new place (take (i + 1) entries)
-AddsRow-more start old new place entries i d entry inside is some added before from to = (gone, come) where
+    → ((f t : ℕ) → new f t ≡ (old f t || ((f == place) && (t == entry - 1))))
+    → Adds start old place (take i entries) → Adds start new place (take (i + 1) entries)
+Adds-more start old new place entries i d entry inside is some added before from to = (gone, come) where
   more : take (i + 1) entries ≡ take i entries ++ entry ∷ []
   more = (take_at_read entries i d inside).1 ∙ ap (λ n. take i entries ++ n ∷ []) is
 
-  one : (leads new from to ≡ true) ↔ ((leads old from to ≡ true) ⊎ ((from ≡ place) × (to ≡ entry - 1)))
-  one = added_is (leads old from to) from place to (entry - 1) (leads new from to) (added from to)
+  one : (new from to ≡ true) ↔ ((old from to ≡ true) ⊎ ((from ≡ place) × (to ≡ entry - 1)))
+  one = added_is (old from to) from place to (entry - 1) (new from to) (added from to)
 
-  gone : leads new from to ≡ true → (leads start from to ≡ true) ⊎ ((from ≡ place) × Contains (take (i + 1) entries) (to + 1))
+  gone : new from to ≡ true → (start from to ≡ true) ⊎ ((from ≡ place) × Contains (take (i + 1) entries) (to + 1))
   gone at = ⊎_elim
       (λ at_old. ⊎_elim
       (λ at_start. inl at_start)
@@ -58,16 +58,37 @@ AddsRow-more start old new place entries i d entry inside is some added before f
       inr (is_new.0, rw more (subst (λ (n : ℕ). Contains (take i entries ++ entry ∷ []) n) same (Contains-push (take i entries) entry))))
       (one.0 at)
 
-  come : (leads start from to ≡ true) ⊎ ((from ≡ place) × Contains (take (i + 1) entries) (to + 1)) → leads new from to ≡ true
+  come : (start from to ≡ true) ⊎ ((from ≡ place) × Contains (take (i + 1) entries) (to + 1)) → new from to ≡ true
   come (inl at) = one.1 (inl ((before from to).1 (inl at)))
   come (inr listed) = ⊎_elim
       (λ in_old. one.1 (inl ((before from to).1 (inr (listed.0, in_old)))))
       (λ last. one.1 (inr (listed.0, omega (arith, last, some))))
       (Contains-push_cases (take i entries) entry (to + 1) (rw more at listed.1))
 
-pub AddsRow-all : (start new : List (List ℕ)) (place : ℕ) (entries : List ℕ) (i : ℕ) → length entries ≤ i
-    → AddsRow start new place (take i entries) → AddsRow start new place entries
-AddsRow-all start new place entries i end added = subst (λ (l : List ℕ). AddsRow start new place l) (take_all i entries end) added
+pub Adds-all : (start new : ℕ → ℕ → Bool) (place : ℕ) (entries : List ℕ) (i : ℕ) → length entries ≤ i
+    → Adds start new place (take i entries) → Adds start new place entries
+Adds-all start new place entries i end added = subst (λ (l : List ℕ). Adds start new place l) (take_all i entries end) added
+
+-- two tests that agree, and gain the same, agree again
+pub agree-more : (old new other_old other_new : ℕ → ℕ → Bool) (place : ℕ) (entries : List ℕ) → Adds old new place entries
+    → Adds other_old other_new place entries → ((f t : ℕ) → other_old f t ≡ old f t) → (f t : ℕ) → other_new f t ≡ new f t
+agree-more old new other_old other_new place entries added also agree f t = by (other_new f t) (new f t) to_new from_new where
+  to_new : other_new f t ≡ true → new f t ≡ true
+  to_new at = (added f t).1 (as_before ((also f t).0 at)) where
+    as_before : (other_old f t ≡ true) ⊎ ((f ≡ place) × Contains entries (t + 1)) → (old f t ≡ true) ⊎ ((f ≡ place) × Contains entries (t + 1))
+    as_before (inl is) = inl (sym (agree f t) ∙ is)
+    as_before (inr is) = inr is
+
+  from_new : new f t ≡ true → other_new f t ≡ true
+  from_new at = (also f t).1 (as_before ((added f t).0 at)) where
+    as_before : (old f t ≡ true) ⊎ ((f ≡ place) × Contains entries (t + 1)) → (other_old f t ≡ true) ⊎ ((f ≡ place) × Contains entries (t + 1))
+    as_before (inl is) = inl (agree f t ∙ is)
+    as_before (inr is) = inr is
+
+  by : (a b : Bool) → (a ≡ true → b ≡ true) → (b ≡ true → a ≡ true) → a ≡ b
+  by true b there back = sym (there refl)
+  by false true there back = back refl
+  by false false there back = refl
 
 -- the rows lead on exactly where the setup has a wire from an exit numbered below n
 pub record IsNetBelow (n : ℕ) (wiring : Wiring) (rows : List (List ℕ)) : Type 0 where

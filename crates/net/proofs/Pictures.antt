@@ -38,7 +38,7 @@ numbered_from hub n is =
 
 module _ (wiring : Wiring) (net : NetRows) (is_net : IsNetOf wiring net) (short : length net.rows ≤ 1040)
     (exits closed : HubSet) where
-  leads_on-place : (from to : Hub) (g h : ℕ) → number_of from ≡ Some (g + 1) → number_of to ≡ Some (h + 1)
+  pub leads_on-place : (from to : Hub) (g h : ℕ) → number_of from ≡ Some (g + 1) → number_of to ≡ Some (h + 1)
       → leads_on net from to ≡ leads net.rows g h
   leads_on-place from to g h is and_is =
       let index : g + 1 - 1 ≡ g = omega arith in

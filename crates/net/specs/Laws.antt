@@ -1,9 +1,10 @@
 -- What the impulsed hubs are as a set, that there is a picture of them, and where one wire is all that leads to a hub.
-use Rattle.std.specs.Prelude.{◌≡◌, Bool, true, false, ◌⊎◌}
+use Rattle.std.specs.Prelude.{◌≡◌, ◌↔◌, Bool, true, false, ◌⊎◌, Some}
 use Rattle.hubs.specs.declared.hub.Hub.{Hub}
 use Rattle.hubs.specs.Hubs.{is_hub_in_range}
-use Rattle.setups.specs.Wiring.{Wiring, HasWire}
+use Rattle.setups.specs.Wiring.{Wiring, HasWire, LeadsToEntries}
 use Rattle.net.specs.Impulsed.{IsImpulsed, IsPicture, LeadsOn}
+use Rattle.net.specs.Panel.{contact_of}
 
 -- the set has each hub of the panel that the test has
 abbrev pub HoldsHubs : (Hub → Bool) → (Hub → Bool) → Type 0
@@ -41,3 +42,17 @@ EmitsOrIsFed wiring exits hub = ((is_hub_in_range hub ≡ true) × (exits hub �
 -- no contact is closed
 abbrev pub AreAllOpen : (Hub → Bool) → Type 0
 AreAllOpen closed = (hub : Hub) → closed hub ≡ false
+
+-- no hub that a contact leads from emits, or has a wire that leads to it
+pub record ReachesNoContact (wiring : Wiring) (exits : Hub → Bool) : Type 0 where
+  pub silent : (common hub : Hub) → contact_of hub ≡ Some common → exits common ≡ false
+  pub unwired : (common hub exit : Hub) → contact_of hub ≡ Some common → HasWire wiring exit common → ⊥
+
+-- Where no contact is reached, what emits and what wires lead to from there is the picture, whichever contacts are closed.
+abbrev pub WiresMakeThePicture : Type 0
+WiresMakeThePicture =
+    (wiring : Wiring) (exits closed picture : Hub → Bool)
+    → LeadsToEntries wiring
+    → ReachesNoContact wiring exits
+    → ((hub : Hub) → (picture hub ≡ true) ↔ EmitsOrIsFed wiring exits hub)
+    → IsPicture wiring exits closed picture

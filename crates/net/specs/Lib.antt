@@ -2,6 +2,7 @@ pub mod Cycles
 pub mod HubSets
 pub mod Impulsed
 pub mod Laws
+pub mod Links
 pub mod NetRows
 pub mod Nets
 pub mod Panel

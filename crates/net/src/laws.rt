@@ -4,7 +4,7 @@ ghost use Rattle.std.specs.Prelude.{Bool, ◌↔◌};
 ghost use Rattle.setups.specs.Wiring.{Wiring, LeadsToEntries};
 ghost use Rattle.hubs.specs.declared.hub.Hub.{Hub};
 ghost use Rattle.net.specs.Impulsed.{IsImpulsed};
-ghost use Rattle.net.specs.Laws.{AreAllOpen, EmitsOrIsFed, ExitsHaveAPicture, IsLeastSet};
+ghost use Rattle.net.specs.Laws.{AreAllOpen, EmitsOrIsFed, ExitsHaveAPicture, IsLeastSet, WiresMakeThePicture};
 
 /// The impulsed hubs are the least set that holds the emitting exits and all that wires and closed contacts lead to
 /// from it.
@@ -24,4 +24,10 @@ pub fn wires_to_entries_lead_no_further()
         → LeadsToEntries wiring
         → AreAllOpen closed
         → IsImpulsed wiring exits closed hub ↔ EmitsOrIsFed wiring exits hub }
+{}
+
+/// Where no hub that a contact leads from emits or has a wire that leads to it, the emitting exits and what wires lead to from them
+/// are the picture, whichever contacts are closed.
+pub fn wires_make_the_picture()
+    ensures { WiresMakeThePicture }
 {}

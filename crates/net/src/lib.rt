@@ -4,6 +4,7 @@
 mod contacts;
 mod cycle;
 mod laws;
+mod links;
 mod net;
 mod picture;
 mod printing;
@@ -11,7 +12,7 @@ mod unit;
 
 pub use cycle::{Cycle, Ordinal, POINTS, Point, ProgramLevel};
 pub use laws::{
-    emitting_exits_have_a_picture, impulsed_hubs_are_the_least_set,
+    emitting_exits_have_a_picture, impulsed_hubs_are_the_least_set, wires_make_the_picture,
     wires_to_entries_lead_no_further,
 };
 pub use net::Net;

@@ -5,8 +5,9 @@ ghost use Rattle.setups.specs.Wiring.{IsEntryNumber};
 ghost use Rattle.net.specs.NetRows.{AddsRow};
 
 use crate::contacts::CONTACTS;
-use crate::picture::{Contacts, Picture, cut_after_hubs};
-use bit_sets::{EXITS, Rows, reach};
+use crate::links::{Link, add_links, follow_all};
+use crate::picture::{Contacts, HUBS, Picture, cut_after_hubs};
+use bit_sets::{EXITS, Rows, WORDS, commons_of, reach};
 use hubs::Hub;
 use setups::Setup;
 use std::alloc::{AllocError, Global};
@@ -17,14 +18,23 @@ use std::marker::Model;
 pub struct Net {
     // For each exit the row of the entries that its wires lead to. The hub with the number h is the place h - 1.
     rows: Rows,
+    // The places of the common hubs, from which contacts lead.
+    commons: [u64; WORDS],
+    // The wires one by one, as the rows have them.
+    links: Vec<Link>,
 }
 
 impl Model for Net {
     ghost use Rattle.net.specs.Nets.{NetRows};
+    ghost use Rattle.net.specs.declared.contacts.TheConstants.{CONTACTS};
 
     ghost Value = { NetRows };
 
     ghost view = { λ net. record { rows = net.rows } };
+
+    ghost use Rattle.net.specs.Links.{IsNetInside};
+
+    ghost invariant = { λ net. IsNetInside CONTACTS net.commons net.links.items net.rows };
 }
 
 impl Net {
@@ -33,19 +43,31 @@ impl Net {
     ghost use Rattle.net.specs.HubSets.{has_hub};
     ghost use Rattle.net.specs.Impulsed.{IsPicture};
     ghost use Rattle.net.specs.Nets.{IsNetOf};
+    ghost use Rattle.std.specs.Prelude.{◌≡◌, ◌↔◌, ℕ, true};
+    ghost use Rattle.hubs.specs.declared.hub.Hub.{Hub};
+    ghost use Rattle.net.specs.Laws.{EmitsOrIsFed};
+    ghost use Rattle.net.specs.Links.{has_row_at};
 
     /// The net of a setup, with exactly its wires. Fails only where no memory is left.
     pub fn of(alloc: Global, setup: &Setup) -> Result<Net, AllocError>
         ensures { IfOk result (IsNetOf setup.now) }
     {
         let mut rows = Rows::new(alloc)?;
+        let mut links = Vec::new(alloc);
         for number in 1..=EXITS as u32 {
             if let Some(exit) = Hub::of_number(number) {
-                add_row(&mut rows, number as usize - 1, setup.entries_of(exit));
+                let entries = setup.entries_of(exit);
+                add_row(&mut rows, number as usize - 1, entries);
+                add_links(&mut links, number as usize - 1, entries)?;
             }
         }
         rows.bundle(alloc)?;
-        Ok(Net { rows })
+        let commons = commons_of(&CONTACTS);
+        Ok(Net {
+            rows,
+            commons,
+            links,
+        })
     }
 
     /// Makes `out` the picture of the emitting exits: it then has exactly the impulsed hubs, whatever it had before.
@@ -56,9 +78,27 @@ impl Net {
             → IsPicture wiring (has_hub exits.now) (has_hub contacts.now) (has_hub out.new) }
     {
         out.words = exits.words;
-        reach(&self.rows, &CONTACTS, contacts.words(), &mut out.words);
+        reach(
+            &self.rows,
+            &CONTACTS,
+            &self.commons,
+            contacts.words(),
+            &mut out.words,
+        );
         // Wires lead to hubs alone. The rows do not tell so, and a cut costs next to nothing.
         cut_after_hubs(&mut out.words);
+    }
+
+    /// Spreads rows along the wires, all rows at once: `sets` has a set of rows for each hub, that of the hub with the number h at place
+    /// h - 1, with bit r for the row at place r among the points. Each entry gains the rows of all exits that lead to it. Contacts pass
+    /// on nothing here.
+    pub fn spread(&self, sets: &mut [u16; HUBS])
+        ensures { (wiring : Wiring)
+            → IsNetOf wiring self.now
+            → (row : ℕ) (hub : Hub)
+            → (has_row_at sets.new row hub ≡ true) ↔ EmitsOrIsFed wiring (has_row_at sets.old row) hub }
+    {
+        follow_all(self.links.as_slice(), sets);
     }
 }
 

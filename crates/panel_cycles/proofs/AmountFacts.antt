@@ -1,15 +1,13 @@
 -- The amounts of a chart have the totals of its lines, and are lawful amounts.
-use Rattle.std.proofs.Common.{◌≡◌, ◌∙◌, refl, sym, ap, ℕ, zero, suc, ◌<◌, ◌≤◌, ◌==◌, ◌&&◌, nat_lt, Bool, true, false, List, Contains, Option, Some, None, is_some, is_none, option_and_then, arith, if◌then◌else◌}
+use Rattle.std.proofs.Common.{◌≡◌, ◌∙◌, refl, sym, ap, ℕ, zero, suc, ◌<◌, ◌≤◌, ◌==◌, nat_lt, Bool, true, false, List, Contains, Option, Some, None, is_some, is_none, option_and_then, arith, if◌then◌else◌}
 use Rattle.std.proofs.lemmas.Bool.Decides.{nat_tests}
 use Rattle.std.proofs.lemmas.Bool.{not-false, both_ways, and_parts}
 use Rattle.wanted.specs.ChartTotals.{names_signed}
 use Rattle.plans.specs.Plans.{Lists}
-use Rattle.chart_rules.proofs.Laws.{breaks-lawful}
 use Rattle.field_rules.proofs.Places.{is_same_name-equal}
 use Rattle.field_rules.specs.Fields.{field_named}
 use Rattle.field_rules.specs.Names.{names_text}
 use Rattle.chart_rules.specs.Rules.{IsLawful, breaks}
-use Rattle.chart_rules.specs.declared.rule.Rule.{Rule}
 use Rattle.chart_rules.specs.declared.rule.Rule.TheVariants as rule
 use Rattle.charts.specs.Chart.{Chart}
 use Rattle.charts.specs.Field.{sign_column, column_of_rule, is_amount}
@@ -22,15 +20,13 @@ use Rattle.charts.specs.declared.statement.FieldKind.TheVariants as holds
 use Rattle.charts.specs.declared.statement.SignRule.{SignRule}
 use Rattle.charts.specs.declared.statement.Statement.{Statement}
 use Rattle.charts.specs.declared.statement.Statement.TheVariants as says
-use Rattle.hubs.specs.declared.hub.Group.{Group}
 use Rattle.totals.proofs.Levels.{lower_less, lower_has}
 use Rattle.totals.specs.Amounts.{lower}
 use Rattle.wiring_table.specs.Figures.{IsAmount, IsSigned, IsUnsigned, rule_of}
-use Rattle.wiring_table.specs.Parts.{HasTotal, IsLowest, group_for}
+use Rattle.wiring_table.specs.Parts.{HasTotal, IsLowest, counter_for}
 use Rattle.wired_panels.proofs.CounterAsksTold.{IsUnder}
 use Rattle.wired_panels.proofs.PlanOwners.{level_some}
-use Rattle.panel_cycles.specs.ChartAmounts.{is_total_at, total_line, digits_of, total_digits, total_group, amount_of}
-use Rattle.wired_panels.specs.Groups.{IsGroupOf}
+use Rattle.panel_cycles.specs.ChartAmounts.{is_total_at, total_line, digits_of, total_digits, total_counter, amount_of}
 use Rattle.wiring_table.proofs.Totals.{one-total, one-total_line}
 use Rattle.charts.proofs.Listed.{found-listed, found-passing}
 use Rattle.chart_rules.proofs.Laws.{kept-line}
@@ -88,7 +84,7 @@ has_from lines plan name level is = by (total_line lines name level) refl is
 pub total_level : {lines : List Line} {name : List ℕ} {level number : ℕ} → HasTotal lines name level number → 1 ≤ level
 total_level total = omega (arith, level_some total.its_level, total.same_level)
 
--- the digits and the group of a total
+-- the digits and the counter of a total
 pub digits_are : (chart : Chart) (plan : Lists) (name : List ℕ) (level number : ℕ) → IsLawful chart
     → (total : HasTotal chart.lines name level number) → (amount_of chart.lines plan name).digits level ≡ total.digits
 digits_are chart plan name level number lawful total =
@@ -97,14 +93,13 @@ digits_are chart plan name level number lawful total =
     let same = one-total_line chart name lawful level number line.number total its in
     ap total_digits found ∙ ap (λ (l : Line). digits_of l.statement) (sym is_line ∙ sym same) ∙ ap digits_of total.says_total
 
-pub group_is : (chart : Chart) (plan : Lists) (name : List ℕ) (level : ℕ) (group : Group) → IsLawful chart
-    → IsGroupOf chart.lines plan name level group → total_group chart.lines plan name level ≡ Some group
-group_is chart plan name level group lawful own =
-    let (line, found) = total_found chart.lines name level own.number own.total in
+pub counter_at : (chart : Chart) (plan : Lists) (name : List ℕ) (level number : ℕ) → IsLawful chart
+    → HasTotal chart.lines name level number → total_counter chart.lines plan name level ≡ counter_for chart.lines plan number
+counter_at chart plan name level number lawful total =
+    let (line, found) = total_found chart.lines name level number total in
     let (its, is_line) = found_total chart.lines name level line found in
-    let same = one-total chart name lawful level own.number line.number own.total its in
-    ap (option_and_then (λ (l : Line). group_for chart.lines plan l.number)) found
-    ∙ ap (group_for chart.lines plan) (sym same) ∙ own.served
+    let same = one-total chart name lawful level number line.number total its in
+    ap (option_and_then (λ (l : Line). counter_for chart.lines plan l.number)) found ∙ ap (counter_for chart.lines plan) (sym same)
 
 -- a lower level with a total is not above the next lower one
 pub lower_covers : (has : ℕ → Bool) (level k : ℕ) → k < level → has k ≡ true → k ≤ lower has level

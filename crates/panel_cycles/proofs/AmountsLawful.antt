@@ -1,44 +1,35 @@
 -- The amounts of a lawful chart with a plan are lawful amounts, and each valid card has no more digits of one than its totals.
-use Rattle.std.proofs.Common.{◌≡◌, ◌∙◌, refl, sym, ap, ℕ, ◌+◌, ◌^◌, ◌<◌, ◌≤◌, ◌&&◌, ◌||◌, nat_lt, Bool, true, false, List, Some, None, is_some, arith}
+use Rattle.std.proofs.Common.{◌≡◌, ◌∙◌, refl, ap, ℕ, ◌^◌, ◌≤◌, true, List, Some, None, is_some, arith}
 use Rattle.std.proofs.Math.Nat.{pow-le-pow_right}
-use Rattle.std.proofs.lemmas.Bool.Decides.{nat_tests}
-use Rattle.wanted.specs.ChartTotals.{names_signed, need_of, line_total}
+use Rattle.wanted.specs.ChartTotals.{names_signed, need_of}
 use Rattle.plans.specs.Plans.{Lists, IsFor}
-use Rattle.wanted.specs.declared.total.Total.{Total}
-use Rattle.field_rules.proofs.Places.{is_same_name-equal}
-use Rattle.field_rules.specs.Digits.{is_out_of_digits}
 use Rattle.field_rules.specs.Fields.{field_named}
-use Rattle.chart_rules.specs.Rules.{IsLawful, breaks}
-use Rattle.field_rules.specs.Shrink.{has_wider_below, is_wider_below}
-use Rattle.chart_rules.specs.declared.rule.Rule.TheVariants as rule
+use Rattle.chart_rules.specs.Rules.{IsLawful}
 use Rattle.charts.specs.Chart.{Chart, NumbersRise}
 use Rattle.charts.specs.Field.{columns_of, sign_column}
-use Rattle.charts.specs.Levels.{level_number}
-use Rattle.charts.specs.Name.{is_same_name}
-use Rattle.charts.specs.declared.chart.Line.{Line}
 use Rattle.charts.specs.declared.statement.Field.{Field}
 use Rattle.charts.specs.declared.statement.FieldKind.{FieldKind}
 use Rattle.charts.specs.declared.statement.FieldKind.TheVariants as holds
-use Rattle.charts.specs.declared.statement.Statement.{Statement}
-use Rattle.charts.specs.declared.statement.Statement.TheVariants as says
-use Rattle.hubs.specs.declared.hub.Group.{Group}
 use Rattle.report.specs.Amounts.{digits_on, is_negated, number_in}
-use Rattle.totals.specs.Amounts.{IsOnCard, HasGroups, sign_positions}
+use Rattle.totals.specs.Amounts.{IsOnCard, HasGroups}
 use Rattle.wiring_table.specs.Figures.{IsAmount}
-use Rattle.wiring_table.specs.Parts.{HasTotal}
-use Rattle.panel_cycles.proofs.AmountFacts.{digits_are, group_is, has_from}
+use Rattle.panel_cycles.proofs.AmountFacts.{counter_at, digits_are, has_from}
 use Rattle.panel_cycles.proofs.CounterAsksCards.{number_small}
-use Rattle.wired_panels.specs.Groups.{IsGroupOf}
 use Rattle.panel_cycles.specs.ChartAmounts.{amount_of, positions_of}
-use Rattle.wiring_table.proofs.Groups.{group-given, group-room}
+use Rattle.plans.specs.Counters.{IsEnoughFor}
+use Rattle.plans.specs.declared.counter.TotalCounter.{TotalCounter}
+use Rattle.plans.specs.declared.counter.TotalCounter.TheVariants as of
+use Rattle.wiring_table.proofs.Groups.{counter-enough, counter-given}
 use Rattle.wiring_table.proofs.Totals.{digits-grow, total-digits}
 
--- the group of a total has room for its digits and its sign
-pub has_room : (chart : Chart) (plan : Lists) (name : List ℕ) (level : ℕ) (group : Group) → NumbersRise chart.lines chart.end
-    → IsFor chart.lines plan → (own : IsGroupOf chart.lines plan name level group)
-    → own.total.digits + sign_positions (names_signed (field_named chart.lines name)) ≤ group.width
-has_room chart plan name level group rise planned own =
-    group-room chart.lines plan planned chart.end name level own.number group rise own.total own.served
+-- a counter that is enough for a total has room for its digits and its sign
+enough_room : (need : ℕ) (counter : TotalCounter) → IsEnoughFor need counter → need ≤ positions_of (Some counter)
+enough_room need (of.Single group) enough = enough
+enough_room need (of.Coupled lower upper) enough =
+    let most = enough.to in
+    let low = enough.lower_width in
+    let up = enough.upper_width in
+    omega (arith, most, low, up)
 
 -- The amounts of a lawful chart with a plan are lawful.
 pub lawful_amount : (chart : Chart) (plan : Lists) (name : List ℕ) → IsLawful chart → NumbersRise chart.lines chart.end
@@ -46,11 +37,13 @@ pub lawful_amount : (chart : Chart) (plan : Lists) (name : List ℕ) → IsLawfu
 lawful_amount chart plan name lawful rise planned = record {
   room = λ level from has.
       let (number, total) = has_from chart.lines plan name level has in
-      let (group, served) = group-given chart plan name level number lawful planned total in
-      let own : IsGroupOf chart.lines plan name level group = record { number = number; total = total; served = served } in
-      let room = has_room chart plan name level group rise planned own in
+      let (counter, there) = counter-given chart.lines plan name level number planned total in
+      let need : ℕ = need_of (field_named chart.lines name) total.digits in
+      let room : need ≤ positions_of (Some counter) =
+      enough_room need counter (counter-enough chart.lines plan planned chart.end name level number counter rise total there) in
       let digits = digits_are chart plan name level number lawful total in
-      let width : (amount_of chart.lines plan name).width level ≡ group.width = ap positions_of (group_is chart plan name level group lawful own) in
+      let width : (amount_of chart.lines plan name).width level ≡ positions_of (Some counter) =
+      ap positions_of (counter_at chart plan name level number lawful total ∙ there) in
       omega (arith, room, digits, width);
   growing = λ low high from less has_low has_high.
       let (n, a) = has_from chart.lines plan name low has_low in

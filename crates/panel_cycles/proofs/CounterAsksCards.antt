@@ -1,10 +1,9 @@
 -- The digits of an amount on a valid card are those of its number: a column has the row of its digit, and no other of the rows 1 to 9.
-use Rattle.std.proofs.Common.{◌≡◌, ◌∙◌, refl, sym, ap, subst, ℕ, zero, suc, ◌+◌, ◌-◌, ◌*◌, ◌^◌, ◌<◌, ◌≤◌, ◌==◌, nat_lt, Bool, true, false, cond, List, [], ◌∷◌, All, Contains, Option, Some, None, find, length, map, slice_index, ◌⊎◌, inl, inr, arith}
+use Rattle.std.proofs.Common.{◌≡◌, ◌∙◌, refl, sym, ap, subst, ℕ, suc, ◌+◌, ◌-◌, ◌*◌, ◌^◌, ◌<◌, ◌≤◌, ◌==◌, Bool, true, false, cond, List, [], ◌∷◌, All, Contains, Option, Some, None, find, length, map, slice_index, ◌⊎◌, inl, inr, arith}
 use Rattle.std.proofs.lemmas.Bool.Decides.{nat_tests}
 use Rattle.std.proofs.lemmas.List.Elements.{All-nil, All-cons}
 use Rattle.std.proofs.lemmas.List.FromFn.{get_or-map-range_with_len, length-map-range_with_len}
 use Rattle.std.proofs.lemmas.List.Sums.{sum_by-cons}
-use Rattle.std.proofs.lemmas.Option.{slice_get_read}
 use Rattle.std.specs.List.{count_by, range_with_len}
 use Rattle.std.proofs.lemmas.Bool.{both_ways}
 use Rattle.counter_cycles.proofs.ShownLemmas.{digits-tell}
@@ -13,14 +12,10 @@ use Rattle.card_code.specs.CardCode.{has_row}
 use Rattle.card_code.specs.Rows.{row_number}
 use Rattle.card_code.specs.declared.row.Row.{Row as CardRow}
 use Rattle.card_code.specs.declared.row.Row.TheVariants.{Zero, One, Two, Three, Four, Five, Six, Seven, Eight, Nine, Eleven, Twelve}
-use Rattle.field_rules.specs.Fields.{fields_of}
-use Rattle.chart_rules.specs.ValidCard.{column_of, digit_rows, digit_count, AreDigits, IsValidCard, IsValidKind}
+use Rattle.chart_rules.specs.ValidCard.{column_of, digit_rows, digit_count, IsValidCard}
 use Rattle.charts.specs.Chart.{Chart}
-use Rattle.charts.specs.Field.{columns_of, is_amount}
-use Rattle.charts.specs.Name.{is_same_name}
+use Rattle.charts.specs.Field.{columns_of}
 use Rattle.charts.specs.declared.statement.Field.{Field}
-use Rattle.charts.specs.declared.statement.FieldKind.{FieldKind}
-use Rattle.charts.specs.declared.statement.FieldKind.TheVariants as holds
 use Rattle.counters.proofs.NumberLemmas.{number-lt}
 use Rattle.counters.specs.Laws.{IsDigit}
 use Rattle.counters.specs.Numbers.{number}

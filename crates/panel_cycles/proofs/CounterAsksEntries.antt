@@ -1,10 +1,12 @@
--- What is entered spells what is asked: the number of a card, the number of the group itself, or that of the next lower total.
-use Rattle.std.proofs.Common.{◌≡◌, ◌∙◌, refl, sym, ap, subst, ℕ, ◌+◌, ◌-◌, ◌^◌, ◌<◌, ◌≤◌, ◌==◌, nat_le, ◌&&◌, Bool, true, false, List, Contains, Some, length, All, arith}
+-- What is entered spells what is asked: the number of a card, the number of the total itself, or that of the next lower total.
+use Rattle.std.proofs.Common.{◌≡◌, ◌∙◌, refl, sym, ap, subst, ℕ, ◌+◌, ◌-◌, ◌^◌, ◌<◌, ◌≤◌, ◌==◌, nat_le, ◌&&◌, Bool, true, false, List, Contains, Some, length, All, arith, option_map, inl, inr}
 use Rattle.std.proofs.lemmas.Bool.Decides.{nat_tests}
-use Rattle.std.proofs.lemmas.Option.{slice_get_read}
-use Rattle.counter_cycles.proofs.DigitLemmas.{digit_of-above, number-within}
+use Rattle.std.proofs.lemmas.Option.{same_Some, slice_get_read}
+use Rattle.counter_cycles.proofs.DigitLemmas.{digit_of-above, digit_of-below, number-within}
+use Rattle.counter_cycles.proofs.PairLemmas.{digit_of-above_width}
+use Rattle.std.proofs.lemmas.Nat.{div-mul-add}
 use Rattle.counter_cycles.proofs.ShownLemmas.{digits-tell}
-use Rattle.counter_cycles.specs.Acts.{Spells, digit_of}
+use Rattle.counter_cycles.specs.Acts.{digit_of}
 use Rattle.plans.specs.Plans.{Lists}
 use Rattle.card_code.specs.CardCode.{has_row}
 use Rattle.card_code.specs.Rows.{row_number}
@@ -39,7 +41,11 @@ use Rattle.report.specs.Amounts.{digits_on, number_in}
 use Rattle.stations.specs.Punches.{is_punched_at, is_punched}
 use Rattle.whole_cycles.specs.Between.{IsIdle}
 use Rattle.wiring_table.specs.Figures.{IsAmount, IsSigned}
-use Rattle.wiring_table.specs.Parts.{IsLowest, group_for}
+use Rattle.wiring_table.proofs.Groups.{position-given, position-serves}
+use Rattle.wiring_table.proofs.Totals.{one-total}
+use Rattle.plans.specs.declared.counter.TotalCounter.{TotalCounter}
+use Rattle.plans.specs.declared.counter.TotalCounter.TheVariants as of
+use Rattle.wiring_table.specs.Parts.{HasPanelGroup, HasTotal, IsLowest, IsPlaceOf, ServesPosition, ServesTotal, StandsAt, counter_for, panel_group, top_group}
 use Rattle.wired_panels.proofs.Ways.{same_tests}
 use Rattle.panel_cycles.proofs.CounterAsksCards.{number_small, position_digit, column_row, few_digits}
 use Rattle.wired_panels.proofs.CounterAsksControls.{shut, ReadsOut, read_is}
@@ -50,10 +56,11 @@ use Rattle.wired_panels.proofs.CounterAsksRows.Enters.{card as enters_card, own_
 use Rattle.wired_panels.proofs.CounterAsksTold.{IsUnder}
 use Rattle.wired_panels.proofs.CounterUnits.{at_unit, counter_there, planned_unit}
 use Rattle.charts.proofs.Listed.{found-listed}
-use Rattle.wired_panels.proofs.PlanOwners.{one_group}
-use Rattle.wired_panels.specs.Groups.{IsGroupOf}
+use Rattle.wired_panels.proofs.PlanOwners.{of_place}
+use Rattle.wired_panels.specs.Groups.{IsCounterOf, IsGroupOf, IsPlaceFor}
 use Rattle.wired_panels.specs.PanelCycles.{IsPanelCycle, IsCardRead}
-use Rattle.panel_cycles.specs.CounterStates.{number_at}
+use Rattle.panel_cycles.proofs.Counters.{SpellsCounter, grouped, place_has, placed, places_spell, position_some, same_position}
+use Rattle.panel_cycles.specs.CounterStates.{number_at, number_held}
 
 -- tests
 second_holds : (a b : Bool) → (a && b) ≡ true → b ≡ true
@@ -91,7 +98,7 @@ module _ (chart : Chart) (plan : Lists) (wiring : Wiring) (old : MachineState) (
 
   -- and a digit of the number in a group that reads out is read out
   read_digit : (row : CardRow) (group : Group) (position number : ℕ) → 1 ≤ row_number row → 1 ≤ position
-      → group_for chart.lines plan number ≡ Some group → pictures C (RO group) ≡ true
+      → ServesTotal chart.lines plan number group → pictures C (RO group) ≡ true
       → (digit_of (number_at old.groups group) position == row_number row) ≡ true → ReadsDigit old pictures row group position
   read_digit row group position line some from served reads same =
       let (counter, listed, named) =
@@ -123,42 +130,89 @@ module _ (chart : Chart) (plan : Lists) (wiring : Wiring) (old : MachineState) (
           ap (λ n. digit_of n position) (number_is counter group listed named) ∙ none in
           absurd (omega (arith, zero_digit, is, some))
 
+  -- a group of the plan holds a number of as many digits as it has positions
+  within_group : (number : ℕ) (group : Group) → ServesTotal chart.lines plan number group → number_at old.groups group < 10 ^ group.width
+  within_group line group serves =
+      let (counter, listed, named) =
+      counter_there old.groups group at.between.ordered (planned_unit chart.lines plan line group at.panel.planned serves) in
+      let lawful = is_counter old.groups counter at.between.groups listed in
+      subst (λ n. n < 10 ^ group.width) (sym (number_is counter group listed named))
+      (subst (λ (g : Group). number counter.digits < 10 ^ g.width) named (number-within counter lawful))
+
+  -- the digits of the number in a counter are those of its groups, at their places
+  pub counter_digit : (number : ℕ) (counter : TotalCounter) → counter_for chart.lines plan number ≡ Some counter
+      → (position : ℕ) (group : Group) (place : ℕ) → IsPlaceOf counter position group place
+      → digit_of (number_held old.groups counter) position ≡ digit_of (number_at old.groups group) place
+  counter_digit line counter there position group place is = by counter there is.from is.to is.at
+    where
+      by : (its : TotalCounter) → counter_for chart.lines plan line ≡ Some its → 1 ≤ place → place ≤ group.width
+          → StandsAt its position group place
+          → digit_of (number_held old.groups its) position ≡ digit_of (number_at old.groups group) place
+      by (of.Single own) served from to stands =
+          ap (λ g. digit_of (number_at old.groups g) position) stands.0 ∙ ap (digit_of (number_at old.groups group)) stands.1
+      by (of.Coupled lower upper) served from to (inl stands) =
+          let same = stands.1 in
+          let width : lower.width ≡ group.width = ap (λ (g : Group). g.width) stands.0 in
+          digit_of-below (number_at old.groups (panel_group upper)) (number_at old.groups (panel_group lower)) lower.width position
+          (omega (arith, same, from)) (omega (arith, same, to, width))
+          ∙ ap (λ g. digit_of (number_at old.groups g) position) stands.0 ∙ ap (digit_of (number_at old.groups group)) same
+      by (of.Coupled lower upper) served from to (inr stands) =
+          let small = within_group line (panel_group lower) (record { counter = of.Coupled lower upper; there = served; has = inl refl }) in
+          ap (digit_of (number_held old.groups (of.Coupled lower upper))) stands.1
+          ∙ digit_of-above_width (number_held old.groups (of.Coupled lower upper)) lower.width place from
+          ∙ ap (λ n. digit_of n place) (div-mul-add (number_at old.groups (panel_group upper)) (10 ^ lower.width)
+          (number_at old.groups (panel_group lower)) small)
+          ∙ ap (λ g. digit_of (number_at old.groups g) place) stands.0
+
 module _ (chart : Chart) (plan : Lists) (wiring : Wiring) (rise : NumbersRise chart.lines chart.end) (old : MachineState)
     (pictures : Point → Hub → Bool) (name : List ℕ) (level : ℕ) (group : Group) (own : IsGroupOf chart.lines plan name level group) where
   -- no total reads out in a card cycle
   pub card_silent : IsPanelCycle chart plan wiring old Card pictures → pictures C (RO group) ≡ true → ⊥
-  card_silent at on = by (read_is chart plan wiring old Card pictures at rise name level group own on)
+  card_silent at on = by (read_is chart plan wiring old Card pictures at rise name level group own
+      (top_group own.served.counter) (ap (option_map top_group) own.served.there) on)
     where
-      by : ReadsOut chart.lines (shut old Card) Card name level group → ⊥
+      by : ReadsOut chart.lines (shut old Card) Card name level (top_group own.served.counter) → ⊥
       by (shows_it is) = is
       by (turns_it rule is its_sign closed) = is
 
   -- in the second and third program cycles of a level no total of another level reads out
   pub second_reads : (l : ProgramLevel) → IsPanelCycle chart plan wiring old (Prog l Second) pictures → pictures C (RO group) ≡ true
       → level_number l ≡ level
-  second_reads l at on = by (read_is chart plan wiring old (Prog l Second) pictures at rise name level group own on)
+  second_reads l at on = by (read_is chart plan wiring old (Prog l Second) pictures at rise name level group own
+      (top_group own.served.counter) (ap (option_map top_group) own.served.there) on)
     where
-      by : ReadsOut chart.lines (shut old (Prog l Second)) (Prog l Second) name level group → level_number l ≡ level
+      by : ReadsOut chart.lines (shut old (Prog l Second)) (Prog l Second) name level (top_group own.served.counter) → level_number l ≡ level
       by (shows_it is) = is.0
       by (turns_it rule is its_sign closed) = is.0
 
   pub third_reads : (l : ProgramLevel) → IsPanelCycle chart plan wiring old (Prog l Third) pictures → pictures C (RO group) ≡ true
       → level_number l ≡ level
-  third_reads l at on = by (read_is chart plan wiring old (Prog l Third) pictures at rise name level group own on)
+  third_reads l at on = by (read_is chart plan wiring old (Prog l Third) pictures at rise name level group own
+      (top_group own.served.counter) (ap (option_map top_group) own.served.there) on)
     where
-      by : ReadsOut chart.lines (shut old (Prog l Third)) (Prog l Third) name level group → level_number l ≡ level
+      by : ReadsOut chart.lines (shut old (Prog l Third)) (Prog l Third) name level (top_group own.served.counter) → level_number l ≡ level
       by (shows_it is) = is.0
       by (turns_it rule is its_sign closed) = is.0
 
 module _ (chart : Chart) (plan : Lists) (wiring : Wiring) (rise : NumbersRise chart.lines chart.end) (old : MachineState)
-    (pictures : Point → Hub → Bool) (name : List ℕ) (level : ℕ) (group : Group) (own : IsGroupOf chart.lines plan name level group) where
+    (pictures : Point → Hub → Bool) (name : List ℕ) (level : ℕ) (counter : TotalCounter)
+    (own : IsCounterOf chart.lines plan name level counter) where
   -- a card enters its number
-  pub card_spells : IsPanelCycle chart plan wiring old Card pictures → (card : List ℕ) → IsCardRead chart plan old card
+  card_enters : IsPanelCycle chart plan wiring old Card pictures → (card : List ℕ) → IsCardRead chart plan old card
       → (field : Field) → IsAmount chart.lines name field → IsLowest chart.lines name level
-      → Spells group (digit_of (number_in (digits_on field card))) pictures
-  card_spells at card read field amount low row some few position from to =
-      same_tests _ _ (λ on. told (enters_is chart plan wiring old Card pictures at rise name level group own row position on)) given
+      → (row : CardRow) → 1 ≤ row_number row → row_number row ≤ 9 → (position : ℕ) (group : Group) (place : ℕ)
+      → IsPlaceOf counter position group place
+      → pictures (Row row) (GE group place) ≡ (digit_of (number_in (digits_on field card)) position == row_number row)
+  card_enters at card read field amount low row some few position group place at_place =
+      same_tests _ _
+      (λ on. told (enters_is chart plan wiring old Card pictures at rise name level group its_group row place on)) given
     where
+      its_group : IsGroupOf chart.lines plan name level group
+      its_group = grouped chart.lines plan own group (place_has counter position group place at_place)
+
+      from : 1 ≤ position
+      from = position_some counter position group place at_place
+
       on_card : IsOnCard field
       on_card = field_on_card chart name field at.panel.lawful amount.named
 
@@ -167,14 +221,16 @@ module _ (chart : Chart) (plan : Lists) (wiring : Wiring) (rise : NumbersRise ch
           ≡ (digit_of (number_in (digits_on field card)) position == row_number row)
       row_of_digit within =
           let order = on_card.order in
+          let first = from in
           column_row (column_of card (field.last + 1 - position)) row some few
-          (few_digits chart card name field (field.last + 1 - position) read.valid amount (omega (arith, from, within))
-          (omega (arith, from, within, order)))
+          (few_digits chart card name field (field.last + 1 - position) read.valid amount (omega (arith, first, within))
+          (omega (arith, first, within, order)))
           ∙ ap (λ d. d == row_number row) (sym (position_digit field card position from within))
 
-      told : Enters chart.lines plan old pictures Card row name level group position
+      told_card : (its : Field) → Card ≡ Card → IsAmount chart.lines name its → position ≤ columns_of its
+          → is_punched_at old.stations.second row (its.last + 1 - position) ≡ true
           → (digit_of (number_in (digits_on field card)) position == row_number row) ≡ true
-      told (enters_card its is lowest its_amount its_from within punched) =
+      told_card its is its_amount within punched =
           let same_some : Some its ≡ Some field = sym its_amount.named ∙ amount.named in
           let same : its ≡ field = cc in
           let on : is_punched card row (its.last + 1 - position) ≡ true =
@@ -183,101 +239,173 @@ module _ (chart : Chart) (plan : Lists) (wiring : Wiring) (rise : NumbersRise ch
           ap (λ (f : Field). has_row (column_of card (f.last + 1 - position)) (row_number row)) (sym same)
           ∙ second_holds (is_within (its.last + 1 - position) 80) _ on in
           sym (row_of_digit (subst (λ (f : Field). position ≤ columns_of f) same within)) ∙ there
+
+      told : Enters chart.lines plan old pictures Card row name level group place
+          → (digit_of (number_in (digits_on field card)) position == row_number row) ≡ true
+      told (enters_card its its_position its_place is lowest its_amount its_from within punched) =
+          let same = same_position chart.lines plan at.panel.planned its_place (placed chart.lines plan own position group place at_place) in
+          told_card its is its_amount (subst (λ p. p ≤ columns_of its) same within)
+          (subst (λ p. is_punched_at old.stations.second row (its.last + 1 - p) ≡ true) same punched)
       told (own_digit rule its_sign its_from its_to reads) =
-          absurd (card_silent chart plan wiring rise old pictures name level group own at reads.reads)
-      told (lower_digit lower_level lower under its_given its_to its_from reads) =
-          absurd (card_silent chart plan wiring rise old pictures name lower_level lower its_given at reads.reads)
+          absurd (card_silent chart plan wiring rise old pictures name level group its_group at reads.reads)
+      told (lower_digit lower_level its_position lower lower_place under its_place lower_at its_to its_from reads) =
+          absurd (card_silent chart plan wiring rise old pictures name lower_level lower (of_place chart.lines plan lower_at) at reads.reads)
 
       given : (digit_of (number_in (digits_on field card)) position == row_number row) ≡ true
-          → pictures (Row row) (GE group position) ≡ true
+          → pictures (Row row) (GE group place) ≡ true
       given same =
-          gives_entry chart plan wiring old Card pictures at rise name level group own row position
+          gives_entry chart plan wiring old Card pictures at rise name level group its_group row place
           (by (nat_le position (columns_of field)) refl)
         where
           is : digit_of (number_in (digits_on field card)) position ≡ row_number row
           is = grind (arith, nat_tests, same)
 
-          by : (b : Bool) → nat_le position (columns_of field) ≡ b → Enters chart.lines plan old pictures Card row name level group position
+          by : (b : Bool) → nat_le position (columns_of field) ≡ b → Enters chart.lines plan old pictures Card row name level group place
           by false above =
               let more : columns_of field < position = grind (arith, nat_tests, above) in
               let none = digit_of-above (number_in (digits_on field card)) (columns_of field) position (number_small field card) more in
               absurd (omega (arith, none, is, some))
           by true below =
               let within : position ≤ columns_of field = grind (arith, nat_tests, below) in
+              let first = from in
               let first_column = on_card.from in
               let order = on_card.order in
               let last_column = on_card.to in
-              let low_end : 1 ≤ field.last + 1 - position = omega (arith, from, within, first_column, order) in
-              let high_end : field.last + 1 - position ≤ 80 = omega (arith, from, within, last_column) in
+              let low_end : 1 ≤ field.last + 1 - position = omega (arith, first, within, first_column, order) in
+              let high_end : field.last + 1 - position ≤ 80 = omega (arith, first, within, last_column) in
               let column : is_within (field.last + 1 - position) 80 ≡ true = grind (arith, nat_tests, low_end, high_end) in
               let punched : is_punched card row (field.last + 1 - position) ≡ true =
               rw (column, row_of_digit within ∙ same) refl in
-              enters_card field refl low amount from within
+              enters_card field position (placed chart.lines plan own position group place at_place) refl low amount from within
               (ap (λ o. is_punched_at o row (field.last + 1 - position)) read.second ∙ punched)
 
-  -- in the second program cycle of its level a group enters its own number
-  pub turn_spells : (l : ProgramLevel) → IsPanelCycle chart plan wiring old (Prog l Second) pictures → level_number l ≡ level
-      → (rule : SignRule) → IsSigned chart.lines name rule → pictures C (RO group) ≡ true
-      → Spells group (digit_of (number_at old.groups group)) pictures
-  turn_spells l at is_level rule its_sign reads_out row some few position from to =
-      same_tests _ _ (λ on. told (enters_is chart plan wiring old (Prog l Second) pictures at rise name level group own row position on)) given
+  pub card_spells : IsPanelCycle chart plan wiring old Card pictures → (card : List ℕ) → IsCardRead chart plan old card
+      → (field : Field) → IsAmount chart.lines name field → IsLowest chart.lines name level
+      → SpellsCounter counter (digit_of (number_in (digits_on field card))) pictures
+  card_spells at card read field amount low =
+      places_spell counter (digit_of (number_in (digits_on field card))) pictures (card_enters at card read field amount low)
+
+  -- in the second program cycle of its level a total enters its own number
+  turn_enters : (l : ProgramLevel) → IsPanelCycle chart plan wiring old (Prog l Second) pictures → level_number l ≡ level
+      → (rule : SignRule) → IsSigned chart.lines name rule
+      → ((group : Group) → HasPanelGroup counter group → pictures C (RO group) ≡ true)
+      → (row : CardRow) → 1 ≤ row_number row → row_number row ≤ 9 → (position : ℕ) (group : Group) (place : ℕ)
+      → IsPlaceOf counter position group place
+      → pictures (Row row) (GE group place) ≡ (digit_of (number_held old.groups counter) position == row_number row)
+  turn_enters l at is_level rule its_sign reads_out row some few position group place at_place =
+      same_tests _ _
+      (λ on. ap (λ d. d == row_number row) its_digit
+      ∙ told (enters_is chart plan wiring old (Prog l Second) pictures at rise name level group its_group row place on))
+      (λ same. given (sym (ap (λ d. d == row_number row) its_digit) ∙ same))
     where
-      told : Enters chart.lines plan old pictures (Prog l Second) row name level group position
-          → (digit_of (number_at old.groups group) position == row_number row) ≡ true
-      told (enters_card its is lowest its_amount its_from within punched) = cc
+      has : HasPanelGroup counter group
+      has = place_has counter position group place at_place
+
+      its_group : IsGroupOf chart.lines plan name level group
+      its_group = grouped chart.lines plan own group has
+
+      its_digit : digit_of (number_held old.groups counter) position ≡ digit_of (number_at old.groups group) place
+      its_digit = counter_digit chart plan wiring old (Prog l Second) pictures at own.number counter own.served position group place at_place
+
+      told : Enters chart.lines plan old pictures (Prog l Second) row name level group place
+          → (digit_of (number_at old.groups group) place == row_number row) ≡ true
+      told (enters_card its its_position its_place is lowest its_amount its_from within punched) = cc
       told (own_digit its_rule signed its_from its_to reads) =
-          digit_read chart plan wiring old (Prog l Second) pictures at row group position reads
-      told (lower_digit low lower under its_given its_to its_from reads) =
-          let same = second_reads chart plan wiring rise old pictures name low lower its_given l at reads.reads in
+          digit_read chart plan wiring old (Prog l Second) pictures at row group place reads
+      told (lower_digit low its_position lower lower_place under its_place lower_at its_to its_from reads) =
+          let same = second_reads chart plan wiring rise old pictures name low lower (of_place chart.lines plan lower_at) l at reads.reads in
           let below = under.below in
           absurd (omega (arith, same, is_level, below))
 
-      given : (digit_of (number_at old.groups group) position == row_number row) ≡ true → pictures (Row row) (GE group position) ≡ true
+      given : (digit_of (number_at old.groups group) place == row_number row) ≡ true → pictures (Row row) (GE group place) ≡ true
       given same =
-          gives_entry chart plan wiring old (Prog l Second) pictures at rise name level group own row position
-          (own_digit rule its_sign from to
-          (read_digit chart plan wiring old (Prog l Second) pictures at row group position own.number some from own.served reads_out same))
+          gives_entry chart plan wiring old (Prog l Second) pictures at rise name level group its_group row place
+          (own_digit rule its_sign at_place.from at_place.to
+          (read_digit chart plan wiring old (Prog l Second) pictures at row group place own.number some at_place.from
+          (record { counter = counter; there = own.served; has = has }) (reads_out group has) same))
 
-  -- in the third program cycle of a lower level a group enters the number of its total, if that has no more digits than it may
-  pub up_spells : (l : ProgramLevel) → IsPanelCycle chart plan wiring old (Prog l Third) pictures
-      → (under : IsUnder chart.lines name (level_number l) level) (lower : Group)
-      → IsGroupOf chart.lines plan name (level_number l) lower → number_at old.groups lower < 10 ^ under.total.digits
-      → Spells group (digit_of (number_at old.groups lower)) pictures
-  up_spells l at under lower lower_own small row some few position from to =
-      same_tests _ _ (λ on. told (enters_is chart plan wiring old (Prog l Third) pictures at rise name level group own row position on)) given
+  pub turn_spells : (l : ProgramLevel) → IsPanelCycle chart plan wiring old (Prog l Second) pictures → level_number l ≡ level
+      → (rule : SignRule) → IsSigned chart.lines name rule
+      → ((group : Group) → HasPanelGroup counter group → pictures C (RO group) ≡ true)
+      → SpellsCounter counter (digit_of (number_held old.groups counter)) pictures
+  turn_spells l at is_level rule its_sign reads_out =
+      places_spell counter (digit_of (number_held old.groups counter)) pictures (turn_enters l at is_level rule its_sign reads_out)
+
+  -- in the third program cycle of a lower level a total enters the number of the lower one, if that has no more digits than it may
+  up_enters : (l : ProgramLevel) → IsPanelCycle chart plan wiring old (Prog l Third) pictures
+      → (under : IsUnder chart.lines name (level_number l) level) (lower : TotalCounter)
+      → counter_for chart.lines plan under.number ≡ Some lower → number_held old.groups lower < 10 ^ under.total.digits
+      → (row : CardRow) → 1 ≤ row_number row → row_number row ≤ 9 → (position : ℕ) (group : Group) (place : ℕ)
+      → IsPlaceOf counter position group place
+      → pictures (Row row) (GE group place) ≡ (digit_of (number_held old.groups lower) position == row_number row)
+  up_enters l at under lower lower_there small row some few position group place at_place =
+      same_tests _ _
+      (λ on. told (enters_is chart plan wiring old (Prog l Third) pictures at rise name level group its_group row place on)) given
     where
-      told : Enters chart.lines plan old pictures (Prog l Third) row name level group position
-          → (digit_of (number_at old.groups lower) position == row_number row) ≡ true
-      told (enters_card its is lowest its_amount its_from within punched) = cc
+      its_group : IsGroupOf chart.lines plan name level group
+      its_group = grouped chart.lines plan own group (place_has counter position group place at_place)
+
+      its_place : IsPlaceFor chart.lines plan name level position group place
+      its_place = placed chart.lines plan own position group place at_place
+
+      -- the digit of the lower total at a position
+      lower_is : (its_position : ℕ) (other : Group) (other_place : ℕ) → ServesPosition chart.lines plan under.number its_position other other_place
+          → digit_of (number_held old.groups lower) its_position ≡ digit_of (number_at old.groups other) other_place
+      lower_is its_position other other_place serves =
+          counter_digit chart plan wiring old (Prog l Third) pictures at under.number lower lower_there its_position other other_place
+          (subst (λ c. IsPlaceOf c its_position other other_place) (same_Some serves.counter lower (sym serves.there ∙ lower_there)) serves.at)
+
+      told : Enters chart.lines plan old pictures (Prog l Third) row name level group place
+          → (digit_of (number_held old.groups lower) position == row_number row) ≡ true
+      told (enters_card its its_position at_it is lowest its_amount its_from within punched) = cc
       told (own_digit its_rule signed its_from its_to reads) =
-          let same = third_reads chart plan wiring rise old pictures name level group own l at reads.reads in
+          let same = third_reads chart plan wiring rise old pictures name level group its_group l at reads.reads in
           let below = under.below in
           absurd (omega (arith, same, below))
-      told (lower_digit low other its_under its_given its_to its_from reads) =
-          let same = third_reads chart plan wiring rise old pictures name low other its_given l at reads.reads in
-          let same_group = one_group chart plan name (level_number l) other lower at.panel.lawful
-          (subst (λ k. IsGroupOf chart.lines plan name k other) (sym same) its_given) lower_own in
-          subst (λ g. (digit_of (number_at old.groups g) position == row_number row) ≡ true) same_group
-          (digit_read chart plan wiring old (Prog l Third) pictures at row other position reads)
+      told (lower_digit low its_position other other_place its_under at_it other_at its_to its_from reads) =
+          let same = third_reads chart plan wiring rise old pictures name low other (of_place chart.lines plan other_at) l at reads.reads in
+          let total = subst (λ k. HasTotal chart.lines name k other_at.number) (sym same) other_at.total in
+          let numbers = one-total chart name at.panel.lawful (level_number l) other_at.number under.number total under.total in
+          let serves = subst (λ n. ServesPosition chart.lines plan n its_position other other_place) numbers other_at.served in
+          let positions = same_position chart.lines plan at.panel.planned at_it its_place in
+          subst (λ p. (digit_of (number_held old.groups lower) p == row_number row) ≡ true) positions
+          (ap (λ d. d == row_number row) (lower_is its_position other other_place serves)
+          ∙ digit_read chart plan wiring old (Prog l Third) pictures at row other other_place reads)
 
-      given : (digit_of (number_at old.groups lower) position == row_number row) ≡ true → pictures (Row row) (GE group position) ≡ true
+      given : (digit_of (number_held old.groups lower) position == row_number row) ≡ true → pictures (Row row) (GE group place) ≡ true
       given same =
-          gives_entry chart plan wiring old (Prog l Third) pictures at rise name level group own row position
+          gives_entry chart plan wiring old (Prog l Third) pictures at rise name level group its_group row place
           (by (nat_le position under.total.digits) refl)
         where
-          is : digit_of (number_at old.groups lower) position ≡ row_number row
+          is : digit_of (number_held old.groups lower) position ≡ row_number row
           is = grind (arith, nat_tests, same)
 
-          reads_out : pictures C (RO lower) ≡ true
-          reads_out = gives_read chart plan wiring old (Prog l Third) pictures at rise name (level_number l) lower lower_own (shows_it (refl, refl))
+          from : 1 ≤ position
+          from = position_some counter position group place at_place
 
           by : (b : Bool) → nat_le position under.total.digits ≡ b
-              → Enters chart.lines plan old pictures (Prog l Third) row name level group position
+              → Enters chart.lines plan old pictures (Prog l Third) row name level group place
           by false above =
               let more : under.total.digits < position = grind (arith, nat_tests, above) in
-              let none = digit_of-above (number_at old.groups lower) under.total.digits position small more in
+              let none = digit_of-above (number_held old.groups lower) under.total.digits position small more in
               absurd (omega (arith, none, is, some))
           by true below =
-              lower_digit (level_number l) lower under lower_own (grind (arith, nat_tests, below)) from
-              (read_digit chart plan wiring old (Prog l Third) pictures at row lower position lower_own.number some from lower_own.served
-              reads_out same)
+              let within : position ≤ under.total.digits = grind (arith, nat_tests, below) in
+              let (other, other_place, serves) = position-given chart.lines plan at.panel.planned chart.end name (level_number l) under.number
+              lower rise under.total lower_there position from within in
+              let other_serves = position-serves chart.lines plan under.number position other other_place serves in
+              let other_own : IsGroupOf chart.lines plan name (level_number l) other =
+              record { number = under.number; total = under.total; served = other_serves } in
+              let reads_out = gives_read chart plan wiring old (Prog l Third) pictures at rise name (level_number l) other other_own
+              (top_group other_serves.counter) (ap (option_map top_group) other_serves.there) (shows_it (refl, refl)) in
+              lower_digit (level_number l) position other other_place under its_place
+              (record { number = under.number; total = under.total; served = serves }) within from
+              (read_digit chart plan wiring old (Prog l Third) pictures at row other other_place under.number some serves.at.from other_serves
+              reads_out (ap (λ d. d == row_number row) (sym (lower_is position other other_place serves)) ∙ same))
+
+  pub up_spells : (l : ProgramLevel) → IsPanelCycle chart plan wiring old (Prog l Third) pictures
+      → (under : IsUnder chart.lines name (level_number l) level) (lower : TotalCounter)
+      → counter_for chart.lines plan under.number ≡ Some lower → number_held old.groups lower < 10 ^ under.total.digits
+      → SpellsCounter counter (digit_of (number_held old.groups lower)) pictures
+  up_spells l at under lower lower_there small =
+      places_spell counter (digit_of (number_held old.groups lower)) pictures (up_enters l at under lower lower_there small)

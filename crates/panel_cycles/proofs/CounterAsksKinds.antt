@@ -1,9 +1,10 @@
--- The control hubs of the counter group of a total are impulsed as what is asked of it says, in each kind of cycle.
+-- The control hubs of a counter group of a total are impulsed as what is asked of it says, in each kind of cycle.
 use Rattle.std.proofs.Common.{◌≡◌, ◌∙◌, refl, sym, ap, ℕ, ◌≤◌, ◌==◌, ◌&&◌, not, Bool, true, false, List, Some, arith, if◌then◌else◌}
 use Rattle.std.proofs.lemmas.Bool.Decides.{nat_tests}
 use Rattle.std.proofs.lemmas.Bool.{not-true, false_from_ne_true, both_ways}
 use Rattle.counter_cycles.specs.Acts.{Act, act_controls, IsControlled}
 use Rattle.counter_cycles.specs.Acts.Act.{Still}
+use Rattle.counters.specs.declared.controls.Controls.{Controls}
 use Rattle.wanted.specs.ChartTotals.{names_signed}
 use Rattle.plans.specs.Plans.{Lists}
 use Rattle.field_rules.specs.Fields.{field_named}
@@ -22,7 +23,7 @@ use Rattle.net.specs.declared.cycle.Point.TheVariants.{C}
 use Rattle.report.specs.Amounts.{is_negated, is_negative_by}
 use Rattle.totals.specs.Amounts.{lower, posted}
 use Rattle.wiring_table.specs.Figures.{IsAmount, IsSigned, rule_of}
-use Rattle.wiring_table.specs.Parts.{IsLowest, pilot_for}
+use Rattle.wiring_table.specs.Parts.{IsLowest, pilot_for, top_for}
 use Rattle.panel_cycles.proofs.AmountFacts.{total_level, lowest_is, lowest_from, signed_is, unsigned_is, signed_from, unsigned_from}
 use Rattle.wired_panels.proofs.CounterAsksContacts.{pilot_within, negative_closed, positive_closed, negated_is}
 use Rattle.wired_panels.proofs.CounterAsksControls.{shut, Pluses, Minuses, ReadsOut, Tests, numbered, plus_is, minus_is, read_is, test_is}
@@ -63,8 +64,23 @@ card_rest true true size = (refl, refl)
 card_rest true false size = (refl, refl)
 card_rest false m size = (refl, refl)
 
+-- The control hubs of a group of a total are impulsed at the control point as the controls say, and so is the test of the balance at its
+-- top group.
+pub record AreTold (group top : Group) (controls : Controls) (pictures : Point → Hub → Bool) : Type 0 where
+  pub plus : pictures C (PL group) ≡ controls.plus
+  pub minus : pictures C (MI group) ≡ controls.minus
+  pub read_out : pictures C (RO group) ≡ controls.read_out
+  pub test : pictures C (BT top) ≡ controls.test
+
+-- so a group that is its own top group is controlled
+pub alone : (group : Group) (controls : Controls) (pictures : Point → Hub → Bool) → AreTold group group controls pictures
+    → IsControlled group controls pictures
+alone group controls pictures told =
+    record { plus = told.plus; minus = told.minus; read_out = told.read_out; test = told.test }
+
 module _ (chart : Chart) (plan : Lists) (wiring : Wiring) (rise : NumbersRise chart.lines chart.end) (old : MachineState)
-    (pictures : Point → Hub → Bool) (name : List ℕ) (level : ℕ) (group : Group) (own : IsGroupOf chart.lines plan name level group) where
+    (pictures : Point → Hub → Bool) (name : List ℕ) (level : ℕ) (group : Group) (own : IsGroupOf chart.lines plan name level group)
+    (top : Group) (balance : top_for chart.lines plan own.number ≡ Some top) where
   -- whether the amount is signed, and whether the total is the lowest
   abbrev signed : Bool
   signed = names_signed (field_named chart.lines name)
@@ -87,7 +103,7 @@ module _ (chart : Chart) (plan : Lists) (wiring : Wiring) (rise : NumbersRise ch
         → pilot_for plan name ≡ Some pilot → is_within pilot 16 ≡ true
     within_panel rule pilot low is served =
         let wire = numbered chart plan wiring old Card pictures at rise CC (PIC pilot 1)
-        (to_sign chart plan wiring old Card pictures at rise name level group own rule pilot low is served) in
+        (to_sign chart plan wiring old Card pictures at rise name level group own top balance rule pilot low is served) in
         pilot_within pilot wire.to wire.entry_numbered
 
     -- the rule of the amount is its field's
@@ -97,7 +113,7 @@ module _ (chart : Chart) (plan : Lists) (wiring : Wiring) (rise : NumbersRise ch
         let same : is.field ≡ field = cc in
         negated_is field.kind rule card (ap (λ (f : Field). rule_of f.kind) (sym same) ∙ is.ruled)
 
-    pub card_controls : (size : ℕ) → IsControlled group (act_controls (card_act (below == 0) negative size)) pictures
+    pub card_controls : (size : ℕ) → AreTold group top (act_controls (card_act (below == 0) negative size)) pictures
     card_controls size = record {
       plus = card_plus (below == 0) negative (pictures C (PL group)) size (λ on. plus_low (adds on)) (λ on. plus_sign (adds on)) plus_given;
       minus = card_minus (below == 0) negative (pictures C (MI group)) size (λ on. minus_low (subtracts on)) (λ on. minus_sign (subtracts on)) minus_given;
@@ -106,16 +122,16 @@ module _ (chart : Chart) (plan : Lists) (wiring : Wiring) (rise : NumbersRise ch
     }
       where
         adds : pictures C (PL group) ≡ true → Pluses chart.lines plan (shut old Card) Card name level
-        adds on = plus_is chart plan wiring old Card pictures at rise name level group own on
+        adds on = plus_is chart plan wiring old Card pictures at rise name level group own top balance on
 
-        subtracts : pictures C (MI group) ≡ true → Minuses chart.lines plan (shut old Card) Card name level group
-        subtracts on = minus_is chart plan wiring old Card pictures at rise name level group own on
+        subtracts : pictures C (MI group) ≡ true → Minuses chart.lines plan (shut old Card) Card name level top
+        subtracts on = minus_is chart plan wiring old Card pictures at rise name level group own top balance on
 
-        reads : pictures C (RO group) ≡ true → ReadsOut chart.lines (shut old Card) Card name level group
-        reads on = read_is chart plan wiring old Card pictures at rise name level group own on
+        reads : pictures C (RO group) ≡ true → ReadsOut chart.lines (shut old Card) Card name level top
+        reads on = read_is chart plan wiring old Card pictures at rise name level group own top balance on
 
-        tests : pictures C (BT group) ≡ true → Tests chart.lines Card name level
-        tests on = test_is chart plan wiring old Card pictures at rise name level group own on
+        tests : pictures C (BT top) ≡ true → Tests chart.lines Card name level
+        tests on = test_is chart plan wiring old Card pictures at rise name level group own top balance on
 
         low_is : IsLowest chart.lines name level → (below == 0) ≡ true
         low_is low = let none = lowest_is chart.lines plan name level some low in grind (arith, nat_tests, none)
@@ -139,12 +155,12 @@ module _ (chart : Chart) (plan : Lists) (wiring : Wiring) (rise : NumbersRise ch
         plus_sign (up low is under unsigned) = absurd is
         plus_sign (by_latch low rule lower is under its_sign given closed) = absurd is
 
-        minus_low : Minuses chart.lines plan (shut old Card) Card name level group → (below == 0) ≡ true
+        minus_low : Minuses chart.lines plan (shut old Card) Card name level top → (below == 0) ≡ true
         minus_low (less_by_sign rule pilot is low its_sign served closed) = low_is low
         minus_low (less_turned rule is its_sign closed) = absurd is
         minus_low (less_by_latch low rule lower is under its_sign given closed) = absurd is
 
-        minus_sign : Minuses chart.lines plan (shut old Card) Card name level group → negative ≡ true
+        minus_sign : Minuses chart.lines plan (shut old Card) Card name level top → negative ≡ true
         minus_sign (less_by_sign rule pilot is low its_sign served closed) =
             let sides = negative_closed old Card card rule pilot at.between.ordered (within_panel rule pilot low its_sign served)
             (read.pilots name its_sign.field rule pilot its_sign.named its_sign.ruled served) in
@@ -153,7 +169,7 @@ module _ (chart : Chart) (plan : Lists) (wiring : Wiring) (rise : NumbersRise ch
         minus_sign (less_turned rule is its_sign closed) = absurd is
         minus_sign (less_by_latch low rule lower is under its_sign given closed) = absurd is
 
-        no_read : ReadsOut chart.lines (shut old Card) Card name level group → ⊥
+        no_read : ReadsOut chart.lines (shut old Card) Card name level top → ⊥
         no_read (shows_it is) = is
         no_read (turns_it rule is its_sign closed) = is
 
@@ -161,7 +177,7 @@ module _ (chart : Chart) (plan : Lists) (wiring : Wiring) (rise : NumbersRise ch
         no_test (tests_it rule is its_sign) = is
 
         plus_given : (below == 0) ≡ true → negative ≡ false → pictures C (PL group) ≡ true
-        plus_given low none = gives_plus chart plan wiring old Card pictures at rise name level group own (by signed refl none)
+        plus_given low none = gives_plus chart plan wiring old Card pictures at rise name level group own top balance (by signed refl none)
           where
             by : (b : Bool) → signed ≡ b → (b && is_negated field.kind card) ≡ false
                 → Pluses chart.lines plan (shut old Card) Card name level
@@ -174,10 +190,10 @@ module _ (chart : Chart) (plan : Lists) (wiring : Wiring) (rise : NumbersRise ch
                 by_sign rule pilot tt (is_low low) its_sign served (sides ∙ ap not (sym (rule_is rule its_sign) ∙ none))
 
         minus_given : (below == 0) ≡ true → negative ≡ true → pictures C (MI group) ≡ true
-        minus_given low is_so = gives_minus chart plan wiring old Card pictures at rise name level group own (by signed refl is_so)
+        minus_given low is_so = gives_minus chart plan wiring old Card pictures at rise name level group own top balance (by signed refl is_so)
           where
             by : (b : Bool) → signed ≡ b → (b && is_negated field.kind card) ≡ true
-                → Minuses chart.lines plan (shut old Card) Card name level group
+                → Minuses chart.lines plan (shut old Card) Card name level top
             by false is is_so = cc
             by true is is_so =
                 let (rule, its_sign) = signed_from chart.lines name field amount.named is in

@@ -1,8 +1,8 @@
--- The control hubs of the counter group of a total in program cycles and in others: they are impulsed as what is asked of it says.
-use Rattle.std.proofs.Common.{◌≡◌, ◌∙◌, refl, sym, ap, subst, ℕ, ◌<◌, ◌≤◌, ◌==◌, ◌&&◌, not, Bool, true, false, List, arith, if◌then◌else◌}
+-- The control hubs of a counter group of a total in program cycles and in others: they are impulsed as what is asked of it says.
+use Rattle.std.proofs.Common.{◌≡◌, ◌∙◌, refl, sym, ap, subst, ℕ, ◌<◌, ◌≤◌, ◌==◌, ◌&&◌, not, Bool, true, false, List, Some, option_map, arith, if◌then◌else◌}
 use Rattle.std.proofs.lemmas.Bool.{not-true, false_from_ne_true}
 use Rattle.std.proofs.lemmas.Bool.Decides.{nat_tests}
-use Rattle.counter_cycles.specs.Acts.{Act, Held, act_controls, IsControlled}
+use Rattle.counter_cycles.specs.Acts.{Act, Held, act_controls}
 use Rattle.counter_cycles.specs.Acts.Act.{Still, Test, Turn, Show}
 use Rattle.wanted.specs.ChartTotals.{names_signed}
 use Rattle.plans.specs.Plans.{Lists}
@@ -24,7 +24,7 @@ use Rattle.net.specs.declared.cycle.Point.{Point}
 use Rattle.net.specs.declared.cycle.Point.TheVariants.{C}
 use Rattle.totals.specs.Amounts.{Amount, lower, posted}
 use Rattle.wiring_table.specs.Figures.{IsAmount, IsSigned}
-use Rattle.panel_cycles.proofs.AmountFacts.{has_it, total_level, group_is, under_is, under_from, signed_is, unsigned_is, signed_from, unsigned_from}
+use Rattle.panel_cycles.proofs.AmountFacts.{has_it, total_level, under_is, under_from, signed_is, unsigned_is, signed_from, unsigned_from}
 use Rattle.wired_panels.proofs.Contacts.{is_set}
 use Rattle.wired_panels.proofs.CounterAsksContacts.{transferred_is, normal_balance}
 use Rattle.wired_panels.proofs.CounterAsksControls.{shut, Pluses, Minuses, ReadsOut, Tests, plus_is, minus_is, read_is, test_is}
@@ -36,10 +36,13 @@ use Rattle.wired_panels.proofs.CounterAsksGiven.{gives_plus, gives_minus, gives_
 use Rattle.wired_panels.proofs.CounterAsksTold.{IsUnder, IsStep, IsCardCycle}
 use Rattle.wired_panels.proofs.CounterUnits.{planned_unit}
 use Rattle.panel_cycles.specs.ChartAmounts.{amount_of}
-use Rattle.wired_panels.specs.Groups.{IsGroupOf}
+use Rattle.wired_panels.specs.Groups.{IsGroupOf, IsTopOf}
 use Rattle.wired_panels.specs.PanelCycles.{IsPanelCycle}
-use Rattle.panel_cycles.specs.CounterStates.{state_of, held_in}
-use Rattle.wiring_table.proofs.Groups.{group-given}
+use Rattle.panel_cycles.specs.CounterStates.{state_of}
+use Rattle.wiring_table.proofs.Groups.{counter-given, top-serves}
+use Rattle.wiring_table.specs.Parts.{top_for, top_group}
+use Rattle.panel_cycles.proofs.CounterAsksKinds.{AreTold}
+use Rattle.panel_cycles.proofs.Counters.{top_latch}
 
 -- what is asked in the three program cycles of a level: whether it is the total's, whether a negative balance is turned, and whether a
 -- total goes up, by minus or by plus
@@ -106,7 +109,8 @@ differ : (a b : ℕ) → a < b → (a == b) ≡ false
 differ a b less = grind (arith, nat_tests, less)
 
 module _ (chart : Chart) (plan : Lists) (wiring : Wiring) (rise : NumbersRise chart.lines chart.end) (old : MachineState)
-    (pictures : Point → Hub → Bool) (name : List ℕ) (level : ℕ) (group : Group) (own : IsGroupOf chart.lines plan name level group) where
+    (pictures : Point → Hub → Bool) (name : List ℕ) (level : ℕ) (group : Group) (own : IsGroupOf chart.lines plan name level group)
+    (top : Group) (balance : top_for chart.lines plan own.number ≡ Some top) where
   -- whether the amount is signed
   abbrev signed : Bool
   signed = names_signed (field_named chart.lines name)
@@ -127,12 +131,12 @@ module _ (chart : Chart) (plan : Lists) (wiring : Wiring) (rise : NumbersRise ch
   ruled field is on = signed_from chart.lines name field is.named on
 
   pub other_controls : (cycle : Cycle) → IsPanelCycle chart plan wiring old cycle pictures → ((step : ℕ) (low : ℕ) → IsStep cycle low step → ⊥)
-      → (IsCardCycle cycle → ⊥) → IsControlled group (act_controls Still) pictures
+      → (IsCardCycle cycle → ⊥) → AreTold group top (act_controls Still) pictures
   other_controls cycle at no_step no_card = record {
-    plus = false_from_ne_true _ (λ on. no_plus (plus_is chart plan wiring old cycle pictures at rise name level group own on));
-    minus = false_from_ne_true _ (λ on. no_minus (minus_is chart plan wiring old cycle pictures at rise name level group own on));
-    read_out = false_from_ne_true _ (λ on. no_read (read_is chart plan wiring old cycle pictures at rise name level group own on));
-    test = false_from_ne_true _ (λ on. no_test (test_is chart plan wiring old cycle pictures at rise name level group own on));
+    plus = false_from_ne_true _ (λ on. no_plus (plus_is chart plan wiring old cycle pictures at rise name level group own top balance on));
+    minus = false_from_ne_true _ (λ on. no_minus (minus_is chart plan wiring old cycle pictures at rise name level group own top balance on));
+    read_out = false_from_ne_true _ (λ on. no_read (read_is chart plan wiring old cycle pictures at rise name level group own top balance on));
+    test = false_from_ne_true _ (λ on. no_test (test_is chart plan wiring old cycle pictures at rise name level group own top balance on));
   }
     where
       no_plus : Pluses chart.lines plan (shut old cycle) cycle name level → ⊥
@@ -141,12 +145,12 @@ module _ (chart : Chart) (plan : Lists) (wiring : Wiring) (rise : NumbersRise ch
       no_plus (up low is under unsigned) = no_step 3 low is
       no_plus (by_latch low rule lower is under its_sign given closed) = no_step 3 low is
 
-      no_minus : Minuses chart.lines plan (shut old cycle) cycle name level group → ⊥
+      no_minus : Minuses chart.lines plan (shut old cycle) cycle name level top → ⊥
       no_minus (less_by_sign rule pilot is low its_sign served closed) = no_card is
       no_minus (less_turned rule is its_sign closed) = no_step 2 level is
       no_minus (less_by_latch low rule lower is under its_sign given closed) = no_step 3 low is
 
-      no_read : ReadsOut chart.lines (shut old cycle) cycle name level group → ⊥
+      no_read : ReadsOut chart.lines (shut old cycle) cycle name level top → ⊥
       no_read (shows_it is) = no_step 3 level is
       no_read (turns_it rule is its_sign closed) = no_step 2 level is
 
@@ -155,13 +159,13 @@ module _ (chart : Chart) (plan : Lists) (wiring : Wiring) (rise : NumbersRise ch
 
   module _ (l : ProgramLevel) (field : Field) (is_amount : IsAmount chart.lines name field) where
     pub first_controls : IsPanelCycle chart plan wiring old (Prog l First) pictures
-        → IsControlled group (act_controls (test_act (signed && (level_number l == level)))) pictures
+        → AreTold group top (act_controls (test_act (signed && (level_number l == level)))) pictures
     first_controls at = record {
-      plus = false_from_ne_true _ (λ on. no_plus (plus_is chart plan wiring old (Prog l First) pictures at rise name level group own on)) ∙ sym told.0;
-      minus = false_from_ne_true _ (λ on. no_minus (minus_is chart plan wiring old (Prog l First) pictures at rise name level group own on)) ∙ sym told.1;
-      read_out = false_from_ne_true _ (λ on. no_read (read_is chart plan wiring old (Prog l First) pictures at rise name level group own on)) ∙ sym told.2;
+      plus = false_from_ne_true _ (λ on. no_plus (plus_is chart plan wiring old (Prog l First) pictures at rise name level group own top balance on)) ∙ sym told.0;
+      minus = false_from_ne_true _ (λ on. no_minus (minus_is chart plan wiring old (Prog l First) pictures at rise name level group own top balance on)) ∙ sym told.1;
+      read_out = false_from_ne_true _ (λ on. no_read (read_is chart plan wiring old (Prog l First) pictures at rise name level group own top balance on)) ∙ sym told.2;
       test =
-          agrees _ _ (λ on. is_tested (test_is chart plan wiring old (Prog l First) pictures at rise name level group own on)) gives
+          agrees _ _ (λ on. is_tested (test_is chart plan wiring old (Prog l First) pictures at rise name level group own top balance on)) gives
           ∙ sym told.3;
     }
       where
@@ -174,12 +178,12 @@ module _ (chart : Chart) (plan : Lists) (wiring : Wiring) (rise : NumbersRise ch
         no_plus (up low is under unsigned) = omega (arith, is.1)
         no_plus (by_latch low rule lower is under its_sign given closed) = omega (arith, is.1)
 
-        no_minus : Minuses chart.lines plan (shut old (Prog l First)) (Prog l First) name level group → ⊥
+        no_minus : Minuses chart.lines plan (shut old (Prog l First)) (Prog l First) name level top → ⊥
         no_minus (less_by_sign rule pilot is low its_sign served closed) = is
         no_minus (less_turned rule is its_sign closed) = omega (arith, is.1)
         no_minus (less_by_latch low rule lower is under its_sign given closed) = omega (arith, is.1)
 
-        no_read : ReadsOut chart.lines (shut old (Prog l First)) (Prog l First) name level group → ⊥
+        no_read : ReadsOut chart.lines (shut old (Prog l First)) (Prog l First) name level top → ⊥
         no_read (shows_it is) = omega (arith, is.1)
         no_read (turns_it rule is its_sign closed) = omega (arith, is.1)
 
@@ -187,30 +191,31 @@ module _ (chart : Chart) (plan : Lists) (wiring : Wiring) (rise : NumbersRise ch
         is_tested (tests_it rule is its_sign) =
             both signed (level_number l == level) (signed_is chart.lines name rule its_sign) (same_number (level_number l) level is.0)
 
-        gives : (signed && (level_number l == level)) ≡ true → pictures C (BT group) ≡ true
+        gives : (signed && (level_number l == level)) ≡ true → pictures C (BT top) ≡ true
         gives on =
             let (rule, its_sign) = ruled field is_amount (first signed (level_number l == level) on) in
-            gives_test chart plan wiring old (Prog l First) pictures at rise name level group own
+            gives_test chart plan wiring old (Prog l First) pictures at rise name level group own top balance
             (tests_it rule (is_number (level_number l) level (second signed (level_number l == level) on), refl) its_sign)
 
     pub second_controls : IsPanelCycle chart plan wiring old (Prog l Second) pictures
-        → IsControlled group (act_controls (turn_act (signed && ((level_number l == level) && is_set old group)))) pictures
+        → AreTold group top (act_controls (turn_act (signed && ((level_number l == level) && is_set old top)))) pictures
     second_controls at = record {
-      plus = false_from_ne_true _ (λ on. no_plus (plus_is chart plan wiring old (Prog l Second) pictures at rise name level group own on)) ∙ sym told.0;
+      plus = false_from_ne_true _ (λ on. no_plus (plus_is chart plan wiring old (Prog l Second) pictures at rise name level group own top balance on)) ∙ sym told.0;
       minus =
-          agrees _ _ (λ on. minus_turned (minus_is chart plan wiring old (Prog l Second) pictures at rise name level group own on)) gives_it
+          agrees _ _ (λ on. minus_turned (minus_is chart plan wiring old (Prog l Second) pictures at rise name level group own top balance on)) gives_it
           ∙ sym told.1;
       read_out =
-          agrees _ _ (λ on. read_turned (read_is chart plan wiring old (Prog l Second) pictures at rise name level group own on)) gives_out
+          agrees _ _ (λ on. read_turned (read_is chart plan wiring old (Prog l Second) pictures at rise name level group own top balance on)) gives_out
           ∙ sym told.2;
-      test = false_from_ne_true _ (λ on. no_test (test_is chart plan wiring old (Prog l Second) pictures at rise name level group own on)) ∙ sym told.3;
+      test = false_from_ne_true _ (λ on. no_test (test_is chart plan wiring old (Prog l Second) pictures at rise name level group own top balance on)) ∙ sym told.3;
     }
       where
-        told : AreControls (turn_act (signed && ((level_number l == level) && is_set old group))) false (signed && ((level_number l == level) && is_set old group)) (signed && ((level_number l == level) && is_set old group)) false
-        told = turned_controls (signed && ((level_number l == level) && is_set old group))
+        told : AreControls (turn_act (signed && ((level_number l == level) && is_set old top))) false (signed && ((level_number l == level) && is_set old top)) (signed && ((level_number l == level) && is_set old top)) false
+        told = turned_controls (signed && ((level_number l == level) && is_set old top))
 
-        latch : shut old (Prog l Second) (BAT group 1) ≡ is_set old group
-        latch = transferred_is old (Prog l Second) group 1 at.between.ordered (planned_unit chart.lines plan own.number group at.panel.planned own.served) refl
+        latch : shut old (Prog l Second) (BAT top 1) ≡ is_set old top
+        latch = transferred_is old (Prog l Second) top 1 at.between.ordered
+            (planned_unit chart.lines plan own.number top at.panel.planned (top-serves chart.lines plan own.number top balance)) refl
 
         no_plus : Pluses chart.lines plan (shut old (Prog l Second)) (Prog l Second) name level → ⊥
         no_plus (adds_card is low unsigned) = is
@@ -218,46 +223,46 @@ module _ (chart : Chart) (plan : Lists) (wiring : Wiring) (rise : NumbersRise ch
         no_plus (up low is under unsigned) = omega (arith, is.1)
         no_plus (by_latch low rule lower is under its_sign given closed) = omega (arith, is.1)
 
-        turns : (rule : SignRule) → level_number l ≡ level → IsSigned chart.lines name rule → shut old (Prog l Second) (BAT group 1) ≡ true
-            → (signed && ((level_number l == level) && is_set old group)) ≡ true
+        turns : (rule : SignRule) → level_number l ≡ level → IsSigned chart.lines name rule → shut old (Prog l Second) (BAT top 1) ≡ true
+            → (signed && ((level_number l == level) && is_set old top)) ≡ true
         turns rule is its_sign closed =
-            both signed ((level_number l == level) && is_set old group) (signed_is chart.lines name rule its_sign)
-            (both (level_number l == level) (is_set old group) (same_number (level_number l) level is) (sym latch ∙ closed))
+            both signed ((level_number l == level) && is_set old top) (signed_is chart.lines name rule its_sign)
+            (both (level_number l == level) (is_set old top) (same_number (level_number l) level is) (sym latch ∙ closed))
 
-        minus_turned : Minuses chart.lines plan (shut old (Prog l Second)) (Prog l Second) name level group
-            → (signed && ((level_number l == level) && is_set old group)) ≡ true
+        minus_turned : Minuses chart.lines plan (shut old (Prog l Second)) (Prog l Second) name level top
+            → (signed && ((level_number l == level) && is_set old top)) ≡ true
         minus_turned (less_by_sign rule pilot is low its_sign served closed) = absurd is
         minus_turned (less_turned rule is its_sign closed) = turns rule is.0 its_sign closed
         minus_turned (less_by_latch low rule lower is under its_sign given closed) = absurd (omega (arith, is.1))
 
-        read_turned : ReadsOut chart.lines (shut old (Prog l Second)) (Prog l Second) name level group
-            → (signed && ((level_number l == level) && is_set old group)) ≡ true
+        read_turned : ReadsOut chart.lines (shut old (Prog l Second)) (Prog l Second) name level top
+            → (signed && ((level_number l == level) && is_set old top)) ≡ true
         read_turned (shows_it is) = absurd (omega (arith, is.1))
         read_turned (turns_it rule is its_sign closed) = turns rule is.0 its_sign closed
 
         no_test : Tests chart.lines (Prog l Second) name level → ⊥
         no_test (tests_it rule is its_sign) = omega (arith, is.1)
 
-        parts : (signed && ((level_number l == level) && is_set old group)) ≡ true
-            → (rule : SignRule) × IsSigned chart.lines name rule × (level_number l ≡ level) × (shut old (Prog l Second) (BAT group 1) ≡ true)
+        parts : (signed && ((level_number l == level) && is_set old top)) ≡ true
+            → (rule : SignRule) × IsSigned chart.lines name rule × (level_number l ≡ level) × (shut old (Prog l Second) (BAT top 1) ≡ true)
         parts on =
-            let rest = second signed ((level_number l == level) && is_set old group) on in
-            let (rule, its_sign) = ruled field is_amount (first signed ((level_number l == level) && is_set old group) on) in (
+            let rest = second signed ((level_number l == level) && is_set old top) on in
+            let (rule, its_sign) = ruled field is_amount (first signed ((level_number l == level) && is_set old top) on) in (
               rule,
               its_sign,
-              is_number (level_number l) level (first (level_number l == level) (is_set old group) rest),
-              latch ∙ second (level_number l == level) (is_set old group) rest,
+              is_number (level_number l) level (first (level_number l == level) (is_set old top) rest),
+              latch ∙ second (level_number l == level) (is_set old top) rest,
             )
 
-        gives_it : (signed && ((level_number l == level) && is_set old group)) ≡ true → pictures C (MI group) ≡ true
+        gives_it : (signed && ((level_number l == level) && is_set old top)) ≡ true → pictures C (MI group) ≡ true
         gives_it on =
             let (rule, its_sign, is, closed) = parts on in
-            gives_minus chart plan wiring old (Prog l Second) pictures at rise name level group own (less_turned rule (is, refl) its_sign closed)
+            gives_minus chart plan wiring old (Prog l Second) pictures at rise name level group own top balance (less_turned rule (is, refl) its_sign closed)
 
-        gives_out : (signed && ((level_number l == level) && is_set old group)) ≡ true → pictures C (RO group) ≡ true
+        gives_out : (signed && ((level_number l == level) && is_set old top)) ≡ true → pictures C (RO group) ≡ true
         gives_out on =
             let (rule, its_sign, is, closed) = parts on in
-            gives_read chart plan wiring old (Prog l Second) pictures at rise name level group own (turns_it rule (is, refl) its_sign closed)
+            gives_read chart plan wiring old (Prog l Second) pictures at rise name level group own top balance (turns_it rule (is, refl) its_sign closed)
 
     -- whether the total of the level goes up to this one, and whether by minus
     abbrev goes_up : Bool
@@ -278,23 +283,23 @@ module _ (chart : Chart) (plan : Lists) (wiring : Wiring) (rise : NumbersRise ch
 
     -- the latch of the total that goes up
     latch_is : (low : ℕ) (lower_group : Group) → IsPanelCycle chart plan wiring old (Prog l Third) pictures → level_number l ≡ low
-        → IsGroupOf chart.lines plan name low lower_group → (state (level_number l)).latch ≡ is_set old lower_group
+        → IsTopOf chart.lines plan name low lower_group → (state (level_number l)).latch ≡ is_set old lower_group
     latch_is low lower_group at is given =
-        ap (λ k. (state k).latch) is ∙ ap (λ o. (held_in old o).latch) (group_is chart plan name low lower_group at.panel.lawful given)
+        ap (λ k. (state k).latch) is ∙ top_latch old chart plan name low lower_group at.panel.lawful given
 
     pub third_controls : IsPanelCycle chart plan wiring old (Prog l Third) pictures → (number : ℕ)
-        → IsControlled group (act_controls (show_act (level_number l == level) goes_up by_minus number)) pictures
+        → AreTold group top (act_controls (show_act (level_number l == level) goes_up by_minus number)) pictures
     third_controls at number = record {
       plus =
-          agrees _ _ (λ on. plus_told (plus_is chart plan wiring old (Prog l Third) pictures at rise name level group own on)) plus_given
+          agrees _ _ (λ on. plus_told (plus_is chart plan wiring old (Prog l Third) pictures at rise name level group own top balance on)) plus_given
           ∙ sym told.0;
       minus =
-          agrees _ _ (λ on. minus_told (minus_is chart plan wiring old (Prog l Third) pictures at rise name level group own on)) minus_given
+          agrees _ _ (λ on. minus_told (minus_is chart plan wiring old (Prog l Third) pictures at rise name level group own top balance on)) minus_given
           ∙ sym told.1;
       read_out =
-          agrees _ _ (λ on. read_told (read_is chart plan wiring old (Prog l Third) pictures at rise name level group own on)) read_given
+          agrees _ _ (λ on. read_told (read_is chart plan wiring old (Prog l Third) pictures at rise name level group own top balance on)) read_given
           ∙ sym told.2;
-      test = false_from_ne_true _ (λ on. no_test (test_is chart plan wiring old (Prog l Third) pictures at rise name level group own on)) ∙ sym told.3;
+      test = false_from_ne_true _ (λ on. no_test (test_is chart plan wiring old (Prog l Third) pictures at rise name level group own top balance on)) ∙ sym told.3;
     }
       where
         told : AreControls (show_act (level_number l == level) goes_up by_minus number)
@@ -315,25 +320,25 @@ module _ (chart : Chart) (plan : Lists) (wiring : Wiring) (rise : NumbersRise ch
             (not_false _ (ap (λ b. b && (state (level_number l)).latch) (unsigned_is chart.lines name unsigned)))
         plus_told (by_latch low rule lower_group is under its_sign given closed) =
             let (apart, goes) = up_is low is.0 under in
-            let there = planned_unit chart.lines plan given.number lower_group at.panel.planned given.served in
+            let there = planned_unit chart.lines plan given.number lower_group at.panel.planned (top-serves chart.lines plan given.number lower_group given.served) in
             let is_reset = not-true _ (sym (normal_balance old (Prog l Third) lower_group 2 at.between.ordered there refl) ∙ closed) in
             three _ goes_up (not by_minus) apart goes
             (not_false _ (ap (λ b. b && (state (level_number l)).latch) (signed_is chart.lines name rule its_sign)
             ∙ latch_is low lower_group at is.0 given ∙ is_reset))
 
-        minus_told : Minuses chart.lines plan (shut old (Prog l Third)) (Prog l Third) name level group
+        minus_told : Minuses chart.lines plan (shut old (Prog l Third)) (Prog l Third) name level top
             → (not (level_number l == level) && (goes_up && by_minus)) ≡ true
         minus_told (less_by_sign rule pilot is low its_sign served closed) = absurd is
         minus_told (less_turned rule is its_sign closed) = absurd (omega (arith, is.1))
         minus_told (less_by_latch low rule lower_group is under its_sign given closed) =
             let (apart, goes) = up_is low is.0 under in
-            let there = planned_unit chart.lines plan given.number lower_group at.panel.planned given.served in
+            let there = planned_unit chart.lines plan given.number lower_group at.panel.planned (top-serves chart.lines plan given.number lower_group given.served) in
             let shut_it = sym (transferred_is old (Prog l Third) lower_group 2 at.between.ordered there refl) ∙ closed in
             three _ goes_up by_minus apart goes
             (both signed (state (level_number l)).latch (signed_is chart.lines name rule its_sign)
             (latch_is low lower_group at is.0 given ∙ shut_it))
 
-        read_told : ReadsOut chart.lines (shut old (Prog l Third)) (Prog l Third) name level group → (level_number l == level) ≡ true
+        read_told : ReadsOut chart.lines (shut old (Prog l Third)) (Prog l Third) name level top → (level_number l == level) ≡ true
         read_told (shows_it is) = same_number (level_number l) level is.0
         read_told (turns_it rule is its_sign closed) = absurd (omega (arith, is.1))
 
@@ -341,7 +346,7 @@ module _ (chart : Chart) (plan : Lists) (wiring : Wiring) (rise : NumbersRise ch
         no_test (tests_it rule is its_sign) = omega (arith, is.1)
 
         read_given : (level_number l == level) ≡ true → pictures C (RO group) ≡ true
-        read_given on = gives_read chart plan wiring old (Prog l Third) pictures at rise name level group own
+        read_given on = gives_read chart plan wiring old (Prog l Third) pictures at rise name level group own top balance
             (shows_it (is_number (level_number l) level on, refl))
 
         under_of : goes_up ≡ true → IsUnder chart.lines name (level_number l) level
@@ -351,17 +356,19 @@ module _ (chart : Chart) (plan : Lists) (wiring : Wiring) (rise : NumbersRise ch
             (is_number (lower amount.has level) (level_number l) (second (amount.has (level_number l)) (lower amount.has level == level_number l) goes))
 
         lower_of : (under : IsUnder chart.lines name (level_number l) level)
-            → (lower_group : Group) × IsGroupOf chart.lines plan name (level_number l) lower_group
+            → (lower_group : Group) × IsTopOf chart.lines plan name (level_number l) lower_group
         lower_of under =
-            let (lower_group, served) = group-given chart plan name (level_number l) under.number at.panel.lawful at.panel.planned under.total in
-            (lower_group, record { number = under.number; total = under.total; served = served })
+            let (lower_counter, there) = counter-given chart.lines plan name (level_number l) under.number at.panel.planned under.total in (
+              top_group lower_counter,
+              record { number = under.number; total = under.total; served = ap (option_map top_group) there },
+            )
 
         plus_given : (not (level_number l == level) && (goes_up && not by_minus)) ≡ true → pictures C (PL group) ≡ true
         plus_given on =
             let rest = second (not (level_number l == level)) (goes_up && not by_minus) on in
             let under = under_of (first goes_up (not by_minus) rest) in
             let none = not-true by_minus (second goes_up (not by_minus) rest) in
-            gives_plus chart plan wiring old (Prog l Third) pictures at rise name level group own (by under signed refl none)
+            gives_plus chart plan wiring old (Prog l Third) pictures at rise name level group own top balance (by under signed refl none)
           where
             by : IsUnder chart.lines name (level_number l) level → (b : Bool) → signed ≡ b → (b && (state (level_number l)).latch) ≡ false
                 → Pluses chart.lines plan (shut old (Prog l Third)) (Prog l Third) name level
@@ -369,7 +376,7 @@ module _ (chart : Chart) (plan : Lists) (wiring : Wiring) (rise : NumbersRise ch
             by under true is none =
                 let (rule, its_sign) = ruled field is_amount is in
                 let (lower_group, given) = lower_of under in
-                let there = planned_unit chart.lines plan given.number lower_group at.panel.planned given.served in
+                let there = planned_unit chart.lines plan given.number lower_group at.panel.planned (top-serves chart.lines plan given.number lower_group given.served) in
                 by_latch (level_number l) rule lower_group (refl, refl) under its_sign given
                 (normal_balance old (Prog l Third) lower_group 2 at.between.ordered there refl
                 ∙ ap not (sym (latch_is (level_number l) lower_group at refl given) ∙ none))
@@ -381,8 +388,8 @@ module _ (chart : Chart) (plan : Lists) (wiring : Wiring) (rise : NumbersRise ch
             let is = second goes_up by_minus rest in
             let (rule, its_sign) = ruled field is_amount (first signed (state (level_number l)).latch is) in
             let (lower_group, given) = lower_of under in
-            let there = planned_unit chart.lines plan given.number lower_group at.panel.planned given.served in
-            gives_minus chart plan wiring old (Prog l Third) pictures at rise name level group own
+            let there = planned_unit chart.lines plan given.number lower_group at.panel.planned (top-serves chart.lines plan given.number lower_group given.served) in
+            gives_minus chart plan wiring old (Prog l Third) pictures at rise name level group own top balance
             (less_by_latch (level_number l) rule lower_group (refl, refl) under its_sign given
             (transferred_is old (Prog l Third) lower_group 2 at.between.ordered there refl
             ∙ sym (latch_is (level_number l) lower_group at refl given) ∙ second signed (state (level_number l)).latch is))

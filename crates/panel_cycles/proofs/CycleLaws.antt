@@ -1,11 +1,11 @@
--- The laws of the counter groups and of the carriage.
+-- The laws of the counters and of the carriage.
 use Rattle.panel_cycles.specs.CycleLaws.{CarriageDoesWhatIsAsked, GroupsAreAskedForTotals}
 use Rattle.panel_cycles.proofs.CounterAsks.{asks}
 use Rattle.panel_cycles.proofs.ToCarriage.{carriage-after, carriage-after-other}
 
 pub groups-asked : GroupsAreAskedForTotals
-groups-asked chart plan wiring old pictures name level group cycle kind at rise own is small =
-    asks chart plan wiring rise old pictures name level group own cycle kind at is small
+groups-asked chart plan wiring old pictures name level counter cycle kind at rise own is small =
+    asks chart plan wiring rise old pictures name level counter own cycle kind at is small
 
 pub carriage-told : CarriageDoesWhatIsAsked
 carriage-told chart plan wiring cycle old new panel between whole = (

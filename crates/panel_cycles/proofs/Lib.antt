@@ -2,6 +2,7 @@ pub mod ToCarriage
 pub mod JacksAndTape
 pub mod AmountFacts
 pub mod CounterAsksKinds
+pub mod Counters
 pub mod CounterAsksSteps
 pub mod CounterAsksCards
 pub mod CounterAsksEntries

@@ -65,7 +65,6 @@ use Rattle.panel_cycles.proofs.WheelRowsText.{literal-of, standing, columns-sent
 use Rattle.wiring_table.proofs.Parts.{indicate-given, pilot-given, split-given}
 use Rattle.chart_rules.proofs.Laws.{IsGoodField, amount-valid, good-field, one-digit}
 use Rattle.field_rules.proofs.Places.{is_same_name-own}
-use Rattle.charts.proofs.Listed.{listed-at, place-of}
 use Rattle.wanted.specs.Pilots.{shows}
 
 emits-four : (cycle : Cycle) → cycle ≡ Card → emitter_of cycle ≡ Some 4

@@ -181,11 +181,11 @@ module _ (wiring : Wiring) (content : Content) (at : CycleRow) (row : IsPrintedR
       let (level, is, same) = total_of at.cycle its emits in
       in_cycle (Prog level Third) is (total.amount-row wiring level content.held content.card at (row.totals level is) line place its wheel name
       digits mark field listed says_it amount.named same (figure_point some punch))
-  straight_sends line there says_it (total_digit its wheel name digits mark field _ position served amount low high) (digit counter _ among out _ long shows) =
+  straight_sends line there says_it (total_digit its wheel name digits mark field _ position p serves amount low high) (digit counter _ among out _ long shows) =
       let (place, listed) = place_of line there in
       let (level, is) = group-third wiring at row.on_panel row.rises counter.name row.prints out in
       in_cycle (Prog level Third) is (total.digit-sends wiring level content.held content.card at (row.totals level is) line place its wheel name
-      digits mark field counter position listed there says_it served amount low high among out long shows)
+      digits mark field counter position p listed there says_it serves amount low high among out long shows)
   straight_sends line there says_it (total_text_out its wheel name field _ j text within served) (column storage c among out held) =
       let (level, is) = unit-third wiring at row.on_panel storage.place row.prints out in
       in_cycle (Prog level Third) is (total.text-sends wiring level content.held content.card at (row.totals level is) line its wheel name field
@@ -227,7 +227,7 @@ module _ (wiring : Wiring) (content : Content) (at : CycleRow) (row : IsPrintedR
   after_sends line other there among says_it says_its emits wire leads shut (literal statement e wheel characters j r is punch) = cc
   after_sends line other there among says_it says_its emits wire leads shut (point statement e wheel figure r is some punch) = cc
   after_sends line other there among says_it says_its emits wire leads shut (detail_digit wheel name how field position is low high apart) = cc
-  after_sends line other there among says_it says_its emits wire leads shut (total_digit its wheel name digits mark field group position is amount low high) = cc
+  after_sends line other there among says_it says_its emits wire leads shut (total_digit its wheel name digits mark field group position p is amount low high) = cc
   after_sends line other there among says_it says_its emits wire leads shut (total_text_out its wheel name field unit j text within served) = cc
 
   -- and all that lines send arrives

@@ -1,5 +1,5 @@
 -- What the print wheels receive in the third program cycle of a level: what the totals, the texts and the literals of its total line send.
-use Rattle.std.proofs.Common.{◌≡◌, ◌∙◌, refl, sym, ap, subst, ℕ, ◌+◌, ◌-◌, ◌<◌, ◌≤◌, ◌==◌, ◌&&◌, ◌||◌, not, nat_lt, Bool, true, false, cond, List, Contains, Option, Some, None, is_some, length, map, slice_get, get_or, option_map, arith}
+use Rattle.std.proofs.Common.{◌≡◌, ◌∙◌, refl, sym, ap, subst, ℕ, ◌+◌, ◌-◌, ◌<◌, ◌≤◌, ◌==◌, ◌&&◌, ◌||◌, not, nat_lt, Bool, true, false, cond, List, Contains, Option, Some, None, is_some, length, map, slice_get, get_or, option_map, arith, ◌^◌, inl, inr}
 use Rattle.std.proofs.lemmas.Bool.Decides.{nat_tests}
 use Rattle.std.proofs.lemmas.List.{length-map, get_or-map}
 use Rattle.counter_cycles.proofs.DigitLemmas.{digit_of-small}
@@ -39,13 +39,20 @@ use Rattle.report.specs.Amounts.{columns_in}
 use Rattle.report.specs.Edits.{last_digits}
 use Rattle.storage_units.specs.Storage.{StorageState, holds as holds_row}
 use Rattle.whole_cycles.proofs.Units.{units-by_name}
+use Rattle.counters.specs.Numbers.{number as figure}
+use Rattle.counter_cycles.proofs.DigitLemmas.{digit_of-below, number-within}
+use Rattle.counter_cycles.proofs.PairLemmas.{digit_of-above_width}
+use Rattle.std.proofs.lemmas.Nat.{div-mul-add}
+use Rattle.std.proofs.lemmas.Option.{same_Some}
+use Rattle.plans.specs.declared.counter.TotalCounter.{TotalCounter}
 use Rattle.whole_cycles.specs.Units.{IsGroup, group_at}
 use Rattle.wiring_table.specs.Figures.{IsAmount, IsText, HasPunchAt, digit_wheel, mark_wheel, mark_text}
-use Rattle.wiring_table.specs.Parts.{group_for, unit_for}
+use Rattle.wiring_table.specs.Parts.{IsPlaceOf, ServesPosition, ServesTotal, StandsAt, counter_for, panel_group, top_for, top_group, unit_for}
 use Rattle.wired_panels.specs.Sources.{EmitsAtControl, digit_at}
 use Rattle.wired_panels.specs.Sources.EmitsAtControl.{card as emits_card, prog as emits_prog, head as emits_head}
 use Rattle.wired_panels.specs.CycleRows.{CycleRow, is_closed}
-use Rattle.panel_cycles.specs.PrintedRows.{IsTotalRow, GroupHoldsTotal}
+use Rattle.panel_cycles.specs.PrintedRows.{CounterHoldsTotal, IsTotalRow, figure_in}
+use Rattle.plans.specs.declared.counter.TotalCounter.TheVariants as of
 use Rattle.wired_panels.proofs.ReadingOut.{total-read, text-read}
 use Rattle.charts.proofs.Rising as rising
 use Rattle.chart_rules.proofs.Laws.{good-field}
@@ -59,7 +66,13 @@ use Rattle.panel_cycles.proofs.WheelRowsField.{right-of}
 use Rattle.panel_cycles.proofs.WheelRowsFigure.FigureSends.{digit as figure_digit, marked as figure_marked}
 use Rattle.panel_cycles.proofs.WheelRowsFigure.{FigureSends, amount_shown, figure-sent}
 use Rattle.panel_cycles.proofs.WheelRowsText.{columns-stand, columns-sent}
-use Rattle.panel_cycles.proofs.WheelRowsUnits.{group-named, group-own, digit-of, unit-own, last-at}
+use Rattle.panel_cycles.proofs.WheelRowsUnits.{group-named, group-own, digit-of, unit-own, last-at, counter-is}
+
+-- the counter with a top group
+top-counter : (o : Option TotalCounter) (top : Group) → option_map top_group o ≡ Some top
+    → (counter : TotalCounter) × (o ≡ Some counter) × (top_group counter ≡ top)
+top-counter None top same = cc
+top-counter (Some counter) top same = (counter, refl, same_Some (top_group counter) top same)
 
 -- a total in a chart that breaks no rule is of an amount, in as many digits as its field has columns at least
 pub total-amount : (chart : Chart) (place : ℕ) (line : Line) (its : Level) (wheel : ℕ) (name : List ℕ) (digits : ℕ) (mark : Option Mark)
@@ -138,10 +151,10 @@ module _ (wiring : Wiring) (its : ProgramLevel) (held : List ℕ → Printed) (c
   -- the level of a total whose group reads out, and of a text whose unit does
   group-level : (line : Line) (level : Level) (wheel : ℕ) (name : List ℕ) (digits : ℕ) (mark : Option Mark) (group : Group)
       → Contains at.chart.lines line → line.statement ≡ says.TotalAmount level wheel name digits mark
-      → group_for at.chart.lines at.plan line.number ≡ Some group → at.pictures C (RO group) ≡ true → chart_number level ≡ level_number its
+      → ServesTotal at.chart.lines at.plan line.number group → at.pictures C (RO group) ≡ true → chart_number level ≡ level_number its
   group-level line level wheel name digits mark group listed says_it served out =
       let (its_name, own) = total-read wiring at row.on_panel row.rises its row.cycle group out in
-      let n = groups.group-own at.chart.lines at.plan row.on_panel.panel.planned own.number line.number group own.served served in
+      let n = groups.serves-own at.chart.lines at.plan row.on_panel.panel.planned own.number line.number group own.served served in
       let total = own.total in
       let e = one-line total.line line total.listed listed (total.is_number ∙ n) in
       by total.its_level total.wheel total.its_name total.digits total.mark (sym total.says_total ∙ ap (λ l. l.statement) e ∙ says_it)
@@ -170,11 +183,59 @@ module _ (wiring : Wiring) (its : ProgramLevel) (held : List ℕ → Printed) (c
           → chart_number other ≡ level_number its → chart_number level ≡ level_number its
       by other w n same is = let e : other ≡ level = cc in sym (ap chart_number e) ∙ is
 
+  -- the digits of the figure in a counter are those of its groups, at their places
+  figure-digit : (number : ℕ) (counter : TotalCounter) → counter_for at.chart.lines at.plan number ≡ Some counter
+      → (position : ℕ) (group : Group) (place : ℕ) → IsPlaceOf counter position group place
+      → digit_of (figure_in at counter) position ≡ digit_of (figure (group_at at.old group).digits) place
+  figure-digit line counter there position group place is = by counter there is.from is.to is.at
+    where
+      by : (its : TotalCounter) → counter_for at.chart.lines at.plan line ≡ Some its → 1 ≤ place → place ≤ group.width
+          → StandsAt its position group place
+          → digit_of (figure_in at its) position ≡ digit_of (figure (group_at at.old group).digits) place
+      by (of.Single own) served from to stands =
+          ap (λ g. digit_of (figure (group_at at.old g).digits) position) stands.0
+          ∙ ap (digit_of (figure (group_at at.old group).digits)) stands.1
+      by (of.Coupled lower upper) served from to stands =
+          split (group-named at.chart.lines at.plan line (panel_group lower) row.on_panel.panel.planned
+          (record { counter = of.Coupled lower upper; there = served; has = inl refl })) stands
+        where
+          split : IsGroup (panel_group lower) → StandsAt (of.Coupled lower upper) position group place
+              → digit_of (figure_in at (of.Coupled lower upper)) position ≡ digit_of (figure (group_at at.old group).digits) place
+          split is_group (inl stands) =
+              let long = (counter-is at.old row.on_panel.between (panel_group lower) is_group).positions in
+              let name : (group_at at.old (panel_group lower)).name.width ≡ lower.width
+              = ap (λ (g : Group). g.width) (units-by_name.groups at.old (panel_group lower) row.on_panel.between is_group).named in
+              let width : lower.width ≡ group.width = ap (λ (g : Group). g.width) stands.0 in
+              let same = stands.1 in
+              digit_of-below (figure (group_at at.old (panel_group upper)).digits) (figure (group_at at.old (panel_group lower)).digits)
+              (length (group_at at.old (panel_group lower)).digits) position (omega (arith, same, from))
+              (omega (arith, same, to, width, long, name))
+              ∙ ap (λ g. digit_of (figure (group_at at.old g).digits) position) stands.0
+              ∙ ap (digit_of (figure (group_at at.old group).digits)) same
+          split is_group (inr stands) =
+              let lawful = counter-is at.old row.on_panel.between (panel_group lower) is_group in
+              let long = lawful.positions in
+              let name : (group_at at.old (panel_group lower)).name.width ≡ lower.width
+              = ap (λ (g : Group). g.width) (units-by_name.groups at.old (panel_group lower) row.on_panel.between is_group).named in
+              let same : position ≡ length (group_at at.old (panel_group lower)).digits + place
+              = stands.1 ∙ ap (λ w. w + place) (sym (long ∙ name)) in
+              let small : figure (group_at at.old (panel_group lower)).digits < 10 ^ length (group_at at.old (panel_group lower)).digits
+              = subst (λ w. figure (group_at at.old (panel_group lower)).digits < 10 ^ w) (sym long)
+              (number-within (group_at at.old (panel_group lower)) lawful) in
+              ap (digit_of (figure_in at (of.Coupled lower upper))) same
+              ∙ digit_of-above_width (figure_in at (of.Coupled lower upper)) (length (group_at at.old (panel_group lower)).digits) place from
+              ∙ ap (λ n. digit_of n place) (div-mul-add (figure (group_at at.old (panel_group upper)).digits)
+              (10 ^ length (group_at at.old (panel_group lower)).digits) (figure (group_at at.old (panel_group lower)).digits) small)
+              ∙ ap (λ g. digit_of (figure (group_at at.old g).digits) place) stands.0
+
   -- the digit of a group is that of the total
-  pub held-digit : (group : Group) (name : List ℕ) (position : ℕ) → IsGroup group → GroupHoldsTotal at group (held name) → 1 ≤ position
-      → position ≤ length (group_at at.old group).digits → digit_at (group_at at.old group).digits position ≡ digit_of (held name).figure position
-  held-digit group name position is holds from to =
-      digit-of at.old row.on_panel.between group position is from to ∙ ap (λ n. digit_of n position) holds.figure
+  pub held-digit : (number : ℕ) (counter : TotalCounter) (name : List ℕ) (position : ℕ) (group : Group) (place : ℕ)
+      → counter_for at.chart.lines at.plan number ≡ Some counter → IsPlaceOf counter position group place → IsGroup group
+      → CounterHoldsTotal at counter (held name) → place ≤ length (group_at at.old group).digits
+      → digit_at (group_at at.old group).digits place ≡ digit_of (held name).figure position
+  held-digit line counter name position group place there stands is holds to =
+      digit-of at.old row.on_panel.between group place is stands.from to
+      ∙ sym (figure-digit line counter there position group place stands) ∙ ap (λ n. digit_of n position) holds.figure
 
   -- a balance position leads on where the latch is set
   pub closed-BAT : (group : Group) (position : ℕ) → IsGroup group
@@ -182,20 +243,23 @@ module _ (wiring : Wiring) (its : ProgramLevel) (held : List ℕ → Printed) (c
   closed-BAT group position is = (units-by_name.groups at.old group row.on_panel.between is).transferred at.cycle (Row at.row) position
 
   pub digit-sends : (line : Line) (place : ℕ) (level : Level) (wheel : ℕ) (name : List ℕ) (digits : ℕ) (mark : Option Mark) (field : Field)
-      (counter : Counter) (position : ℕ)
+      (counter : Counter) (position its_place : ℕ)
       → slice_get at.chart.lines place ≡ Some line → Contains at.chart.lines line → line.statement ≡ says.TotalAmount level wheel name digits mark
-      → group_for at.chart.lines at.plan line.number ≡ Some counter.name → IsAmount at.chart.lines name field → 1 ≤ position → position ≤ digits
-      → Contains at.old.groups counter → at.pictures C (RO counter.name) ≡ true → position ≤ length counter.digits
-      → digit_at counter.digits position ≡ row_number at.row
+      → ServesPosition at.chart.lines at.plan line.number position counter.name its_place → IsAmount at.chart.lines name field
+      → 1 ≤ position → position ≤ digits
+      → Contains at.old.groups counter → at.pictures C (RO counter.name) ≡ true → its_place ≤ length counter.digits
+      → digit_at counter.digits its_place ≡ row_number at.row
       → Sends (says.TotalAmount level wheel name digits mark) (digit_wheel wheel digits (decimals_of field.kind) position)
-  digit-sends line place level wheel name digits mark field counter position listed there says_it served is from to among out long shows =
+  digit-sends line place level wheel name digits mark field counter position its_place listed there says_it serves is from to among out long shows =
+      let served = groups.position-serves at.chart.lines at.plan line.number position counter.name its_place serves in
       let same = group-level line level wheel name digits mark counter.name there says_it served out in
       let named = group-named at.chart.lines at.plan line.number counter.name row.on_panel.panel.planned served in
-      let holds = row.totals line level wheel name digits mark counter.name there says_it same served in
+      let holds = row.totals line level wheel name digits mark serves.counter there says_it same serves.there in
       let own : counter ≡ group_at at.old counter.name = group-own at.old row.on_panel.between counter among in
-      let digit_is : digit_at counter.digits position ≡ digit_of (held name).figure position
-      = ap (λ c. digit_at c.digits position) own
-      ∙ held-digit counter.name name position named holds from (subst (λ c. position ≤ length c.digits) own long) in
+      let digit_is : digit_at counter.digits its_place ≡ digit_of (held name).figure position
+      = ap (λ c. digit_at c.digits its_place) own
+      ∙ held-digit line.number serves.counter name position counter.name its_place serves.there serves.at named holds
+      (subst (λ c. its_place ≤ length c.digits) own long) in
       let e : digit_of (held name).figure position ≡ row_number at.row = sym digit_is ∙ shows in
       let test : (digit_of (held name).figure position == row_number at.row) ≡ true = equal (digit_of (held name).figure position) (row_number at.row) e in
       amount-row line place level wheel name digits mark field listed says_it is.named same
@@ -205,18 +269,20 @@ module _ (wiring : Wiring) (its : ProgramLevel) (held : List ℕ → Printed) (c
       equal a b e = grind (arith, nat_tests, e)
 
   pub mark-sends : (line : Line) (place : ℕ) (level : Level) (wheel : ℕ) (name : List ℕ) (digits : ℕ) (mark : Mark) (field : Field)
-      (group : Group) (k : ℕ)
+      (top : Group) (k : ℕ)
       → slice_get at.chart.lines place ≡ Some line → Contains at.chart.lines line
-      → line.statement ≡ says.TotalAmount level wheel name digits (Some mark) → group_for at.chart.lines at.plan line.number ≡ Some group
+      → line.statement ≡ says.TotalAmount level wheel name digits (Some mark) → top_for at.chart.lines at.plan line.number ≡ Some top
       → field_named at.chart.lines name ≡ Some field → chart_number level ≡ level_number its
-      → HasPunchAt (mark_text mark) k (row_number at.row) → is_closed at (BAT group (3 + k)) ≡ true
+      → HasPunchAt (mark_text mark) k (row_number at.row) → is_closed at (BAT top (3 + k)) ≡ true
       → Sends (says.TotalAmount level wheel name digits (Some mark)) (mark_wheel wheel digits (decimals_of field.kind) + k)
-  mark-sends line place level wheel name digits mark field group k listed there says_it served named same punch shut =
-      let group_is = group-named at.chart.lines at.plan line.number group row.on_panel.panel.planned served in
-      let holds = row.totals line level wheel name digits (Some mark) group there says_it same served in
-      let latch = right-of (is_within (3 + k) 4) (group_at at.old group).latch (sym (closed-BAT group (3 + k) group_is) ∙ shut) in
+  mark-sends line place level wheel name digits mark field top k listed there says_it served named same punch shut =
+      let group_is = group-named at.chart.lines at.plan line.number top row.on_panel.panel.planned
+      (groups.top-serves at.chart.lines at.plan line.number top served) in
+      let (counter, is_counter, is_top) = top-counter (counter_for at.chart.lines at.plan line.number) top served in
+      let holds = row.totals line level wheel name digits (Some mark) counter there says_it same is_counter in
+      let latch = right-of (is_within (3 + k) 4) (group_at at.old top).latch (sym (closed-BAT top (3 + k) group_is) ∙ shut) in
       amount-row line place level wheel name digits (Some mark) field listed says_it named same
-      (figure_marked mark k refl (sym holds.latch ∙ latch) punch)
+      (figure_marked mark k refl (sym holds.latch ∙ ap (λ g. (group_at at.old g).latch) is_top ∙ latch) punch)
 
   pub text-sends : (line : Line) (level : Level) (wheel : ℕ) (name : List ℕ) (field : Field) (storage : StorageState) (j : ℕ)
       → Contains at.chart.lines line → line.statement ≡ says.TotalText level wheel name → IsText at.chart.lines name field → j < columns_of field

@@ -2,11 +2,7 @@
 use Rattle.std.proofs.Common.{◌≡◌, ◌∙◌, refl, sym, ap, subst, ℕ, ◌+◌, ◌<◌, ◌≤◌, ◌==◌, Bool, true, false, cond, List, Contains, Option, Some, None, length, map, slice_get, option_map, arith}
 use Rattle.std.proofs.lemmas.Bool.Decides.{nat_tests}
 use Rattle.std.proofs.lemmas.List.{length-map}
-use Rattle.std.proofs.lemmas.Option.{slice_get_within, get_or_from_slice_get}
 use Rattle.counter_cycles.specs.Acts.{digit_of}
-use Rattle.wanted.specs.ChartTotals.{line_total, need_of, names_signed}
-use Rattle.plans.specs.Plans.{Lists, IsFor}
-use Rattle.wanted.specs.declared.total.Total.{Total}
 use Rattle.card_code.specs.CardCode.{has_row}
 use Rattle.card_code.specs.Rows.{row_number}
 use Rattle.field_rules.specs.Fields.{field_named, fields_of}
@@ -19,7 +15,7 @@ use Rattle.print_rules.specs.Wheels.{HasWheel}
 use Rattle.print_rules.specs.declared.items.Item.{Item}
 use Rattle.print_rules.specs.declared.items.PrintedLine.TheVariants.{Body}
 use Rattle.chart_rules.specs.declared.rule.Rule.TheVariants as rule
-use Rattle.charts.specs.Chart.{Chart, NumbersRise}
+use Rattle.charts.specs.Chart.{Chart}
 use Rattle.charts.specs.Field.{columns_of, decimals_of, is_amount}
 use Rattle.charts.specs.Levels.{level_number as chart_number}
 use Rattle.charts.specs.declared.chart.Line.{Line}
@@ -34,7 +30,6 @@ use Rattle.charts.specs.declared.statement.Statement.TheVariants as says
 use Rattle.charts.specs.declared.statement.Statement.{Statement}
 use Rattle.hub_table.specs.Ranges.{is_within}
 use Rattle.setups.specs.Wiring.{Wiring}
-use Rattle.hubs.specs.declared.hub.Group.{Group}
 use Rattle.hubs.specs.declared.hub.Hub.TheVariants.{EM, W, PX, RO, SO}
 use Rattle.net.specs.Cycles.{level_number}
 use Rattle.net.specs.declared.cycle.Cycle.TheVariants.{Prog}
@@ -51,7 +46,8 @@ use Rattle.whole_cycles.specs.Units.{group_at, storage_at}
 use Rattle.wiring_table.specs.Figures.IsFigure.{on_total as figure_on_total}
 use Rattle.wiring_table.specs.Figures.IsLiteral.{on_total}
 use Rattle.wiring_table.specs.Figures.{IsText, IsAmount, IsSigned, HasPunchAt, rule_of, mark_text}
-use Rattle.wiring_table.specs.Parts.{group_for, panel_group}
+use Rattle.plans.specs.declared.counter.TotalCounter.{TotalCounter}
+use Rattle.wiring_table.specs.Parts.{ServesPosition, counter_for, top_for, top_group}
 use Rattle.wiring_table.specs.Wires.LineWire.{literal, point, total_digit, total_mark_in, total_mark_out, total_text_out}
 use Rattle.wired_panels.specs.CycleRows.{CycleRow}
 use Rattle.wired_panels.specs.Groups.{IsGroupOf}
@@ -63,10 +59,8 @@ use Rattle.wired_panels.proofs.ReadingOut.{reads-total, reads-text}
 use Rattle.wired_panels.proofs.ToCounters.{with_group}
 use Rattle.wired_panels.proofs.ToWheels.{ArrivesThere, Emits, along, along_contact}
 use Rattle.wiring_table.proofs.Parts.{unit-given}
-use Rattle.wiring_table.specs.Parts.{HasTotal}
-use Rattle.wiring_table.proofs.Groups.{group-given, group-room}
+use Rattle.wiring_table.proofs.Groups as groups
 use Rattle.wiring_table.proofs.Totals.{total-of}
-use Rattle.charts.proofs.Listed.{listed-at, place-of}
 use Rattle.wired_panels.proofs.SpeakersLawful.{kept-at}
 use Rattle.panel_cycles.proofs.WheelRows.IsLineOf.{total as its_total}
 use Rattle.panel_cycles.proofs.WheelRows.{IsLineOf, SendsRow, stands_on, sent_on}
@@ -141,15 +135,6 @@ total-ruled chart place line its wheel name digits own field lawful at says_it n
     by (holds.Amount decimals None) amount kept = cc
     by (holds.Amount decimals (Some r)) amount kept = (r, refl)
 
--- a group is as wide as its total has digits
-pub total-wide : (chart : Chart) (plan : Lists) (line : Line) (its : Level) (wheel : ℕ) (name : List ℕ) (digits : ℕ) (mark : Option Mark) (group : Group)
-    → NumbersRise chart.lines chart.end → IsFor chart.lines plan → Contains chart.lines line
-    → line.statement ≡ says.TotalAmount its wheel name digits mark → group_for chart.lines plan line.number ≡ Some group → digits ≤ group.width
-total-wide chart plan line its wheel name digits mark group rises planned listed says_it served =
-    let room = group-room chart.lines plan planned chart.end name (chart_number its) line.number group rises
-    (total-of chart.lines line its wheel name digits mark listed says_it) served in
-    omega (arith, room)
-
 -- a text on a total line is of a field of characters
 text-kind : (chart : Chart) (place : ℕ) (line : Line) (its : Level) (wheel : ℕ) (name : List ℕ) (field : Field) → IsLawful chart
     → slice_get chart.lines place ≡ Some line → line.statement ≡ says.TotalText its wheel name → field_named chart.lines name ≡ Some field
@@ -164,45 +149,53 @@ module _ (wiring : Wiring) (its : ProgramLevel) (held : List ℕ → Printed) (c
   emits-its level same = emitter (4 + chart_number level) (ap emitter_of row.cycle ∙ ap (λ n. Some (4 + n)) (sym same))
 
   figure-arrives : (line : Line) (place : ℕ) (level : Level) (wheel : ℕ) (name : List ℕ) (digits : ℕ) (mark : Option Mark) (field : Field)
-      (group : Group) {v : ℕ} → slice_get at.chart.lines place ≡ Some line → Contains at.chart.lines line
+      (counter : TotalCounter) {v : ℕ} → slice_get at.chart.lines place ≡ Some line → Contains at.chart.lines line
       → line.statement ≡ says.TotalAmount level wheel name digits mark → IsAmount at.chart.lines name field → chart_number level ≡ level_number its
-      → group_for at.chart.lines at.plan line.number ≡ Some group
+      → counter_for at.chart.lines at.plan line.number ≡ Some counter
       → FigureSends wheel digits (decimals_of field.kind) mark (map Some (last_digits digits (held name).figure)) (held name).latch (row_number at.row) v
       → ArrivesThere at (W v)
-  figure-arrives line place level wheel name digits mark field group listed there says_it is same served (figure_digit position from to on) =
-      let named = group-named at.chart.lines at.plan line.number group row.on_panel.panel.planned served in
-      let holds = row.totals line level wheel name digits mark group there says_it same served in
+  figure-arrives line place level wheel name digits mark field counter listed there says_it is same served (figure_digit position from to on) =
+      let planned = row.on_panel.panel.planned in
+      let (group, its_place, serves) = groups.position-given at.chart.lines at.plan planned at.chart.end name (chart_number level) line.number
+      counter row.rises (total-of at.chart.lines line level wheel name digits mark there says_it) served position from to in
+      let serving = groups.position-serves at.chart.lines at.plan line.number position group its_place serves in
+      let named = group-named at.chart.lines at.plan line.number group planned serving in
+      let holds = row.totals line level wheel name digits mark serves.counter there says_it same serves.there in
       let by_name : (group_at at.old group).name ≡ group = (units-by_name.groups at.old group row.on_panel.between named).named in
-      let wide = total-wide at.chart at.plan line level wheel name digits mark group row.rises row.on_panel.panel.planned there says_it served in
+      let wide = serves.at.to in
+      let some_place = serves.at.from in
       let positions : length (group_at at.old group).digits ≡ group.width
       = (counter-is at.old row.on_panel.between group named).positions ∙ ap (λ g. g.width) by_name in
-      let long : position ≤ length (group_at at.old group).digits = omega (arith, to, wide, positions) in
+      let long : its_place ≤ length (group_at at.old group).digits = omega (arith, wide, positions) in
       let own : IsGroupOf at.chart.lines at.plan name (level_number its) group
       = subst (λ n. IsGroupOf at.chart.lines at.plan name n group) same
       (with_group at.chart.lines at.plan level wheel name digits mark line.number group
-      (record { line = line; listed = there; numbered = refl; says_it = says_it }) served) in
+      (record { line = line; listed = there; numbered = refl; says_it = says_it }) serving) in
       let out : at.pictures C (RO group) ≡ true = reads-total wiring at row.on_panel row.rises its row.cycle name group own in
       let test : (digit_of (held name).figure position == row_number at.row) ≡ true
       = sym (digit-shown wiring its held card at row digits name position (row_number at.row) from to) ∙ on in
-      let shows : digit_at (group_at at.old group).digits position ≡ row_number at.row
-      = held-digit wiring its held card at row group name position named holds from long
+      let shows : digit_at (group_at at.old group).digits its_place ≡ row_number at.row
+      = held-digit wiring its held card at row line.number serves.counter name position group its_place serves.there serves.at named holds long
       ∙ equal (digit_of (held name).figure position) (row_number at.row) test in
       along wiring at row.on_panel row.rises line there says_it
-      (total_digit level wheel name digits mark field (group_at at.old group).name position (served ∙ ap Some (sym by_name)) is from to)
-      (digit (group_at at.old group) position (group-listed at.old row.on_panel.between group named)
-      (ap (λ g. at.pictures C (RO g)) by_name ∙ out) from long shows)
+      (total_digit level wheel name digits mark field (group_at at.old group).name position its_place
+      (subst (λ g. ServesPosition at.chart.lines at.plan line.number position g its_place) (sym by_name) serves) is from to)
+      (digit (group_at at.old group) its_place (group-listed at.old row.on_panel.between group named)
+      (ap (λ g. at.pictures C (RO g)) by_name ∙ out) some_place long shows)
     where
       equal : (a b : ℕ) → (a == b) ≡ true → a ≡ b
       equal a b e = grind (arith, nat_tests, e)
-  figure-arrives line place level wheel name digits mark field group listed there says_it is same served (figure_point some punch) =
+  figure-arrives line place level wheel name digits mark field counter listed there says_it is same served (figure_point some punch) =
       along wiring at row.on_panel row.rises line there says_it
       (point (says.TotalAmount level wheel name digits mark) (4 + chart_number level) wheel
       (record { digits = digits; decimals = decimals_of field.kind; mark = mark }) (row_number at.row)
       (figure_on_total level wheel name digits mark field is) some punch) (emits-its level same)
-  figure-arrives line place level wheel name digits None field group listed there says_it is same served (figure_marked own k marked below punch) = cc
-  figure-arrives line place level wheel name digits (Some mark) field group listed there says_it is same served (figure_marked own k marked below punch) =
-      let named = group-named at.chart.lines at.plan line.number group row.on_panel.panel.planned served in
-      let holds = row.totals line level wheel name digits (Some mark) group there says_it same served in
+  figure-arrives line place level wheel name digits None field counter listed there says_it is same served (figure_marked own k marked below punch) = cc
+  figure-arrives line place level wheel name digits (Some mark) field counter listed there says_it is same served (figure_marked own k marked below punch) =
+      let balance : top_for at.chart.lines at.plan line.number ≡ Some (top_group counter) = ap (option_map top_group) served in
+      let named = group-named at.chart.lines at.plan line.number (top_group counter) row.on_panel.panel.planned
+      (groups.top-serves at.chart.lines at.plan line.number (top_group counter) balance) in
+      let holds = row.totals line level wheel name digits (Some mark) counter there says_it same served in
       let (rule, ruled) = total-ruled at.chart place line level wheel name digits mark field row.on_panel.panel.lawful listed says_it is.named is.holds_amount in
       let e : own ≡ mark = cc in
       let few = mark-few own k (row_number at.row) punch in
@@ -210,10 +203,12 @@ module _ (wiring : Wiring) (its : ProgramLevel) (held : List ℕ → Printed) (c
       let signed : IsSigned at.chart.lines name rule = record { field = field; named = is.named; ruled = ruled } in
       let its_punch : HasPunchAt (mark_text mark) k (row_number at.row) = subst (λ m. HasPunchAt (mark_text m) k (row_number at.row)) e punch in
       along_contact wiring at row.on_panel row.rises line there says_it
-      (total_mark_in level wheel name digits mark rule group k (row_number at.row) served signed its_punch) (emits-its level same) refl
-      (closed-BAT wiring its held card at row group (3 + k) named
-      ∙ both-of (is_within (3 + k) 4) (group_at at.old group).latch within (holds.latch ∙ below))
-      (total_mark_out level wheel name digits mark rule field group k (row_number at.row) served signed is.named its_punch)
+      (total_mark_in level wheel name digits mark rule (top_group counter) k (row_number at.row)
+      balance signed its_punch) (emits-its level same) refl
+      (closed-BAT wiring its held card at row (top_group counter) (3 + k) named
+      ∙ both-of (is_within (3 + k) 4) (group_at at.old (top_group counter)).latch within (holds.latch ∙ below))
+      (total_mark_out level wheel name digits mark rule field (top_group counter) k (row_number at.row)
+      balance signed is.named its_punch)
 
   -- a text by its storage unit
   text-arrives : (line : Line) (place : ℕ) (level : Level) (wheel : ℕ) (name : List ℕ) (field : Field) (j : ℕ)
@@ -271,9 +266,9 @@ module _ (wiring : Wiring) (its : ProgramLevel) (held : List ℕ → Printed) (c
       let lawful = row.on_panel.panel.lawful in
       let amount = total-amount at.chart place line level wheel name digits mark t.field lawful listed says_it t.named in
       let few = total-digits at.chart place line level wheel name digits mark t.field lawful listed says_it t.named in
-      let (group, served) = group-given at.chart at.plan name (chart_number level) line.number lawful row.on_panel.panel.planned
+      let (counter, served) = groups.counter-given at.chart.lines at.plan name (chart_number level) line.number row.on_panel.panel.planned
       (total-of at.chart.lines line level wheel name digits mark there says_it) in
-      figure-arrives line place level wheel name digits mark t.field group listed there says_it
+      figure-arrives line place level wheel name digits mark t.field counter listed there says_it
       (record { named = t.named; holds_amount = amount }) t.same served
       (figure-of wheel digits (decimals_of t.field.kind) mark (map Some (last_digits digits (held name).figure)) (held name).latch at.row v few
       (digits-long wiring its held card at row digits name) (sym (ap (λ x. stands_on x v) t.is) ∙ sent.there)

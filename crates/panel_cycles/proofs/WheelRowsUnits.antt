@@ -1,6 +1,5 @@
 -- Counter groups and storage units of a machine between cycles, by the names of their hubs.
-use Rattle.std.proofs.Common.{◌≡◌, ◌∙◌, refl, sym, ap, subst, ℕ, zero, suc, ◌+◌, ◌-◌, ◌/◌, ◌%◌, ◌^◌, ◌<◌, ◌≤◌, false, List, [], ◌∷◌, Contains, Option, Some, None, length, slice_get, get_or, inl, inr, ◌⊎◌, arith}
-use Rattle.std.specs.List.{filter_map, cons_option}
+use Rattle.std.proofs.Common.{◌≡◌, ◌∙◌, sym, ap, ℕ, zero, suc, ◌+◌, ◌-◌, ◌/◌, ◌%◌, ◌^◌, ◌<◌, ◌≤◌, false, List, [], ◌∷◌, Contains, length, get_or, inl, inr, ◌⊎◌, arith}
 use Rattle.std.proofs.lemmas.Bool.{cases_lt}
 use Rattle.std.proofs.lemmas.Bool.Decides.{nat_tests}
 use Rattle.std.proofs.lemmas.List.{get_or-map}
@@ -8,11 +7,7 @@ use Rattle.std.proofs.lemmas.List.FromFn.{get_or-range_with_len}
 use Rattle.std.proofs.lemmas.List.Elements.{Contains-get_or}
 use Rattle.counter_cycles.proofs.ShownLemmas.{digits-tell}
 use Rattle.counter_cycles.specs.Acts.{digit_of}
-use Rattle.wanted.specs.ChartTotals.{line_total}
 use Rattle.plans.specs.Plans.{Lists, IsFor}
-use Rattle.wanted.specs.declared.total.Total.{Total}
-use Rattle.capacity.specs.Capacities.{HasGroup, groups_of, standard}
-use Rattle.capacity.specs.declared.group.CounterGroup.{CounterGroup}
 use Rattle.charts.specs.declared.chart.Line.{Line}
 use Rattle.counters.specs.Counters.{Counter, counter_number, counter_of}
 use Rattle.counters.specs.Laws.{IsCounter}
@@ -27,20 +22,20 @@ use Rattle.whole_cycles.proofs.Places.{in_units, as_many, told_at}
 use Rattle.whole_cycles.proofs.Units.{units-by_name}
 use Rattle.whole_cycles.specs.Between.{IsBetween}
 use Rattle.whole_cycles.specs.Units.{IsGroup, group_at, storage_at}
-use Rattle.wiring_table.specs.Parts.{group_for, panel_group}
+use Rattle.wiring_table.specs.Parts.{ServesTotal}
 use Rattle.wired_panels.specs.Sources.{digit_at}
 use Rattle.wired_panels.proofs.Contacts.{is_set}
-use Rattle.wiring_table.proofs.Groups.{group-there}
+use Rattle.wiring_table.proofs.Groups.{serves-there}
 
 -- the units of the storage units, in order
 storage-at : (k : ℕ) → k < 4 → get_or storage_units k 0 ≡ 35 + k
 storage-at k within = get_or-range_with_len 35 4 k 0 within
 
--- the group of a total is one of the panel
+-- a group of a total is one of the panel
 pub group-named : (lines : List Line) (plan : Lists) (number : ℕ) (group : Group) → IsFor lines plan
-    → group_for lines plan number ≡ Some group → IsGroup group
-group-named lines plan number group planned is =
-    let has = group-there lines plan planned number group is in
+    → ServesTotal lines plan number group → IsGroup group
+group-named lines plan number group planned serves =
+    let has = serves-there lines plan planned number group serves in
     let from = has.from in
     let to = has.to in
     record { width = grind (arith, nat_tests, from, to); number = grind (arith, nat_tests, from, to) }

@@ -1,16 +1,17 @@
--- The amounts of a chart: at which levels an amount has a total, in how many digits, and in which counter group.
-use Rattle.std.specs.Prelude.{ℕ, ◌==◌, ◌&&◌, Bool, false, List, Option, Some, None, find, is_some, option_and_then}
+-- The amounts of a chart: at which levels an amount has a total, in how many digits, and in which counter.
+use Rattle.std.specs.Prelude.{ℕ, ◌==◌, ◌+◌, ◌&&◌, Bool, false, List, Option, Some, None, find, is_some, option_and_then}
 use Rattle.wanted.specs.ChartTotals.{names_signed}
 use Rattle.plans.specs.Plans.{Lists}
+use Rattle.plans.specs.declared.counter.TotalCounter.{TotalCounter}
+use Rattle.plans.specs.declared.counter.TotalCounter.TheVariants as of
 use Rattle.field_rules.specs.Fields.{field_named}
 use Rattle.charts.specs.Levels.{level_number}
 use Rattle.charts.specs.Name.{is_same_name}
 use Rattle.charts.specs.declared.chart.Line.{Line}
 use Rattle.charts.specs.declared.statement.Statement.{Statement}
 use Rattle.charts.specs.declared.statement.Statement.TheVariants as says
-use Rattle.hubs.specs.declared.hub.Group.{Group}
 use Rattle.totals.specs.Amounts.{Amount}
-use Rattle.wiring_table.specs.Parts.{group_for}
+use Rattle.wiring_table.specs.Parts.{counter_for}
 
 -- whether a line has a total of the amount of a name at a level
 abbrev pub is_total_at : List ℕ → ℕ → Statement → Bool
@@ -32,22 +33,23 @@ abbrev pub total_digits : Option Line → ℕ
 total_digits (Some line) = digits_of line.statement
 total_digits None = 0
 
--- the counter group of the total of the amount of a name at a level
-abbrev pub total_group : List Line → Lists → List ℕ → ℕ → Option Group
-total_group lines plan name level =
-    option_and_then (λ (line : Line). group_for lines plan line.number) (total_line lines name level)
+-- the counter of the total of the amount of a name at a level
+abbrev pub total_counter : List Line → Lists → List ℕ → ℕ → Option TotalCounter
+total_counter lines plan name level =
+    option_and_then (λ (line : Line). counter_for lines plan line.number) (total_line lines name level)
 
--- the positions of a counter group, if there is one
-abbrev pub positions_of : Option Group → ℕ
-positions_of (Some group) = group.width
+-- the positions of a counter, if there is one: those of its groups
+abbrev pub positions_of : Option TotalCounter → ℕ
+positions_of (Some (of.Single group)) = group.width
+positions_of (Some (of.Coupled lower upper)) = upper.width + lower.width
 positions_of None = 0
 
--- An amount of a chart, by its name: it is signed by its sign rule, has its totals in the digits of their lines, and their counter
--- groups by the plan.
+-- An amount of a chart, by its name: it is signed by its sign rule, has its totals in the digits of their lines, and their
+-- counters by the plan.
 abbrev pub amount_of : List Line → Lists → List ℕ → Amount
 amount_of lines plan name = record {
   is_signed = names_signed (field_named lines name);
   has = λ level. is_some (total_line lines name level);
   digits = λ level. total_digits (total_line lines name level);
-  width = λ level. positions_of (total_group lines plan name level);
+  width = λ level. positions_of (total_counter lines plan name level);
 }

@@ -1,11 +1,10 @@
--- Laws of the counter groups and of the carriage of a panel that is wired for a chart.
+-- Laws of the counters and of the carriage of a panel that is wired for a chart.
 use Rattle.std.specs.Prelude.{◌≡◌, ℕ, Bool, List, Some, None}
-use Rattle.counter_cycles.specs.Acts.{Asks}
 use Rattle.plans.specs.Plans.{Lists}
+use Rattle.plans.specs.declared.counter.TotalCounter.{TotalCounter}
 use Rattle.carriage.specs.Asked.{nothing_asked}
 use Rattle.charts.specs.Chart.{Chart, NumbersRise}
 use Rattle.setups.specs.Wiring.{Wiring}
-use Rattle.hubs.specs.declared.hub.Group.{Group}
 use Rattle.hubs.specs.declared.hub.Hub.{Hub}
 use Rattle.machine.specs.Machine.{MachineState}
 use Rattle.net.specs.declared.cycle.Cycle.{Cycle}
@@ -16,21 +15,21 @@ use Rattle.totals.specs.Amounts.{IsSmall, Kind, act_of}
 use Rattle.whole_cycles.specs.Between.{IsBetween}
 use Rattle.whole_cycles.specs.WholeCycles.{WholeCycle}
 use Rattle.panel_cycles.specs.ChartAmounts.{amount_of}
-use Rattle.panel_cycles.specs.CounterStates.{IsKindOf, state_of}
-use Rattle.wired_panels.specs.Groups.{IsGroupOf}
+use Rattle.panel_cycles.specs.CounterStates.{AsksCounter, IsKindOf, state_of}
+use Rattle.wired_panels.specs.Groups.{IsCounterOf}
 use Rattle.wired_panels.specs.Panel.{IsPanel}
 use Rattle.wired_panels.specs.PanelCycles.{IsPanelCycle}
 
--- In each cycle the counter group of a total is asked what the totals of the amount do in a cycle of that kind.
+-- In each cycle the counter of a total is asked what the totals of the amount do in a cycle of that kind.
 abbrev pub GroupsAreAskedForTotals : Type 0
 GroupsAreAskedForTotals =
     (chart : Chart) (plan : Lists) (wiring : Wiring) (old : MachineState) (pictures : Point → Hub → Bool) (name : List ℕ) (level : ℕ)
-    (group : Group) (cycle : Cycle) (kind : Kind)
+    (counter : TotalCounter) (cycle : Cycle) (kind : Kind)
     → IsPanelCycle chart plan wiring old cycle pictures → NumbersRise chart.lines chart.end
-    → IsGroupOf chart.lines plan name level group → IsKindOf chart plan old name cycle kind
+    → IsCounterOf chart.lines plan name level counter → IsKindOf chart plan old name cycle kind
     → IsSmall (amount_of chart.lines plan name) kind (state_of old chart.lines plan name)
-    → Asks (act_of (amount_of chart.lines plan name) kind (state_of old chart.lines plan name) level)
-    (state_of old chart.lines plan name level).number group pictures
+    → AsksCounter (act_of (amount_of chart.lines plan name) kind (state_of old chart.lines plan name) level)
+    (state_of old chart.lines plan name level).number counter pictures
 
 -- In the cycle of a kind of body line the carriage does what the chart asks for that kind, and in other cycles what the cycle alone makes it do.
 abbrev pub CarriageDoesWhatIsAsked : Type 0

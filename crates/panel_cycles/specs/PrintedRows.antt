@@ -12,9 +12,11 @@ use Rattle.charts.specs.declared.level.Level.{Level}
 use Rattle.charts.specs.declared.statement.Field.{Field}
 use Rattle.charts.specs.declared.statement.Mark.{Mark}
 use Rattle.charts.specs.declared.statement.Statement.TheVariants as says
+use Rattle.counters.specs.Laws.{number_of_both}
 use Rattle.counters.specs.Numbers.{number}
+use Rattle.plans.specs.declared.counter.TotalCounter.{TotalCounter}
+use Rattle.plans.specs.declared.counter.TotalCounter.TheVariants as of
 use Rattle.setups.specs.Wiring.{Wiring}
-use Rattle.hubs.specs.declared.hub.Group.{Group}
 use Rattle.net.specs.Cycles.{level_number}
 use Rattle.net.specs.declared.cycle.Cycle.TheVariants.{Card, Prog, Head}
 use Rattle.net.specs.declared.cycle.ProgramLevel.{ProgramLevel}
@@ -23,7 +25,7 @@ use Rattle.net.specs.declared.cycle.Ordinal.{Ordinal}
 use Rattle.printed_lines.specs.Shown.{Printed}
 use Rattle.storage_units.specs.Storage.{holds}
 use Rattle.whole_cycles.specs.Units.{group_at, storage_at}
-use Rattle.wiring_table.specs.Parts.{group_for, unit_for}
+use Rattle.wiring_table.specs.Parts.{counter_for, panel_group, top_group, unit_for}
 use Rattle.wired_panels.specs.CycleRows.{CycleRow}
 use Rattle.wired_panels.specs.PanelCycles.{AreSetTo, IsCardRead, IsPanelCycle}
 
@@ -42,22 +44,29 @@ pub record IsCardRow (wiring : Wiring) (card : List ℕ) (opens : ℕ) (at : Cyc
   pub read : IsCardRead at.chart at.plan at.old card
   pub latches : AreSetTo at.old.indicate opens
 
--- A counter group stands at the figure of a total, with its latch as the total has it.
-pub record GroupHoldsTotal (at : CycleRow) (group : Group) (printed : Printed) : Type 0 where
-  pub figure : number (group_at at.old group).digits ≡ printed.figure
-  pub latch : (group_at at.old group).latch ≡ printed.latch
+-- the number that the digits of a counter spell: of its group, or of both
+abbrev pub figure_in : CycleRow → TotalCounter → ℕ
+figure_in at (of.Single group) = number (group_at at.old (panel_group group)).digits
+figure_in at (of.Coupled lower upper) =
+    number_of_both (group_at at.old (panel_group upper)).digits (group_at at.old (panel_group lower)).digits
 
--- A row of the third program cycle of a level: the counter groups of its totals stand at the totals by name, and the storage units of its
+-- A counter stands at the figure of a total, with the latch of its top group as the total has it.
+pub record CounterHoldsTotal (at : CycleRow) (counter : TotalCounter) (printed : Printed) : Type 0 where
+  pub figure : figure_in at counter ≡ printed.figure
+  pub latch : (group_at at.old (top_group counter)).latch ≡ printed.latch
+
+-- A row of the third program cycle of a level: the counters of its totals stand at the totals by name, and the storage units of its
 -- texts hold the columns of a card.
 pub record IsTotalRow (wiring : Wiring) (level : ProgramLevel) (held : List ℕ → Printed) (card : List ℕ) (at : CycleRow) : Type 0 where
   pub on_panel : IsPanelCycle at.chart at.plan wiring at.old at.cycle at.pictures
   pub rises : NumbersRise at.chart.lines at.chart.end
   pub cycle : at.cycle ≡ Prog level Third
   pub totals :
-      (line : Line) (its_level : Level) (wheel : ℕ) (name : List ℕ) (digits : ℕ) (mark : Option Mark) (group : Group)
+      (line : Line) (its_level : Level) (wheel : ℕ) (name : List ℕ) (digits : ℕ) (mark : Option Mark)
+      (counter : TotalCounter)
       → Contains at.chart.lines line → line.statement ≡ says.TotalAmount its_level wheel name digits mark
-      → chart_number its_level ≡ level_number level → group_for at.chart.lines at.plan line.number ≡ Some group
-      → GroupHoldsTotal at group (held name)
+      → chart_number its_level ≡ level_number level → counter_for at.chart.lines at.plan line.number ≡ Some counter
+      → CounterHoldsTotal at counter (held name)
   pub texts :
       (line : Line) (its_level : Level) (wheel : ℕ) (name : List ℕ) (field : Field) (unit j : ℕ)
       → Contains at.chart.lines line → line.statement ≡ says.TotalText its_level wheel name

@@ -3,7 +3,6 @@ use Rattle.std.proofs.Common.{ℕ, List, [], ◌∷◌}
 use Rattle.placed_lines.specs.declared.placed_line.PlacedLine.{PlacedLine}
 use Rattle.charts.specs.Chart.{Chart}
 use Rattle.decks.proofs.Running.{feeds_begin_reports}
-use Rattle.decks.specs.FitBefore.{FitBefore}
 use Rattle.decks.specs.Runner.{HasFedCards}
 use Rattle.decks.specs.Stands.{Stand}
 use Rattle.setups.specs.Wiring.{Wiring}

@@ -12,7 +12,7 @@ use Rattle.net.specs.declared.cycle.Cycle.{Cycle}
 use Rattle.net.specs.declared.cycle.Cycle.TheVariants.{RunIn, Card, Prog, Head}
 use Rattle.line_places.specs.CarriageCycles.{carriage_after}
 use Rattle.report.specs.Edits.{is_below_zero}
-use Rattle.report.specs.Totals.{GroupFits, total_of}
+use Rattle.report.specs.Totals.{total_of}
 use Rattle.selectors.specs.Indicate.{indicate_ended}
 use Rattle.whole_cycles.specs.Between.{IsReady}
 use Rattle.printed_reports.proofs.Asked.{asked_in}

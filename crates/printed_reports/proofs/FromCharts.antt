@@ -1,5 +1,5 @@
 -- What the rules of a chart say of its amounts, and what the totals hold before the first card.
-use Rattle.std.proofs.Common.{◌≡◌, ◌∙◌, refl, sym, ap, subst, ℕ, zero, suc, ◌-◌, ◌<◌, ◌^◌, true, false, List, [], ◌∷◌, Option, Some, None, map, replicate, slice_index_or, is_some, arith, unsigned_abs}
+use Rattle.std.proofs.Common.{◌≡◌, ◌∙◌, refl, sym, ap, subst, ℕ, zero, suc, ◌-◌, ◌<◌, ◌^◌, true, false, List, [], ◌∷◌, Option, Some, None, map, replicate, slice_index_or, is_some, arith, unsigned_abs, ◌+◌, ◌*◌}
 use Rattle.wanted.specs.ChartTotals.{names_signed}
 use Rattle.plans.specs.Plans.{Lists}
 use Rattle.field_rules.proofs.Places.{is_same_name-equal}
@@ -13,9 +13,11 @@ use Rattle.charts.specs.declared.statement.FieldKind.TheVariants as holds
 use Rattle.counters.specs.Counters.{Counter, counter_at_start}
 use Rattle.counters.specs.Numbers.{number}
 use Rattle.setups.specs.Wiring.{Wiring}
-use Rattle.hubs.specs.declared.hub.Group.{Group}
+use Rattle.plans.specs.declared.counter.TotalCounter.{TotalCounter}
+use Rattle.plans.specs.declared.counter.TotalCounter.TheVariants as of
+use Rattle.wiring_table.specs.Parts.{panel_group}
 use Rattle.panel_cycles.proofs.AmountFacts.{digits_are, has_from}
-use Rattle.panel_cycles.specs.ChartAmounts.{amount_of, total_group}
+use Rattle.panel_cycles.specs.ChartAmounts.{amount_of, total_counter}
 use Rattle.panel_cycles.specs.CounterStates.{held_in}
 use Rattle.machine.specs.Machine.{group_units, machine_at_start}
 use Rattle.net.specs.Panel.{unit_of}
@@ -64,8 +66,15 @@ start_number (unit ∷ units) (suc place) = start_number units place
 -- before the first card all totals are zero
 pub start_zero : (chart : Chart) (plan : Lists) (wiring : Wiring) (name : List ℕ) (level : ℕ)
     → (held chart plan (machine_at_start wiring) name level).number ≡ 0
-start_zero chart plan wiring name level = by (total_group chart.lines plan name level)
+start_zero chart plan wiring name level = by (total_counter chart.lines plan name level)
   where
-    by : (o : Option Group) → (held_in (machine_at_start wiring) o).number ≡ 0
+    by : (o : Option TotalCounter) → (held_in (machine_at_start wiring) o).number ≡ 0
     by None = refl
-    by (Some group) = start_number group_units (unit_of group - 3)
+    by (Some (of.Single group)) = start_number group_units (unit_of (panel_group group) - 3)
+    by (Some (of.Coupled lower upper)) =
+        let above = start_number group_units (unit_of (panel_group upper) - 3) in
+        let below = start_number group_units (unit_of (panel_group lower) - 3) in
+        (λ i. above i * 10 ^ lower.width + below i) ∙ nothing (10 ^ lower.width)
+      where
+        nothing : (power : ℕ) → 0 * power + 0 ≡ 0
+        nothing power = omega arith

@@ -1,5 +1,5 @@
 -- What a cycle leaves of the totals of an amount: each holds what its act makes of what it held.
-use Rattle.std.proofs.Common.{◌≡◌, ◌∙◌, refl, sym, ap, subst, ℕ, ◌≤◌, Bool, true, false, List, [], Contains, Option, Some, None, is_some, option_and_then, if◌then◌else◌, arith}
+use Rattle.std.proofs.Common.{◌≡◌, ◌∙◌, refl, sym, ap, subst, ℕ, ◌≤◌, Bool, true, false, List, Contains, Option, Some, None, is_some, option_and_then, if◌then◌else◌, arith, ◌+◌, ◌*◌, ◌^◌, length, inl, inr}
 use Rattle.std.proofs.lemmas.List.Elements.{All-contains}
 use Rattle.counter_cycles.proofs.ActLemmas.{acts-done}
 use Rattle.counter_cycles.specs.Acts.{Act, Asks, Held, IsWithinGroup, held_after, held_by}
@@ -11,25 +11,37 @@ use Rattle.charts.specs.declared.chart.Line.{Line}
 use Rattle.charts.specs.declared.level.Level.{Level as ChartLevel}
 use Rattle.charts.specs.declared.level.Level.TheVariants as chart_level
 use Rattle.charts.specs.declared.statement.Field.{Field}
-use Rattle.counters.specs.Counters.{Counter}
+use Rattle.counters.specs.Counters.{Counter, wheels_in}
 use Rattle.counters.specs.Numbers.{number}
-use Rattle.counters.specs.Rings.{IsFedAlone}
-use Rattle.counters.specs.WholeCycles.{ComesRound, after_cycle}
+use Rattle.counters.specs.Rings.{CarryThrough, IsFedAlone}
+use Rattle.counters.specs.WholeCycles.{ComesRound, after_cycle, after_its_points}
 use Rattle.setups.specs.Wiring.{LeadsToEntries, Wiring, is_wired}
 use Rattle.hubs.specs.declared.hub.Group.{Group}
 use Rattle.hubs.specs.declared.hub.Hub.TheVariants.{CO, CI}
-use Rattle.panel_cycles.proofs.AmountFacts.{group_is, has_from}
+use Rattle.panel_cycles.proofs.AmountFacts.{counter_at, has_from}
+use Rattle.panel_cycles.proofs.Counters.{held_at}
 use Rattle.panel_cycles.proofs.CounterAsks.{asks_card, asks_heading, asks_run_in, asks_step}
 use Rattle.panel_cycles.proofs.AmountsLawful.{lawful_amount}
-use Rattle.panel_cycles.proofs.Rings.{ring_is}
+use Rattle.panel_cycles.proofs.Rings.{fed_lower, fed_single, fed_upper, goes_through, ring_pair, ring_single}
 use Rattle.panel_cycles.proofs.WheelRowsUnits.{group-own}
-use Rattle.wired_panels.proofs.Ways.{fed_alone, leads}
+use Rattle.wired_panels.proofs.Ways.{leads}
 use Rattle.wired_panels.proofs.CounterUnits.{at_unit, counter_there, planned_unit}
 use Rattle.wired_panels.proofs.AfterCycles.{cycle-of}
-use Rattle.wired_panels.specs.Groups.{IsGroupOf}
-use Rattle.panel_cycles.specs.ChartAmounts.{amount_of, positions_of, total_group, total_line}
-use Rattle.panel_cycles.specs.CounterStates.{held_in}
-use Rattle.wiring_table.proofs.Groups.{group-given}
+use Rattle.panel_cycles.specs.ChartAmounts.{amount_of, positions_of, total_counter, total_line}
+use Rattle.panel_cycles.specs.CounterStates.{AsksCounter, held_in, number_at}
+use Rattle.wired_panels.proofs.Contacts.{is_set}
+use Rattle.wired_panels.specs.Groups.{IsCounterOf}
+use Rattle.wanted.specs.ChartTotals.{names_signed}
+use Rattle.field_rules.specs.Fields.{field_named}
+use Rattle.plans.specs.declared.counter.TotalCounter.{TotalCounter}
+use Rattle.plans.specs.declared.counter.TotalCounter.TheVariants as of
+use Rattle.counter_cycles.proofs.PairLemmas.{pairs-done}
+use Rattle.counter_cycles.specs.Pairs.{AsksBoth, held_by_both}
+use Rattle.counters.specs.Laws.{IsCounter, number_of_both}
+use Rattle.net.specs.declared.cycle.Point.{Point}
+use Rattle.net.specs.declared.cycle.Point.TheVariants.{K}
+use Rattle.hubs.specs.declared.hub.Hub.{Hub}
+use Rattle.wiring_table.proofs.Groups.{counter-given}
 use Rattle.charts.proofs.Listed.{listed-map}
 use Rattle.wired_panels.specs.Panel.{IsPanel}
 use Rattle.machine.specs.Cycles.{CycleRun}
@@ -45,18 +57,18 @@ use Rattle.whole_cycles.specs.Between.{IsBetween, IsIdle, IsReady}
 use Rattle.whole_cycles.specs.Units.{group_at}
 use Rattle.whole_cycles.specs.WholeCycles.{WholeCycle}
 use Rattle.wiring_table.specs.Figures.{IsAmount}
-use Rattle.wiring_table.specs.Parts.{group_for}
+use Rattle.wiring_table.specs.Parts.{counter_for, panel_group}
 use Rattle.printed_reports.specs.Content.{held, kind_for}
 use Rattle.printed_reports.proofs.Facts.{IsRead}
 use Rattle.printed_reports.proofs.FromCycles.{whole}
 
 -- what the counter of a name holds is held in the machine for its group
 pub held_there : (machine : MachineState) (counter : Counter) (group : Group) → IsBetween machine → Contains machine.groups counter
-    → counter.name ≡ group → held_in machine (Some group) ≡ held_by counter
+    → counter.name ≡ group → held_at machine group ≡ held_by counter
 held_there machine counter group between listed named =
     let digits = at_unit (λ (c : Counter). number c.digits) 0 machine.groups counter between.ordered listed in
     let latch = at_unit (λ (c : Counter). c.latch) false machine.groups counter between.ordered listed in
-    ap (λ (g : Group). held_in machine (Some g)) (sym named)
+    ap (held_at machine) (sym named)
     ∙ (λ i. record { number = digits i; latch = latch i })
 
 -- one group through a cycle
@@ -64,15 +76,16 @@ group_done :
     (wiring : Wiring) (cycle : Cycle) (old new : MachineState) (group : Group) (act : Act) (signed : Bool)
     → IsReady wiring old → IsReady wiring new → (all : WholeCycle wiring cycle old new) → 3 ≤ unit_of group
     → is_wired wiring (CO group) (CI group) ≡ signed → IsWithinGroup group.width act
-    → Asks act (held_in old (Some group)).number group all.pictures
-    → LeadsToEntries wiring → ((name : Group) → IsFedAlone wiring name name)
-    → held_in new (Some group) ≡ held_after signed group.width act (held_in old (Some group))
+    → Asks act (held_at old group).number group all.pictures
+    → LeadsToEntries wiring → IsFedAlone wiring group group
+    → held_at new group ≡ held_after signed group.width act (held_at old group)
 group_done wiring cycle old new group act signed is is_new all there ring fits asks leading fed =
     let (counter, listed, named) = counter_there old.groups group is.between.ordered there in
     let idle = All-contains IsIdle old.groups counter is.between.groups listed in
     let by_wire : ComesRound (is_wired wiring (CO counter.name) (CI counter.name)) (group_at old counter.name) cycle all.pictures
     = carries-come.single wiring cycle old new counter.name all is.between leading
-    (record { width = idle.lawful.width; number = idle.lawful.named }) (fed counter.name) in
+    (record { width = idle.lawful.width; number = idle.lawful.named })
+    (subst (λ (g : Group). IsFedAlone wiring g g) (sym named) fed) in
     let round : ComesRound signed counter cycle all.pictures
     = subst (λ (b : Bool). ComesRound b counter cycle all.pictures) (ap (λ (g : Group). is_wired wiring (CO g) (CI g)) named ∙ ring)
     (subst (λ (c : Counter). ComesRound (is_wired wiring (CO counter.name) (CI counter.name)) c cycle all.pictures)
@@ -91,6 +104,76 @@ group_done wiring cycle old new group act signed is is_new all there ring fits a
     ∙ ap (λ (g : Group). held_after signed g.width act (held_by counter)) named
     ∙ ap (λ (h : Held). held_after signed group.width act h) (sym holds)
 
+-- what two groups of a machine hold as one
+abbrev pub held_pair : MachineState → (upper lower : Group) → Held
+held_pair machine upper lower =
+    record { number = number_at machine.groups upper * 10 ^ lower.width + number_at machine.groups lower; latch = is_set machine upper }
+
+pub pair_there : (machine : MachineState) (upper lower : Counter) → IsBetween machine → Contains machine.groups upper
+    → Contains machine.groups lower → IsCounter lower → held_pair machine upper.name lower.name ≡ held_by_both upper lower
+pair_there machine upper lower between listed and_listed lawful =
+    let above = at_unit (λ (c : Counter). number c.digits) 0 machine.groups upper between.ordered listed in
+    let below = at_unit (λ (c : Counter). number c.digits) 0 machine.groups lower between.ordered and_listed in
+    let latch = at_unit (λ (c : Counter). c.latch) false machine.groups upper between.ordered listed in
+    let width : lower.name.width ≡ length lower.digits = sym lawful.positions in
+    (λ i. record { number = above i * 10 ^ width i + below i; latch = latch i })
+
+-- two groups through a cycle, by what is asked of both
+abbrev PairDoes : (wiring : Wiring) (old new : MachineState) → (Point → Hub → Bool) → Act → Bool → (upper lower : Group) → Type 0
+PairDoes wiring old new pictures act signed upper lower =
+    is_wired wiring (CO lower) (CI upper) ≡ true → is_wired wiring (CO upper) (CI lower) ≡ signed
+    → IsFedAlone wiring lower upper → IsFedAlone wiring upper lower → IsWithinGroup (upper.width + lower.width) act
+    → AsksBoth act (held_pair old upper lower).number upper lower pictures
+    → held_pair new upper lower ≡ held_after signed (upper.width + lower.width) act (held_pair old upper lower)
+
+counters_done :
+    (wiring : Wiring) (cycle : Cycle) (old new : MachineState) (upper lower : Counter) (act : Act) (signed : Bool)
+    → IsReady wiring old → IsReady wiring new → (all : WholeCycle wiring cycle old new) → Contains old.groups upper
+    → Contains old.groups lower → LeadsToEntries wiring → PairDoes wiring old new all.pictures act signed upper.name lower.name
+counters_done wiring cycle old new upper lower act signed is is_new all listed and_listed leading up ring fed and_fed fits asks =
+    let idle = All-contains IsIdle old.groups upper is.between.groups listed in
+    let and_idle = All-contains IsIdle old.groups lower is.between.groups and_listed in
+    let by_wire = carries-come.pair wiring cycle old new upper.name lower.name all is.between leading
+    (record { width = idle.lawful.width; number = idle.lawful.named })
+    (record { width = and_idle.lawful.width; number = and_idle.lawful.named }) fed and_fed up in
+    let through : CarryThrough signed (all.pictures K) upper.name lower.name (wheels_in (after_its_points cycle all.pictures upper))
+    (wheels_in (after_its_points cycle all.pictures lower))
+    = subst (λ (b : Bool). CarryThrough b (all.pictures K) upper.name lower.name (wheels_in (after_its_points cycle all.pictures upper))
+    (wheels_in (after_its_points cycle all.pictures lower))) ring
+    (subst (λ (c : Counter). CarryThrough (is_wired wiring (CO upper.name) (CI lower.name)) (all.pictures K) upper.name lower.name
+    (wheels_in (after_its_points cycle all.pictures upper)) (wheels_in (after_its_points cycle all.pictures c)))
+    (sym (group-own old is.between lower and_listed))
+    (subst (λ (c : Counter). CarryThrough (is_wired wiring (CO upper.name) (CI lower.name)) (all.pictures K) upper.name lower.name
+    (wheels_in (after_its_points cycle all.pictures c)) (wheels_in (after_its_points cycle all.pictures (group_at old lower.name))))
+    (sym (group-own old is.between upper listed)) by_wire)) in
+    let holds = pair_there old upper lower is.between listed and_listed and_idle.lawful in
+    let asked : AsksBoth act (number_of_both upper.digits lower.digits) upper.name lower.name all.pictures
+    = subst (λ (h : Held). AsksBoth act h.number upper.name lower.name all.pictures) holds asks in
+    let done = pairs-done signed act upper lower cycle all.pictures (record { is_counter = idle.lawful; entered = idle.entered })
+    (record { is_counter = and_idle.lawful; entered = and_idle.entered }) fits asked through in
+    let listed_new : Contains new.groups (after_cycle cycle all.pictures upper)
+    = subst (λ (gs : List Counter). Contains gs (after_cycle cycle all.pictures upper)) (sym all.groups)
+    (listed-map (after_cycle cycle all.pictures) old.groups upper listed) in
+    let and_listed_new : Contains new.groups (after_cycle cycle all.pictures lower)
+    = subst (λ (gs : List Counter). Contains gs (after_cycle cycle all.pictures lower)) (sym all.groups)
+    (listed-map (after_cycle cycle all.pictures) old.groups lower and_listed) in
+    (λ i. held_pair new (sym done.upper_name i) (sym done.lower_name i))
+    ∙ pair_there new (after_cycle cycle all.pictures upper) (after_cycle cycle all.pictures lower) is_new.between listed_new and_listed_new
+    done.lower_ready.is_counter
+    ∙ done.held
+    ∙ ap (λ (h : Held). held_after signed (upper.name.width + lower.name.width) act h) (sym holds)
+
+pair_done :
+    (wiring : Wiring) (cycle : Cycle) (old new : MachineState) (upper lower : Group) (act : Act) (signed : Bool)
+    → IsReady wiring old → IsReady wiring new → (all : WholeCycle wiring cycle old new) → 3 ≤ unit_of upper → 3 ≤ unit_of lower
+    → LeadsToEntries wiring → PairDoes wiring old new all.pictures act signed upper lower
+pair_done wiring cycle old new upper lower act signed is is_new all there and_there leading =
+    let (above, listed, named) = counter_there old.groups upper is.between.ordered there in
+    let (below, and_listed, and_named) = counter_there old.groups lower is.between.ordered and_there in
+    subst (λ (g : Group). PairDoes wiring old new all.pictures act signed g lower) named
+    (subst (λ (g : Group). PairDoes wiring old new all.pictures act signed above.name g) and_named
+    (counters_done wiring cycle old new above below act signed is is_new all listed and_listed leading))
+
 -- levels are numbered from 1
 some_level : (its : ChartLevel) → 1 ≤ level_number its
 some_level chart_level.Minor = omega arith
@@ -98,51 +181,73 @@ some_level other = omega arith
 
 module _ (chart : Chart) (plan : Lists) (wiring : Wiring) (panel : IsPanel chart plan wiring) (rise : NumbersRise chart.lines chart.end)
   where
-    -- what is asked of the group of a total
-    asked_of_group :
-        (cycle : Cycle) (card : List ℕ) (old new : MachineState) (name : List ℕ) (field : Field) (level : ℕ) (group : Group)
+    -- what is asked of the counter of a total
+    asked_of_counter :
+        (cycle : Cycle) (card : List ℕ) (old new : MachineState) (name : List ℕ) (field : Field) (level : ℕ) (counter : TotalCounter)
         → IsReady wiring old → (all : WholeCycle wiring cycle old new) → IsRead chart plan cycle card old → IsAmount chart.lines name field
         → IsSmall (amount_of chart.lines plan name) (kind_for cycle card field) (held chart plan old name)
-        → IsGroupOf chart.lines plan name level group
-        → Asks (act_of (amount_of chart.lines plan name) (kind_for cycle card field) (held chart plan old name) level)
-        (held chart plan old name level).number group all.pictures
-    asked_of_group RunIn card old new name field level group is all read amount small own =
-        asks_run_in chart plan wiring rise old all.pictures name level group own (cycle-of chart plan wiring RunIn old new panel is.between all)
-    asked_of_group Card card old new name field level group is all read amount small own =
-        asks_card chart plan wiring rise old all.pictures name level group own (cycle-of chart plan wiring Card old new panel is.between all) card read field amount
-    asked_of_group (Prog l ordinal) card old new name field level group is all read amount small own =
-        asks_step chart plan wiring rise old all.pictures name level group own l ordinal (cycle-of chart plan wiring (Prog l ordinal) old new panel is.between all) small
-    asked_of_group (Head heading) card old new name field level group is all read amount small own =
-        asks_heading chart plan wiring rise old all.pictures name level group own heading (cycle-of chart plan wiring (Head heading) old new panel is.between all)
+        → IsCounterOf chart.lines plan name level counter
+        → AsksCounter (act_of (amount_of chart.lines plan name) (kind_for cycle card field) (held chart plan old name) level)
+        (held chart plan old name level).number counter all.pictures
+    asked_of_counter RunIn card old new name field level counter is all read amount small own =
+        asks_run_in chart plan wiring rise old all.pictures name level counter own (cycle-of chart plan wiring RunIn old new panel is.between all)
+    asked_of_counter Card card old new name field level counter is all read amount small own =
+        asks_card chart plan wiring rise old all.pictures name level counter own (cycle-of chart plan wiring Card old new panel is.between all) card read field amount
+    asked_of_counter (Prog l ordinal) card old new name field level counter is all read amount small own =
+        asks_step chart plan wiring rise old all.pictures name level counter own l ordinal (cycle-of chart plan wiring (Prog l ordinal) old new panel is.between all) small
+    asked_of_counter (Head heading) card old new name field level counter is all read amount small own =
+        asks_heading chart plan wiring rise old all.pictures name level counter own heading (cycle-of chart plan wiring (Head heading) old new panel is.between all)
+
+    -- a counter through a cycle
+    counter_done :
+        (cycle : Cycle) (old new : MachineState) (name : List ℕ) (level : ℕ) (counter : TotalCounter) (act : Act)
+        → IsReady wiring old → IsReady wiring new → (all : WholeCycle wiring cycle old new)
+        → (own : IsCounterOf chart.lines plan name level counter) → IsWithinGroup (positions_of (Some counter)) act
+        → AsksCounter act (held_in old (Some counter)).number counter all.pictures
+        → held_in new (Some counter)
+        ≡ held_after (names_signed (field_named chart.lines name)) (positions_of (Some counter)) act (held_in old (Some counter))
+    counter_done cycle old new name level (of.Single group) act is is_new all own fits asks =
+        let there = planned_unit chart.lines plan own.number (panel_group group) panel.planned
+        (record { counter = of.Single group; there = own.served; has = refl }) in
+        group_done wiring cycle old new (panel_group group) act (names_signed (field_named chart.lines name)) is is_new all there
+        (ring_single chart plan wiring panel rise group own) fits asks (leads chart plan wiring panel)
+        (fed_single chart plan wiring panel rise group own)
+    counter_done cycle old new name level (of.Coupled lower upper) act is is_new all own fits asks =
+        let there = planned_unit chart.lines plan own.number (panel_group upper) panel.planned
+        (record { counter = of.Coupled lower upper; there = own.served; has = inr refl }) in
+        let and_there = planned_unit chart.lines plan own.number (panel_group lower) panel.planned
+        (record { counter = of.Coupled lower upper; there = own.served; has = inl refl }) in
+        pair_done wiring cycle old new (panel_group upper) (panel_group lower) act (names_signed (field_named chart.lines name)) is is_new all
+        there and_there (leads chart plan wiring panel) (goes_through chart plan wiring panel rise lower upper own)
+        (ring_pair chart plan wiring panel rise lower upper own) (fed_upper chart plan wiring panel rise lower upper own)
+        (fed_lower chart plan wiring panel rise lower upper own) fits asks
 
     -- a level with a total
     with_total :
-        (cycle : Cycle) (card : List ℕ) (old new : MachineState) (name : List ℕ) (field : Field) (level : ℕ) (group : Group)
+        (cycle : Cycle) (card : List ℕ) (old new : MachineState) (name : List ℕ) (field : Field) (level : ℕ) (counter : TotalCounter)
         → IsReady wiring old → IsReady wiring new → (all : WholeCycle wiring cycle old new) → IsRead chart plan cycle card old
         → IsAmount chart.lines name field
         → IsSmall (amount_of chart.lines plan name) (kind_for cycle card field) (held chart plan old name)
-        → IsGroupOf chart.lines plan name level group
+        → IsCounterOf chart.lines plan name level counter
         → held chart plan new name level
         ≡ state_after (amount_of chart.lines plan name) (kind_for cycle card field) (held chart plan old name) level
-    with_total cycle card old new name field level group is is_new all read amount small own =
+    with_total cycle card old new name field level counter is is_new all read amount small own =
         let its = amount_of chart.lines plan name in
         let act = act_of its (kind_for cycle card field) (held chart plan old name) level in
-        let is_group = group_is chart plan name level group panel.lawful own in
-        let width : its.width level ≡ group.width = ap positions_of is_group in
+        let is_counter : total_counter chart.lines plan name level ≡ Some counter =
+        counter_at chart plan name level own.number panel.lawful own.total ∙ own.served in
+        let width : its.width level ≡ positions_of (Some counter) = ap positions_of is_counter in
         let room = have_room its (kind_for cycle card field) (held chart plan old name) (lawful_amount chart plan name panel.lawful rise panel.planned)
         small level (from_one own) in
-        let fits : IsWithinGroup group.width act = subst (λ w. IsWithinGroup w act) width room in
-        let asks = asked_of_group cycle card old new name field level group is all read amount small own in
-        let asked : Asks act (held_in old (Some group)).number group all.pictures
-        = subst (λ (h : Held). Asks act h.number group all.pictures) (ap (held_in old) is_group) asks in
-        ap (held_in new) is_group
-        ∙ group_done wiring cycle old new group act its.is_signed is is_new all
-        (planned_unit chart.lines plan own.number group panel.planned own.served)
-        (ring_is chart plan wiring name level group panel rise own) fits asked (leads chart plan wiring panel)
-        (fed_alone chart plan wiring panel)
-        ∙ (λ i. held_after its.is_signed (sym width i) act (held_in old (sym is_group i)))
+        let fits : IsWithinGroup (positions_of (Some counter)) act = subst (λ w. IsWithinGroup w act) width room in
+        let asks = asked_of_counter cycle card old new name field level counter is all read amount small own in
+        let asked : AsksCounter act (held_in old (Some counter)).number counter all.pictures
+        = subst (λ (h : Held). AsksCounter act h.number counter all.pictures) (ap (held_in old) is_counter) asks in
+        ap (held_in new) is_counter
+        ∙ counter_done cycle old new name level counter act is is_new all own fits asked
+        ∙ (λ i. held_after its.is_signed (sym width i) act (held_in old (sym is_counter i)))
       where
-        from_one : IsGroupOf chart.lines plan name level group → 1 ≤ level
+        from_one : IsCounterOf chart.lines plan name level counter → 1 ≤ level
         from_one o = subst (λ n. 1 ≤ n) o.total.same_level (some_level o.total.its_level)
 
     -- the totals of an amount after a cycle
@@ -161,17 +266,17 @@ module _ (chart : Chart) (plan : Lists) (wiring : Wiring) (panel : IsPanel chart
             by : (o : Option Line) → total_line chart.lines name level ≡ o → held chart plan new name level
                 ≡ state_after (amount_of chart.lines plan name) (kind_for cycle card field) (held chart plan old name) level
             by None none =
-                let no_group : total_group chart.lines plan name level ≡ None
-                = ap (option_and_then (λ (line : Line). group_for chart.lines plan line.number)) none in
+                let no_counter : total_counter chart.lines plan name level ≡ None
+                = ap (option_and_then (λ (line : Line). counter_for chart.lines plan line.number)) none in
                 let still : act_of (amount_of chart.lines plan name) (kind_for cycle card field) (held chart plan old name) level ≡ Still
                 = ap (λ (o : Option Line). if is_some o then total_act (amount_of chart.lines plan name) (kind_for cycle card field) (held chart plan old name) level else Still) none in
-                ap (held_in new) no_group
+                ap (held_in new) no_counter
                 ∙ (λ i. held_after (amount_of chart.lines plan name).is_signed ((amount_of chart.lines plan name).width level)
-                (sym still i) (held_in old (sym no_group i)))
+                (sym still i) (held_in old (sym no_counter i)))
             by (Some line) some =
                 let has : (amount_of chart.lines plan name).has level ≡ true = ap is_some some in
                 let (number, total) = has_from chart.lines plan name level has in
-                let (group, served) = group-given chart plan name level number panel.lawful panel.planned total in
-                with_total cycle card old new name field level group is (machines-ready.kept wiring cycle old new is run)
+                let (counter, served) = counter-given chart.lines plan name level number panel.planned total in
+                with_total cycle card old new name field level counter is (machines-ready.kept wiring cycle old new is run)
                 (whole wiring cycle old new is run) read amount small
                 (record { number = number; total = total; served = served })

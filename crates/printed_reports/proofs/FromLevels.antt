@@ -1,8 +1,11 @@
 -- The third program cycle of a level, put together: what the groups and units hold, and the line that they print.
-use Rattle.std.proofs.Common.{◌≡◌, ◌∙◌, refl, sym, ap, subst, ℕ, ◌+◌, ◌≤◌, ◌<◌, ◌^◌, ◌==◌, nat_lt, Bool, true, false, List, Contains, Option, Some, None, length, is_some, arith, unsigned_abs}
+use Rattle.std.proofs.Common.{◌≡◌, ◌∙◌, refl, sym, ap, subst, ℕ, ◌+◌, ◌≤◌, ◌<◌, ◌^◌, ◌==◌, nat_lt, Bool, true, false, List, Contains, Option, Some, None, length, is_some, arith, unsigned_abs, inl, inr}
 use Rattle.std.proofs.lemmas.Bool.Decides.{nat_tests}
 use Rattle.wanted.specs.ChartTotals.{names_signed}
+use Rattle.counters.specs.Laws.{IsCounter}
 use Rattle.plans.specs.Plans.{Lists}
+use Rattle.plans.specs.declared.counter.TotalCounter.{TotalCounter}
+use Rattle.plans.specs.declared.counter.TotalCounter.TheVariants as of
 use Rattle.card_code.specs.declared.row.Row.{Row as CardRow}
 use Rattle.field_rules.specs.Fields.{field_named, fields_of}
 use Rattle.print_rules.specs.Marks.{breaks_mark_mismatch, is_mismatched, is_mismatched_kind}
@@ -26,17 +29,18 @@ use Rattle.charts.specs.declared.statement.Statement.TheVariants as says
 use Rattle.decks.specs.Alike.{AlikeWith}
 use Rattle.setups.specs.Wiring.{Wiring}
 use Rattle.hubs.specs.declared.hub.Group.{Group}
-use Rattle.panel_cycles.proofs.AmountFacts.{digits_are, group_is, has_it, total_field}
+use Rattle.panel_cycles.proofs.AmountFacts.{digits_are, has_it, total_field}
+use Rattle.panel_cycles.proofs.Counters.{counter_held}
+use Rattle.panel_cycles.specs.CounterStates.{held_in}
+use Rattle.wired_panels.specs.Groups.{IsCounterOf}
 use Rattle.panel_cycles.proofs.JacksAndTape.{wheel_jacks-are}
 use Rattle.plans.proofs.Numbers.{number-stands}
 use Rattle.field_rules.proofs.Places.{is_same_name-own}
 use Rattle.chart_rules.proofs.Laws.{kept-line}
-use Rattle.wired_panels.proofs.ToCounters.{IsLine, with_group}
+use Rattle.wired_panels.proofs.ToCounters.{IsLine, on_line}
 use Rattle.panel_cycles.proofs.WheelRowsLaws.{wheels-totals}
-use Rattle.panel_cycles.proofs.WheelRowsUnits.{group-listed, group-named, unit-listed, unit-place}
-use Rattle.wired_panels.specs.Groups.{IsGroupOf}
+use Rattle.panel_cycles.proofs.WheelRowsUnits.{counter-is, group-listed, group-named, unit-listed, unit-place}
 use Rattle.panel_cycles.specs.ChartAmounts.{amount_of}
-use Rattle.panel_cycles.specs.CounterStates.{held_in}
 use Rattle.wired_panels.specs.Panel.{IsPanel}
 use Rattle.wired_panels.specs.PanelCycles.{UnitsHold}
 use Rattle.panel_cycles.specs.PrintedRows as rows
@@ -54,17 +58,16 @@ use Rattle.printed_lines.specs.Held.{HoldsLine}
 use Rattle.printed_lines.specs.Shown.{Printed, sent_to_total, set_on}
 use Rattle.report.specs.BodyLines.{total_line}
 use Rattle.report.specs.Breaks.{taking}
-use Rattle.report.specs.Edits as edit
 use Rattle.report.specs.Totals.{total_of}
 use Rattle.whole_cycles.proofs.Units.{units-by_name}
 use Rattle.whole_cycles.specs.Between.{IsReady}
 use Rattle.whole_cycles.specs.Units.{group_at, storage_at}
 use Rattle.whole_cycles.specs.WholeCycles.{WholeCycle}
 use Rattle.wiring_table.specs.Figures.{IsAmount, IsText}
-use Rattle.wiring_table.specs.Parts.{HasTotal, group_for, unit_for}
+use Rattle.wiring_table.specs.Parts.{HasTotal, ServesTotal, counter_for, panel_group, unit_for}
 use Rattle.printed_reports.specs.Content.{held}
 use Rattle.printed_reports.proofs.Facts.{ShowsTotal}
-use Rattle.printed_reports.proofs.FromCounters.{held_there}
+use Rattle.printed_reports.proofs.FromCounters.{held_pair, held_there, pair_there}
 use Rattle.printed_reports.proofs.FromCycles.{whole}
 use Rattle.printed_reports.proofs.FromTotals.{controlled, first_same}
 use Rattle.printed_reports.proofs.FromWheels.{on_panel, row_of}
@@ -93,31 +96,56 @@ module _ (chart : Chart) (plan : Lists) (wiring : Wiring) (panel : IsPanel chart
       → IsLine chart.lines line.number (says.TotalAmount its wheel name digits mark)
   line_is line its wheel name digits mark there is = record { line = line; listed = there; numbered = refl; says_it = is }
 
-  -- the group on the line of a total is that of the amount's total
-  own_group : (line : Line) (its : Level) (wheel : ℕ) (name : List ℕ) (digits : ℕ) (mark : Option Mark) (group : Group) (level : ℕ)
+  -- the counter on the line of a total is that of the amount's total
+  own_counter : (line : Line) (its : Level) (wheel : ℕ) (name : List ℕ) (digits : ℕ) (mark : Option Mark) (counter : TotalCounter) (level : ℕ)
       → Contains chart.lines line → line.statement ≡ says.TotalAmount its wheel name digits mark → levels.level_number its ≡ level
-      → group_for chart.lines plan line.number ≡ Some group → IsGroupOf chart.lines plan name level group
-  own_group line its wheel name digits mark group level there is same served =
-      subst (λ n. IsGroupOf chart.lines plan name n group) same
-      (with_group chart.lines plan its wheel name digits mark line.number group (line_is line its wheel name digits mark there is) served)
+      → counter_for chart.lines plan line.number ≡ Some counter → IsCounterOf chart.lines plan name level counter
+  own_counter line its wheel name digits mark counter level there is same served =
+      subst (λ n. IsCounterOf chart.lines plan name n counter) same
+      (record {
+        number = line.number;
+        total = on_line chart.lines plan its wheel name digits mark line.number (line_is line its wheel name digits mark there is);
+        served = served;
+      })
 
   module _ (old new : MachineState) (level : ProgramLevel) (card : List ℕ) (so_far : ℕ → List (List ℕ)) (is : IsReady wiring old)
       (all : WholeCycle wiring (Prog level Third) old new) (row : CardRow) where
-    -- what the groups hold
-    groups_hold :
-        (line : Line) (its : Level) (wheel : ℕ) (name : List ℕ) (digits : ℕ) (mark : Option Mark) (group : Group)
+    -- a group of a total stands among the groups of the machine
+    group_there : (number : ℕ) (group : Group) → ServesTotal chart.lines plan number group
+        → Contains old.groups (group_at old group) × ((group_at old group).name ≡ group) × IsCounter (group_at old group)
+    group_there number group serves =
+        let is_group = group-named chart.lines plan number group panel.planned serves in
+        (group-listed old is.between group is_group, (units-by_name.groups old group is.between is_group).named, counter-is old is.between group is_group)
+
+    -- what the counters hold
+    counters_hold :
+        (line : Line) (its : Level) (wheel : ℕ) (name : List ℕ) (digits : ℕ) (mark : Option Mark) (counter : TotalCounter)
         → Contains chart.lines line → line.statement ≡ says.TotalAmount its wheel name digits mark
-        → levels.level_number its ≡ level_number level → group_for chart.lines plan line.number ≡ Some group
-        → rows.GroupHoldsTotal (row_of chart plan wiring panel rise literals (Prog level Third) old new all row) group
+        → levels.level_number its ≡ level_number level → counter_for chart.lines plan line.number ≡ Some counter
+        → rows.CounterHoldsTotal (row_of chart plan wiring panel rise literals (Prog level Third) old new all row) counter
         (printed_held chart plan old (level_number level) name)
-    groups_hold line its wheel name digits mark group there says same served =
-        let own = own_group line its wheel name digits mark group (level_number level) there says same served in
-        let is_group = group-named chart.lines plan line.number group panel.planned served in
-        let listed = group-listed old is.between group is_group in
-        let named = (units-by_name.groups old group is.between is_group).named in
-        let holds = ap (held_in old) (group_is chart plan name (level_number level) group panel.lawful own)
-        ∙ held_there old (group_at old group) group is.between listed named in
-        record { figure = sym (ap (λ h. h.number) holds); latch = sym (ap (λ h. h.latch) holds) }
+    counters_hold line its wheel name digits mark counter there says same served =
+        by counter served
+        (counter_held old chart plan name (level_number level) counter panel.lawful
+        (own_counter line its wheel name digits mark counter (level_number level) there says same served))
+      where
+        by : (counter : TotalCounter) → counter_for chart.lines plan line.number ≡ Some counter
+            → held chart plan old name (level_number level) ≡ held_in old (Some counter)
+            → rows.CounterHoldsTotal (row_of chart plan wiring panel rise literals (Prog level Third) old new all row) counter
+            (printed_held chart plan old (level_number level) name)
+        by (of.Single group) served state =
+            let (listed, named, lawful) = group_there line.number (panel_group group)
+            (record { counter = of.Single group; there = served; has = refl }) in
+            let holds = state ∙ held_there old (group_at old (panel_group group)) (panel_group group) is.between listed named in
+            record { figure = sym (ap (λ h. h.number) holds); latch = sym (ap (λ h. h.latch) holds) }
+        by (of.Coupled lower upper) served state =
+            let (listed, named, lawful) = group_there line.number (panel_group upper)
+            (record { counter = of.Coupled lower upper; there = served; has = inr refl }) in
+            let (and_listed, and_named, and_lawful) = group_there line.number (panel_group lower)
+            (record { counter = of.Coupled lower upper; there = served; has = inl refl }) in
+            let holds = state ∙ (λ i. held_pair old (sym named i) (sym and_named i))
+            ∙ pair_there old (group_at old (panel_group upper)) (group_at old (panel_group lower)) is.between listed and_listed and_lawful in
+            record { figure = sym (ap (λ h. h.number) holds); latch = sym (ap (λ h. h.latch) holds) }
 
     -- a text on a total line is a text
     is_text_field : (line : Line) (its : Level) (wheel : ℕ) (name : List ℕ) (field : Field) → Contains chart.lines line
@@ -165,7 +193,7 @@ module _ (chart : Chart) (plan : Lists) (wiring : Wiring) (panel : IsPanel chart
       on_panel = on_panel chart plan wiring panel rise literals (Prog level Third) old new is all;
       rises = rise;
       cycle = refl;
-      totals = groups_hold;
+      totals = counters_hold;
       texts = units_hold stored;
     }
 

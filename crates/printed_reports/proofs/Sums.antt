@@ -8,7 +8,6 @@ use Rattle.charts.specs.declared.statement.Field.{Field}
 use Rattle.net.specs.declared.cycle.Ordinal.TheVariants.{First, Second, Third}
 use Rattle.report.specs.Amounts.{digits_on, is_negated, number_in, value_of}
 use Rattle.report.specs.Breaks.{cleared, taking}
-use Rattle.report.specs.Edits as edit
 use Rattle.report.specs.Totals.{total_of}
 use Rattle.totals.proofs.Cards.{equal_sums, card_goes}
 use Rattle.totals.proofs.GroupEnds.{total_shows, empty_ends}

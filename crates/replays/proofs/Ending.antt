@@ -1,10 +1,10 @@
 -- What a sink holds where a replay ends and where it stops.
-use Rattle.std.proofs.Common.{◌≡◌, ◌∙◌, refl, sym, ap, subst, arith, List, ℕ, ◌+◌, ◌≤◌, Bool, true, false, [], ◌++◌, Option, Result, Ok, Err, OnOk, length, take, drop, append_assoc, append-nil, length-append}
+use Rattle.std.proofs.Common.{◌≡◌, ◌∙◌, refl, sym, ap, subst, arith, List, ℕ, ◌+◌, Bool, true, false, [], ◌++◌, Option, Result, Ok, Err, OnOk, length, take, drop, append_assoc, append-nil, length-append}
 use Rattle.std.proofs.KnownBytes.{starts_with_rest}
 use Rattle.std.proofs.Math.Seq.{take-append_seam}
 use Rattle.std.proofs.lemmas.Bool.{false≢true}
 use Rattle.std.specs.Io.KnownBytes.{Appends}
-use Rattle.card_code.specs.MostCards.{most_cards}
+use Rattle.card_code.specs.Deck.{Deck}
 use Rattle.machine.proofs.Order.{MachineLines-in_order}
 use Rattle.machine.specs.Runs.{MachineLines}
 use Rattle.page_text.specs.Pages.{Pages}
@@ -24,16 +24,16 @@ use Rattle.replays.specs.declared.fault.ReplayCause.TheVariants as cause
 use Rattle.setups.specs.Tapes.{IsCarriageTape}
 use Rattle.setups.specs.Wiring.{Wiring}
 
-module _ {S : Type 0} (held : S → Option (List ℕ)) (has_failed : S → Bool) (wiring : Wiring) (deck : List (List ℕ)) (form : IsCarriageTape wiring.tape)
-    (few : length deck ≤ most_cards) (begun : Writing S) (unbegun : IsUnbegun wiring begun) where
+module _ {S : Type 0} (held : S → Option (List ℕ)) (has_failed : S → Bool) (wiring : Wiring) (text : List ℕ) (cards : List (List ℕ)) (punched : Deck text cards)
+    (form : IsCarriageTape wiring.tape) (begun : Writing S) (unbegun : IsUnbegun wiring begun) where
   -- the first bytes of what is written so far are the front of the pages
-  front : (lines others : List PlacedLine) → MachineLines wiring deck (lines ++ others) → (sent tail : List ℕ)
+  front : (lines others : List PlacedLine) → MachineLines wiring cards (lines ++ others) → (sent tail : List ℕ)
       → Open lines wiring.tape.lines ≡ sent ++ tail → (last : Outgoing S) → Appends (held begun.out.sink) (held last.sink) sent
       → last.written ≡ begun.out.written + length sent
-      → GainsFront wiring deck last.written (held begun.out.sink) (held last.sink)
+      → GainsFront wiring text last.written (held begun.out.sink) (held last.sink)
   front lines others run sent tail parts last taken counted =
       let all = Pages (lines ++ others) wiring.tape.lines in
-      let order = MachineLines-in_order wiring deck (lines ++ others) form few run in
+      let order = MachineLines-in_order wiring cards (lines ++ others) form punched.few run in
       let rest = drop (length (Open lines wiring.tape.lines)) all in
       let whole : all ≡ sent ++ (tail ++ rest) =
       starts_with_rest all (Open lines wiring.tape.lines) (pages_begin wiring.tape.lines lines others order)
@@ -42,6 +42,8 @@ module _ {S : Type 0} (held : S → Option (List ℕ)) (has_failed : S → Bool)
       let is_front : sent ≡ take last.written all =
       sym (take-append_seam sent (tail ++ rest)) ∙ ap (take (length sent)) (sym whole) ∙ ap (λ n. take n all) (sym count) in
       record {
+        cards = cards;
+        punched = punched;
         lines = lines ++ others;
         run = run;
         within = omega (arith, count, ap length whole, length-append sent (tail ++ rest));
@@ -52,8 +54,8 @@ module _ {S : Type 0} (held : S → Option (List ℕ)) (has_failed : S → Bool)
   from_none : (bytes : List ℕ) (sent left : List ℕ) → begun.out.waiting ++ bytes ≡ sent ++ left → bytes ≡ sent ++ left
   from_none bytes sent left parts = ap (λ (t : List ℕ). t ++ bytes) (sym unbegun.none_wait) ∙ parts
 
-  pub stopped : (last : Writing S) {stopped : ReplayCause} → Stops held has_failed wiring deck begun.out last stopped
-      → GainsFront wiring deck last.out.written (held begun.out.sink) (held last.out.sink)
+  pub stopped : (last : Writing S) {stopped : ReplayCause} → Stops held has_failed wiring cards begun.out last stopped
+      → GainsFront wiring text last.out.written (held begun.out.sink) (held last.out.sink)
   stopped last (refused lines others run takes) =
       front lines others run takes.sent last.out.waiting (from_none _ takes.sent last.out.waiting takes.parts) last.out takes.sends.taken
       takes.sends.counted
@@ -61,14 +63,14 @@ module _ {S : Type 0} (held : S → Option (List ℕ)) (has_failed : S → Bool)
       front lines others run breaks.sent breaks.lost (from_none _ breaks.sent breaks.lost breaks.parts) last.out breaks.sends.taken
       breaks.sends.counted
 
-  pub failed : (last : Writing S) {stopped : ReplayCause} → Stops held has_failed wiring deck begun.out last stopped → stopped ≡ cause.Write
+  pub failed : (last : Writing S) {stopped : ReplayCause} → Stops held has_failed wiring cards begun.out last stopped → stopped ≡ cause.Write
       → has_failed last.out.sink ≡ true
   failed last (refused lines others run takes) is = cc
   failed last (broken lines others run breaks) is = breaks.failed
 
-  module _ (mid : Writing S) (run_ends : Ends held wiring deck begun.out mid) where
+  module _ (mid : Writing S) (run_ends : Ends held wiring cards begun.out mid) where
     order : IsInOrder wiring.tape.lines run_ends.lines
-    order = MachineLines-in_order wiring deck run_ends.lines form few run_ends.run
+    order = MachineLines-in_order wiring cards run_ends.lines form punched.few run_ends.run
 
     -- the end of the last page, of the place of the last line
     end_is : last_end mid.form_lines mid.line ≡ last_end wiring.tape.lines (line_after 0 run_ends.lines)
@@ -92,10 +94,12 @@ module _ {S : Type 0} (held : S → Option (List ℕ)) (has_failed : S → Bool)
         (last_end mid.form_lines mid.line) mid.out last.out (Ok none) result run_ends.taken.taken takes all (λ is. absurd (well is))
 
     pub ended_well : (last : Writing S) → TakesUp held (last_end mid.form_lines mid.line) mid.out last.out → last.out.waiting ≡ []
-        → GainsPages wiring deck (held begun.out.sink) (held last.out.sink)
+        → GainsPages wiring text (held begun.out.sink) (held last.out.sink)
     ended_well last takes all =
         let none : Unit {0} = tt in
         record {
+          cards = cards;
+          punched = punched;
           lines = run_ends.lines;
           run = run_ends.run;
           written = subst (Appends (held begun.out.sink) (held last.out.sink)) (sym ended_pages)
@@ -104,11 +108,13 @@ module _ {S : Type 0} (held : S → Option (List ℕ)) (has_failed : S → Bool)
 
     pub ended_badly : (last : Writing S) (fault : WriteFault) → fault.written ≡ last.out.written
         → Breaks held has_failed (last_end mid.form_lines mid.line) mid.out last.out
-        → GainsFront wiring deck fault.written (held begun.out.sink) (held last.out.sink)
+        → GainsFront wiring text fault.written (held begun.out.sink) (held last.out.sink)
     ended_badly last fault told breaks =
         let none : Unit {0} = tt in
         let off = written {U = Unit {0}} last (Err fault) (told, breaks) none in
         record {
+          cards = cards;
+          punched = punched;
           lines = run_ends.lines;
           run = run_ends.run;
           within = omega (arith, off.within, ap length ended_pages);

@@ -1,3 +1,4 @@
 mod Ending
+mod InText
 mod Standing
 mod Upcoming

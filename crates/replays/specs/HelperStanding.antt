@@ -1,5 +1,6 @@
 -- Helper words: how a replay stands between two cards, how it ends, and how it stops.
 use Rattle.std.specs.Prelude.{◌≡◌, ℕ, Bool, false, List, [], ◌++◌, Option}
+use Rattle.card_code.specs.Deck.{Deck}
 use Rattle.machine.specs.Feeds.{LinesFrom}
 use Rattle.machine.specs.Running.{Running}
 use Rattle.machine.specs.Runs.{MachineLines}
@@ -37,6 +38,15 @@ pub record Stands {S : Type 0} (held : S → Option (List ℕ)) (wiring : Wiring
   pub goes_on : (others : List PlacedLine) → LinesFrom wiring machine.machine rest others → MachineLines wiring deck (lines ++ others)
   pub net : IsNetOf wiring machine.net
   pub taken : TakesLines held wiring begun lines writing
+
+-- Before the rest of a deck's text: the lines so far, and whatever those of the cards of this rest are, make up the run over the deck.
+pub record StandsInText {S : Type 0} (held : S → Option (List ℕ)) (wiring : Wiring) (text rest : List ℕ) (begun : Outgoing S)
+    (machine : Running) (writing : Writing S) : Type 0 where
+  pub cards : List (List ℕ)
+  pub punched : Deck text cards
+  pub left : List (List ℕ)
+  pub left_punched : Deck rest left
+  pub stands : Stands held wiring cards left begun machine writing
 
 -- after the end of a deck: the lines of the machine's run over it
 pub record Ends {S : Type 0} (held : S → Option (List ℕ)) (wiring : Wiring) (deck : List (List ℕ)) (begun : Outgoing S)

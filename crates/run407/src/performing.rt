@@ -53,7 +53,7 @@ fn serve_deck(rt: &HostRuntime, command: &str, chart: &str, deck: &str) -> u8 {
     )
 }
 
-// Does a command that reads a chart alone.
+// Does a command that reads a chart alone, or a wiring chart.
 fn serve_chart(rt: &HostRuntime, command: &str, chart: &str) -> u8 {
     let mut faults = rt.stderr();
     let text = match read_file(rt, chart) {
@@ -90,6 +90,7 @@ fn obey(rt: &HostRuntime, wanted: Wanted) -> u8 {
         Wanted::Check { chart } => serve_chart(rt, "check", chart),
         Wanted::Wire { chart } => serve_chart(rt, "wire", chart),
         Wanted::Replay { wiring, deck } => serve_deck(rt, "replay", wiring, deck),
+        Wanted::Upgrade { wiring } => serve_chart(rt, "upgrade", wiring),
         Wanted::StandardInput => run_standard_input(rt),
     }
 }

@@ -22,7 +22,7 @@ module _ {State : Type 0} (kind : Kind State) (wiring : Wiring) (cycle : Cycle) 
   Runs-append (step ∷ steps) others old mid new first run =
       (first.0, first.1, Runs-append steps others first.0 mid new first.2 run)
 
-  round_steps : (order : List ℕ) (old new : Served State) → Round kind wiring cycle count order old new
+  pub round_steps : (order : List ℕ) (old new : Served State) → Round kind wiring cycle count order old new
       → (steps : List Step) × Runs kind wiring cycle count steps old new
   unfolding Round Runs
   round_steps [] old new same = ([], same)
@@ -39,7 +39,7 @@ module _ {State : Type 0} (kind : Kind State) (wiring : Wiring) (cycle : Cycle) 
       let rest = rounds_steps orders rounds.0 new rounds.3 in
       (first.0 ++ rest.0, Runs-append first.0 rest.0 old rounds.0 new first.1 rest.1, rest.2)
 
-  made-grows : (steps : List Step) (old new : Served State) → Runs kind wiring cycle count steps old new → (unit : ℕ)
+  pub made-grows : (steps : List Step) (old new : Served State) → Runs kind wiring cycle count steps old new → (unit : ℕ)
       → made old unit ≤ made new unit
   unfolding Runs
   made-grows [] old new same unit = omega (arith, ap (λ (s : Served State). made s unit) same)
@@ -47,8 +47,12 @@ module _ {State : Type 0} (kind : Kind State) (wiring : Wiring) (cycle : Cycle) 
       omega (arith, made-more kind wiring cycle count step old run.0 run.1 unit, made-grows steps run.0 new run.2 unit)
 
   -- a unit is over, or so many rounds ahead: it has made two steps for each, but for one
-  IsAhead : ℕ → Served State → ℕ → Type 0
+  pub IsAhead : ℕ → Served State → ℕ → Type 0
   IsAhead rounds served unit = (28 ≤ made served unit) ⊎ (2 * rounds ≤ made served unit + 1)
+
+  pub ahead_none : (served : Served State) (unit : ℕ) → IsAhead 0 served unit
+  unfolding IsAhead
+  ahead_none served unit = inr (omega arith)
 
   stays_ahead : (rounds unit : ℕ) (old new : Served State) → made old unit ≤ made new unit → IsAhead rounds old unit
       → IsAhead rounds new unit
@@ -87,7 +91,7 @@ module _ {State : Type 0} (kind : Kind State) (wiring : Wiring) (cycle : Cycle) 
   ]
 
   -- and so does a round for all units of its order
-  round_ahead : (rounds : ℕ) (order : List ℕ) (old new : Served State) → Round kind wiring cycle count order old new
+  pub round_ahead : (rounds : ℕ) (order : List ℕ) (old new : Served State) → Round kind wiring cycle count order old new
       → ((unit : ℕ) → IsUnit count unit → IsAhead rounds old unit) → (unit : ℕ) → IsUnit count unit → Contains order unit
       → IsAhead (suc rounds) new unit
   unfolding Round
@@ -106,7 +110,7 @@ module _ {State : Type 0} (kind : Kind State) (wiring : Wiring) (cycle : Cycle) 
       ]
 
   -- after fifteen rounds all are over
-  over_after : (served : Served State) → IsWithin count served → ((unit : ℕ) → IsUnit count unit → IsAhead 15 served unit)
+  pub over_after : (served : Served State) → IsWithin count served → ((unit : ℕ) → IsUnit count unit → IsAhead 15 served unit)
       → AreOver count served
   unfolding IsAhead
   over_after served within all = over_by_fewest count served within 28 (omega arith) (λ unit is. by unit (all unit is)) where

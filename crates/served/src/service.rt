@@ -44,8 +44,8 @@ impl Model for Service {
 }
 
 impl Service {
-    ghost use Rattle.std.specs.Prelude.{◌≡◌, ◌↔◌, IfOk, IsOk};
-    ghost use Rattle.served.specs.Orders.{AreOrders, lists_of};
+    ghost use Rattle.std.specs.Prelude.{◌≡◌, ◌↔◌, ◌%◌, [], IfOk, IsOk, length, slice_index_or};
+    ghost use Rattle.served.specs.Orders.{AreOrders, IsOrder, lists_of};
 
     /// The service by these orders. It is refused where there is none, and where one of them doesn't have 45 numbers with each
     /// unit, 1 to 45, among them; the lists are then gone.
@@ -57,6 +57,15 @@ impl Service {
             return Err(NotAnOrder);
         }
         Ok(Service { orders })
+    }
+
+    /// The order of a round, counted from 0: the orders come in turn, and after the last the first again.
+    pub fn order(&self, round: u64) -> &[u8]
+        ensures order { result.now ≡ slice_index_or self.now (round % length self.now) [] }
+        ensures whole { IsOrder result.now }
+    {
+        let place = round % self.orders.len() as u64;
+        self.orders[place as usize].as_slice()
     }
 }
 

@@ -58,6 +58,35 @@ module _ (wiring : Wiring) (exits : Hub → Bool) (contacts : HubSet) (steps : L
       }) in
       (numbered.0, numbered.1, next.0)
 
+  -- a hub that stands in the table is impulsed
+  pub stands_impulsed : (many : ℕ) (hub : Hub) (number : ℕ) → number_of hub ≡ Some number → at steps number ≡ suc many
+      → IsImpulsed wiring exits (has_hub contacts) hub
+  stands_impulsed zero hub number numbered stands =
+      let start = table.root number stands in
+      let same = number_of-injective start.hub hub number start.numbered numbered in
+      impulsed-emitting hub (in_range hub number numbered) (subst (λ (h : Hub). exits h ≡ true) same start.emits)
+  stands_impulsed (suc many) hub number numbered stands =
+      let before = table.back number many (omega (arith, stands)) in
+      let leads = before.2 in
+      let same = number_of-injective leads.entry hub number leads.to_numbered numbered in
+      impulsed-led_on leads.exit hub
+      (stands_impulsed many leads.exit before.0 leads.from_numbered (omega (arith, before.1)))
+      (subst (λ (h : Hub). LeadsOn wiring (has_hub contacts) leads.exit h) same leads.leads)
+
+  -- a hub with a number stands in the table exactly where it is impulsed
+  pub stands_as_impulsed : (hub : Hub) (number : ℕ) → number_of hub ≡ Some number
+      → (1 ≤ at steps number) ↔ IsImpulsed wiring exits (has_hub contacts) hub
+  stands_as_impulsed hub number numbered = (by (at steps number) refl, back) where
+    by : (n : ℕ) → at steps number ≡ n → 1 ≤ at steps number → IsImpulsed wiring exits (has_hub contacts) hub
+    by zero is some = absurd (omega (arith, is, some))
+    by (suc n) is some = stands_impulsed n hub number numbered is
+
+    back : IsImpulsed wiring exits (has_hub contacts) hub → 1 ≤ at steps number
+    back at_hub =
+        let stands = impulsed_stands at_hub in
+        let same : stands.0 ≡ number = same_Some _ _ (sym stands.1 ∙ numbered) in
+        subst (λ (n : ℕ). 1 ≤ at steps n) same stands.2
+
   -- what stands in the table stands for a hub
   pub stands_hub : (to : ℕ) → 1 ≤ at steps to → (hub : Hub) × (number_of hub ≡ Some to)
   stands_hub to some = by (at steps to) refl where

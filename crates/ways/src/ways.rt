@@ -31,7 +31,9 @@ impl Model for Ways {
 }
 
 impl Ways {
-    ghost use Rattle.std.specs.Prelude.{◌≡◌, ◌↔◌, Bool, IfOk, IfSome, IsSome, length};
+    ghost use Rattle.std.specs.Prelude.{◌≡◌, ◌↔◌, Bool, true, IfOk, IfSome, IsSome, length};
+    ghost use Rattle.setups.specs.Wiring.{Wiring};
+    ghost use Rattle.net.specs.HubSets.{HubSet};
     ghost use Rattle.hubs.specs.declared.hub.Hub.{Hub};
     ghost use Rattle.net.specs.HubSets.{has_hub};
     ghost use Rattle.net.specs.Impulsed.{IsImpulsed};
@@ -44,6 +46,17 @@ impl Ways {
     {
         Ways {
             steps: search(setup, exits, contacts),
+        }
+    }
+
+    /// Whether the hub is impulsed.
+    pub fn has(&self, hub: Hub) -> bool
+        ensures { (wiring : Wiring) (exits : Hub → Bool) (contacts : HubSet) → AreWaysOf wiring exits (has_hub contacts) self.now
+            → (result ≡ true) ↔ IsImpulsed wiring exits (has_hub contacts) hub }
+    {
+        match hub.number() {
+            Some(number) => self.steps[number as usize] != 0,
+            None => false,
         }
     }
 

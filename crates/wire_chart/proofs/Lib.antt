@@ -1,6 +1,7 @@
 mod Gains
 mod HubRanges
 mod JackGains
+mod Joining
 mod OneText
 mod Ordered
 mod ReadBack

@@ -6,8 +6,10 @@ use Rattle.setups.specs.Wiring.{Wiring}
 use Rattle.hubs.specs.declared.hub.Hub.{Hub}
 use Rattle.hubs.specs.declared.jack.Jack.{Jack}
 use Rattle.wiring_text.specs.WiringText.{IsSameSetup}
-use Rattle.wire_chart.specs.WrittenText.{IsWritten, IsStopBefore, IsJackBefore, IsHubBefore, IsWireBefore, text_of}
+use Rattle.wire_chart.specs.WrittenText.{IsWritten, IsWrittenIn, IsStopBefore, IsJackBefore, IsHubBefore, IsLineBefore, IsWireBefore, JoinsGroups, form_place, text_of}
 use Rattle.wire_chart.proofs.Ordered.{IsOneWay, same_list}
+use Rattle.wiring_text.specs.declared.statement.Version.{Version}
+use Rattle.wiring_text.specs.declared.statement.Version.TheVariants.{First, Second}
 
 pub stops_one_way : IsOneWay IsStopBefore
 stops_one_way x y one other =
@@ -39,43 +41,78 @@ wires_one_way x y one other =
       | inr a ↦ elim other [ inl b ↦ hub_not_before y.0 x.0 (sym a.0) b | inr b ↦ hubs_one_way x.1 y.1 a.1 b.1 ]
     ]
 
+pub lines_one_way : (version : Version) → IsOneWay (IsLineBefore version)
+lines_one_way version x y one other =
+    elim one [
+      | inl a ↦ elim other [ inl b ↦ absurd (omega arith) | inr b ↦ absurd (omega (arith, ap form_place b.0)) ]
+      | inr a ↦ elim other [ inl b ↦ absurd (omega (arith, ap form_place a.0)) | inr b ↦ wires_one_way x y a.1 b.1 ]
+    ]
+
 -- the same members of two lists by what they are
-same_stops : (one other : Wiring) (text words : List ℕ) → IsSameSetup one other → (first : IsWritten one text)
-    → (second : IsWritten other words) → first.stops ≡ second.stops
-same_stops one other text words same first second =
+same_stops : (version : Version) (one other : Wiring) (text words : List ℕ) → IsSameSetup one other → (first : IsWrittenIn version one text)
+    → (second : IsWrittenIn version other words) → first.stops ≡ second.stops
+same_stops version one other text words same first second =
     same_list IsStopBefore first.stops second.stops stops_one_way first.stops_in_order second.stops_in_order
     (λ a has. (second.all_stops a.0 a.1).0 (same.tape.stops a.0 a.1 ∙ (first.all_stops a.0 a.1).1 has))
     (λ a has. (first.all_stops a.0 a.1).0 (sym (same.tape.stops a.0 a.1) ∙ (second.all_stops a.0 a.1).1 has))
 
-same_jacks : (one other : Wiring) (text words : List ℕ) → IsSameSetup one other → (first : IsWritten one text)
-    → (second : IsWritten other words) → first.jacks ≡ second.jacks
-same_jacks one other text words same first second =
+same_jacks : (version : Version) (one other : Wiring) (text words : List ℕ) → IsSameSetup one other → (first : IsWrittenIn version one text)
+    → (second : IsWrittenIn version other words) → first.jacks ≡ second.jacks
+same_jacks version one other text words same first second =
     same_list IsJackBefore first.jacks second.jacks jacks_one_way first.jacks_in_order second.jacks_in_order
     (λ a has. (second.all_jacks a).0 (same.jacks a ∙ (first.all_jacks a).1 has))
     (λ a has. (first.all_jacks a).0 (sym (same.jacks a) ∙ (second.all_jacks a).1 has))
 
-same_wires : (one other : Wiring) (text words : List ℕ) → IsSameSetup one other → (first : IsWritten one text)
-    → (second : IsWritten other words) → first.wires ≡ second.wires
-same_wires one other text words same first second =
-    same_list IsWireBefore first.wires second.wires wires_one_way first.wires_in_order second.wires_in_order
+same_wires : (version : Version) (one other : Wiring) (text words : List ℕ) → IsSameSetup one other → (first : IsWrittenIn version one text)
+    → (second : IsWrittenIn version other words) → first.wires ≡ second.wires
+same_wires version one other text words same first second =
+    same_list (IsLineBefore version) first.wires second.wires (lines_one_way version) first.wires_in_order second.wires_in_order
     (λ a has. (second.all_wires a.0 a.1).0 ((same.wires a.0 a.1).1 ((first.all_wires a.0 a.1).1 has)))
     (λ a has. (first.all_wires a.0 a.1).0 ((same.wires a.0 a.1).0 ((second.all_wires a.0 a.1).1 has)))
 
 -- a form is written by its numbers alone
-same_text : (one other : CarriageTape) (stops : List (ℕ × ℕ)) (jacks : List Jack) (wires : List (Hub × Hub))
-    → SameTape one other → text_of one stops jacks wires ≡ text_of other stops jacks wires
-same_text one other stops jacks wires same = rw (same.lines, same.first, same.overflow) refl
+same_text : (version : Version) (one other : CarriageTape) (stops : List (ℕ × ℕ)) (jacks : List Jack) (wires : List (Hub × Hub))
+    → SameTape one other → text_of version one stops jacks wires ≡ text_of version other stops jacks wires
+same_text version one other stops jacks wires same = rw (same.lines, same.first, same.overflow) refl
+
+-- The same setups have one text in each version.
+pub one_text_in : (version : Version) (one other : Wiring) (text words : List ℕ) → IsSameSetup one other → IsWrittenIn version one text → IsWrittenIn version other words
+    → text ≡ words
+one_text_in version one other text words same first second =
+    first.spelled
+    ∙ ap (λ (stops : List (ℕ × ℕ)). text_of version one.tape stops first.jacks first.wires)
+    (same_stops version one other text words same first second)
+    ∙ ap (λ (jacks : List Jack). text_of version one.tape second.stops jacks first.wires)
+    (same_jacks version one other text words same first second)
+    ∙ ap (λ (wires : List (Hub × Hub)). text_of version one.tape second.stops second.jacks wires)
+    (same_wires version one other text words same first second)
+    ∙ same_text version one.tape other.tape second.stops second.jacks second.wires same.tape
+    ∙ sym second.spelled
+
+-- and the version of what is written is the setup's
+joins_too : (one other : Wiring) → IsSameSetup one other → JoinsGroups one → JoinsGroups other
+joins_too one other same joins =
+    record { exit = joins.exit; entry = joins.entry; there = (same.wires joins.exit joins.entry).1 joins.there; couples = joins.couples }
+
+turned : (one other : Wiring) → IsSameSetup one other → JoinsGroups other → JoinsGroups one
+turned one other same joins =
+    record { exit = joins.exit; entry = joins.entry; there = (same.wires joins.exit joins.entry).0 joins.there; couples = joins.couples }
+
+same_version : (one other : Version) → (one ≡ Second → other ≡ Second) → (other ≡ Second → one ≡ Second) → one ≡ other
+same_version First First there back = refl
+same_version Second Second there back = refl
+same_version First Second there back = back refl
+same_version Second First there back = sym (there refl)
 
 -- The same setups have one text.
 pub one_text : (one other : Wiring) (text words : List ℕ) → IsSameSetup one other → IsWritten one text → IsWritten other words
     → text ≡ words
 one_text one other text words same first second =
-    first.spelled
-    ∙ ap (λ (stops : List (ℕ × ℕ)). text_of one.tape stops first.jacks first.wires)
-    (same_stops one other text words same first second)
-    ∙ ap (λ (jacks : List Jack). text_of one.tape second.stops jacks first.wires)
-    (same_jacks one other text words same first second)
-    ∙ ap (λ (wires : List (Hub × Hub)). text_of one.tape second.stops second.jacks wires)
-    (same_wires one other text words same first second)
-    ∙ same_text one.tape other.tape second.stops second.jacks second.wires same.tape
-    ∙ sym second.spelled
+    one_text_in second.version one other text words same
+    (subst (λ (v : Version). IsWrittenIn v one text) versions first.written) second.written
+  where
+    versions : first.version ≡ second.version
+    versions =
+        same_version first.version second.version
+        (λ e. second.second.1 (joins_too one other same (first.second.0 e)))
+        (λ e. first.second.1 (turned one other same (second.second.0 e)))

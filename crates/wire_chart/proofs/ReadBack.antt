@@ -14,16 +14,17 @@ use Rattle.wire_chart.specs.Laws.{IsSetup}
 use Rattle.hubs.specs.Carries.{do_wires_agree}
 use Rattle.wiring_text.specs.Statements.{do_hubs_agree, do_statements_agree, statement_fault}
 use Rattle.wiring_text.specs.WiringText.{IsSetupOf, ReadsAs}
-use Rattle.wire_chart.specs.WrittenText.{IsWritten, form_line, IsStopBefore, IsJackBefore, IsWireBefore}
+use Rattle.wire_chart.specs.WrittenText.{IsWrittenIn, title_line, form_line, IsStopBefore, IsJackBefore, IsLineBefore}
 use Rattle.wiring_text.specs.declared.statement.Statement.{Statement}
 use Rattle.wiring_text.specs.declared.statement.Statement.TheVariants.{Stop, Plug, Wire}
 use Rattle.wire_chart.proofs.Ordered.{pairs_none, pairs_append, contains_none, contains_mapped, contains_unmapped, pairs_mapped}
-use Rattle.wire_chart.proofs.OneText.{stops_one_way, jacks_one_way, wires_one_way}
+use Rattle.wire_chart.proofs.OneText.{stops_one_way, jacks_one_way, lines_one_way}
 use Rattle.wire_chart.proofs.WrittenSaid.{stop_fits, wire_fits}
 use Rattle.wire_chart.proofs.Ordered.{IsOneWay, all_mapped}
 use Rattle.wire_chart.proofs.WrittenLines.{IsText, stop_statement, wire_statement, each_stop, each_wire}
 use Rattle.wire_chart.proofs.TextLines.{form_numbers, form_is, first_written, lines_after, statements_of, text_lines, text_said}
 use Rattle.wire_chart.proofs.TextSize.{not_large}
+use Rattle.wiring_text.specs.declared.statement.Version.{Version}
 
 -- nothing is said twice
 distinct : {A : Type 0} (R : A → A → Type 0) (f : A → Statement) → IsOneWay R → ((x y : A) → f x ≡ f y → x ≡ y)
@@ -115,18 +116,18 @@ plug_no_wire jack wire e = cc
 abbrev AreApart : Statement → Statement → Type 0
 AreApart one other = one ≢ other
 
-said_once : (wiring : Wiring) (text : List ℕ) → (is : IsText wiring text)
+said_once : (version : Version) (wiring : Wiring) (text : List ℕ) → (is : IsText version wiring text)
     → AllPairs AreApart (statements_of is.written.stops is.written.jacks is.written.wires)
-said_once wiring text is =
-    let w : IsWritten wiring text = is.written in
+said_once version wiring text is =
+    let w : IsWrittenIn version wiring text = is.written in
     pairs_append AreApart (map stop_statement w.stops) (map Plug w.jacks ++ (map wire_statement w.wires ++ []))
     (pairs_mapped IsStopBefore AreApart stop_statement w.stops (distinct IsStopBefore stop_statement stops_one_way same_stop)
     w.stops_in_order)
     (pairs_append AreApart (map Plug w.jacks) (map wire_statement w.wires ++ [])
     (pairs_mapped IsJackBefore AreApart Plug w.jacks (distinct IsJackBefore Plug jacks_one_way same_jack) w.jacks_in_order)
     (pairs_append AreApart (map wire_statement w.wires) []
-    (pairs_mapped IsWireBefore AreApart wire_statement w.wires
-    (distinct IsWireBefore wire_statement wires_one_way same_wire) w.wires_in_order)
+    (pairs_mapped (IsLineBefore version) AreApart wire_statement w.wires
+    (distinct (IsLineBefore version) wire_statement (lines_one_way version) same_wire) w.wires_in_order)
     (pairs_none AreApart)
     (λ one other has also. absurd (contains_none other also)))
     (λ one other has also e.
@@ -141,38 +142,38 @@ said_once wiring text is =
     ])
 
 -- every statement fits
-all_fit : (wiring : Wiring) (text : List ℕ) → (is : IsText wiring text)
+all_fit : (version : Version) (wiring : Wiring) (text : List ℕ) → (is : IsText version wiring text)
     → All (λ statement. statement_fault wiring.tape.lines statement ≡ None)
     (statements_of is.written.stops is.written.jacks is.written.wires)
-all_fit wiring text is =
-    let w : IsWritten wiring text = is.written in
+all_fit version wiring text is =
+    let w : IsWrittenIn version wiring text = is.written in
     let fits : Statement → Type 0 = λ statement. statement_fault wiring.tape.lines statement ≡ None in
     All-append (λ statement. statement_fault wiring.tape.lines statement ≡ None) (map stop_statement w.stops)
     (map Plug w.jacks ++ (map wire_statement w.wires ++ []))
     (all_mapped (λ statement. statement_fault wiring.tape.lines statement ≡ None) stop_statement w.stops (λ stop has.
-    let at : IsStop wiring.tape.lines stop.0 stop.1 = each_stop wiring text is stop has in
+    let at : IsStop wiring.tape.lines stop.0 stop.1 = each_stop version wiring text is stop has in
     stop_fits wiring.tape.lines stop.0 stop.1 at.line_from at.line_to))
     (All-append (λ statement. statement_fault wiring.tape.lines statement ≡ None) (map Plug w.jacks)
     (map wire_statement w.wires ++ [])
     (all_mapped (λ statement. statement_fault wiring.tape.lines statement ≡ None) Plug w.jacks (λ jack has. refl))
     (All-append (λ statement. statement_fault wiring.tape.lines statement ≡ None) (map wire_statement w.wires) []
     (all_mapped (λ statement. statement_fault wiring.tape.lines statement ≡ None) wire_statement w.wires (λ wire has.
-    let there : HasWire wiring wire.0 wire.1 = each_wire wiring text is wire has in
+    let there : HasWire wiring wire.0 wire.1 = each_wire version wiring text is wire has in
     let lawful = is.setup.wires.leads wire.0 wire.1 there in
     wire_fits wiring.tape.lines wire.0 wire.1 lawful.0 lawful.1 (is.setup.wires.carries.alone wire.0 wire.1 there)))
     (All-nil (λ statement. statement_fault wiring.tape.lines statement ≡ None))))
 
 -- each two statements agree
-all_together : (wiring : Wiring) (text : List ℕ) → (is : IsText wiring text)
+all_together : (version : Version) (wiring : Wiring) (text : List ℕ) → (is : IsText version wiring text)
     → AllPairs (λ one other. do_statements_agree one other ≡ true)
     (statements_of is.written.stops is.written.jacks is.written.wires)
-all_together wiring text is =
+all_together version wiring text is =
     λ i j d before within.
     agree (slice_index_or said i d) (slice_index_or said j d)
     (as_one w.stops w.jacks w.wires (slice_index_or said i d) (Contains-get_or said i d (omega (arith, before, within))))
     (as_one w.stops w.jacks w.wires (slice_index_or said j d) (Contains-get_or said j d within))
   where
-    w : IsWritten wiring text
+    w : IsWrittenIn version wiring text
     w = is.written
 
     said : List Statement
@@ -197,13 +198,13 @@ all_together wiring text is =
         (λ i. do_statements_agree (wire.said i) (next.said i))
         ∙ named wire.wire.0 wire.wire.1 next.wire.0 next.wire.1
         (is.setup.wires.carries.together wire.wire.0 wire.wire.1 next.wire.0 next.wire.1
-        (each_wire wiring text is wire.wire wire.there) (each_wire wiring text is next.wire next.there))
+        (each_wire version wiring text is wire.wire wire.there) (each_wire version wiring text is next.wire next.there))
 
 -- what is said is the setup
-setup_is : (wiring : Wiring) (text : List ℕ) → (is : IsText wiring text)
+setup_is : (version : Version) (wiring : Wiring) (text : List ℕ) → (is : IsText version wiring text)
     → IsSetupOf (form_numbers wiring.tape) (statements_of is.written.stops is.written.jacks is.written.wires) wiring
-setup_is wiring text is =
-    let w : IsWritten wiring text = is.written in
+setup_is version wiring text is =
+    let w : IsWrittenIn version wiring text = is.written in
     let others : List Statement = map Plug w.jacks ++ (map wire_statement w.wires ++ []) in
     record {
       lines = refl;
@@ -248,43 +249,44 @@ setup_is wiring text is =
       );
     }
   where
-    stop_there : (wiring : Wiring) (text : List ℕ) → (is : IsText wiring text) → (channel line : ℕ) (stop : ℕ × ℕ)
+    stop_there : (wiring : Wiring) (text : List ℕ) → (is : IsText version wiring text) → (channel line : ℕ) (stop : ℕ × ℕ)
         → (channel, line) ≡ stop → Contains is.written.stops stop → has_stop wiring.tape channel line ≡ true
     stop_there wiring text is channel line stop e has =
         (is.written.all_stops channel line).1 (subst (λ (s : ℕ × ℕ). Contains is.written.stops s) (sym e) has)
 
-    jack_there : (wiring : Wiring) (text : List ℕ) → (is : IsText wiring text) → (jack other : Jack) → jack ≡ other
+    jack_there : (wiring : Wiring) (text : List ℕ) → (is : IsText version wiring text) → (jack other : Jack) → jack ≡ other
         → Contains is.written.jacks other → HasJack wiring jack
     jack_there wiring text is jack other e has =
         (is.written.all_jacks jack).1 (subst (λ (j : Jack). Contains is.written.jacks j) (sym e) has)
 
-    wire_there : (wiring : Wiring) (text : List ℕ) → (is : IsText wiring text) → (exit entry : Hub) (wire : Hub × Hub)
+    wire_there : (wiring : Wiring) (text : List ℕ) → (is : IsText version wiring text) → (exit entry : Hub) (wire : Hub × Hub)
         → (exit, entry) ≡ wire → Contains is.written.wires wire → HasWire wiring exit entry
     wire_there wiring text is exit entry wire e has =
         (is.written.all_wires exit entry).1 (subst (λ (w : Hub × Hub). Contains is.written.wires w) (sym e) has)
 
--- What is written of a setup reads as that setup.
-pub read_back : (wiring : Wiring) (text : List ℕ) → IsSetup wiring → IsWritten wiring text → ReadsAs text wiring
-read_back wiring text setup written =
-    let is : IsText wiring text = record { setup = setup; written = written } in
+-- What is written of a setup in a version reads as that setup.
+pub read_back : (version : Version) (wiring : Wiring) (text : List ℕ) → IsSetup wiring → IsWrittenIn version wiring text → ReadsAs text wiring
+read_back version wiring text setup written =
+    let is : IsText version wiring text = record { setup = setup; written = written } in
     record {
       form = form_numbers wiring.tape;
       statements = statements_of written.stops written.jacks written.wires;
       chart = record {
         reads = record {
-          size = not_large wiring text is;
-          first = codes "WIRING407 1";
+          size = not_large version wiring text is;
+          version = version;
+          first = title_line version;
           second = form_line wiring.tape;
-          others = lines_after written.stops written.jacks written.wires;
-          lines = text_lines wiring text is;
-          begun = first_written.divided;
+          others = lines_after version written.stops written.jacks written.wires;
+          lines = text_lines version wiring text is;
+          begun = (first_written version).divided;
           formed = form_is wiring.tape setup.form.formed;
-          said = text_said wiring text is;
+          said = text_said version wiring text is;
         };
         formed = setup.form.formed;
-        once = said_once wiring text is;
-        fit = all_fit wiring text is;
-        together = all_together wiring text is;
+        once = said_once version wiring text is;
+        fit = all_fit version wiring text is;
+        together = all_together version wiring text is;
       };
-      setup = setup_is wiring text is;
+      setup = setup_is version wiring text is;
     }

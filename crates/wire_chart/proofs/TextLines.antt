@@ -7,16 +7,18 @@ use Rattle.setups.specs.Tapes.{CarriageTape, IsFormed}
 use Rattle.setups.specs.Wiring.{Wiring}
 use Rattle.hubs.specs.declared.hub.Hub.{Hub}
 use Rattle.hubs.specs.declared.jack.Jack.{Jack}
-use Rattle.wiring_text.specs.WiringText.{IsFormLine, SaysLines, end_line}
+use Rattle.wiring_text.specs.WiringText.{IsFormLine, SaysLines, end_line, version_text}
 use Rattle.wiring_text.specs.declared.statement.FormNumbers.{FormNumbers}
-use Rattle.wire_chart.specs.WrittenText.{IsWritten, ended, number_text, form_line, stop_line, jack_line, wire_line}
+use Rattle.wire_chart.specs.WrittenText.{IsWrittenIn, title_line, ended, number_text, form_line, stop_line, jack_line, wire_line}
 use Rattle.wiring_text.specs.declared.statement.Statement.{Statement}
 use Rattle.wiring_text.specs.declared.statement.Statement.TheVariants.{Plug}
-use Rattle.wire_chart.proofs.WrittenBytes.{IsWrittenLine, words_line, line_of_words, ended_line, ended_lines, no_lines}
+use Rattle.wire_chart.proofs.WrittenBytes.{IsWord, IsWrittenLine, words_line, line_of_words, ended_line, ended_lines, no_lines}
 use Rattle.wire_chart.proofs.WrittenSaid.{jack_said}
 use Rattle.wire_chart.proofs.WrittenWords.{number_written, number_word}
 use Rattle.std.proofs.Common.{append-nil}
 use Rattle.wire_chart.proofs.WrittenLines.{IsText, stop_statement, wire_statement, lines_said, lines_inner, stops_said, each_jack, wires_said}
+use Rattle.wiring_text.specs.declared.statement.Version.{Version}
+use Rattle.wiring_text.specs.declared.statement.Version.TheVariants.{First, Second}
 
 -- the line of the form
 abbrev pub form_numbers : CarriageTape → FormNumbers
@@ -56,20 +58,24 @@ form_is form formed =
     }
 
 -- the first line and the last
-pub first_written : IsWrittenLine (codes "WIRING407 1") (codes "WIRING407" ∷ codes "1" ∷ [])
-first_written =
-    line_of_words (codes "WIRING407") (codes "1" ∷ [])
-    (record { some = omega arith; few = omega arith; high = refl }) (omega arith)
-    (record { some = omega arith; few = omega arith; high = refl }, tt) (omega arith)
+title_words : (version : Version) → IsWord (version_text version)
+    → IsWrittenLine (codes "WIRING407" ++ words_line (version_text version ∷ [])) (codes "WIRING407" ∷ version_text version ∷ [])
+title_words version is =
+    line_of_words (codes "WIRING407") (version_text version ∷ [])
+    (record { some = omega arith; few = omega arith; high = refl }) (omega arith) (is, tt) (omega arith)
+
+pub first_written : (version : Version) → IsWrittenLine (title_line version) (codes "WIRING407" ∷ version_text version ∷ [])
+first_written First = title_words First (record { some = omega arith; few = omega arith; high = refl })
+first_written Second = title_words Second (record { some = omega arith; few = omega arith; high = refl })
 
 pub end_written : IsWrittenLine (codes "END") (codes "END" ∷ [])
 end_written =
     line_of_words (codes "END") [] (record { some = omega arith; few = omega arith; high = refl }) (omega arith) tt (omega arith)
 
 -- the lines after the form, and what they say
-abbrev pub lines_after : List (ℕ × ℕ) → List Jack → List (Hub × Hub) → List (List ℕ)
-lines_after stops jacks wires =
-    map stop_line stops ++ (map jack_line jacks ++ (map wire_line wires ++ (codes "END" ∷ [])))
+abbrev pub lines_after : Version → List (ℕ × ℕ) → List Jack → List (Hub × Hub) → List (List ℕ)
+lines_after version stops jacks wires =
+    map stop_line stops ++ (map jack_line jacks ++ (map (wire_line version) wires ++ (codes "END" ∷ [])))
 
 abbrev pub statements_of : List (ℕ × ℕ) → List Jack → List (Hub × Hub) → List Statement
 statements_of stops jacks wires = map stop_statement stops ++ (map Plug jacks ++ (map wire_statement wires ++ []))
@@ -78,34 +84,34 @@ regroup : (a b c d e f : List ℕ) → a ++ b ++ c ++ d ++ e ++ f ≡ a ++ (b ++
 regroup a b c d e f = simp append_assoc
 
 -- the lines of the text
-pub text_lines : (wiring : Wiring) (text : List ℕ) → (is : IsText wiring text) → lines_of text
-    ≡ codes "WIRING407 1" ∷ form_line wiring.tape ∷ lines_after is.written.stops is.written.jacks is.written.wires
-text_lines wiring text is =
-    let w : IsWritten wiring text = is.written in
+pub text_lines : (version : Version) (wiring : Wiring) (text : List ℕ) → (is : IsText version wiring text) → lines_of text
+    ≡ title_line version ∷ form_line wiring.tape ∷ lines_after version is.written.stops is.written.jacks is.written.wires
+text_lines version wiring text is =
+    let w : IsWrittenIn version wiring text = is.written in
     let stops : List ℕ = flat_map (λ stop. ended (stop_line stop)) w.stops in
     let jacks : List ℕ = flat_map (λ jack. ended (jack_line jack)) w.jacks in
-    let wires : List ℕ = flat_map (λ wire. ended (wire_line wire)) w.wires in
+    let wires : List ℕ = flat_map (λ wire. ended (wire_line version wire)) w.wires in
     let end : List ℕ = ended (codes "END") in
-    ap lines_of (w.spelled ∙ regroup (ended (codes "WIRING407 1")) (ended (form_line wiring.tape)) stops jacks wires end)
-    ∙ ended_line (codes "WIRING407 1") (ended (form_line wiring.tape) ++ (stops ++ (jacks ++ (wires ++ end)))) first_written.inner
-    ∙ ap (λ (ls : List (List ℕ)). codes "WIRING407 1" ∷ ls)
+    ap lines_of (w.spelled ∙ regroup (ended (title_line version)) (ended (form_line wiring.tape)) stops jacks wires end)
+    ∙ ended_line (title_line version) (ended (form_line wiring.tape) ++ (stops ++ (jacks ++ (wires ++ end)))) (first_written version).inner
+    ∙ ap (λ (ls : List (List ℕ)). title_line version ∷ ls)
     (ended_line (form_line wiring.tape) (stops ++ (jacks ++ (wires ++ end))) (form_written wiring.tape is.setup.form.formed).inner
     ∙ ap (λ (ls : List (List ℕ)). form_line wiring.tape ∷ ls)
-    (ended_lines stop_line w.stops (jacks ++ (wires ++ end)) (lines_inner stop_line stop_statement w.stops (stops_said wiring text is))
+    (ended_lines stop_line w.stops (jacks ++ (wires ++ end)) (lines_inner version stop_line stop_statement w.stops (stops_said version wiring text is))
     ∙ ap (λ (ls : List (List ℕ)). map stop_line w.stops ++ ls)
     (ended_lines jack_line w.jacks (wires ++ end)
-    (lines_inner jack_line Plug w.jacks (λ jack has. jack_said jack (each_jack wiring text is jack has)))
+    (lines_inner version jack_line Plug w.jacks (λ jack has. jack_said version jack (each_jack version wiring text is jack has)))
     ∙ ap (λ (ls : List (List ℕ)). map jack_line w.jacks ++ ls)
-    (ended_lines wire_line w.wires end (lines_inner wire_line wire_statement w.wires (wires_said wiring text is))
-    ∙ ap (λ (ls : List (List ℕ)). map wire_line w.wires ++ ls)
+    (ended_lines (wire_line version) w.wires end (lines_inner version (wire_line version) wire_statement w.wires (wires_said version wiring text is))
+    ∙ ap (λ (ls : List (List ℕ)). map (wire_line version) w.wires ++ ls)
     (ended_line (codes "END") [] refl ∙ ap (λ (ls : List (List ℕ)). codes "END" ∷ ls) no_lines)))))
 
-pub text_said : (wiring : Wiring) (text : List ℕ) → (is : IsText wiring text)
-    → SaysLines (lines_after is.written.stops is.written.jacks is.written.wires)
+pub text_said : (version : Version) (wiring : Wiring) (text : List ℕ) → (is : IsText version wiring text)
+    → SaysLines version (lines_after version is.written.stops is.written.jacks is.written.wires)
     (statements_of is.written.stops is.written.jacks is.written.wires)
-text_said wiring text is =
-    let w : IsWritten wiring text = is.written in
-    lines_said stop_line stop_statement w.stops _ _ (stops_said wiring text is)
-    (lines_said jack_line Plug w.jacks _ _ (λ jack has. jack_said jack (each_jack wiring text is jack has))
-    (lines_said wire_line wire_statement w.wires _ _ (wires_said wiring text is)
+text_said version wiring text is =
+    let w : IsWrittenIn version wiring text = is.written in
+    lines_said version stop_line stop_statement w.stops _ _ (stops_said version wiring text is)
+    (lines_said version jack_line Plug w.jacks _ _ (λ jack has. jack_said version jack (each_jack version wiring text is jack has))
+    (lines_said version (wire_line version) wire_statement w.wires _ _ (wires_said version wiring text is)
     (end_line end_written.divided tt)))

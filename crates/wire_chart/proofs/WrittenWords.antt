@@ -6,13 +6,14 @@ use Rattle.std.proofs.lemmas.Bool.{and_parts, ltb-true, lt-ltb, leb-true, and_fr
 use Rattle.std.proofs.lemmas.Bool.Decides.{nat_tests}
 use Rattle.hub_table.specs.HubTable.{row_of}
 use Rattle.hubs.specs.Hubs.{letters_of, numbers_of, number_of}
+use Rattle.hubs.specs.declared.hub.Group.{Group}
 use Rattle.hubs.specs.declared.hub.Hub.{Hub}
 use Rattle.hub_table.specs.declared.shape.Numbers.{Numbers}
 use Rattle.hub_table.specs.declared.shape.Numbers.TheVariants.{Bare, One, Two, Three}
 use Rattle.tokens.specs.Number.{IsNumber, is_digit}
-use Rattle.wiring_text.specs.HubNames.{IsPointed, IsDotted, bare, one, two, three, IsHubName, name_of}
+use Rattle.wiring_text.specs.HubNames.{IsGroup, IsPointed, IsDotted, bare, one, two, three, IsHubName, name_of}
 use Rattle.wire_chart.specs.Writing.{AreSmall}
-use Rattle.wire_chart.specs.WrittenText.{digit_text, number_text, pointed, numbers_text, hub_text}
+use Rattle.wire_chart.specs.WrittenText.{group_text, digit_text, number_text, pointed, numbers_text, hub_text}
 use Rattle.wire_chart.proofs.RowLemmas.{good_letters, numbered_small}
 use Rattle.wire_chart.proofs.WrittenBytes.{is_high, IsWord, all_weaker, append_true}
 
@@ -145,4 +146,29 @@ hub_word hub number e =
       some = omega (arith, length-append spelled dotted, some);
       few = omega (arith, length-append spelled dotted, few, numbers_length (numbers_of hub) small);
       high = append_true is_high spelled dotted good.0 (numbers_high (numbers_of hub) small);
+    }
+
+-- a counter group as it is written is its width and its number
+pub group_written : (group : Group) → group.width < 1000 → group.number < 1000 → IsGroup (group_text group) group.width group.number
+group_written group wide numbered = record {
+  digits = number_text group.width;
+  after = pointed group.number;
+  spelled = refl;
+  wide = number_written group.width wide;
+  numbered = pointed_written group.number numbered;
+}
+
+pub group_word : (group : Group) → group.width < 1000 → group.number < 1000 → IsWord (group_text group)
+group_word group wide numbered =
+    let is : IsWord (number_text group.width) = number_word group.width wide in
+    let few : IsNumber (number_text group.width) group.width = number_written group.width wide in
+    record {
+      some = omega (arith, length-append (number_text group.width) (pointed group.number), is.some);
+      few = omega (
+        arith,
+        length-append (number_text group.width) (pointed group.number),
+        few.few,
+        pointed_length group.number numbered,
+      );
+      high = append_true is_high (number_text group.width) (pointed group.number) is.high (pointed_high group.number numbered);
     }

@@ -1,20 +1,22 @@
--- Laws of wiring charts: a setup has one text, that text reads as the setup, and a text reads as one setup at most.
+-- Laws of wiring charts: a setup has one text in each version, that text reads as the setup, and a text reads as one setup at most.
 use Rattle.std.specs.Prelude.{◌≡◌, ℕ, List}
 use Rattle.setups.specs.Tapes.{IsCarriageTape}
 use Rattle.setups.specs.Wiring.{Wiring, IsLawfulWiring}
 use Rattle.wiring_text.specs.WiringText.{ReadsAs, IsSameSetup}
 use Rattle.wiring_text.specs.WiringFaults.{HasWiringFault}
-use Rattle.wire_chart.specs.WrittenText.{IsWritten}
+use Rattle.wire_chart.specs.WrittenText.{IsWritten, IsWrittenIn}
 use Rattle.wiring_text.specs.declared.fault.WiringFault.{WiringFault}
+use Rattle.wiring_text.specs.declared.statement.Version.{Version}
 
 -- what every setup is: wires that the panel can have, and a form that a tape can have
 pub record IsSetup (wiring : Wiring) : Type 0 where
   pub wires : IsLawfulWiring wiring
   pub form : IsCarriageTape wiring.tape
 
--- What is written of a setup reads as that setup.
+-- What is written of a setup, in either version, reads as that setup.
 abbrev pub WrittenTextsReadBack : Type 0
-WrittenTextsReadBack = (wiring : Wiring) (text : List ℕ) → IsSetup wiring → IsWritten wiring text → ReadsAs text wiring
+WrittenTextsReadBack =
+    (version : Version) (wiring : Wiring) (text : List ℕ) → IsSetup wiring → IsWrittenIn version wiring text → ReadsAs text wiring
 
 -- A text reads as one setup at most.
 abbrev pub TextsReadAsOneSetup : Type 0
@@ -24,6 +26,12 @@ TextsReadAsOneSetup = (text : List ℕ) (one other : Wiring) → ReadsAs text on
 abbrev pub SetupsHaveOneText : Type 0
 SetupsHaveOneText =
     (one other : Wiring) (text words : List ℕ) → IsSameSetup one other → IsWritten one text → IsWritten other words → text ≡ words
+
+-- So they have in each version.
+abbrev pub SetupsHaveOneTextIn : Type 0
+SetupsHaveOneTextIn =
+    (version : Version) (one other : Wiring) (text words : List ℕ) → IsSameSetup one other → IsWrittenIn version one text
+    → IsWrittenIn version other words → text ≡ words
 
 -- A text that reads as a setup has no fault, and a text has one fault at most.
 abbrev pub ReadTextsHaveNoFault : Type 0

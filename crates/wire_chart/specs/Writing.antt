@@ -10,7 +10,9 @@ use Rattle.hubs.specs.declared.hub.Hub.{Hub}
 use Rattle.hubs.specs.declared.jack.Jack.{Jack}
 use Rattle.hub_table.specs.declared.shape.Numbers.{Numbers}
 use Rattle.hub_table.specs.declared.shape.Numbers.TheVariants.{Bare, One, Two, Three}
-use Rattle.wire_chart.specs.WrittenText.{ended, stop_line, jack_line, wire_line, IsStopBefore, IsJackBefore, IsWireBefore}
+use Rattle.wire_chart.specs.declared.form.WireForm.{WireForm}
+use Rattle.wiring_text.specs.declared.statement.Version.{Version}
+use Rattle.wire_chart.specs.WrittenText.{ended, stop_line, jack_line, wire_form, wire_line, IsStopBefore, IsJackBefore, IsLineBefore}
 
 -- each number is below 1,000
 abbrev pub AreSmall : Numbers → Type 0
@@ -27,15 +29,22 @@ pub record GainsLines {A : Type 0} (Is : A → Type 0) (Before : A → A → Typ
   pub in_order : AllPairs Before things
   pub gained : new ≡ old ++ flat_map (λ thing. ended (line_of thing)) things
 
--- the same for stops, jacks and wires
+-- the same for stops and jacks
 abbrev pub GainsStops : (ℕ × ℕ → Type 0) → List ℕ → List ℕ → Type 0
 GainsStops Is old new = GainsLines Is IsStopBefore stop_line old new
 
 abbrev pub GainsJacks : (Jack → Type 0) → List ℕ → List ℕ → Type 0
 GainsJacks Is old new = GainsLines Is IsJackBefore jack_line old new
 
-abbrev pub GainsWires : (Hub × Hub → Type 0) → List ℕ → List ℕ → Type 0
-GainsWires Is old new = GainsLines Is IsWireBefore wire_line old new
+-- for wires, those of a form, and all
+abbrev pub IsOfForm : Version → WireForm → (Hub × Hub → Type 0) → Hub × Hub → Type 0
+IsOfForm version form Is wire = Is wire × (wire_form version wire ≡ form)
+
+abbrev pub GainsWires : Version → WireForm → (Hub × Hub → Type 0) → List ℕ → List ℕ → Type 0
+GainsWires version form Is old new = GainsLines (IsOfForm version form Is) (IsLineBefore version) (wire_line version) old new
+
+abbrev pub GainsAllWires : Version → (Hub × Hub → Type 0) → List ℕ → List ℕ → Type 0
+GainsAllWires version Is old new = GainsLines Is (IsLineBefore version) (wire_line version) old new
 
 -- a stop of the form
 abbrev pub IsStopOf : CarriageTape → ℕ × ℕ → Type 0

@@ -1,18 +1,25 @@
 -- How a setup is written: the first line, the form, its stops by channel and line, its jacks in the order of the panel, its
--- wires by the number of the exit and then that of the entry, and END. Single spaces stand between tokens, and each line
--- ends with LF.
-use Rattle.std.specs.Prelude.{◌≡◌, ◌↔◌, ◌⊎◌, ℕ, ◌+◌, ◌<◌, true, List, [], ◌∷◌, ◌++◌, AllPairs, Contains, Some, codes, if◌then◌else◌, nat_lt, ◌/◌, ◌%◌}
+-- wires by the number of the exit and then that of the entry, and END. In version 2 the rings stand before the wires that couple
+-- groups, and these before all others. Single spaces stand between tokens, and each line ends with LF.
+use Rattle.std.specs.Prelude.{◌≡◌, ◌↔◌, ◌⊎◌, ℕ, ◌+◌, ◌<◌, true, List, [], ◌∷◌, ◌++◌, AllPairs, Contains, Some, Option, codes, if◌then◌else◌, nat_lt, ◌/◌, ◌%◌}
 use Rattle.std.specs.List.{flat_map}
 use Rattle.hub_table.specs.HubTable.{row_of}
-use Rattle.hubs.specs.Hubs.{letters_of, numbers_of, number_of}
+use Rattle.hubs.specs.Carries.{is_one_group}
+use Rattle.hubs.specs.Hubs.{carry_into, carry_out_of, letters_of, numbers_of, number_of}
 use Rattle.hubs.specs.Jacks.{jack_place}
 use Rattle.setups.specs.Tapes.{CarriageTape, has_stop}
 use Rattle.setups.specs.Wiring.{Wiring, HasWire, HasJack}
+use Rattle.hubs.specs.declared.hub.Group.{Group}
 use Rattle.hubs.specs.declared.hub.Hub.{Hub}
 use Rattle.hubs.specs.declared.jack.Jack.{Jack}
 use Rattle.hubs.specs.declared.jack.Jack.TheVariants as jacks
 use Rattle.hub_table.specs.declared.shape.Numbers.{Numbers}
 use Rattle.hub_table.specs.declared.shape.Numbers.TheVariants.{Bare, One, Two, Three}
+use Rattle.wire_chart.specs.declared.form.WireForm.{WireForm}
+use Rattle.wire_chart.specs.declared.form.WireForm.TheVariants.{Ring, Couple, Plain}
+use Rattle.wiring_text.specs.WiringText.{version_text}
+use Rattle.wiring_text.specs.declared.statement.Version.{Version}
+use Rattle.wiring_text.specs.declared.statement.Version.TheVariants.{First, Second}
 
 -- a digit as it is written
 abbrev pub digit_text : ℕ → List ℕ
@@ -63,21 +70,54 @@ stop_line stop = codes "STOP" ++ spaced (number_text stop.0) ++ spaced (number_t
 abbrev pub jack_line : Jack → List ℕ
 jack_line jack = codes "JACK" ++ spaced (jack_text jack)
 
-abbrev pub wire_line : Hub × Hub → List ℕ
-wire_line wire = codes "WIRE" ++ spaced (hub_text wire.0) ++ spaced (hub_text wire.1)
+abbrev pub plain_line : Hub × Hub → List ℕ
+plain_line wire = codes "WIRE" ++ spaced (hub_text wire.0) ++ spaced (hub_text wire.1)
+
+-- a counter group as it is written: its width, a point and its number
+abbrev pub group_text : Group → List ℕ
+group_text group = number_text group.width ++ pointed group.number
+
+-- the wire that makes a ring of a counter group, and the wire that couples two
+abbrev pub ring_line : Group → List ℕ
+ring_line group = codes "RING" ++ spaced (group_text group)
+
+abbrev pub couple_line : Group → Group → List ℕ
+couple_line from to = codes "COUPLE" ++ spaced (number_text from.number) ++ spaced (number_text to.number)
+
+-- the form of a wire's line: in version 2 a carry wire is a ring, or couples two groups
+abbrev pub carry_form : Option Group → Option Group → WireForm
+carry_form (Some from) (Some to) = if is_one_group from to then Ring else Couple
+carry_form from to = Plain
+
+abbrev pub wire_form : Version → Hub × Hub → WireForm
+wire_form First wire = Plain
+wire_form Second wire = carry_form (carry_out_of wire.0) (carry_into wire.1)
+
+-- the line of a wire
+abbrev pub carry_line : Option Group → Option Group → Hub × Hub → List ℕ
+carry_line (Some from) (Some to) wire = if is_one_group from to then ring_line from else couple_line from to
+carry_line from to wire = plain_line wire
+
+abbrev pub wire_line : Version → Hub × Hub → List ℕ
+wire_line First wire = plain_line wire
+wire_line Second wire = carry_line (carry_out_of wire.0) (carry_into wire.1) wire
+
+-- the first line
+abbrev pub title_line : Version → List ℕ
+title_line version = codes "WIRING407" ++ spaced (version_text version)
 
 -- a line with its LF
 abbrev pub ended : List ℕ → List ℕ
 ended line = line ++ 10 ∷ []
 
 -- the whole text
-abbrev pub text_of : CarriageTape → List (ℕ × ℕ) → List Jack → List (Hub × Hub) → List ℕ
-text_of form stops jacks wires =
-    ended (codes "WIRING407 1")
+abbrev pub text_of : Version → CarriageTape → List (ℕ × ℕ) → List Jack → List (Hub × Hub) → List ℕ
+text_of version form stops jacks wires =
+    ended (title_line version)
     ++ ended (form_line form)
     ++ flat_map (λ stop. ended (stop_line stop)) stops
     ++ flat_map (λ jack. ended (jack_line jack)) jacks
-    ++ flat_map (λ wire. ended (wire_line wire)) wires
+    ++ flat_map (λ wire. ended (wire_line version wire)) wires
     ++ ended (codes "END")
 
 -- one stop stands before another: by channel, then by line
@@ -96,12 +136,24 @@ pub record IsHubBefore (one other : Hub) : Type 0 where
   pub other_numbered : number_of other ≡ Some other_number
   pub before : number < other_number
 
--- one wire stands before another: by its exit, then by its entry
+-- one wire stands before another of the same form: by its exit, then by its entry
 abbrev pub IsWireBefore : Hub × Hub → Hub × Hub → Type 0
 IsWireBefore one other = IsHubBefore one.0 other.0 ⊎ ((one.0 ≡ other.0) × IsHubBefore one.1 other.1)
 
--- The text of a setup: exactly its stops, jacks and wires, each kind in its order.
-pub record IsWritten (wiring : Wiring) (text : List ℕ) : Type 0 where
+-- the order of the forms: rings, wires that couple groups, all others
+abbrev pub form_place : WireForm → ℕ
+form_place Ring = 0
+form_place Couple = 1
+form_place Plain = 2
+
+-- one wire's line stands before another's
+abbrev pub IsLineBefore : Version → Hub × Hub → Hub × Hub → Type 0
+IsLineBefore version one other =
+    (form_place (wire_form version one) < form_place (wire_form version other))
+    ⊎ ((wire_form version one ≡ wire_form version other) × IsWireBefore one other)
+
+-- The text of a setup in a version: exactly its stops, jacks and wires, each kind in its order.
+pub record IsWrittenIn (version : Version) (wiring : Wiring) (text : List ℕ) : Type 0 where
   pub stops : List (ℕ × ℕ)
   pub jacks : List Jack
   pub wires : List (Hub × Hub)
@@ -110,5 +162,18 @@ pub record IsWritten (wiring : Wiring) (text : List ℕ) : Type 0 where
   pub all_wires : (exit entry : Hub) → HasWire wiring exit entry ↔ Contains wires (exit, entry)
   pub stops_in_order : AllPairs IsStopBefore stops
   pub jacks_in_order : AllPairs IsJackBefore jacks
-  pub wires_in_order : AllPairs IsWireBefore wires
-  pub spelled : text ≡ text_of wiring.tape stops jacks wires
+  pub wires_in_order : AllPairs (IsLineBefore version) wires
+  pub spelled : text ≡ text_of version wiring.tape stops jacks wires
+
+-- a wire of the setup couples two counter groups
+pub record JoinsGroups (wiring : Wiring) : Type 0 where
+  pub exit : Hub
+  pub entry : Hub
+  pub there : HasWire wiring exit entry
+  pub couples : wire_form Second (exit, entry) ≡ Couple
+
+-- The text of a setup: in version 2 where it joins groups, else in version 1.
+pub record IsWritten (wiring : Wiring) (text : List ℕ) : Type 0 where
+  pub version : Version
+  pub second : (version ≡ Second) ↔ JoinsGroups wiring
+  pub written : IsWrittenIn version wiring text

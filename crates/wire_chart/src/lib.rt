@@ -1,15 +1,18 @@
 //! Wiring charts as text, both ways.
 //!
-//! [`write_setup`] writes a setup as its one text, and [`read_setup`], of the crate `wiring_reader`, reads a text as its setup, or
-//! tells its one fault as a [`WiringFault`]. What a text reads as is said in `wiring_text`; `specs/` says how a setup is written.
+//! [`write_setup`] writes a setup as its one text, [`write_setup_2`] in version 2 of the language, whatever the setup; and
+//! [`read_setup`], of the crate `wiring_reader`, reads a text of either version as its setup, or tells its one fault as a
+//! [`WiringFault`]. What a text reads as is said in `wiring_text`; `specs/` says how a setup is written.
 //! That what is written reads back is a law of both.
 #![tactic(auto)]
 
+mod form;
 mod laws;
 mod words;
 mod write;
 
+pub use form::WireForm;
 pub use laws::wiring_texts_and_setups_are_one_to_one;
 pub use wiring_reader::read_setup;
-pub use wiring_text::{FormNumbers, HubName, Statement, WiringFault};
-pub use write::write_setup;
+pub use wiring_text::{FormNumbers, HubName, Statement, Version, WiringFault};
+pub use write::{write_setup, write_setup_2};

@@ -4,11 +4,11 @@ ghost use Rattle.std.specs.Prelude.{◌≡◌, ◌<◌, ◌++◌, true, codes, O
 ghost use Rattle.std.specs.String.{string_bytes};
 ghost use Rattle.hubs.specs.Hubs.{is_hub_in_range};
 ghost use Rattle.hubs.specs.Jacks.{is_jack_in_range};
-ghost use Rattle.wire_chart.specs.WrittenText.{digit_text, number_text, pointed, numbers_text, hub_text, spaced, jack_text};
+ghost use Rattle.wire_chart.specs.WrittenText.{digit_text, number_text, pointed, numbers_text, group_text, hub_text, spaced, jack_text};
 ghost use Rattle.wire_chart.specs.Writing.{AreSmall};
 
 use hub_table::Numbers;
-use hubs::{Hub, Jack};
+use hubs::{Group, Hub, Jack};
 use std::alloc::AllocError;
 
 // A digit.
@@ -72,6 +72,14 @@ fn write_numbers(text: &mut String, numbers: Numbers) -> Result<(), AllocError>
             write_pointed(text, third)
         }
     }
+}
+
+// A space and a counter group: its width, a point and its number.
+pub(crate) fn write_spaced_group(text: &mut String, group: Group) -> Result<(), AllocError>
+    ensures { OnOk result (string_bytes text.new ≡ string_bytes text.old ++ spaced (group_text group)) }
+{
+    write_spaced_number(text, u16::from(group.width))?;
+    write_pointed(text, u16::from(group.number))
 }
 
 // A space and a hub of the panel.

@@ -1,37 +1,132 @@
 //! Writing a setup as a wiring chart.
 
-ghost use Rattle.std.specs.Prelude.{◌≡◌, ◌↔◌, ◌++◌, ◌<◌, ◌≤◌, true, All, Contains, Some, IfOk, IsTrue, OnOk, codes};
+ghost use Rattle.std.specs.Prelude.{◌≡◌, ◌≢◌, ◌↔◌, ◌++◌, ◌<◌, ◌≤◌, true, false, All, Contains, Some, None, IfOk, IsTrue, OnOk, codes};
 ghost use Rattle.std.specs.String.{string_bytes};
-ghost use Rattle.hubs.specs.Hubs.{is_hub_in_range, number_of};
+ghost use Rattle.hubs.specs.Hubs.{carry_out_of, is_hub_in_range, number_of};
+ghost use Rattle.hubs.specs.declared.hub.Hub.{Hub};
+ghost use Rattle.hubs.specs.declared.hub.Hub.TheVariants.{CI, CO};
 ghost use Rattle.hubs.specs.Jacks.{is_jack_in_range};
 ghost use Rattle.setups.specs.Tapes.{IsCarriageTape};
-ghost use Rattle.setups.specs.Wiring.{HasJack};
+ghost use Rattle.setups.specs.Wiring.{HasJack, HasWire};
+ghost use Rattle.wire_chart.specs.declared.form.WireForm.TheVariants.{Couple, Plain};
+ghost use Rattle.wiring_text.specs.declared.statement.Version.TheVariants.{Second};
 ghost use Rattle.wiring_text.specs.WiringText.{ReadsAs};
-ghost use Rattle.wire_chart.specs.WrittenText.{IsWritten, ended, form_line, stop_line, jack_line, wire_line};
-ghost use Rattle.wire_chart.specs.Writing.{GainsStops, GainsJacks, GainsWires, IsStopOf, IsStopAt, IsStopIn, IsJackAt, IsWireTo, IsWireToAny, IsWireFrom, IsWireOf};
+ghost use Rattle.wire_chart.specs.WrittenText.{IsWritten, IsWrittenIn, JoinsGroups, carry_line, ended, form_line, stop_line, jack_line, plain_line, title_line, wire_form, wire_line};
+ghost use Rattle.wire_chart.specs.Writing.{GainsAllWires, GainsStops, GainsJacks, GainsWires, IsStopOf, IsStopAt, IsStopIn, IsJackAt, IsWireTo, IsWireToAny, IsWireFrom, IsWireOf};
 
-use crate::words::{write_jack_words, write_number, write_spaced_hub, write_spaced_number};
-use hubs::{Hub, JACKS, Jack};
+use crate::form::{WireForm, carry_into, carry_out_of, is_one_group, is_same_form, wire_form};
+use crate::words::{write_jack_words, write_spaced_group, write_spaced_hub, write_spaced_number};
+use hubs::{Group, Hub, JACKS, Jack};
 use setups::{Setup, Tape};
 use std::alloc::{AllocError, Global};
+use wiring_text::Version;
 
-/// The wiring chart of a setup: `WIRING407 1`, the form, the stops by channel and line, the jacks in the order LIST, TOTAL, HEAD, LINK,
-/// SUPPRESS and SYMBOL, each by number, the wires by the exit's hub number and then the entry's, and END; single spaces, and
-/// LF after each line. The text reads as a setup of the same wires, jacks and tape.
+/// The wiring chart of a setup, in version 2 of the language where a wire couples two counter groups, else in version 1: the first
+/// line, the form, the stops by channel and line, the jacks in the order LIST, TOTAL, HEAD, LINK, SUPPRESS and SYMBOL, each by number,
+/// the wires, and END; single spaces, and LF after each line. Wires stand by the exit's hub number and then the entry's; in version 2
+/// the rings come first, then the wires that couple groups. The text reads as a setup of the same wires, jacks and tape.
 ///
 /// Fails only where memory was refused.
 pub fn write_setup(alloc: Global, setup: &Setup) -> Result<String, AllocError>
     ensures written { IfOk result (λ text. IsWritten setup.now (string_bytes text)) }
     ensures reads_back { IfOk result (λ text. ReadsAs (string_bytes text) setup.now) }
 {
+    let version = if joins_groups(setup) {
+        Version::Second
+    } else {
+        Version::First
+    };
+    write_in(alloc, version, setup)
+}
+
+/// The wiring chart of a setup in version 2 of the language, in the order that [`write_setup`] tells. The text reads as a setup of
+/// the same wires, jacks and tape.
+///
+/// Fails only where memory was refused.
+pub fn write_setup_2(alloc: Global, setup: &Setup) -> Result<String, AllocError>
+    ensures written { IfOk result (λ text. IsWrittenIn Second setup.now (string_bytes text)) }
+    ensures reads_back { IfOk result (λ text. ReadsAs (string_bytes text) setup.now) }
+{
+    write_in(alloc, Version::Second, setup)
+}
+
+// Whether a wire couples two counter groups.
+fn joins_groups(setup: &Setup) -> bool
+    ensures joins { result ≡ true → JoinsGroups setup.now }
+    ensures none { result ≡ false → (exit entry : Hub) → HasWire setup.now exit entry → wire_form Second (exit, entry) ≢ Couple }
+{
+    for number in 1..1937 {
+        if couples_from(setup, number) {
+            return true;
+        }
+    }
+    false
+}
+
+// Whether a wire from the hub of a number couples two counter groups.
+fn couples_from(setup: &Setup, number: u32) -> bool
+    ensures joins { result ≡ true → JoinsGroups setup.now }
+    ensures none { result ≡ false → (exit entry : Hub) → number_of exit ≡ Some number → HasWire setup.now exit entry
+        → wire_form Second (exit, entry) ≢ Couple }
+{
+    let Some(exit) = Hub::of_number(number) else {
+        return false;
+    };
+    if carry_out_of(exit).is_none() {
+        return false;
+    }
+    couples_to_any(setup, exit)
+}
+
+// Whether a wire from an exit couples two counter groups.
+fn couples_to_any(setup: &Setup, exit: Hub) -> bool
+    ensures joins { result ≡ true → JoinsGroups setup.now }
+    ensures none { result ≡ false → (entry : Hub) → HasWire setup.now exit entry → wire_form Second (exit, entry) ≢ Couple }
+{
+    for number in 1..1937 {
+        if couples_to(setup, exit, number) {
+            return true;
+        }
+    }
+    false
+}
+
+// Whether the wire from an exit to the hub of a number is there, and couples two counter groups.
+fn couples_to(setup: &Setup, exit: Hub, number: u32) -> bool
+    ensures joins { result ≡ true → JoinsGroups setup.now }
+    ensures none { result ≡ false → (entry : Hub) → number_of entry ≡ Some number → HasWire setup.now exit entry
+        → wire_form Second (exit, entry) ≢ Couple }
+{
+    match Hub::of_number(number) {
+        Some(entry) => is_same_form(wire_form(Version::Second, exit, entry), WireForm::Couple)
+            && setup.has(exit, entry),
+        None => false,
+    }
+}
+
+// The wiring chart of a setup in a version of the language.
+fn write_in(alloc: Global, version: Version, setup: &Setup) -> Result<String, AllocError>
+    ensures written { IfOk result (λ text. IsWrittenIn version setup.now (string_bytes text)) }
+    ensures reads_back { IfOk result (λ text. ReadsAs (string_bytes text) setup.now) }
+{
     let setup = setup.known();
-    let mut text = String::from_str(alloc, "WIRING407 1\n")?;
+    let mut text = String::from_str(alloc, title(version))?;
     write_form(&mut text, setup.tape())?;
     write_stops(&mut text, setup.tape())?;
     write_jacks(&mut text, setup)?;
-    write_wires(&mut text, setup)?;
+    write_all_wires(&mut text, version, setup)?;
     text.push_str("END\n")?;
     Ok(text)
+}
+
+// The first line.
+fn title(version: Version) -> &'static str
+    ensures { result.now ≡ ended (title_line version) }
+{
+    match version {
+        Version::First => "WIRING407 1\n",
+        Version::Second => "WIRING407 2\n",
+    }
 }
 
 // The line of the form.
@@ -118,58 +213,99 @@ fn write_jack_line(text: &mut String, jack: Jack) -> Result<(), AllocError>
     text.push_str("\n")
 }
 
-// The wires, by the number of the exit and then that of the entry. No wire leads from a hub that is no exit.
-fn write_wires(text: &mut String, setup: &Setup) -> Result<(), AllocError>
-    ensures { OnOk result (GainsWires (IsWireOf setup.now) (string_bytes text.old) (string_bytes text.new)) }
+// The wires: rings, then those that couple groups, then all others.
+fn write_all_wires(text: &mut String, version: Version, setup: &Setup) -> Result<(), AllocError>
+    ensures { OnOk result (GainsAllWires version (IsWireOf setup.now) (string_bytes text.old) (string_bytes text.new)) }
+{
+    write_wires(text, version, WireForm::Ring, setup)?;
+    write_wires(text, version, WireForm::Couple, setup)?;
+    write_wires(text, version, WireForm::Plain, setup)
+}
+
+// The wires of a form, by the number of the exit and then that of the entry. No wire leads from a hub that is no exit.
+fn write_wires(
+    text: &mut String,
+    version: Version,
+    form: WireForm,
+    setup: &Setup,
+) -> Result<(), AllocError>
+    ensures { OnOk result (GainsWires version form (IsWireOf setup.now) (string_bytes text.old) (string_bytes text.new)) }
 {
     for number in 1..1937 {
-        write_wires_from(text, setup, number)?;
+        write_wires_from(text, version, form, setup, number)?;
     }
     Ok(())
 }
 
-// The wires from the hub of a number, by the number of the entry.
-fn write_wires_from(text: &mut String, setup: &Setup, number: u32) -> Result<(), AllocError>
-    ensures { OnOk result (GainsWires (IsWireFrom setup.now number) (string_bytes text.old) (string_bytes text.new)) }
+// The wires of a form from the hub of a number, by the number of the entry.
+fn write_wires_from(
+    text: &mut String,
+    version: Version,
+    form: WireForm,
+    setup: &Setup,
+    number: u32,
+) -> Result<(), AllocError>
+    ensures { OnOk result (GainsWires version form (IsWireFrom setup.now number) (string_bytes text.old) (string_bytes text.new)) }
 {
     let Some(exit) = Hub::of_number(number) else {
         return Ok(());
     };
+    if !may_leave(form, exit) {
+        return Ok(());
+    }
     let entries = setup.entries_of(exit);
     if entries.is_empty() {
         return Ok(());
     }
-    write_wires_to(text, exit, entries)
+    write_wires_to(text, version, form, exit, entries)
 }
 
-// The wires from an exit to the entries of these numbers.
-fn write_wires_to(text: &mut String, exit: Hub, entries: &[u16]) -> Result<(), AllocError>
+// Whether a wire of a form may leave a hub.
+fn may_leave(form: WireForm, exit: Hub) -> bool
+    ensures { result ≡ false → (carry_out_of exit ≡ None) × (form ≢ Plain) }
+{
+    is_same_form(form, WireForm::Plain) || carry_out_of(exit).is_some()
+}
+
+// The wires of a form from an exit to the entries of these numbers.
+fn write_wires_to(
+    text: &mut String,
+    version: Version,
+    form: WireForm,
+    exit: Hub,
+    entries: &[u16],
+) -> Result<(), AllocError>
     requires exit { is_hub_in_range exit ≡ true }
     requires entries { All (λ number. (1041 ≤ number) × (number ≤ 1936)) entries.now }
-    ensures { OnOk result (GainsWires (IsWireToAny exit entries.now) (string_bytes text.old) (string_bytes text.new)) }
+    ensures { OnOk result (GainsWires version form (IsWireToAny exit entries.now) (string_bytes text.old) (string_bytes text.new)) }
 {
     for number in 1041..1937 {
-        write_wire_to(text, exit, entries, number)?;
+        write_wire_to(text, version, form, exit, entries, number)?;
     }
     Ok(())
 }
 
-// The wire from an exit to the entry of a number, if that is among the entries.
+// The wire from an exit to the entry of a number, if that is among the entries and the wire is of the form.
 fn write_wire_to(
     text: &mut String,
+    version: Version,
+    form: WireForm,
     exit: Hub,
     entries: &[u16],
     number: u16,
 ) -> Result<(), AllocError>
     requires exit { is_hub_in_range exit ≡ true }
-    ensures { OnOk result (GainsWires (IsWireTo exit entries.now number) (string_bytes text.old) (string_bytes text.new)) }
+    ensures { OnOk result
+        (GainsWires version form (IsWireTo exit entries.now number) (string_bytes text.old) (string_bytes text.new)) }
 {
     if !is_listed(entries, number) {
         return Ok(());
     }
     match Hub::of_number(u32::from(number)) {
-        Some(entry) => write_wire_line(text, exit, entry),
-        None => Ok(()),
+        Some(entry) if is_same_form(wire_form(version, exit, entry), form) => {
+            write_wire_line(text, version, exit, entry)
+        }
+        _ => Ok(()),
     }
 }
 
@@ -181,10 +317,43 @@ fn is_listed(numbers: &[u16], number: u16) -> bool
 }
 
 // The line of a wire.
-fn write_wire_line(text: &mut String, exit: Hub, entry: Hub) -> Result<(), AllocError>
+fn write_wire_line(
+    text: &mut String,
+    version: Version,
+    exit: Hub,
+    entry: Hub,
+) -> Result<(), AllocError>
     requires exit { is_hub_in_range exit ≡ true }
     requires entry { is_hub_in_range entry ≡ true }
-    ensures { OnOk result (string_bytes text.new ≡ string_bytes text.old ++ ended (wire_line (exit, entry))) }
+    ensures { OnOk result (string_bytes text.new ≡ string_bytes text.old ++ ended (wire_line version (exit, entry))) }
+{
+    match (version, carry_out_of(exit), carry_into(entry)) {
+        (Version::Second, Some(from), Some(to)) => write_carry_line(text, from, to),
+        _ => write_plain_line(text, exit, entry),
+    }
+}
+
+// The line of a wire between carries.
+fn write_carry_line(text: &mut String, from: Group, to: Group) -> Result<(), AllocError>
+    ensures { OnOk result (string_bytes text.new
+        ≡ string_bytes text.old ++ ended (carry_line (Some from) (Some to) (CO from, CI to))) }
+{
+    if is_one_group(from, to) {
+        text.push_str("RING")?;
+        write_spaced_group(text, from)?;
+    } else {
+        text.push_str("COUPLE")?;
+        write_spaced_number(text, u16::from(from.number))?;
+        write_spaced_number(text, u16::from(to.number))?;
+    }
+    text.push_str("\n")
+}
+
+// The line of a wire that is no carry's.
+fn write_plain_line(text: &mut String, exit: Hub, entry: Hub) -> Result<(), AllocError>
+    requires exit { is_hub_in_range exit ≡ true }
+    requires entry { is_hub_in_range entry ≡ true }
+    ensures { OnOk result (string_bytes text.new ≡ string_bytes text.old ++ ended (plain_line (exit, entry))) }
 {
     text.push_str("WIRE")?;
     write_spaced_hub(text, exit)?;

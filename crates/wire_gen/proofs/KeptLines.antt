@@ -1,6 +1,5 @@
 -- What is known of each line of a lawful chart and its plan.
-use Rattle.std.proofs.Common.{◌≡◌, ℕ, zero, suc, ◌+◌, ◌<◌, ◌≤◌, ◌⊎◌, inl, inr, Bool, true, false, not, ◌&&◌, ◌||◌, ◌==◌, cond, nat_lt, nat_le, is_some, option_map, List, [], ◌∷◌, length, Option, Some, None, slice_get, refl, sym, ap, ◌∙◌, subst, arith}
-use Rattle.std.proofs.lemmas.Option.{slice_get_within, get_or_from_slice_get}
+use Rattle.std.proofs.Common.{◌≡◌, ℕ, zero, suc, ◌+◌, ◌<◌, ◌≤◌, ◌⊎◌, inl, inr, Bool, true, false, not, ◌&&◌, ◌==◌, cond, nat_lt, nat_le, option_map, List, [], ◌∷◌, length, Option, Some, slice_get, refl, sym, ap, ◌∙◌, subst, arith}
 use Rattle.plans.specs.Plans.{Lists, IsFor}
 use Rattle.field_rules.specs.Fields.{field_named}
 use Rattle.print_rules.specs.Items.{mark_shown}
@@ -30,7 +29,6 @@ use Rattle.std.specs.List.{Contains, filter}
 use Rattle.std.proofs.lemmas.Bool.{cases_lt, not-false}
 use Rattle.std.proofs.lemmas.Bool.Decides.{nat_tests}
 use Rattle.wanted.specs.Units.{is_of_kind, is_wide, is_wide_text, wide_texts_of}
-use Rattle.field_rules.proofs.Places.{is_same_name-equal}
 use Rattle.field_rules.specs.Fields.{fields_of}
 use Rattle.chart_rules.specs.HelperOnCard.{IsOnCard}
 use Rattle.print_rules.specs.Items.{item_of, mark_width, detail_item, text_item, total_item}
@@ -38,21 +36,17 @@ use Rattle.print_rules.specs.declared.items.Item.{Item}
 use Rattle.print_rules.specs.declared.items.PrintedLine.TheVariants.{Body, Heading}
 use Rattle.charts.specs.declared.statement.BodyLine.TheVariants as body
 use Rattle.field_rules.specs.Names.{names_amount, names_text, is_unknown}
-use Rattle.field_rules.specs.Digits.{is_out_of_digits}
 use Rattle.chart_rules.specs.Rules.{breaks, IsLawful}
-use Rattle.field_rules.specs.Shrink.{has_wider_below, is_wider_below}
 use Rattle.print_rules.specs.Tapes.{has_tape, is_tape_of, form_lines, rise_above, are_within}
 use Rattle.print_rules.specs.Wheels.{is_off_wheels}
 use Rattle.chart_rules.specs.declared.rule.Rule.{Rule}
 use Rattle.chart_rules.specs.declared.rule.Rule.TheVariants as rule
 use Rattle.charts.specs.Chart.{Chart, NumbersRise}
-use Rattle.charts.specs.Name.{is_same_name}
 use Rattle.charts.proofs.Listed.{listed-cases, listed-none, listed-at, listed-given, any-passing}
 use Rattle.line_wires.specs.HelperItems.{HasWheels, DetailRanges}
 use Rattle.line_wires.specs.HelperRanges.{HasChannel}
 use Rattle.wiring_table.specs.Parts.{HasTotal}
 use Rattle.chart_rules.proofs.Laws.{kept-line, good-listed, good-field}
-use Rattle.field_rules.proofs.Places.{is_same_name-own}
 use Rattle.field_rules.specs.Fields.{field_of}
 use Rattle.wiring_table.proofs.Totals.{digits-grow, one-total, total-digits, total-of}
 use Rattle.wire_gen.proofs.KeptFields.{known-name, named-by, good-sign, wheels-within}

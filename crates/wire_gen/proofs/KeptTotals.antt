@@ -1,5 +1,5 @@
 -- The counter groups of the totals of a chart.
-use Rattle.std.proofs.Common.{◌≡◌, ℕ, inl, inr, List, arith}
+use Rattle.std.proofs.Common.{ℕ, inl, inr, List, arith}
 use Rattle.std.proofs.lemmas.Bool.Decides.{nat_tests}
 use Rattle.capacity.specs.Capacities.{HasGroup, standard}
 use Rattle.chart_rules.specs.Rules.{IsLawful}

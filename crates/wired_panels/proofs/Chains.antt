@@ -1,9 +1,9 @@
 -- What holds of each wire of a chart: it leads from an exit to an entry, and no second contact stands after a contact.
-use Rattle.std.proofs.Common.{◌≡◌, ◌∙◌, sym, refl, ℕ, ◌&&◌, ◌||◌, not, Bool, true, false, List, Option, Some, None, ap, is_some}
-use Rattle.std.proofs.lemmas.Option.{same_Some}
+use Rattle.std.proofs.Common.{◌≡◌, sym, refl, ℕ, ◌&&◌, ◌||◌, not, Bool, true, false, List, Option, Some, None, ap, is_some}
 use Rattle.plans.specs.Plans.{Lists}
 use Rattle.charts.specs.declared.chart.Line.{Line}
 use Rattle.charts.specs.declared.statement.BodyLine.TheVariants as body
+use Rattle.charts.specs.declared.statement.SignRule.{SignRule}
 use Rattle.charts.specs.declared.statement.SignRule.TheVariants as sign
 use Rattle.charts.specs.declared.statement.Statement.{Statement}
 use Rattle.hub_table.specs.HubTable.{row_of}
@@ -14,8 +14,12 @@ use Rattle.hubs.specs.declared.hub.Hub.TheVariants.{CA, CB, CI, CO, PIX, SE, SI,
 use Rattle.net.specs.Panel.{contact_of}
 use Rattle.whole_cycles.specs.Carries.{is_carry}
 use Rattle.whole_cycles.specs.OneContactDeep.{is_common}
+use Rattle.capacity.specs.declared.group.CounterGroup.{CounterGroup}
+use Rattle.plans.specs.declared.counter.TotalCounter.TheVariants as of
+use Rattle.wiring_table.specs.Figures.{IsSigned}
+use Rattle.wiring_table.specs.Parts.{counter_for, group_for, panel_group}
 use Rattle.wiring_table.specs.Wires.{LineWire}
-use Rattle.wiring_table.specs.Wires.LineWire.{detail_text, indicated_text_in, indicated_text_out, literal, point, detail_digit, split_digit_in, split_digit_out, detail_mark_in, detail_mark_out, pickup, entry, entry_adds, entry_sign, entry_plus, entry_minus, read_out, total_digit, ring, balance_test, conversion, conversion_read_out, conversion_minus, feedback, total_mark_in, total_mark_out, transfer, transfer_adds, transfer_sign, transfer_plus, transfer_minus, total_text_in, total_text_taken, total_text_given, total_text_out, compared_first, compared_second, level_called, double_space, triple_space, page, skip}
+use Rattle.wiring_table.specs.Wires.LineWire.{detail_text, indicated_text_in, indicated_text_out, literal, point, detail_digit, split_digit_in, split_digit_out, detail_mark_in, detail_mark_out, pickup, entry, entry_adds, entry_sign, entry_plus, entry_minus, read_out, total_digit, carry_up, ring, carry_round, balance_test, conversion, conversion_read_out, conversion_minus, feedback, total_mark_in, total_mark_out, transfer, transfer_adds, transfer_sign, transfer_plus, transfer_minus, total_text_in, total_text_taken, total_text_given, total_text_out, compared_first, compared_second, level_called, double_space, triple_space, page, skip}
 
 -- an exit, and an entry, by the kind of hub
 abbrev pub is_exit_kind : Hub → Bool
@@ -55,7 +59,7 @@ orderly lines plan number (detail_mark_in wheel name mark rule pilot k row p0 p1
 orderly lines plan number (detail_mark_out wheel name mark (sign.X c) field pilot k row p0 p1 p2 p3) = refl
 orderly lines plan number (detail_mark_out wheel name mark (sign.NX c) field pilot k row p0 p1 p2 p3) = refl
 orderly lines plan number (pickup field rule pilot p0 p1) = refl
-orderly lines plan number (entry level wheel name digits mark field group position p0 p1 p2 p3 p4) = refl
+orderly lines plan number (entry level wheel name digits mark field group position place p0 p1 p2 p3 p4) = refl
 orderly lines plan number (entry_adds level wheel name digits mark group p0 p1 p2) = refl
 orderly lines plan number (entry_sign level wheel name digits mark rule pilot p0 p1 p2) = refl
 orderly lines plan number (entry_plus level wheel name digits mark (sign.X c) pilot group p0 p1 p2 p3) = refl
@@ -63,16 +67,18 @@ orderly lines plan number (entry_plus level wheel name digits mark (sign.NX c) p
 orderly lines plan number (entry_minus level wheel name digits mark (sign.X c) pilot group p0 p1 p2 p3) = refl
 orderly lines plan number (entry_minus level wheel name digits mark (sign.NX c) pilot group p0 p1 p2 p3) = refl
 orderly lines plan number (read_out level wheel name digits mark group p0) = refl
-orderly lines plan number (total_digit level wheel name digits mark field group position p0 p1 p2 p3) = refl
+orderly lines plan number (total_digit level wheel name digits mark field group position place p0 p1 p2 p3) = refl
+orderly lines plan number (carry_up level wheel name digits mark lower upper p0) = refl
 orderly lines plan number (ring level wheel name digits mark rule group p0 p1) = refl
+orderly lines plan number (carry_round level wheel name digits mark rule lower upper p0 p1) = refl
 orderly lines plan number (balance_test level wheel name digits mark rule group p0 p1) = refl
 orderly lines plan number (conversion level wheel name digits mark rule group p0 p1) = refl
-orderly lines plan number (conversion_read_out level wheel name digits mark rule group p0 p1) = refl
-orderly lines plan number (conversion_minus level wheel name digits mark rule group p0 p1) = refl
+orderly lines plan number (conversion_read_out level wheel name digits mark rule top group p0 p1 p2) = refl
+orderly lines plan number (conversion_minus level wheel name digits mark rule top group p0 p1 p2) = refl
 orderly lines plan number (feedback level wheel name digits mark rule group position p0 p1 p2 p3) = refl
 orderly lines plan number (total_mark_in level wheel name digits mark rule group k row p0 p1 p2) = refl
 orderly lines plan number (total_mark_out level wheel name digits mark rule field group k row p0 p1 p2 p3) = refl
-orderly lines plan number (transfer level wheel name digits mark group upper other position p0 p1 p2 p3 p4) = refl
+orderly lines plan number (transfer level wheel name digits mark group upper other position place upper_place p0 p1 p2 p3 p4) = refl
 orderly lines plan number (transfer_adds level wheel name digits mark upper other p0 p1 p2) = refl
 orderly lines plan number (transfer_sign level wheel name digits mark rule group other p0 p1 p2) = refl
 orderly lines plan number (transfer_plus level wheel name digits mark rule group upper other p0 p1 p2 p3) = refl
@@ -117,10 +123,10 @@ wire_orderly lines plan number {x = x} {e = e} wire =
     by true true o c d p q r s u on = cc
     by false b o c d p q r s u on = cc
 
--- A carry exit leads to the carry entry of its own group alone, and nothing else leads there.
+-- A carry exit leads to a carry entry, and nothing else leads there.
 pub carry_kept :
     (lines : List Line) (plan : Lists) (number : ℕ) {statement : Statement} {x e : Hub} → LineWire lines plan number statement x e
-    → carry_out_of x ≡ carry_into e
+    → is_some (carry_out_of x) ≡ is_some (carry_into e)
 carry_kept lines plan number (detail_text wheel name field j p0 p1) = refl
 carry_kept lines plan number (indicated_text_in wheel name level field j x p0 p1 p2) = refl
 carry_kept lines plan number (indicated_text_out wheel name level field j x p0 p1 p2) = refl
@@ -133,7 +139,7 @@ carry_kept lines plan number (detail_mark_in wheel name mark rule pilot k row p0
 carry_kept lines plan number (detail_mark_out wheel name mark (sign.X c) field pilot k row p0 p1 p2 p3) = refl
 carry_kept lines plan number (detail_mark_out wheel name mark (sign.NX c) field pilot k row p0 p1 p2 p3) = refl
 carry_kept lines plan number (pickup field rule pilot p0 p1) = refl
-carry_kept lines plan number (entry level wheel name digits mark field group position p0 p1 p2 p3 p4) = refl
+carry_kept lines plan number (entry level wheel name digits mark field group position place p0 p1 p2 p3 p4) = refl
 carry_kept lines plan number (entry_adds level wheel name digits mark group p0 p1 p2) = refl
 carry_kept lines plan number (entry_sign level wheel name digits mark rule pilot p0 p1 p2) = refl
 carry_kept lines plan number (entry_plus level wheel name digits mark (sign.X c) pilot group p0 p1 p2 p3) = refl
@@ -141,16 +147,18 @@ carry_kept lines plan number (entry_plus level wheel name digits mark (sign.NX c
 carry_kept lines plan number (entry_minus level wheel name digits mark (sign.X c) pilot group p0 p1 p2 p3) = refl
 carry_kept lines plan number (entry_minus level wheel name digits mark (sign.NX c) pilot group p0 p1 p2 p3) = refl
 carry_kept lines plan number (read_out level wheel name digits mark group p0) = refl
-carry_kept lines plan number (total_digit level wheel name digits mark field group position p0 p1 p2 p3) = refl
+carry_kept lines plan number (total_digit level wheel name digits mark field group position place p0 p1 p2 p3) = refl
+carry_kept lines plan number (carry_up level wheel name digits mark lower upper p0) = refl
 carry_kept lines plan number (ring level wheel name digits mark rule group p0 p1) = refl
+carry_kept lines plan number (carry_round level wheel name digits mark rule lower upper p0 p1) = refl
 carry_kept lines plan number (balance_test level wheel name digits mark rule group p0 p1) = refl
 carry_kept lines plan number (conversion level wheel name digits mark rule group p0 p1) = refl
-carry_kept lines plan number (conversion_read_out level wheel name digits mark rule group p0 p1) = refl
-carry_kept lines plan number (conversion_minus level wheel name digits mark rule group p0 p1) = refl
+carry_kept lines plan number (conversion_read_out level wheel name digits mark rule top group p0 p1 p2) = refl
+carry_kept lines plan number (conversion_minus level wheel name digits mark rule top group p0 p1 p2) = refl
 carry_kept lines plan number (feedback level wheel name digits mark rule group position p0 p1 p2 p3) = refl
 carry_kept lines plan number (total_mark_in level wheel name digits mark rule group k row p0 p1 p2) = refl
 carry_kept lines plan number (total_mark_out level wheel name digits mark rule field group k row p0 p1 p2 p3) = refl
-carry_kept lines plan number (transfer level wheel name digits mark group upper other position p0 p1 p2 p3 p4) = refl
+carry_kept lines plan number (transfer level wheel name digits mark group upper other position place upper_place p0 p1 p2 p3 p4) = refl
 carry_kept lines plan number (transfer_adds level wheel name digits mark upper other p0 p1 p2) = refl
 carry_kept lines plan number (transfer_sign level wheel name digits mark rule group other p0 p1 p2) = refl
 carry_kept lines plan number (transfer_plus level wheel name digits mark rule group upper other p0 p1 p2 p3) = refl
@@ -171,14 +179,10 @@ carry_kept lines plan number (page (body.Total level)) = refl
 carry_kept lines plan number (skip body.Detail channel) = refl
 carry_kept lines plan number (skip (body.Total level) channel) = refl
 
--- the hub of a carry, by its group
-carry_out : (hub : Hub) (group : Group) → carry_out_of hub ≡ Some group → hub ≡ CO group
-carry_out (CO name) group is = let same : name ≡ group = same_Some name group is in ap CO same
-carry_out other group is = cc
-
-carry_in : (hub : Hub) (group : Group) → carry_into hub ≡ Some group → hub ≡ CI group
-carry_in (CI name) group is = let same : name ≡ group = same_Some name group is in ap CI same
-carry_in other group is = cc
+-- an entry into which a carry goes is a carry hub
+carry_in : (hub : Hub) → is_some (carry_into hub) ≡ true → is_carry hub ≡ true
+carry_in (CI name) on = refl
+carry_in other on = cc
 
 -- so wires from carry hubs lead to carry hubs
 pub carry_on :
@@ -187,14 +191,23 @@ pub carry_on :
 carry_on lines plan number {x = x} {e = e} wire =
     by x (wire_orderly lines plan number wire).from (carry_kept lines plan number wire)
   where
-    by : (hub : Hub) → is_exit_kind hub ≡ true → carry_out_of hub ≡ carry_into e → is_carry hub ≡ true → is_carry e ≡ true
-    by (CO name) from kept is = ap is_carry (carry_in e name (sym kept))
+    by : (hub : Hub) → is_exit_kind hub ≡ true → is_some (carry_out_of hub) ≡ is_some (carry_into e) → is_carry hub ≡ true → is_carry e ≡ true
+    by (CO name) from kept is = carry_in e (sym kept)
     by (CI name) from kept is = cc
     by other from kept is = cc
 
--- and a carry entry is fed by the carry exit of its own group
-pub fed_by_itself :
-    (lines : List Line) (plan : Lists) (number : ℕ) {statement : Statement} {x e : Hub} → LineWire lines plan number statement x e
-    → (group : Group) → e ≡ CI group → x ≡ CO group
-fed_by_itself lines plan number {x = x} {e = e} wire group is =
-    carry_out x group (carry_kept lines plan number wire ∙ ap carry_into is)
+-- The carry exits that are wired to the carry entry of a group: its own, where it is the only one of a signed total, and that of
+-- the other group where two serve one total.
+pub data ToCarry (lines : List Line) (plan : Lists) (number : ℕ) (group : Group) : Hub → Type 0 where
+  from_itself : (name : List ℕ) (rule : SignRule) → group_for lines plan number ≡ Some group → IsSigned lines name rule
+      → ToCarry lines plan number group (CO group)
+  from_lower : (lower upper : CounterGroup) → counter_for lines plan number ≡ Some (of.Coupled lower upper) → panel_group upper ≡ group
+      → ToCarry lines plan number group (CO (panel_group lower))
+  from_upper : (lower upper : CounterGroup) → counter_for lines plan number ≡ Some (of.Coupled lower upper) → panel_group lower ≡ group
+      → ToCarry lines plan number group (CO (panel_group upper))
+
+pub to_carry : (lines : List Line) (plan : Lists) (number : ℕ) {statement : Statement} {x : Hub} {group : Group}
+    → LineWire lines plan number statement x (CI group) → ToCarry lines plan number group x
+to_carry lines plan number (ring level wheel name digits mark rule group is signed) = from_itself name rule is signed
+to_carry lines plan number (carry_up level wheel name digits mark lower upper there) = from_lower lower upper there refl
+to_carry lines plan number (carry_round level wheel name digits mark rule lower upper there signed) = from_upper lower upper there refl

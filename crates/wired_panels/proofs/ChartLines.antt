@@ -1,6 +1,5 @@
 -- A FIELD line of a lawful chart is what its name stands for.
-use Rattle.std.proofs.Common.{◌≡◌, ◌∙◌, refl, sym, ap, ℕ, zero, suc, ◌<◌, Bool, true, false, List, [], ◌∷◌, ◌++◌, Contains, Option, Some, None, is_some, arith, if◌then◌else◌}
-use Rattle.std.proofs.lemmas.Bool.Decides.{nat_tests}
+use Rattle.std.proofs.Common.{◌≡◌, ◌∙◌, refl, sym, ap, Bool, true, false, List, [], ◌∷◌, ◌++◌, Contains, Option, Some, None, is_some, if◌then◌else◌}
 use Rattle.std.specs.List.{cons_option}
 use Rattle.chart_rules.proofs.Laws.{breaks-lawful}
 use Rattle.field_rules.proofs.Places.{is_same_name-own}
@@ -9,11 +8,10 @@ use Rattle.field_rules.specs.Fields.{field_of, fields_of, first_named, field_nam
 use Rattle.field_rules.specs.Names.{breaks_name_twice}
 use Rattle.chart_rules.specs.Rules.{IsLawful}
 use Rattle.chart_rules.specs.declared.rule.Rule.TheVariants as rule
-use Rattle.charts.specs.Chart.{Chart, NumbersRise}
+use Rattle.charts.specs.Chart.{Chart}
 use Rattle.charts.specs.Name.{is_same_name}
 use Rattle.charts.specs.declared.chart.Line.{Line}
 use Rattle.charts.specs.declared.statement.Field.{Field}
-use Rattle.charts.specs.declared.statement.Statement.{Statement}
 use Rattle.charts.specs.declared.statement.Statement.TheVariants as says
 
 -- the first field with a name, after lines that have none with it

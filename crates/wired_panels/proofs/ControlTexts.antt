@@ -1,21 +1,19 @@
 -- The columns of control fields on valid cards are sets of the twelve rows.
-use Rattle.std.proofs.Common.{◌≡◌, ◌∙◌, refl, sym, ap, subst, ℕ, ◌+◌, ◌<◌, ◌==◌, ◌&&◌, Bool, true, false, List, [], ◌∷◌, Contains, Option, Some, take, arith, if◌then◌else◌}
+use Rattle.std.proofs.Common.{◌≡◌, ◌∙◌, refl, sym, ap, ℕ, ◌+◌, ◌<◌, ◌==◌, ◌&&◌, Bool, true, false, List, [], ◌∷◌, Contains, Option, Some, arith, if◌then◌else◌}
 use Rattle.std.proofs.lemmas.Bool.Decides.{nat_tests}
 use Rattle.std.specs.List.{list_all}
 use Rattle.card_code.specs.CardCode.{code, character_in, deck_character}
 use Rattle.card_code.specs.Rows.{is_row_set}
-use Rattle.field_rules.specs.Fields.{field_named, fields_of}
+use Rattle.field_rules.specs.Fields.{field_named}
 use Rattle.field_rules.specs.Names.{names_amount}
 use Rattle.chart_rules.specs.Rules.{IsLawful, breaks}
-use Rattle.chart_rules.specs.ValidCard.{IsValidCard, IsValidKind, IsText, column_of, is_printed}
+use Rattle.chart_rules.specs.ValidCard.{IsValidCard, IsText, column_of, is_printed}
 use Rattle.chart_rules.specs.declared.rule.Rule.TheVariants as rule
 use Rattle.charts.specs.Chart.{Chart}
-use Rattle.charts.specs.Field.{columns_of, is_amount}
+use Rattle.charts.specs.Field.{columns_of}
 use Rattle.charts.specs.declared.chart.Line.{Line}
 use Rattle.charts.specs.declared.level.ControlLevel.{ControlLevel}
 use Rattle.charts.specs.declared.statement.Field.{Field}
-use Rattle.charts.specs.declared.statement.FieldKind.{FieldKind}
-use Rattle.charts.specs.declared.statement.FieldKind.TheVariants as holds
 use Rattle.charts.specs.declared.statement.Statement.TheVariants as says
 use Rattle.chart_rules.proofs.Laws.{kept-line, text-valid}
 

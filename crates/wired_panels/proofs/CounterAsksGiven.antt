@@ -1,4 +1,4 @@
--- What adds, subtracts, reads out and tests impulses the control hubs of the counter group of a total.
+-- What adds, subtracts, reads out and tests impulses the control hubs of a counter group of a total.
 use Rattle.std.proofs.Common.{◌≡◌, refl, sym, subst, ℕ, Bool, true, List, Option, Some}
 use Rattle.plans.specs.Plans.{Lists}
 use Rattle.charts.specs.Chart.{Chart, NumbersRise}
@@ -17,7 +17,7 @@ use Rattle.net.specs.declared.cycle.Point.{Point}
 use Rattle.net.specs.declared.cycle.Point.TheVariants.{C}
 use Rattle.whole_cycles.specs.WholeCycles.{control_emits}
 use Rattle.wiring_table.specs.Figures.{IsSigned}
-use Rattle.wiring_table.specs.Parts.{HasTotal, IsLowest, IsNextHigher, pilot_for, negative_side, positive_side}
+use Rattle.wiring_table.specs.Parts.{HasTotal, IsLowest, IsNextHigher, pilot_for, negative_side, positive_side, top_for}
 use Rattle.wiring_table.specs.Wires.{LineWire, ChartWire}
 use Rattle.wiring_table.specs.Wires.LineWire.{entry_adds, entry_sign, entry_plus, entry_minus, read_out, balance_test, conversion, conversion_read_out, conversion_minus, transfer_adds, transfer_sign, transfer_plus, transfer_minus}
 use Rattle.wired_panels.proofs.CounterAsksControls.{shut, Pluses, Minuses, ReadsOut, Tests, numbered, positive_common, negative_common}
@@ -26,7 +26,7 @@ use Rattle.wired_panels.proofs.CounterAsksControls.Minuses.{less_by_sign, less_t
 use Rattle.wired_panels.proofs.CounterAsksControls.ReadsOut.{shows_it, turns_it}
 use Rattle.wired_panels.proofs.CounterAsksControls.Tests.{tests_it}
 use Rattle.wired_panels.proofs.CounterAsksTold.{IsStep, card_emits, step_emits, IsUnder, next_higher, wire_of}
-use Rattle.wired_panels.specs.Groups.{IsGroupOf}
+use Rattle.wired_panels.specs.Groups.{IsGroupOf, IsTopOf}
 use Rattle.wired_panels.proofs.Straight.{control_arrives}
 use Rattle.wired_panels.specs.PanelCycles.{IsPanelCycle}
 use Rattle.wired_panels.specs.Panel.{Arrives}
@@ -53,7 +53,8 @@ module _ (chart : Chart) (plan : Lists) (wiring : Wiring) (old : MachineState) (
       subst (λ l. LineWire chart.lines plan number (says.TotalAmount its wheel name total.digits mark) (PX l step) entry) same
       (make its wheel mark same))
 
-  module _ (name : List ℕ) (level : ℕ) (group : Group) (own : IsGroupOf chart.lines plan name level group) where
+  module _ (name : List ℕ) (level : ℕ) (group : Group) (own : IsGroupOf chart.lines plan name level group) (top : Group)
+      (balance : top_for chart.lines plan own.number ≡ Some top) where
     -- the lowest total, by its line
     lowest : (its : ChartLevel) → chart_level its ≡ level → IsLowest chart.lines name level → IsLowest chart.lines name (chart_level its)
     lowest its same low = subst (λ l. IsLowest chart.lines name l) (sym same) low
@@ -73,7 +74,7 @@ module _ (chart : Chart) (plan : Lists) (wiring : Wiring) (old : MachineState) (
 
     -- the wire of the third program cycle to the balance position of the lower total
     to_latch : (low : ℕ) (rule : SignRule) (lower : Group) → IsUnder chart.lines name low level → IsSigned chart.lines name rule
-        → IsGroupOf chart.lines plan name low lower → ChartWire chart.lines plan (PX low 3) (BAC lower 2)
+        → IsTopOf chart.lines plan name low lower → ChartWire chart.lines plan (PX low 3) (BAC lower 2)
     to_latch low rule lower under signed given =
         from_step name low given.number 3 (BAC lower 2) given.total
         (λ its wheel mark same.
@@ -109,15 +110,15 @@ module _ (chart : Chart) (plan : Lists) (wiring : Wiring) (old : MachineState) (
             (higher low its same under) own.served))
 
     -- the wire of the second program cycle to the balance position of the total
-    to_turn : (rule : SignRule) → IsSigned chart.lines name rule → ChartWire chart.lines plan (PX level 2) (BAC group 1)
+    to_turn : (rule : SignRule) → IsSigned chart.lines name rule → ChartWire chart.lines plan (PX level 2) (BAC top 1)
     to_turn rule signed =
-        from_step name level own.number 2 (BAC group 1) own.total
-        (λ its wheel mark same. conversion its wheel name own.total.digits mark rule group own.served signed)
+        from_step name level own.number 2 (BAC top 1) own.total
+        (λ its wheel mark same. conversion its wheel name own.total.digits mark rule top balance signed)
 
-    pub gives_minus : Minuses chart.lines plan (shut old cycle) cycle name level group → pictures C (MI group) ≡ true
+    pub gives_minus : Minuses chart.lines plan (shut old cycle) cycle name level top → pictures C (MI group) ≡ true
     gives_minus subtracts = (control_arrives chart plan wiring old cycle pictures at (MI group) refl refl).1 (by subtracts)
       where
-        by : Minuses chart.lines plan (shut old cycle) cycle name level group
+        by : Minuses chart.lines plan (shut old cycle) cycle name level top
             → Arrives chart.lines plan (control_emits cycle) (shut old cycle) (MI group)
         by (less_by_sign rule pilot is low signed served closed) =
             through CC (PIC pilot 1) (negative_side rule pilot 1) (MI group) (card_emits cycle is) (to_sign rule pilot low signed served)
@@ -127,9 +128,9 @@ module _ (chart : Chart) (plan : Lists) (wiring : Wiring) (old : MachineState) (
             entry_minus its wheel name own.total.digits mark rule pilot group (lowest its same low) own.served signed served))
         by (less_turned rule is signed closed) =
             let first = to_turn rule signed in
-            through (PX level 2) (BAC group 1) (BAT group 1) (MI group) (telling_step level 2 (BAC group 1) is first) first refl closed
-            (wire_of chart.lines plan name level own.number (BAT group 1) (MI group) own.total
-            (λ its wheel mark same. conversion_minus its wheel name own.total.digits mark rule group own.served signed))
+            through (PX level 2) (BAC top 1) (BAT top 1) (MI group) (telling_step level 2 (BAC top 1) is first) first refl closed
+            (wire_of chart.lines plan name level own.number (BAT top 1) (MI group) own.total
+            (λ its wheel mark same. conversion_minus its wheel name own.total.digits mark rule top group balance own.served signed))
         by (less_by_latch low rule lower is under signed given closed) =
             let first = to_latch low rule lower under signed given in
             through (PX low 3) (BAC lower 2) (BAT lower 2) (MI group) (telling_step low 3 (BAC lower 2) is first) first refl closed
@@ -138,10 +139,10 @@ module _ (chart : Chart) (plan : Lists) (wiring : Wiring) (old : MachineState) (
             transfer_minus its wheel name given.total.digits mark rule lower group own.number given.served signed
             (higher low its same under) own.served))
 
-    pub gives_read : ReadsOut chart.lines (shut old cycle) cycle name level group → pictures C (RO group) ≡ true
+    pub gives_read : ReadsOut chart.lines (shut old cycle) cycle name level top → pictures C (RO group) ≡ true
     gives_read reads = (control_arrives chart plan wiring old cycle pictures at (RO group) refl refl).1 (by reads)
       where
-        by : ReadsOut chart.lines (shut old cycle) cycle name level group
+        by : ReadsOut chart.lines (shut old cycle) cycle name level top
             → Arrives chart.lines plan (control_emits cycle) (shut old cycle) (RO group)
         by (shows_it is) =
             let given = from_step name level own.number 3 (RO group) own.total
@@ -149,15 +150,15 @@ module _ (chart : Chart) (plan : Lists) (wiring : Wiring) (old : MachineState) (
             straight (PX level 3) (RO group) (telling_step level 3 (RO group) is given) given
         by (turns_it rule is signed closed) =
             let first = to_turn rule signed in
-            through (PX level 2) (BAC group 1) (BAT group 1) (RO group) (telling_step level 2 (BAC group 1) is first) first refl closed
-            (wire_of chart.lines plan name level own.number (BAT group 1) (RO group) own.total
-            (λ its wheel mark same. conversion_read_out its wheel name own.total.digits mark rule group own.served signed))
+            through (PX level 2) (BAC top 1) (BAT top 1) (RO group) (telling_step level 2 (BAC top 1) is first) first refl closed
+            (wire_of chart.lines plan name level own.number (BAT top 1) (RO group) own.total
+            (λ its wheel mark same. conversion_read_out its wheel name own.total.digits mark rule top group balance own.served signed))
 
-    pub gives_test : Tests chart.lines cycle name level → pictures C (BT group) ≡ true
-    gives_test tests = (control_arrives chart plan wiring old cycle pictures at (BT group) refl refl).1 (by tests)
+    pub gives_test : Tests chart.lines cycle name level → pictures C (BT top) ≡ true
+    gives_test tests = (control_arrives chart plan wiring old cycle pictures at (BT top) refl refl).1 (by tests)
       where
-        by : Tests chart.lines cycle name level → Arrives chart.lines plan (control_emits cycle) (shut old cycle) (BT group)
+        by : Tests chart.lines cycle name level → Arrives chart.lines plan (control_emits cycle) (shut old cycle) (BT top)
         by (tests_it rule is signed) =
-            let given = from_step name level own.number 1 (BT group) own.total
-            (λ its wheel mark same. balance_test its wheel name own.total.digits mark rule group own.served signed) in
-            straight (PX level 1) (BT group) (telling_step level 1 (BT group) is given) given
+            let given = from_step name level own.number 1 (BT top) own.total
+            (λ its wheel mark same. balance_test its wheel name own.total.digits mark rule top balance signed) in
+            straight (PX level 1) (BT top) (telling_step level 1 (BT top) is given) given

@@ -17,8 +17,8 @@ use Rattle.machine.proofs.ClosedContacts.{AreFrom, are_from, group_units-up, uni
 use Rattle.machine.specs.Fields.{AreInUnitOrder}
 use Rattle.machine.specs.Machine.{group_units}
 use Rattle.net.specs.Panel.{unit_of, unit_after}
-use Rattle.wiring_table.specs.Parts.{group_for}
-use Rattle.wiring_table.proofs.Groups.{group-there}
+use Rattle.wiring_table.specs.Parts.{ServesTotal}
+use Rattle.wiring_table.proofs.Groups.{serves-there}
 use Rattle.charts.proofs.Listed.{listed-after, listed-cases, listed-first}
 
 -- a group of the standard machine is one of the units 3 and up
@@ -120,5 +120,5 @@ counter_there groups group ordered there =
     (counter, listed, one_unit counter.name group number there)
 
 pub planned_unit : (lines : List Line) (plan : Lists) (number : ℕ) (group : Group) → IsFor lines plan
-    → group_for lines plan number ≡ Some group → 3 ≤ unit_of group
-planned_unit lines plan number group planned served = unit_there group (group-there lines plan planned number group served)
+    → ServesTotal lines plan number group → 3 ≤ unit_of group
+planned_unit lines plan number group planned serves = unit_there group (serves-there lines plan planned number group serves)

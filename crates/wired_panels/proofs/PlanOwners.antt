@@ -1,39 +1,25 @@
--- A counter group serves one total, which has one group, and each signed amount with a total has a pilot.
-use Rattle.std.proofs.Common.{◌≡◌, ◌+◌, filter, ◌∙◌, refl, sym, ap, subst, ℕ, ◌<◌, ◌≤◌, ◌==◌, Bool, true, false, List, [], ◌∷◌, ◌++◌, Contains, Option, Some, None, is_some, position, option_map, option_and_then, slice_get, get_or, length, append_assoc, ◌⊎◌, inl, inr, arith}
-use Rattle.std.proofs.lemmas.Bool.Decides.{nat_tests}
-use Rattle.std.proofs.lemmas.List.Elements.{Contains-append_cases, Contains-append_right}
-use Rattle.std.proofs.lemmas.Option.{slice_get_within, slice_get_cases}
-use Rattle.wanted.specs.ChartTotals.{line_total, totals_of, need_of}
-use Rattle.wanted.specs.Pilots.{shows, prints_name, wants_pilot, pilots_of}
-use Rattle.plans.specs.Plans.{Lists, IsFor, number_where}
-use Rattle.wanted.specs.declared.total.Total.{Total}
-use Rattle.wanted.specs.Wanted.{Parts}
-use Rattle.capacity.specs.Capacities.{HasGroup, standard}
-use Rattle.capacity.specs.declared.group.CounterGroup.{CounterGroup}
-use Rattle.chart_rules.proofs.Laws.{breaks-lawful}
+-- A counter group serves one total, one group has the balance of a total, and each signed amount with a total has a pilot.
+use Rattle.std.proofs.Common.{◌≡◌, ◌∙◌, refl, sym, ap, ℕ, ◌≤◌, true, List, Some, None, is_some, position, arith}
+use Rattle.wanted.specs.Pilots.{shows}
+use Rattle.plans.specs.Plans.{Lists, IsFor}
 use Rattle.field_rules.proofs.Places.{is_same_name-equal}
-use Rattle.field_rules.specs.Fields.{field_named, fields_of}
-use Rattle.field_rules.specs.Repeats.{repeats}
 use Rattle.chart_rules.specs.Rules.{IsLawful}
-use Rattle.chart_rules.specs.declared.rule.Rule.TheVariants as rule
 use Rattle.charts.specs.Chart.{Chart, NumbersRise}
 use Rattle.charts.specs.Field.{sign_column}
 use Rattle.charts.specs.Levels.{level_number}
-use Rattle.charts.specs.Name.{is_same_name}
 use Rattle.charts.specs.declared.chart.Line.{Line}
 use Rattle.charts.specs.declared.level.Level.{Level}
 use Rattle.charts.specs.declared.level.Level.TheVariants as level
-use Rattle.charts.specs.declared.statement.Field.{Field}
 use Rattle.charts.specs.declared.statement.FieldKind.{FieldKind}
 use Rattle.charts.specs.declared.statement.FieldKind.TheVariants as holds
 use Rattle.charts.specs.declared.statement.SignRule.{SignRule}
 use Rattle.charts.specs.declared.statement.Statement.TheVariants as says
 use Rattle.hubs.specs.declared.hub.Group.{Group}
 use Rattle.wiring_table.specs.Figures.{IsSigned, rule_of}
-use Rattle.wiring_table.specs.Parts.{HasTotal, group_for, panel_group, pilot_for}
-use Rattle.wired_panels.specs.Groups.{IsGroupOf}
+use Rattle.wiring_table.specs.Parts.{HasTotal, pilot_for, top_for}
+use Rattle.wired_panels.specs.Groups.{IsGroupOf, IsPlaceFor, IsTopOf}
 use Rattle.charts.proofs.Rising.{one-line}
-use Rattle.wiring_table.proofs.Groups.{group-own}
+use Rattle.wiring_table.proofs.Groups.{position-serves, serves-own, top-serves}
 use Rattle.wiring_table.proofs.Parts.{pilot-given}
 use Rattle.wiring_table.proofs.Totals.{one-total}
 
@@ -66,7 +52,7 @@ pub one_owner : (chart : Chart) (plan : Lists) (one other : List ℕ) (level oth
     → NumbersRise chart.lines chart.end → IsFor chart.lines plan → IsGroupOf chart.lines plan one level group
     → IsGroupOf chart.lines plan other other_level group → IsSameTotal one other level other_level
 one_owner chart plan one other its_level other_level group rise planned a b =
-    let number = group-own chart.lines plan planned a.number b.number group a.served b.served in
+    let number = serves-own chart.lines plan planned a.number b.number group a.served b.served in
     let numbers : a.total.line.number ≡ b.total.line.number = a.total.is_number ∙ number ∙ sym b.total.is_number in
     let line = one-line chart.lines chart.end a.total.line b.total.line rise a.total.listed b.total.listed numbers in
     let says_same : says.TotalAmount a.total.its_level a.total.wheel a.total.its_name a.total.digits a.total.mark
@@ -81,10 +67,22 @@ one_owner chart plan one other its_level other_level group rise planned a b =
       level = sym a.total.same_level ∙ ap level_number levels ∙ b.total.same_level;
     }
 
--- a total has one counter group
-pub one_group : (chart : Chart) (plan : Lists) (name : List ℕ) (level : ℕ) (group other : Group) → IsLawful chart
-    → IsGroupOf chart.lines plan name level group → IsGroupOf chart.lines plan name level other → group ≡ other
-one_group chart plan name its_level group other lawful a b =
+-- the group with the balance of a total is one of its groups
+pub of_top : (lines : List Line) (plan : Lists) (name : List ℕ) (level : ℕ) (top : Group) → IsTopOf lines plan name level top
+    → IsGroupOf lines plan name level top
+of_top lines plan name its_level top is =
+    record { number = is.number; total = is.total; served = top-serves lines plan is.number top is.served }
+
+-- a group with a position of a total is one of its groups
+pub of_place : (lines : List Line) (plan : Lists) {name : List ℕ} {level position : ℕ} {group : Group} {place : ℕ}
+    → IsPlaceFor lines plan name level position group place → IsGroupOf lines plan name level group
+of_place lines plan {position = position} {group = group} {place = place} is =
+    record { number = is.number; total = is.total; served = position-serves lines plan is.number position group place is.served }
+
+-- a total has one group with its balance
+pub one_top : (chart : Chart) (plan : Lists) (name : List ℕ) (level : ℕ) (top other : Group) → IsLawful chart
+    → IsTopOf chart.lines plan name level top → IsTopOf chart.lines plan name level other → top ≡ other
+one_top chart plan name its_level top other lawful a b =
     let number = one-total chart name lawful its_level a.number b.number a.total b.total in
-    let same : Some group ≡ Some other = sym a.served ∙ ap (group_for chart.lines plan) number ∙ b.served in
+    let same : Some top ≡ Some other = sym a.served ∙ ap (top_for chart.lines plan) number ∙ b.served in
     cc

@@ -1,5 +1,5 @@
 -- Which counter groups read out in a cycle.
-use Rattle.std.proofs.Common.{◌≡◌, ◌∙◌, refl, sym, subst, ℕ, Bool, true, List, ◌↔◌, arith}
+use Rattle.std.proofs.Common.{◌≡◌, ◌∙◌, refl, sym, ap, subst, ℕ, Bool, true, List, Some, option_map, ◌↔◌, arith}
 use Rattle.plans.specs.Plans.{Lists}
 use Rattle.charts.specs.Chart.{Chart, NumbersRise}
 use Rattle.setups.specs.Wiring.{Wiring}
@@ -13,6 +13,8 @@ use Rattle.net.specs.declared.cycle.Cycle.TheVariants.{Card, Head, Prog, RunIn}
 use Rattle.net.specs.declared.cycle.Ordinal.TheVariants.{First, Second, Third}
 use Rattle.net.specs.declared.cycle.Point.{Point}
 use Rattle.net.specs.declared.cycle.Point.TheVariants.{C}
+use Rattle.wiring_table.proofs.Groups.{top-serves}
+use Rattle.wiring_table.specs.Parts.{top_for, top_group}
 use Rattle.wiring_table.specs.Wires.{ChartWire}
 use Rattle.wired_panels.proofs.Contacts.{is_set}
 use Rattle.wired_panels.proofs.CounterAsksContacts.{transferred_is}
@@ -33,7 +35,7 @@ module _ (chart : Chart) (plan : Lists) where
   -- wires lead to the read-out hub of the groups of totals alone
   read_serving : {group : Group} {exit : Hub} → ToReadOut chart.lines plan group exit → IsServing chart.lines plan group
   read_serving (read_shown name level given) = record { name = name; level = level; own = given }
-  read_serving (read_turned name level rule given signed) = record { name = name; level = level; own = given }
+  read_serving (read_turned name level rule top given given_top signed) = record { name = name; level = level; own = given }
 
   -- what comes to a hub comes by a last wire
   last_wire : {exits closed : Hub → Bool} {hub : Hub} → Arrives chart.lines plan exits closed hub → (exit : Hub) × ChartWire chart.lines plan exit hub
@@ -56,42 +58,47 @@ module _ (chart : Chart) (plan : Lists) (wiring : Wiring) (rise : NumbersRise ch
       → (pictures C (RO group) ≡ true) ↔ Reading chart plan old group cycle
   reading cycle at = (λ on. told cycle at on, given cycle at)
     where
-      latch : (cycle : Cycle) (name : List ℕ) (level : ℕ) → IsPanelCycle chart plan wiring old cycle pictures
-          → IsGroupOf chart.lines plan name level group → shut old cycle (BAT group 1) ≡ is_set old group
-      latch cycle name level at own =
-          transferred_is old cycle group 1 at.between.ordered
-          (planned_unit chart.lines plan own.number group at.panel.planned own.served) refl
+      latch : (cycle : Cycle) (number : ℕ) (top : Group) → IsPanelCycle chart plan wiring old cycle pictures
+          → top_for chart.lines plan number ≡ Some top → shut old cycle (BAT top 1) ≡ is_set old top
+      latch cycle number top at balance =
+          transferred_is old cycle top 1 at.between.ordered
+          (planned_unit chart.lines plan number top at.panel.planned (top-serves chart.lines plan number top balance)) refl
 
-      by : (cycle : Cycle) → IsPanelCycle chart plan wiring old cycle pictures → (name : List ℕ) (level : ℕ)
-          → IsGroupOf chart.lines plan name level group → ReadsOut chart.lines (shut old cycle) cycle name level group
+      by : (cycle : Cycle) → IsPanelCycle chart plan wiring old cycle pictures → (name : List ℕ) (level : ℕ) (top : Group)
+          → (own : IsGroupOf chart.lines plan name level group) → top_for chart.lines plan own.number ≡ Some top
+          → ReadsOut chart.lines (shut old cycle) cycle name level top
           → Reading chart plan old group cycle
-      by RunIn at name level own (shows_it is) = absurd is
-      by RunIn at name level own (turns_it rule is its_sign closed) = absurd is
-      by Card at name level own (shows_it is) = absurd is
-      by Card at name level own (turns_it rule is its_sign closed) = absurd is
-      by (Head heading) at name level own (shows_it is) = absurd is
-      by (Head heading) at name level own (turns_it rule is its_sign closed) = absurd is
-      by (Prog l First) at name level own (shows_it is) = absurd (omega (arith, is.1))
-      by (Prog l First) at name level own (turns_it rule is its_sign closed) = absurd (omega (arith, is.1))
-      by (Prog l Second) at name level own (shows_it is) = absurd (omega (arith, is.1))
-      by (Prog l Second) at name level own (turns_it rule is its_sign closed) =
-          second l name rule (subst (λ k. IsGroupOf chart.lines plan name k group) (sym is.0) own) its_sign
-          (sym (latch (Prog l Second) name level at own) ∙ closed)
-      by (Prog l Third) at name level own (shows_it is) =
+      by RunIn at name level top own balance (shows_it is) = absurd is
+      by RunIn at name level top own balance (turns_it rule is its_sign closed) = absurd is
+      by Card at name level top own balance (shows_it is) = absurd is
+      by Card at name level top own balance (turns_it rule is its_sign closed) = absurd is
+      by (Head heading) at name level top own balance (shows_it is) = absurd is
+      by (Head heading) at name level top own balance (turns_it rule is its_sign closed) = absurd is
+      by (Prog l First) at name level top own balance (shows_it is) = absurd (omega (arith, is.1))
+      by (Prog l First) at name level top own balance (turns_it rule is its_sign closed) = absurd (omega (arith, is.1))
+      by (Prog l Second) at name level top own balance (shows_it is) = absurd (omega (arith, is.1))
+      by (Prog l Second) at name level top own balance (turns_it rule is its_sign closed) =
+          let (moved_own, moved_balance) =
+          subst (λ k. (o : IsGroupOf chart.lines plan name k group) × (top_for chart.lines plan o.number ≡ Some top)) (sym is.0) (own, balance) in
+          second l name rule top moved_own moved_balance its_sign (sym (latch (Prog l Second) own.number top at balance) ∙ closed)
+      by (Prog l Third) at name level top own balance (shows_it is) =
           third l name (subst (λ k. IsGroupOf chart.lines plan name k group) (sym is.0) own)
-      by (Prog l Third) at name level own (turns_it rule is its_sign closed) = absurd (omega (arith, is.1))
+      by (Prog l Third) at name level top own balance (turns_it rule is its_sign closed) = absurd (omega (arith, is.1))
 
       told : (cycle : Cycle) → IsPanelCycle chart plan wiring old cycle pictures → pictures C (RO group) ≡ true
           → Reading chart plan old group cycle
       told cycle at on =
           let serves = read_serves chart plan wiring old cycle pictures at group on in
-          by cycle at serves.name serves.level serves.own
-          (read_is chart plan wiring old cycle pictures at rise serves.name serves.level group serves.own on)
+          let top = top_group serves.own.served.counter in
+          let balance = ap (option_map top_group) serves.own.served.there in
+          by cycle at serves.name serves.level top serves.own balance
+          (read_is chart plan wiring old cycle pictures at rise serves.name serves.level group serves.own top balance on)
 
       given : (cycle : Cycle) → IsPanelCycle chart plan wiring old cycle pictures → Reading chart plan old group cycle
           → pictures C (RO group) ≡ true
       given cycle at (third l name own) =
-          gives_read chart plan wiring old (Prog l Third) pictures at rise name (level_number l) group own (shows_it (refl, refl))
-      given cycle at (second l name rule own its_sign is) =
-          gives_read chart plan wiring old (Prog l Second) pictures at rise name (level_number l) group own
-          (turns_it rule (refl, refl) its_sign (latch (Prog l Second) name (level_number l) at own ∙ is))
+          gives_read chart plan wiring old (Prog l Third) pictures at rise name (level_number l) group own
+          (top_group own.served.counter) (ap (option_map top_group) own.served.there) (shows_it (refl, refl))
+      given cycle at (second l name rule top own balance its_sign is) =
+          gives_read chart plan wiring old (Prog l Second) pictures at rise name (level_number l) group own top balance
+          (turns_it rule (refl, refl) its_sign (latch (Prog l Second) own.number top at balance ∙ is))

@@ -68,7 +68,7 @@ module _ (wiring : Wiring) (at : CycleRow) (it : IsPanelCycle at.chart at.plan w
       where
         by : {cycle : Cycle} → Reading at.chart at.plan at.old group cycle → can_print cycle ≡ true → (level : ProgramLevel) × (cycle ≡ Prog level Third)
         by (reads_third level name own) prints = (level, refl)
-        by (reads_second level name rule own signed on) prints = cc
+        by (reads_second level name rule top own balance signed on) prints = cc
 
     -- In the third program cycle of a level a group that reads out is that of a total of the level, and each of these reads out.
     pub total-read : (level : ProgramLevel) → at.cycle ≡ Prog level Third → (group : Group) → at.pictures C (RO group) ≡ true
@@ -84,7 +84,7 @@ module _ (wiring : Wiring) (at : CycleRow) (it : IsPanelCycle at.chart at.plan w
         by (reads_third l name own) same =
             let levels : level_number l ≡ level_number level = ap level_of same in
             (name, subst (λ n. IsGroupOf at.chart.lines at.plan name n group) levels own)
-        by (reads_second l name rule own signed on) same = cc
+        by (reads_second l name rule top own balance signed on) same = cc
 
     pub reads-total : (level : ProgramLevel) → at.cycle ≡ Prog level Third → (name : List ℕ) (group : Group)
         → IsGroupOf at.chart.lines at.plan name (level_number level) group → at.pictures C (RO group) ≡ true

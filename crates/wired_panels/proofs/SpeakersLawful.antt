@@ -1,31 +1,21 @@
 -- What the rules of charts say of two lines of one chart that speak.
-use Rattle.std.proofs.Common.{◌≡◌, ◌∙◌, refl, sym, ap, ℕ, zero, suc, ◌<◌, ◌≤◌, ◌==◌, ◌&&◌, ◌||◌, not, nat_le, nat_lt, Bool, true, false, List, [], ◌∷◌, ◌++◌, Contains, Option, Some, None, slice_get, position, take, drop, inl, inr, ◌⊎◌, arith}
-use Rattle.std.specs.Option.{option_and_then}
+use Rattle.std.proofs.Common.{◌≡◌, ◌∙◌, sym, ap, ℕ, zero, suc, ◌<◌, Bool, false, List, [], ◌∷◌, ◌++◌, Contains, Some, slice_get, take, drop, arith}
 use Rattle.std.specs.List.{list_any}
-use Rattle.std.proofs.lemmas.Bool.{not-false, or_parts}
-use Rattle.std.proofs.lemmas.Bool.Decides.{nat_tests}
+use Rattle.std.proofs.lemmas.Bool.{or_parts}
 use Rattle.std.proofs.Math.Seq.{split_at}
 use Rattle.std.proofs.lemmas.Option.{slice_get_within, get_or_from_slice_get}
 use Rattle.chart_rules.proofs.Laws.{breaks-lawful, said-once}
 use Rattle.field_rules.proofs.Places.{is_same_name-own}
-use Rattle.field_rules.specs.Columns.{breaks_columns, breaks_amount_size, has_good_sign}
-use Rattle.field_rules.specs.Fields.{field_named, fields_of}
+use Rattle.field_rules.specs.Fields.{fields_of}
 use Rattle.print_rules.specs.Items.{item_of}
-use Rattle.field_rules.specs.Repeats.{repeats}
 use Rattle.chart_rules.specs.Rules.{IsLawful, breaks}
 use Rattle.print_rules.specs.Wheels.{overlap}
 use Rattle.chart_rules.specs.declared.rule.Rule.TheVariants as rule
 use Rattle.chart_rules.specs.declared.rule.Rule.{Rule}
 use Rattle.charts.specs.Chart.{Chart}
-use Rattle.charts.specs.Field.{columns_of, decimals_of, sign_column}
-use Rattle.charts.specs.Name.{is_same_name}
 use Rattle.charts.specs.declared.chart.Line.{Line}
 use Rattle.charts.specs.declared.statement.DetailOption.{DetailOption}
-use Rattle.charts.specs.declared.statement.Field.{Field}
-use Rattle.charts.specs.declared.statement.FieldKind.TheVariants as holds
-use Rattle.charts.specs.declared.statement.FieldKind.{FieldKind}
 use Rattle.charts.specs.declared.statement.Statement.TheVariants as says
-use Rattle.charts.specs.declared.statement.Statement.{Statement}
 
 -- a line of a lawful chart breaks no rule
 pub kept-at :

@@ -1,6 +1,6 @@
 -- Which level a panel calls for at the closing point of a card cycle: the highest at which a break stands between the card at second
 -- reading and the next one, at first reading.
-use Rattle.std.proofs.Common.{◌≡◌, ◌∙◌, refl, sym, ap, subst, ℕ, ◌+◌, ◌<◌, ◌==◌, ◌&&◌, not, Bool, true, false, List, Contains, Some, None, ◌↔◌, arith, if◌then◌else◌}
+use Rattle.std.proofs.Common.{◌≡◌, ◌∙◌, refl, sym, ap, subst, ℕ, ◌+◌, ◌<◌, ◌==◌, not, Bool, true, false, List, Contains, Some, None, ◌↔◌, arith, if◌then◌else◌}
 use Rattle.std.proofs.lemmas.Bool.Decides.{nat_tests}
 use Rattle.std.proofs.lemmas.Bool.{not-true, and_parts}
 use Rattle.plans.specs.Plans.{Lists}
@@ -21,8 +21,7 @@ use Rattle.hub_table.specs.Ranges.{is_within}
 use Rattle.setups.specs.Wiring.{Wiring}
 use Rattle.hubs.specs.declared.hub.Hub.{Hub}
 use Rattle.hubs.specs.declared.hub.Hub.TheVariants.{FR, SR, CX, CA, CB, ST}
-use Rattle.machine.specs.Machine.{MachineState, closes}
-use Rattle.net.specs.Impulsed.{IsPicture}
+use Rattle.machine.specs.Machine.{MachineState}
 use Rattle.net.specs.declared.cycle.Cycle.TheVariants.{Card}
 use Rattle.net.specs.declared.cycle.ProgramLevel.TheVariants.{Minor, Intermediate, Major}
 use Rattle.net.specs.declared.cycle.Point.{Point}

@@ -14,10 +14,11 @@ use Rattle.hubs.specs.declared.hub.Group.{Group}
 use Rattle.hubs.specs.declared.hub.Hub.{Hub}
 use Rattle.hubs.specs.declared.hub.Hub.TheVariants.{SR, GX, BAN, BAT, CC, PX, EM, GE, PL, MI, RO, BT, BAC, PIC}
 use Rattle.wiring_table.specs.Figures.{IsAmount, IsSigned, IsUnsigned}
-use Rattle.wiring_table.specs.Parts.{HasTotal, IsLowest, IsNextHigher, group_for, pilot_for, negative_side, positive_side}
+use Rattle.wiring_table.specs.Parts.{HasTotal, IsLowest, IsNextHigher, ServesPosition, ServesTotal, pilot_for, negative_side, positive_side, top_for}
+use Rattle.wiring_table.proofs.Groups.{position-serves}
 use Rattle.wiring_table.specs.Wires.{LineWire}
 use Rattle.wiring_table.specs.Wires.LineWire.{detail_mark_in, entry, entry_adds, entry_sign, entry_plus, entry_minus, read_out, balance_test, conversion, conversion_read_out, conversion_minus, feedback, total_mark_in, transfer, transfer_adds, transfer_sign, transfer_plus, transfer_minus}
-use Rattle.wired_panels.specs.Groups.{IsGroupOf}
+use Rattle.wired_panels.specs.Groups.{IsGroupOf, IsPlaceFor, IsTopOf}
 use Rattle.field_rules.proofs.Places.{is_same_name-own}
 
 -- the total that a line says
@@ -51,7 +52,7 @@ pub itself : (lines : List Line) (line : Line) → Contains lines line → IsLin
 itself lines line listed = record { line = line; listed = listed; numbered = refl; says_it = refl }
 
 module _ (lines : List Line) (plan : Lists) where
-  -- the total on a line, and its group
+  -- the total on a line, and its groups, the top one, and its places
   pub on_line :
       (level : ChartLevel) (wheel : ℕ) (name : List ℕ) (digits : ℕ) (mark : Option Mark) (number : ℕ)
       → IsLine lines number (says.TotalAmount level wheel name digits mark) → HasTotal lines name (level_number level) number
@@ -60,18 +61,33 @@ module _ (lines : List Line) (plan : Lists) where
 
   pub with_group :
       (level : ChartLevel) (wheel : ℕ) (name : List ℕ) (digits : ℕ) (mark : Option Mark) (number : ℕ) (group : Group)
-      → IsLine lines number (says.TotalAmount level wheel name digits mark) → group_for lines plan number ≡ Some group
+      → IsLine lines number (says.TotalAmount level wheel name digits mark) → ServesTotal lines plan number group
       → IsGroupOf lines plan name (level_number level) group
   with_group level wheel name digits mark number group at served =
       record { number = number; total = on_line level wheel name digits mark number at; served = served }
 
-  -- The next higher total of an amount above a level is that of a group.
+  pub with_top :
+      (level : ChartLevel) (wheel : ℕ) (name : List ℕ) (digits : ℕ) (mark : Option Mark) (number : ℕ) (top : Group)
+      → IsLine lines number (says.TotalAmount level wheel name digits mark) → top_for lines plan number ≡ Some top
+      → IsTopOf lines plan name (level_number level) top
+  with_top level wheel name digits mark number top at served =
+      record { number = number; total = on_line level wheel name digits mark number at; served = served }
+
+  pub with_place :
+      (level : ChartLevel) (wheel : ℕ) (name : List ℕ) (digits : ℕ) (mark : Option Mark) (number position : ℕ) (group : Group)
+      (place : ℕ)
+      → IsLine lines number (says.TotalAmount level wheel name digits mark) → ServesPosition lines plan number position group place
+      → IsPlaceFor lines plan name (level_number level) position group place
+  with_place level wheel name digits mark number position group place at served =
+      record { number = number; total = on_line level wheel name digits mark number at; served = served }
+
+  -- A group serves the next higher total of an amount above a level.
   pub record GoesUp (name : List ℕ) (low : ℕ) (upper : Group) : Type 0 where
     pub lower_number : ℕ
     pub lower_total : HasTotal lines name low lower_number
     pub number : ℕ
     pub next : IsNextHigher lines name low number
-    pub served : group_for lines plan number ≡ Some upper
+    pub served : ServesTotal lines plan number upper
 
   -- the exits that are wired to the plus entry of a group
   pub data ToPlus (group : Group) : Hub → Type 0 where
@@ -82,34 +98,34 @@ module _ (lines : List Line) (plan : Lists) where
         → ToPlus group (positive_side rule pilot 1)
     up : (name : List ℕ) (low : ℕ) → GoesUp name low group → IsUnsigned lines name → ToPlus group (PX low 3)
     up_by_latch : (name : List ℕ) (low : ℕ) (rule : SignRule) (lower : Group) → GoesUp name low group → IsSigned lines name rule
-        → IsGroupOf lines plan name low lower → ToPlus group (BAN lower 2)
+        → IsTopOf lines plan name low lower → ToPlus group (BAN lower 2)
 
   -- and those wired to its minus entry
   pub data ToMinus (group : Group) : Hub → Type 0 where
     by_sign : (name : List ℕ) (level : ℕ) (rule : SignRule) (pilot : ℕ) → IsGroupOf lines plan name level group
         → IsLowest lines name level → IsSigned lines name rule → pilot_for plan name ≡ Some pilot
         → ToMinus group (negative_side rule pilot 1)
-    turned : (name : List ℕ) (level : ℕ) (rule : SignRule) → IsGroupOf lines plan name level group → IsSigned lines name rule
-        → ToMinus group (BAT group 1)
+    turned : (name : List ℕ) (level : ℕ) (rule : SignRule) (top : Group) → IsGroupOf lines plan name level group
+        → IsTopOf lines plan name level top → IsSigned lines name rule → ToMinus group (BAT top 1)
     up_by_latch : (name : List ℕ) (low : ℕ) (rule : SignRule) (lower : Group) → GoesUp name low group → IsSigned lines name rule
-        → IsGroupOf lines plan name low lower → ToMinus group (BAT lower 2)
+        → IsTopOf lines plan name low lower → ToMinus group (BAT lower 2)
 
   -- to its read-out entry
   pub data ToReadOut (group : Group) : Hub → Type 0 where
     shown : (name : List ℕ) (level : ℕ) → IsGroupOf lines plan name level group → ToReadOut group (PX level 3)
-    turned : (name : List ℕ) (level : ℕ) (rule : SignRule) → IsGroupOf lines plan name level group → IsSigned lines name rule
-        → ToReadOut group (BAT group 1)
+    turned : (name : List ℕ) (level : ℕ) (rule : SignRule) (top : Group) → IsGroupOf lines plan name level group
+        → IsTopOf lines plan name level top → IsSigned lines name rule → ToReadOut group (BAT top 1)
 
   -- to its balance test
   pub data ToTest (group : Group) : Hub → Type 0 where
-    tested : (name : List ℕ) (level : ℕ) (rule : SignRule) → IsGroupOf lines plan name level group → IsSigned lines name rule
+    tested : (name : List ℕ) (level : ℕ) (rule : SignRule) → IsTopOf lines plan name level group → IsSigned lines name rule
         → ToTest group (PX level 1)
 
   -- to the common hubs of its balance positions, but for those of its mark
   pub data ToBalance (group : Group) : ℕ → Hub → Type 0 where
-    turned : (name : List ℕ) (level : ℕ) (rule : SignRule) → IsGroupOf lines plan name level group → IsSigned lines name rule
+    turned : (name : List ℕ) (level : ℕ) (rule : SignRule) → IsTopOf lines plan name level group → IsSigned lines name rule
         → ToBalance group 1 (PX level 2)
-    up : (name : List ℕ) (level : ℕ) (rule : SignRule) → IsGroupOf lines plan name level group → IsSigned lines name rule
+    up : (name : List ℕ) (level : ℕ) (rule : SignRule) → IsTopOf lines plan name level group → IsSigned lines name rule
         → ToBalance group 2 (PX level 3)
     marks : (emitter row position : ℕ) → ToBalance group position (EM emitter row)
 
@@ -118,15 +134,17 @@ module _ (lines : List Line) (plan : Lists) where
     signs : (pilot : ℕ) → ToPilot pilot 1 CC
     marks : (emitter row pilot position : ℕ) → ToPilot pilot position (EM emitter row)
 
-  -- to the entry of a position
-  pub data ToEntry (group : Group) (position : ℕ) : Hub → Type 0 where
-    card : (name : List ℕ) (level : ℕ) (field : Field) → IsGroupOf lines plan name level group → IsLowest lines name level
-        → IsAmount lines name field → 1 ≤ position → position ≤ columns_of field
-        → ToEntry group position (SR (field.last + 1 - position))
+  -- to the entry of a place
+  pub data ToEntry (group : Group) (place : ℕ) : Hub → Type 0 where
+    card : (name : List ℕ) (level : ℕ) (field : Field) (position : ℕ) → IsPlaceFor lines plan name level position group place
+        → IsLowest lines name level → IsAmount lines name field → 1 ≤ position → position ≤ columns_of field
+        → ToEntry group place (SR (field.last + 1 - position))
     from_itself : (name : List ℕ) (level : ℕ) (rule : SignRule) → IsGroupOf lines plan name level group → IsSigned lines name rule
-        → 1 ≤ position → position ≤ group.width → ToEntry group position (GX group position)
-    lower : (name : List ℕ) (low : ℕ) (lower : Group) → (up : GoesUp name low group) → group_for lines plan up.lower_number ≡ Some lower
-        → 1 ≤ position → position ≤ up.lower_total.digits → ToEntry group position (GX lower position)
+        → 1 ≤ place → place ≤ group.width → ToEntry group place (GX group place)
+    lower : (name : List ℕ) (low position : ℕ) (lower : Group) (lower_place : ℕ) → (up : GoesUp name low group)
+        → ServesPosition lines plan up.number position group place
+        → ServesPosition lines plan up.lower_number position lower lower_place
+        → 1 ≤ position → position ≤ up.lower_total.digits → ToEntry group place (GX lower lower_place)
 
   pub to_plus : (number : ℕ) {statement : Statement} {x : Hub} {group : Group} → IsLine lines number statement
       → LineWire lines plan number statement x (PL group) → ToPlus group x
@@ -142,48 +160,50 @@ module _ (lines : List Line) (plan : Lists) where
         next = next;
         served = served;
       }) unsigned
-  to_plus number at (transfer_plus level wheel name digits mark rule group upper other is signed next served) =
-      up_by_latch name (level_number level) rule group (record {
+  to_plus number at (transfer_plus level wheel name digits mark rule top upper other is signed next served) =
+      up_by_latch name (level_number level) rule top (record {
         lower_number = number;
         lower_total = on_line level wheel name digits mark number at;
         number = other;
         next = next;
         served = served;
-      }) signed (with_group level wheel name digits mark number group at is)
+      }) signed (with_top level wheel name digits mark number top at is)
 
   pub to_minus : (number : ℕ) {statement : Statement} {x : Hub} {group : Group} → IsLine lines number statement
       → LineWire lines plan number statement x (MI group) → ToMinus group x
   to_minus number at (entry_minus level wheel name digits mark rule pilot group low is signed served) =
       by_sign name (level_number level) rule pilot (with_group level wheel name digits mark number group at is) low signed served
-  to_minus number at (conversion_minus level wheel name digits mark rule group is signed) =
-      turned name (level_number level) rule (with_group level wheel name digits mark number group at is) signed
-  to_minus number at (transfer_minus level wheel name digits mark rule group upper other is signed next served) =
-      up_by_latch name (level_number level) rule group (record {
+  to_minus number at (conversion_minus level wheel name digits mark rule top group is serves signed) =
+      turned name (level_number level) rule top (with_group level wheel name digits mark number group at serves)
+      (with_top level wheel name digits mark number top at is) signed
+  to_minus number at (transfer_minus level wheel name digits mark rule top upper other is signed next served) =
+      up_by_latch name (level_number level) rule top (record {
         lower_number = number;
         lower_total = on_line level wheel name digits mark number at;
         number = other;
         next = next;
         served = served;
-      }) signed (with_group level wheel name digits mark number group at is)
+      }) signed (with_top level wheel name digits mark number top at is)
 
   pub to_read_out : (number : ℕ) {statement : Statement} {x : Hub} {group : Group} → IsLine lines number statement
       → LineWire lines plan number statement x (RO group) → ToReadOut group x
   to_read_out number at (read_out level wheel name digits mark group is) =
       shown name (level_number level) (with_group level wheel name digits mark number group at is)
-  to_read_out number at (conversion_read_out level wheel name digits mark rule group is signed) =
-      turned name (level_number level) rule (with_group level wheel name digits mark number group at is) signed
+  to_read_out number at (conversion_read_out level wheel name digits mark rule top group is serves signed) =
+      turned name (level_number level) rule top (with_group level wheel name digits mark number group at serves)
+      (with_top level wheel name digits mark number top at is) signed
 
   pub to_test : (number : ℕ) {statement : Statement} {x : Hub} {group : Group} → IsLine lines number statement
       → LineWire lines plan number statement x (BT group) → ToTest group x
   to_test number at (balance_test level wheel name digits mark rule group is signed) =
-      tested name (level_number level) rule (with_group level wheel name digits mark number group at is) signed
+      tested name (level_number level) rule (with_top level wheel name digits mark number group at is) signed
 
   pub to_balance : (number : ℕ) {statement : Statement} {x : Hub} {group : Group} {position : ℕ} → IsLine lines number statement
       → LineWire lines plan number statement x (BAC group position) → ToBalance group position x
   to_balance number at (conversion level wheel name digits mark rule group is signed) =
-      turned name (level_number level) rule (with_group level wheel name digits mark number group at is) signed
+      turned name (level_number level) rule (with_top level wheel name digits mark number group at is) signed
   to_balance number at (transfer_sign level wheel name digits mark rule group other is signed next) =
-      up name (level_number level) rule (with_group level wheel name digits mark number group at is) signed
+      up name (level_number level) rule (with_top level wheel name digits mark number group at is) signed
   to_balance number at (total_mark_in level wheel name digits mark rule group k row is signed punched) = marks _ row _
 
   pub to_pilot : (number : ℕ) {statement : Statement} {x : Hub} {pilot position : ℕ} → IsLine lines number statement
@@ -191,18 +211,19 @@ module _ (lines : List Line) (plan : Lists) where
   to_pilot number at (entry_sign level wheel name digits mark rule pilot low signed served) = signs pilot
   to_pilot number at (detail_mark_in wheel name mark rule pilot k row signed served punched) = marks _ row pilot _
 
-  pub to_entry : (number : ℕ) {statement : Statement} {x : Hub} {group : Group} {position : ℕ} → IsLine lines number statement
-      → LineWire lines plan number statement x (GE group position) → ToEntry group position x
+  pub to_entry : (number : ℕ) {statement : Statement} {x : Hub} {group : Group} {place : ℕ} → IsLine lines number statement
+      → LineWire lines plan number statement x (GE group place) → ToEntry group place x
   unfolding on_line the_total
-  to_entry number at (entry level wheel name digits mark field group position low is amount from to) =
-      card name (level_number level) field (with_group level wheel name digits mark number group at is) low amount from to
-  to_entry number at (feedback level wheel name digits mark rule group position is signed from to) =
+  to_entry number at (entry level wheel name digits mark field group position place low serves amount from to) =
+      card name (level_number level) field position (with_place level wheel name digits mark number position group place at serves) low
+      amount from to
+  to_entry number at (feedback level wheel name digits mark rule group place is signed from to) =
       from_itself name (level_number level) rule (with_group level wheel name digits mark number group at is) signed from to
-  to_entry number at (transfer level wheel name digits mark group upper other position is next served from to) =
-      lower name (level_number level) group (record {
+  to_entry number at (transfer level wheel name digits mark group upper other position place upper_place serves next serves_upper from to) =
+      lower name (level_number level) position group place (record {
         lower_number = number;
         lower_total = on_line level wheel name digits mark number at;
         number = other;
         next = next;
-        served = served;
-      }) is from to
+        served = position-serves lines plan other position upper upper_place serves_upper;
+      }) serves_upper serves from to

@@ -28,7 +28,6 @@ use Rattle.stations.specs.Punches.{is_punched_at}
 use Rattle.storage_units.proofs.CycleLemmas.{reads_in_whole, keeps_held}
 use Rattle.storage_units.specs.Storage.{StorageState, holds}
 use Rattle.storage_units.specs.WholeCycles.{after_cycle}
-use Rattle.whole_cycles.specs.Between.{HasAllRows}
 use Rattle.wiring_table.specs.Figures.{IsText}
 use Rattle.wiring_table.specs.Parts.{unit_for}
 use Rattle.wiring_table.specs.Wires.{LineWire, ChartWire}

@@ -32,7 +32,7 @@ use Rattle.net.specs.declared.cycle.Point.{Point}
 use Rattle.print_unit.specs.Emitters.{emitter_of}
 use Rattle.whole_cycles.specs.WholeCycles.{row_emits}
 use Rattle.wiring_table.specs.Figures.{IsAmount, HasPunchAt, mark_text, detail_emitter, total_emitter}
-use Rattle.wiring_table.specs.Parts.{group_for, pilot_for, indicate_for, split_for, negative_side}
+use Rattle.wiring_table.specs.Parts.{top_for, pilot_for, indicate_for, split_for, negative_side}
 use Rattle.wiring_table.specs.Wires.LineWire.{indicated_text_in, split_digit_in, detail_mark_in, total_mark_in, entry_sign, conversion, transfer_sign}
 use Rattle.wiring_table.specs.Wires.{LineWire, ChartWire}
 use Rattle.wired_panels.specs.CycleRows.{CycleRow, reads, is_closed}
@@ -42,7 +42,7 @@ use Rattle.wired_panels.specs.PanelCycles.{IsPanelCycle}
 use Rattle.wired_panels.specs.Sources.EmitsAtRow.{first, second, digit, column, emitter}
 use Rattle.wired_panels.specs.Sources.{EmitsAtRow}
 use Rattle.charts.proofs.Rising.{one-line}
-use Rattle.wiring_table.proofs.Groups.{group-own}
+use Rattle.wiring_table.proofs.Groups.{serves-own, top-serves}
 use Rattle.wiring_table.proofs.Parts.{indicate-own, pilot-own, split-own}
 use Rattle.wired_panels.proofs.SpeakersLawful.{detail-same}
 use Rattle.wired_panels.proofs.Straight.{emits_at_row}
@@ -183,7 +183,7 @@ module _ (wiring : Wiring) (at : CycleRow) (it : IsPanelCycle at.chart at.plan w
       {x common : Hub} → Contains at.chart.lines line → Contains at.chart.lines other
       → line.statement ≡ says.TotalAmount level wheel name digits (Some mark) → other.statement ≡ its
       → WireAt at other.number its x common → Emits at x → Some (BAC group (3 + k)) ≡ Some common
-      → group_for at.chart.lines at.plan line.number ≡ Some group
+      → top_for at.chart.lines at.plan line.number ≡ Some group
       → HasPunchAt (mark_text mark) k (row_number at.row) × (emitter_of at.cycle ≡ Some (total_emitter (level_number level)))
   through_balance line other level wheel k digits group name mark {its} {x} listed there says_it says_its wire emits leads served =
       by says_its (subst (λ h. WireAt at other.number its x h) (same leads) wire) emits refl refl
@@ -196,7 +196,9 @@ module _ (wiring : Wiring) (at : CycleRow) (it : IsPanelCycle at.chart at.plan w
           → HasPunchAt (mark_text mark) k (row_number at.row) × (emitter_of at.cycle ≡ Some (total_emitter (level_number level)))
       by says_its (total_mark_in level' wheel' name' digits' mark' rule g k' row served' is punch) (emitter from emits) groups places =
           let n : other.number ≡ line.number
-          = group-own at.chart.lines at.plan it.panel.planned other.number line.number group (served' ∙ ap Some groups) served in
+          = serves-own at.chart.lines at.plan it.panel.planned other.number line.number group
+          (top-serves at.chart.lines at.plan other.number group (served' ∙ ap Some groups))
+          (top-serves at.chart.lines at.plan line.number group served) in
           let e : other ≡ line = one_line other line there listed n in
           let f : says.TotalAmount level' wheel' name' digits' (Some mark') ≡ says.TotalAmount level wheel name digits (Some mark)
           = sym says_its ∙ ap (λ l. l.statement) e ∙ says_it in

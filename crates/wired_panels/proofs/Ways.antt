@@ -4,10 +4,7 @@ use Rattle.plans.specs.Plans.{Lists}
 use Rattle.charts.specs.Chart.{Chart}
 use Rattle.hubs.specs.Hubs.{is_hub_in_range, number_of}
 use Rattle.setups.specs.Wiring.{Wiring, LeadsToEntries}
-use Rattle.hubs.specs.declared.hub.Group.{Group}
 use Rattle.hubs.specs.declared.hub.Hub.{Hub}
-use Rattle.hubs.specs.declared.hub.Hub.TheVariants.{CI}
-use Rattle.counters.specs.Rings.{IsFedAlone}
 use Rattle.whole_cycles.specs.Carries.{CarriesLeadToCarries}
 use Rattle.net.specs.Impulsed.{IsImpulsed}
 use Rattle.net.specs.Panel.{contact_of}
@@ -17,7 +14,7 @@ use Rattle.whole_cycles.specs.OneContactDeep.{AreCarriesOpen, IsOneContactDeep, 
 use Rattle.whole_cycles.specs.OneContactDeep.IsWithinOneContact.{emits, wired, through as passed, after}
 use Rattle.wired_panels.specs.Panel.{IsPanel, Arrives}
 use Rattle.wired_panels.specs.Panel.Arrives.{straight, through}
-use Rattle.wired_panels.proofs.Chains.{carry_on, fed_by_itself, wire_orderly}
+use Rattle.wired_panels.proofs.Chains.{carry_on, wire_orderly}
 
 -- tests that hold together are the same
 pub same_tests : (a b : Bool) → (a ≡ true → b ≡ true) → (b ≡ true → a ≡ true) → a ≡ b
@@ -52,12 +49,6 @@ one_deep chart plan wiring panel = record {
 pub carries-lead : (chart : Chart) (plan : Lists) (wiring : Wiring) → IsPanel chart plan wiring → CarriesLeadToCarries wiring
 carries-lead chart plan wiring panel exit entry wire =
     let given = (panel.wired.wires exit entry).0 wire in carry_on chart.lines plan given.line.number given.wire
-
--- the carry entry of a group is fed by its own carry exit alone
-pub fed_alone : (chart : Chart) (plan : Lists) (wiring : Wiring) → IsPanel chart plan wiring → (group : Group) → IsFedAlone wiring group group
-fed_alone chart plan wiring panel group exit wire =
-    let given = (panel.wired.wires exit (CI group)).0 wire in
-    fed_by_itself chart.lines plan given.line.number given.wire group refl
 
 -- An entry is impulsed exactly where an impulse arrives: at a point whose exits are those of units, and where no carry passes.
 pub arrives :

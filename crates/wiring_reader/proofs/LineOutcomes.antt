@@ -20,27 +20,28 @@ use Rattle.wiring_reader.proofs.LineGrammar.{is_content, empty_read, end_read}
 use Rattle.wiring_reader.proofs.LinesGrammar.{before_end, after_end}
 use Rattle.wiring_reader.proofs.LinePlaces.{Stands, next_stands, content_at, there_at, same_said, NoEndBelow, good_more, no_end_more, not_at_fault, unsaid_good, empty_placed, before_end_placed, all_good, SaidBelow, said_nothing_more, said_more}
 use Rattle.wiring_reader.proofs.SameStatement.{contains_said, none_contained}
+use Rattle.wiring_text.specs.declared.statement.Version.{Version}
 
 -- what an answer says of the lines of a text
-abbrev pub Outcome : List (List ℕ) → FormNumbers → Result (List Statement) WiringFault → Type 0
-Outcome all form (Ok said) = ((n : ℕ) → IsAtFault all form n → ⊥) × (LacksEnd 3 all → ⊥)
-Outcome all form (Err (NotALine n)) = IsMisplaced all n × AreGoodBefore all form n
-Outcome all form (Err (LineTwice n)) = IsRepeated all n × AreGoodBefore all form n
-Outcome all form (Err (Unfit n fault)) = IsUnfit all form n fault × AreGoodBefore all form n
-Outcome all form (Err NoEnd) = ((n : ℕ) → IsAtFault all form n → ⊥) × LacksEnd 3 all
-Outcome all form (Err TooLarge) = ⊥
-Outcome all form (Err NoFirstLine) = ⊥
-Outcome all form (Err Memory) = ⊥
+abbrev pub Outcome : Version → List (List ℕ) → FormNumbers → Result (List Statement) WiringFault → Type 0
+Outcome version all form (Ok said) = ((n : ℕ) → IsAtFault version all form n → ⊥) × (LacksEnd 3 all → ⊥)
+Outcome version all form (Err (NotALine n)) = IsMisplaced version all n × AreGoodBefore version all form n
+Outcome version all form (Err (LineTwice n)) = IsRepeated version all n × AreGoodBefore version all form n
+Outcome version all form (Err (Unfit n fault)) = IsUnfit version all form n fault × AreGoodBefore version all form n
+Outcome version all form (Err NoEnd) = ((n : ℕ) → IsAtFault version all form n → ⊥) × LacksEnd 3 all
+Outcome version all form (Err TooLarge) = ⊥
+Outcome version all form (Err NoFirstLine) = ⊥
+Outcome version all form (Err Memory) = ⊥
 
 -- a line after END that is not empty
-misplaced_after : (all : List (List ℕ)) (form : FormNumbers) (number : ℕ) (line : List ℕ) (rest : List (List ℕ)) (content : Content)
-    → Stands all number (line ∷ rest) → AreGoodBefore all form number → IsAfterEnd 3 all number
-    → content_of (line_at all number) ≡ content → (content ≡ Empty → ⊥)
-    → IsMisplaced all number × AreGoodBefore all form number
-misplaced_after all form number line rest content stands good after here filled = (
+misplaced_after : (version : Version) (all : List (List ℕ)) (form : FormNumbers) (number : ℕ) (line : List ℕ) (rest : List (List ℕ)) (content : Content)
+    → Stands all number (line ∷ rest) → AreGoodBefore version all form number → IsAfterEnd 3 all number
+    → content_of version (line_at all number) ≡ content → (content ≡ Empty → ⊥)
+    → IsMisplaced version all number × AreGoodBefore version all form number
+misplaced_after version all form number line rest content stands good after here filled = (
   record {
     there = there_at all number line rest stands;
-    cause = inr (after, λ has. filled (sym here ∙ empty_read (line_at all number) has));
+    cause = inr (after, λ has. filled (sym here ∙ empty_read version (line_at all number) has));
   },
   good,
 )
@@ -59,60 +60,60 @@ unsaid_empty s e = cc
 unsaid_end : (s : Statement) → End ≡ Says s → ⊥
 unsaid_end s e = cc
 
-ended_by : (all : List (List ℕ)) (form : FormNumbers) (number : ℕ) (said : List Statement) (line : List ℕ) (rest : List (List ℕ))
-    (content : Content) → Stands all number (line ∷ rest) → AreGoodBefore all form number → IsAfterEnd 3 all number
-    → content_of (line_at all number) ≡ content
-    → (Stands all (suc number) rest → AreGoodBefore all form (suc number) → IsAfterEnd 3 all (suc number)
-    → Outcome all form (lines_from form.lines (suc number) (after_end said) rest))
-    → Outcome all form (go_on (step form.lines number (after_end said) content)
-    (λ next. lines_from form.lines (suc number) next rest))
-ended_by all form number said line rest Empty stands good after here others =
+ended_by : (version : Version) (all : List (List ℕ)) (form : FormNumbers) (number : ℕ) (said : List Statement) (line : List ℕ) (rest : List (List ℕ))
+    (content : Content) → Stands all number (line ∷ rest) → AreGoodBefore version all form number → IsAfterEnd 3 all number
+    → content_of version (line_at all number) ≡ content
+    → (Stands all (suc number) rest → AreGoodBefore version all form (suc number) → IsAfterEnd 3 all (suc number)
+    → Outcome version all form (lines_from version form.lines (suc number) (after_end said) rest))
+    → Outcome version all form (go_on (step form.lines number (after_end said) content)
+    (λ next. lines_from version form.lines (suc number) next rest))
+ended_by version all form number said line rest Empty stands good after here others =
     others (next_stands all number line rest stands)
-    (good_more all form number good (unsaid_good all form number Empty stands.from here unsaid_empty
-    (empty_placed all number here)))
+    (good_more version all form number good (unsaid_good version all form number Empty stands.from here unsaid_empty
+    (empty_placed version all number here)))
     (after_more all number after)
-ended_by all form number said line rest End stands good after here others =
-    misplaced_after all form number line rest End stands good after here (λ e. cc)
-ended_by all form number said line rest (Says s) stands good after here others =
-    misplaced_after all form number line rest (Says s) stands good after here (λ e. cc)
-ended_by all form number said line rest NoLine stands good after here others =
-    misplaced_after all form number line rest NoLine stands good after here (λ e. cc)
+ended_by version all form number said line rest End stands good after here others =
+    misplaced_after version all form number line rest End stands good after here (λ e. cc)
+ended_by version all form number said line rest (Says s) stands good after here others =
+    misplaced_after version all form number line rest (Says s) stands good after here (λ e. cc)
+ended_by version all form number said line rest NoLine stands good after here others =
+    misplaced_after version all form number line rest NoLine stands good after here (λ e. cc)
 
 -- the outcome after END
-ended_outcome : (all : List (List ℕ)) (form : FormNumbers) (said : List Statement) (rest : List (List ℕ)) (number : ℕ)
-    → Stands all number rest → AreGoodBefore all form number → IsAfterEnd 3 all number
-    → Outcome all form (lines_from form.lines number (after_end said) rest)
+ended_outcome : (version : Version) (all : List (List ℕ)) (form : FormNumbers) (said : List Statement) (rest : List (List ℕ)) (number : ℕ)
+    → Stands all number rest → AreGoodBefore version all form number → IsAfterEnd 3 all number
+    → Outcome version all form (lines_from version form.lines number (after_end said) rest)
 unfolding lines_from
-ended_outcome all form said [] number stands good after =
-    (all_good all form number stands good, λ lacks. lacks after.end after.there after.is_end)
-ended_outcome all form said (line ∷ rest) number stands good after =
-    ended_by all form number said line rest (content_of line) stands good after
-    (content_at all number line rest (content_of line) stands refl) (ended_outcome all form said rest (suc number))
+ended_outcome version all form said [] number stands good after =
+    (all_good version all form number stands good, λ lacks. lacks after.end after.there after.is_end)
+ended_outcome version all form said (line ∷ rest) number stands good after =
+    ended_by version all form number said line rest (content_of version line) stands good after
+    (content_at version all number line rest (content_of version line) stands refl) (ended_outcome version all form said rest (suc number))
 
 -- a statement before END
-no_end_here : (all : List (List ℕ)) (number : ℕ) (content : Content) → content_of (line_at all number) ≡ content
+no_end_here : (version : Version) (all : List (List ℕ)) (number : ℕ) (content : Content) → content_of version (line_at all number) ≡ content
     → (End ≡ content → ⊥) → IsEndLine (line_at all number) → ⊥
-no_end_here all number content here other has = other (sym (end_read (line_at all number) has) ∙ here)
+no_end_here version all number content here other has = other (sym (end_read version (line_at all number) has) ∙ here)
 
-says_at : (all : List (List ℕ)) (number : ℕ) (line : List ℕ) (rest : List (List ℕ)) (s : Statement)
-    → Stands all number (line ∷ rest) → NoEndBelow all number → content_of (line_at all number) ≡ Says s → SaysAt all number s
-says_at all number line rest s stands no_end here =
-    let says = is_content (line_at all number) (Says s) here in
+says_at : (version : Version) (all : List (List ℕ)) (number : ℕ) (line : List ℕ) (rest : List (List ℕ)) (s : Statement)
+    → Stands all number (line ∷ rest) → NoEndBelow all number → content_of version (line_at all number) ≡ Says s → SaysAt version all number s
+says_at version all number line rest s stands no_end here =
+    let says = is_content version (line_at all number) (Says s) here in
     record {
       there = there_at all number line rest stands;
       said = says;
-      placed = before_end_placed all number no_end (λ none. none.not_said s says);
+      placed = before_end_placed version all number no_end (λ none. none.not_said s says);
     }
 
-not_repeated : (all : List (List ℕ)) (number : ℕ) (s : Statement) (said : List Statement)
-    → content_of (line_at all number) ≡ Says s → is_said said s ≡ false → SaidBelow all number said → IsRepeated all number → ⊥
-not_repeated all number s said here new below is =
-    let same = same_said all number s is.statement here is.said.said in
-    none_contained said s new (below.found s is.earlier is.before (subst (SaysAt all is.earlier) same is.said_before))
+not_repeated : (version : Version) (all : List (List ℕ)) (number : ℕ) (s : Statement) (said : List Statement)
+    → content_of version (line_at all number) ≡ Says s → is_said said s ≡ false → SaidBelow version all number said → IsRepeated version all number → ⊥
+not_repeated version all number s said here new below is =
+    let same = same_said version all number s is.statement here is.said.said in
+    none_contained said s new (below.found s is.earlier is.before (subst (SaysAt version all is.earlier) same is.said_before))
 
-cannot_have : (all : List (List ℕ)) (form : FormNumbers) (number : ℕ) (said : List Statement) (s : Statement) (f : SetupFault)
-    → SaidBelow all number said → fault_said form.lines said s ≡ Some f → CannotHave all form number s f
-cannot_have all form number said s f below fault = elim (fault-some form.lines said s f fault) [
+cannot_have : (version : Version) (all : List (List ℕ)) (form : FormNumbers) (number : ℕ) (said : List Statement) (s : Statement) (f : SetupFault)
+    → SaidBelow version all number said → fault_said form.lines said s ≡ Some f → CannotHave version all form number s f
+cannot_have version all form number said s f below fault = elim (fault-some form.lines said s f fault) [
   | inl alone ↦ inl alone
   | inr apart ↦
       let found = apart-from said s apart.2 in
@@ -130,93 +131,93 @@ cannot_have all form number said s f below fault = elim (fault-some form.lines s
       )
 ]
 
-said_by : (all : List (List ℕ)) (form : FormNumbers) (number : ℕ) (said : List Statement) (line : List ℕ) (rest : List (List ℕ))
-    (s : Statement) (test : Bool) (faults : Option SetupFault) → Stands all number (line ∷ rest) → AreGoodBefore all form number
-    → NoEndBelow all number → SaidBelow all number said → content_of (line_at all number) ≡ Says s → SaysAt all number s
+said_by : (version : Version) (all : List (List ℕ)) (form : FormNumbers) (number : ℕ) (said : List Statement) (line : List ℕ) (rest : List (List ℕ))
+    (s : Statement) (test : Bool) (faults : Option SetupFault) → Stands all number (line ∷ rest) → AreGoodBefore version all form number
+    → NoEndBelow all number → SaidBelow version all number said → content_of version (line_at all number) ≡ Says s → SaysAt version all number s
     → is_said said s ≡ test → fault_said form.lines said s ≡ faults
-    → (Stands all (suc number) rest → AreGoodBefore all form (suc number) → NoEndBelow all (suc number)
-    → SaidBelow all (suc number) (said ++ s ∷ [])
-    → Outcome all form (lines_from form.lines (suc number) (before_end (said ++ s ∷ [])) rest))
-    → Outcome all form (go_on (cond test (Err (LineTwice number)) (new_said number said s faults))
-    (λ next. lines_from form.lines (suc number) next rest))
-said_by all form number said line rest s true faults stands good no_end below here at test fault others =
+    → (Stands all (suc number) rest → AreGoodBefore version all form (suc number) → NoEndBelow all (suc number)
+    → SaidBelow version all (suc number) (said ++ s ∷ [])
+    → Outcome version all form (lines_from version form.lines (suc number) (before_end (said ++ s ∷ [])) rest))
+    → Outcome version all form (go_on (cond test (Err (LineTwice number)) (new_said number said s faults))
+    (λ next. lines_from version form.lines (suc number) next rest))
+said_by version all form number said line rest s true faults stands good no_end below here at test fault others =
     let earlier = below.listed s (contains_said said s test) in
     (record { statement = s; said = at; earlier = earlier.0; before = earlier.1; said_before = earlier.2 }, good)
-said_by all form number said line rest s false (Some f) stands good no_end below here at test fault others = (
+said_by version all form number said line rest s false (Some f) stands good no_end below here at test fault others = (
   inr (record {
     statement = s;
     said = at;
-    new = not_repeated all number s said here test below;
-    unfit = cannot_have all form number said s f below fault;
+    new = not_repeated version all number s said here test below;
+    unfit = cannot_have version all form number said s f below fault;
   }),
   good,
 )
-said_by all form number said line rest s false None stands good no_end below here at test fault others =
+said_by version all form number said line rest s false None stands good no_end below here at test fault others =
     others (next_stands all number line rest stands)
-    (good_more all form number good (not_at_fault all form number stands.from at.placed
-    (not_repeated all number s said here test below)
-    (λ f is. clash f (subst (λ (t : Statement). CannotHave all form number t f) (same_said all number s is.statement here is.said.said) is.unfit))))
-    (no_end_more all number no_end (no_end_here all number (Says s) here (unsaid_end s)))
-    (said_more all number s said here at below)
+    (good_more version all form number good (not_at_fault version all form number stands.from at.placed
+    (not_repeated version all number s said here test below)
+    (λ f is. clash f (subst (λ (t : Statement). CannotHave version all form number t f) (same_said version all number s is.statement here is.said.said) is.unfit))))
+    (no_end_more all number no_end (no_end_here version all number (Says s) here (unsaid_end s)))
+    (said_more version all number s said here at below)
   where
     none : (statement_fault form.lines s ≡ None) × (agrees_with said s ≡ true)
     none = fault-none form.lines said s fault
 
-    clash : (f : SetupFault) → CannotHave all form number s f → ⊥
+    clash : (f : SetupFault) → CannotHave version all form number s f → ⊥
     clash f (inl e) = none-some f (sym none.0 ∙ e)
     clash f (inr e) = false≢true (sym e.2.apart ∙ agrees-each said s e.2.other none.1 (below.found e.2.other e.2.earlier e.2.before e.2.said_before))
 
-started_by : (all : List (List ℕ)) (form : FormNumbers) (number : ℕ) (said : List Statement) (line : List ℕ) (rest : List (List ℕ))
-    (content : Content) → Stands all number (line ∷ rest) → AreGoodBefore all form number → NoEndBelow all number
-    → SaidBelow all number said → content_of (line_at all number) ≡ content
-    → ((so : List Statement) → Stands all (suc number) rest → AreGoodBefore all form (suc number)
-    → NoEndBelow all (suc number) → SaidBelow all (suc number) so
-    → Outcome all form (lines_from form.lines (suc number) (before_end so) rest))
-    → Outcome all form (go_on (step form.lines number (before_end said) content)
-    (λ next. lines_from form.lines (suc number) next rest))
-started_by all form number said line rest Empty stands good no_end below here others =
+started_by : (version : Version) (all : List (List ℕ)) (form : FormNumbers) (number : ℕ) (said : List Statement) (line : List ℕ) (rest : List (List ℕ))
+    (content : Content) → Stands all number (line ∷ rest) → AreGoodBefore version all form number → NoEndBelow all number
+    → SaidBelow version all number said → content_of version (line_at all number) ≡ content
+    → ((so : List Statement) → Stands all (suc number) rest → AreGoodBefore version all form (suc number)
+    → NoEndBelow all (suc number) → SaidBelow version all (suc number) so
+    → Outcome version all form (lines_from version form.lines (suc number) (before_end so) rest))
+    → Outcome version all form (go_on (step form.lines number (before_end said) content)
+    (λ next. lines_from version form.lines (suc number) next rest))
+started_by version all form number said line rest Empty stands good no_end below here others =
     others said (next_stands all number line rest stands)
-    (good_more all form number good (unsaid_good all form number Empty stands.from here unsaid_empty
-    (empty_placed all number here)))
-    (no_end_more all number no_end (no_end_here all number Empty here (λ e. cc)))
-    (said_nothing_more all number Empty said here unsaid_empty below)
-started_by all form number said line rest End stands good no_end below here others =
-    let is_end = is_content (line_at all number) End here in
+    (good_more version all form number good (unsaid_good version all form number Empty stands.from here unsaid_empty
+    (empty_placed version all number here)))
+    (no_end_more all number no_end (no_end_here version all number Empty here (λ e. cc)))
+    (said_nothing_more version all number Empty said here unsaid_empty below)
+started_by version all form number said line rest End stands good no_end below here others =
+    let is_end = is_content version (line_at all number) End here in
     let after : IsAfterEnd 3 all (suc number) =
     record { end = number; there = there_at all number line rest stands; before = omega arith; is_end = is_end } in
-    ended_outcome all form said rest (suc number) (next_stands all number line rest stands)
-    (good_more all form number good (unsaid_good all form number End stands.from here unsaid_end
-    (before_end_placed all number no_end (λ none. none.not_end is_end))))
+    ended_outcome version all form said rest (suc number) (next_stands all number line rest stands)
+    (good_more version all form number good (unsaid_good version all form number End stands.from here unsaid_end
+    (before_end_placed version all number no_end (λ none. none.not_end is_end))))
     after
-started_by all form number said line rest (Says s) stands good no_end below here others =
-    said_by all form number said line rest s (is_said said s) (fault_said form.lines said s) stands good no_end below here
-    (says_at all number line rest s stands no_end here) refl refl (others (said ++ s ∷ []))
-started_by all form number said line rest NoLine stands good no_end below here others = (
+started_by version all form number said line rest (Says s) stands good no_end below here others =
+    said_by version all form number said line rest s (is_said said s) (fault_said form.lines said s) stands good no_end below here
+    (says_at version all number line rest s stands no_end here) refl refl (others (said ++ s ∷ []))
+started_by version all form number said line rest NoLine stands good no_end below here others = (
   record {
     there = there_at all number line rest stands;
-    cause = inl (is_content (line_at all number) NoLine here);
+    cause = inl (is_content version (line_at all number) NoLine here);
   },
   good,
 )
 
 -- the outcome of lines without END so far
-started_outcome : (all : List (List ℕ)) (form : FormNumbers) (rest : List (List ℕ)) (number : ℕ) (said : List Statement)
-    → Stands all number rest → AreGoodBefore all form number → NoEndBelow all number → SaidBelow all number said
-    → Outcome all form (lines_from form.lines number (before_end said) rest)
+started_outcome : (version : Version) (all : List (List ℕ)) (form : FormNumbers) (rest : List (List ℕ)) (number : ℕ) (said : List Statement)
+    → Stands all number rest → AreGoodBefore version all form number → NoEndBelow all number → SaidBelow version all number said
+    → Outcome version all form (lines_from version form.lines number (before_end said) rest)
 unfolding lines_from
-started_outcome all form [] number said stands good no_end below =
-    (all_good all form number stands good, λ n there is_end. no_end n (omega (arith, stands.size, there.to)) there is_end)
-started_outcome all form (line ∷ rest) number said stands good no_end below =
-    started_by all form number said line rest (content_of line) stands good no_end below
-    (content_at all number line rest (content_of line) stands refl)
-    (λ so. started_outcome all form rest (suc number) so)
+started_outcome version all form [] number said stands good no_end below =
+    (all_good version all form number stands good, λ n there is_end. no_end n (omega (arith, stands.size, there.to)) there is_end)
+started_outcome version all form (line ∷ rest) number said stands good no_end below =
+    started_by version all form number said line rest (content_of version line) stands good no_end below
+    (content_at version all number line rest (content_of version line) stands refl)
+    (λ so. started_outcome version all form rest (suc number) so)
 
 -- the outcome of all lines
-pub outcome : (first second : List ℕ) (others : List (List ℕ)) (form : FormNumbers)
+pub outcome : (version : Version) (first second : List ℕ) (others : List (List ℕ)) (form : FormNumbers)
     → IsFormed form.lines form.first form.overflow
-    → Outcome (first ∷ second ∷ others) form (lines_from form.lines 3 start others)
-outcome first second others form formed =
-    started_outcome (first ∷ second ∷ others) form others 3 []
+    → Outcome version (first ∷ second ∷ others) form (lines_from version form.lines 3 start others)
+outcome version first second others form formed =
+    started_outcome version (first ∷ second ∷ others) form others 3 []
     (record { from = omega arith; size = omega arith; at = λ k within. ap (λ n. get_or (first ∷ second ∷ others) n []) (third k) })
     good
     (λ n below there is_end. absurd (omega (arith, below, there.from)))
@@ -228,7 +229,7 @@ outcome first second others form formed =
     third : (k : ℕ) → suc (suc k) ≡ 3 + k - 1
     third k = omega arith
 
-    good : (n : ℕ) → n < 3 → IsAtFault (first ∷ second ∷ others) form n → ⊥
+    good : (n : ℕ) → n < 3 → IsAtFault version (first ∷ second ∷ others) form n → ⊥
     good n below (misplaced is) = absurd (omega (arith, below, is.there.from))
     good n below (repeated is) = absurd (omega (arith, below, is.said.there.from))
     good n below (unfit fault (inl is)) = is.unfit formed

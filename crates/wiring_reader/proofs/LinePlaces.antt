@@ -11,6 +11,7 @@ use Rattle.tokens.specs.declared.frame.Content.TheVariants.{Empty, Says}
 use Rattle.wiring_text.specs.declared.statement.Statement.{Statement}
 use Rattle.wiring_reader.proofs.LineGrammar.{is_content, said_read}
 use Rattle.wiring_reader.proofs.SameStatement.{pushed_cases, pushed_said}
+use Rattle.wiring_text.specs.declared.statement.Version.{Version}
 
 -- the lines of a text from a number on
 pub record Stands (all : List (List ℕ)) (number : ℕ) (rest : List (List ℕ)) : Type 0 where
@@ -38,22 +39,22 @@ stands_here all number line rest is = is.at 0 (omega arith) ∙ ap (line_at all)
     none_more : (number : ℕ) → number + 0 ≡ number
     none_more number = omega arith
 
-pub content_at : (all : List (List ℕ)) (number : ℕ) (line : List ℕ) (rest : List (List ℕ)) (content : Content)
-    → Stands all number (line ∷ rest) → content_of line ≡ content → content_of (line_at all number) ≡ content
-content_at all number line rest content stands is = ap content_of (sym (stands_here all number line rest stands)) ∙ is
+pub content_at : (version : Version) (all : List (List ℕ)) (number : ℕ) (line : List ℕ) (rest : List (List ℕ)) (content : Content)
+    → Stands all number (line ∷ rest) → content_of version line ≡ content → content_of version (line_at all number) ≡ content
+content_at version all number line rest content stands is = ap (content_of version) (sym (stands_here all number line rest stands)) ∙ is
 
 pub there_at : (all : List (List ℕ)) (number : ℕ) (line : List ℕ) (rest : List (List ℕ)) → Stands all number (line ∷ rest)
     → IsAfterForm all number
 there_at all number line rest stands = record { from = stands.from; to = omega (arith, stands.size) }
 
 -- two contents of one line are the same
-says_other : (all : List (List ℕ)) (number : ℕ) (content : Content) (s : Statement) → content_of (line_at all number) ≡ content
-    → SaysLine (line_at all number) s → content ≡ Says s
-says_other all number content s here said = sym here ∙ said_read (line_at all number) s said
+says_other : (version : Version) (all : List (List ℕ)) (number : ℕ) (content : Content) (s : Statement) → content_of version (line_at all number) ≡ content
+    → SaysLine version (line_at all number) s → content ≡ Says s
+says_other version all number content s here said = sym here ∙ said_read version (line_at all number) s said
 
-pub same_said : (all : List (List ℕ)) (number : ℕ) (s t : Statement) → content_of (line_at all number) ≡ Says s
-    → SaysLine (line_at all number) t → t ≡ s
-same_said all number s t here said = same (says_other all number (Says s) t here said)
+pub same_said : (version : Version) (all : List (List ℕ)) (number : ℕ) (s t : Statement) → content_of version (line_at all number) ≡ Says s
+    → SaysLine version (line_at all number) t → t ≡ s
+same_said version all number s t here said = same (says_other version all number (Says s) t here said)
   where
     same : Says s ≡ Says t → t ≡ s
     same e = cc
@@ -72,9 +73,9 @@ below_more P number good here n below is = by_order (cases_order n number)
     by_order (inr (inl lower)) = good n lower is
     by_order (inr (inr higher)) = absurd (omega (arith, below, higher))
 
-pub good_more : (all : List (List ℕ)) (form : FormNumbers) (number : ℕ) → AreGoodBefore all form number
-    → (IsAtFault all form number → ⊥) → AreGoodBefore all form (suc number)
-good_more all form number good here = below_more (IsAtFault all form) number good here
+pub good_more : (version : Version) (all : List (List ℕ)) (form : FormNumbers) (number : ℕ) → AreGoodBefore version all form number
+    → (IsAtFault version all form number → ⊥) → AreGoodBefore version all form (suc number)
+good_more version all form number good here = below_more (IsAtFault version all form) number good here
 
 pub no_end_more : (all : List (List ℕ)) (number : ℕ) → NoEndBelow all number → (IsEndLine (line_at all number) → ⊥)
     → NoEndBelow all (suc number)
@@ -83,86 +84,86 @@ no_end_more all number no_end here n below there is_end =
     (λ p. here p.1) n below (there, is_end)
 
 -- a line that is neither misplaced, nor repeated, nor unfit is not at fault
-pub not_at_fault : (all : List (List ℕ)) (form : FormNumbers) (number : ℕ) → 3 ≤ number → (IsMisplaced all number → ⊥)
-    → (IsRepeated all number → ⊥) → ((fault : SetupFault) → IsUnfitLine all form number fault → ⊥)
-    → IsAtFault all form number → ⊥
-not_at_fault all form number from placed new fit (misplaced is) = placed is
-not_at_fault all form number from placed new fit (repeated is) = new is
-not_at_fault all form number from placed new fit (unfit fault (inl is)) = absurd (omega (arith, from, is.second))
-not_at_fault all form number from placed new fit (unfit fault (inr is)) = fit fault is
+pub not_at_fault : (version : Version) (all : List (List ℕ)) (form : FormNumbers) (number : ℕ) → 3 ≤ number → (IsMisplaced version all number → ⊥)
+    → (IsRepeated version all number → ⊥) → ((fault : SetupFault) → IsUnfitLine version all form number fault → ⊥)
+    → IsAtFault version all form number → ⊥
+not_at_fault version all form number from placed new fit (misplaced is) = placed is
+not_at_fault version all form number from placed new fit (repeated is) = new is
+not_at_fault version all form number from placed new fit (unfit fault (inl is)) = absurd (omega (arith, from, is.second))
+not_at_fault version all form number from placed new fit (unfit fault (inr is)) = fit fault is
 
 -- a line that says nothing is at fault only where it is misplaced
-pub unsaid_good : (all : List (List ℕ)) (form : FormNumbers) (number : ℕ) (content : Content) → 3 ≤ number
-    → content_of (line_at all number) ≡ content → ((s : Statement) → content ≡ Says s → ⊥) → (IsMisplaced all number → ⊥)
-    → IsAtFault all form number → ⊥
-unsaid_good all form number content from here unsaid placed =
-    not_at_fault all form number from placed
-    (λ is. unsaid is.statement (says_other all number content is.statement here is.said.said))
-    (λ fault is. unsaid is.statement (says_other all number content is.statement here is.said.said))
+pub unsaid_good : (version : Version) (all : List (List ℕ)) (form : FormNumbers) (number : ℕ) (content : Content) → 3 ≤ number
+    → content_of version (line_at all number) ≡ content → ((s : Statement) → content ≡ Says s → ⊥) → (IsMisplaced version all number → ⊥)
+    → IsAtFault version all form number → ⊥
+unsaid_good version all form number content from here unsaid placed =
+    not_at_fault version all form number from placed
+    (λ is. unsaid is.statement (says_other version all number content is.statement here is.said.said))
+    (λ fault is. unsaid is.statement (says_other version all number content is.statement here is.said.said))
 
 -- an empty line is never misplaced
-pub empty_placed : (all : List (List ℕ)) (number : ℕ) → content_of (line_at all number) ≡ Empty → IsMisplaced all number → ⊥
-empty_placed all number here is = by_cause is.cause
+pub empty_placed : (version : Version) (all : List (List ℕ)) (number : ℕ) → content_of version (line_at all number) ≡ Empty → IsMisplaced version all number → ⊥
+empty_placed version all number here is = by_cause is.cause
   where
-    by_cause : IsNoLine SaysLine (line_at all number) ⊎ (IsAfterEnd 3 all number × (IsEmptyLine (line_at all number) → ⊥)) → ⊥
-    by_cause (inl none) = none.not_empty (is_content (line_at all number) Empty here)
-    by_cause (inr after) = after.1 (is_content (line_at all number) Empty here)
+    by_cause : IsNoLine (SaysLine version) (line_at all number) ⊎ (IsAfterEnd 3 all number × (IsEmptyLine (line_at all number) → ⊥)) → ⊥
+    by_cause (inl none) = none.not_empty (is_content version (line_at all number) Empty here)
+    by_cause (inr after) = after.1 (is_content version (line_at all number) Empty here)
 
 -- a line before END is misplaced only where it says nothing
-pub before_end_placed : (all : List (List ℕ)) (number : ℕ) → NoEndBelow all number → (IsNoLine SaysLine (line_at all number) → ⊥)
-    → IsMisplaced all number → ⊥
-before_end_placed all number no_end a_line is = by_cause is.cause
+pub before_end_placed : (version : Version) (all : List (List ℕ)) (number : ℕ) → NoEndBelow all number → (IsNoLine (SaysLine version) (line_at all number) → ⊥)
+    → IsMisplaced version all number → ⊥
+before_end_placed version all number no_end a_line is = by_cause is.cause
   where
-    by_cause : IsNoLine SaysLine (line_at all number) ⊎ (IsAfterEnd 3 all number × (IsEmptyLine (line_at all number) → ⊥)) → ⊥
+    by_cause : IsNoLine (SaysLine version) (line_at all number) ⊎ (IsAfterEnd 3 all number × (IsEmptyLine (line_at all number) → ⊥)) → ⊥
     by_cause (inl none) = a_line none
     by_cause (inr after) = no_end after.0.end after.0.before after.0.there after.0.is_end
 
 -- no line after the last is at fault
-pub all_good : (all : List (List ℕ)) (form : FormNumbers) (number : ℕ) → Stands all number [] → AreGoodBefore all form number
-    → (n : ℕ) → IsAtFault all form n → ⊥
-all_good all form number stands good n is = good n (reached is) is
+pub all_good : (version : Version) (all : List (List ℕ)) (form : FormNumbers) (number : ℕ) → Stands all number [] → AreGoodBefore version all form number
+    → (n : ℕ) → IsAtFault version all form n → ⊥
+all_good version all form number stands good n is = good n (reached is) is
   where
-    reached : IsAtFault all form n → n < number
+    reached : IsAtFault version all form n → n < number
     reached (misplaced m) = omega (arith, stands.size, m.there.to)
     reached (repeated r) = omega (arith, stands.size, r.said.there.to)
     reached (unfit fault (inl f)) = omega (arith, stands.from, f.second)
     reached (unfit fault (inr l)) = omega (arith, stands.size, l.said.there.to)
 
 -- what the lines below a number said
-pub record SaidBelow (all : List (List ℕ)) (number : ℕ) (said : List Statement) : Type 0 where
-  pub listed : (s : Statement) → Contains said s → (k : ℕ) × (k < number) × SaysAt all k s
-  pub found : (s : Statement) (k : ℕ) → k < number → SaysAt all k s → Contains said s
+pub record SaidBelow (version : Version) (all : List (List ℕ)) (number : ℕ) (said : List Statement) : Type 0 where
+  pub listed : (s : Statement) → Contains said s → (k : ℕ) × (k < number) × SaysAt version all k s
+  pub found : (s : Statement) (k : ℕ) → k < number → SaysAt version all k s → Contains said s
 
-pub said_nothing_more : (all : List (List ℕ)) (number : ℕ) (content : Content) (said : List Statement)
-    → content_of (line_at all number) ≡ content → ((s : Statement) → content ≡ Says s → ⊥) → SaidBelow all number said
-    → SaidBelow all (suc number) said
-said_nothing_more all number content said here unsaid below = record {
+pub said_nothing_more : (version : Version) (all : List (List ℕ)) (number : ℕ) (content : Content) (said : List Statement)
+    → content_of version (line_at all number) ≡ content → ((s : Statement) → content ≡ Says s → ⊥) → SaidBelow version all number said
+    → SaidBelow version all (suc number) said
+said_nothing_more version all number content said here unsaid below = record {
   listed = λ s has. let p = below.listed s has in (p.0, omega (arith, p.1), p.2);
   found = λ s k within at. by_order s k within at (cases_order k number);
 }
   where
-    by_order : (s : Statement) (k : ℕ) → k < suc number → SaysAt all k s → (k ≡ number) ⊎ ((k < number) ⊎ (number < k))
+    by_order : (s : Statement) (k : ℕ) → k < suc number → SaysAt version all k s → (k ≡ number) ⊎ ((k < number) ⊎ (number < k))
         → Contains said s
     by_order s k within at (inl same) =
-        absurd (unsaid s (says_other all number content s here (subst (λ (n : ℕ). SaysLine (line_at all n) s) same at.said)))
+        absurd (unsaid s (says_other version all number content s here (subst (λ (n : ℕ). SaysLine version (line_at all n) s) same at.said)))
     by_order s k within at (inr (inl lower)) = below.found s k lower at
     by_order s k within at (inr (inr higher)) = absurd (omega (arith, within, higher))
 
-pub said_more : (all : List (List ℕ)) (number : ℕ) (s : Statement) (said : List Statement)
-    → content_of (line_at all number) ≡ Says s → SaysAt all number s → SaidBelow all number said
-    → SaidBelow all (suc number) (said ++ s ∷ [])
-said_more all number s said here at below = record {
+pub said_more : (version : Version) (all : List (List ℕ)) (number : ℕ) (s : Statement) (said : List Statement)
+    → content_of version (line_at all number) ≡ Says s → SaysAt version all number s → SaidBelow version all number said
+    → SaidBelow version all (suc number) (said ++ s ∷ [])
+said_more version all number s said here at below = record {
   listed = λ t has. by_cause t (pushed_cases said s t has);
   found = λ t k within at'. pushed_said said s t (by_order t k within at' (cases_order k number));
 }
   where
-    by_cause : (t : Statement) → Contains said t ⊎ (t ≡ s) → (k : ℕ) × (k < suc number) × SaysAt all k t
+    by_cause : (t : Statement) → Contains said t ⊎ (t ≡ s) → (k : ℕ) × (k < suc number) × SaysAt version all k t
     by_cause t (inl has) = let p = below.listed t has in (p.0, omega (arith, p.1), p.2)
-    by_cause t (inr same) = (number, omega arith, subst (SaysAt all number) (sym same) at)
+    by_cause t (inr same) = (number, omega arith, subst (SaysAt version all number) (sym same) at)
 
-    by_order : (t : Statement) (k : ℕ) → k < suc number → SaysAt all k t → (k ≡ number) ⊎ ((k < number) ⊎ (number < k))
+    by_order : (t : Statement) (k : ℕ) → k < suc number → SaysAt version all k t → (k ≡ number) ⊎ ((k < number) ⊎ (number < k))
         → Contains said t ⊎ (t ≡ s)
     by_order t k within at' (inl same) =
-        inr (same_said all number s t here (subst (λ (n : ℕ). SaysLine (line_at all n) t) same at'.said))
+        inr (same_said version all number s t here (subst (λ (n : ℕ). SaysLine version (line_at all n) t) same at'.said))
     by_order t k within at' (inr (inl lower)) = inl (below.found t k lower at')
     by_order t k within at' (inr (inr higher)) = absurd (omega (arith, within, higher))

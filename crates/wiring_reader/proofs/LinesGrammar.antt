@@ -18,6 +18,7 @@ use Rattle.tokens.specs.declared.frame.Content.TheVariants.{Empty, End, Says, No
 use Rattle.wiring_text.specs.declared.statement.Statement.{Statement}
 use Rattle.wiring_reader.proofs.LineGrammar.{is_content, empty_read, end_read, said_read}
 use Rattle.wiring_reader.proofs.SameStatement.{not_said, none_contained}
+use Rattle.wiring_text.specs.declared.statement.Version.{Version}
 
 -- what is said so far, before and after END
 abbrev pub before_end : List Statement → SoFar
@@ -34,22 +35,22 @@ abbrev pub AreFit : ℕ → List Statement → Type 0
 AreFit lines said = All (λ statement. statement_fault lines statement ≡ None) said
 
 -- the lines from a number on, by the first of them
-pub lines_from-cons : (lines number : ℕ) (so_far : SoFar) (line : List ℕ) (rest : List (List ℕ)) (content : Content)
-    → content_of line ≡ content
-    → lines_from lines number so_far (line ∷ rest)
-    ≡ go_on (step lines number so_far content) (λ next. lines_from lines (suc number) next rest)
+pub lines_from-cons : (version : Version) (lines number : ℕ) (so_far : SoFar) (line : List ℕ) (rest : List (List ℕ)) (content : Content)
+    → content_of version line ≡ content
+    → lines_from version lines number so_far (line ∷ rest)
+    ≡ go_on (step lines number so_far content) (λ next. lines_from version lines (suc number) next rest)
 unfolding lines_from
-lines_from-cons lines number so_far line rest content is =
-    ap (λ c. go_on (step lines number so_far c) (λ next. lines_from lines (suc number) next rest)) is
+lines_from-cons version lines number so_far line rest content is =
+    ap (λ c. go_on (step lines number so_far c) (λ next. lines_from version lines (suc number) next rest)) is
 
 -- after END
-empties_read : (rest : List (List ℕ)) (lines number : ℕ) (said : List Statement) → AllByRecursion IsEmptyLine rest
-    → lines_from lines number (after_end said) rest ≡ Ok said
+empties_read : (version : Version) (rest : List (List ℕ)) (lines number : ℕ) (said : List Statement) → AllByRecursion IsEmptyLine rest
+    → lines_from version lines number (after_end said) rest ≡ Ok said
 unfolding lines_from
-empties_read [] lines number said all = refl
-empties_read (line ∷ rest) lines number said all =
-    lines_from-cons lines number (after_end said) line rest Empty (empty_read line all.0)
-    ∙ empties_read rest lines (suc number) said all.1
+empties_read version [] lines number said all = refl
+empties_read version (line ∷ rest) lines number said all =
+    lines_from-cons version lines number (after_end said) line rest Empty (empty_read version line all.0)
+    ∙ empties_read version rest lines (suc number) said all.1
 
 -- a statement that is not among those before it
 first_once : (said more : List Statement) (s : Statement) → AreOnce (said ++ s ∷ more) → Contains said s → ⊥
@@ -58,26 +59,26 @@ first_once said more s once has =
     (get_or_append_left said (s ∷ more) s has.0 has.1 ∙ has.2 ∙ sym (get_or-append_seam said s more s))
 
 -- what lines say is read
-pub lines_read : {rest : List (List ℕ)} {more : List Statement} → SaysLines rest more
+pub lines_read : {version : Version} {rest : List (List ℕ)} {more : List Statement} → SaysLines version rest more
     → (lines number : ℕ) (said : List Statement) → AreOnce (said ++ more) → AreTogether (said ++ more) → AreFit lines more
-    → lines_from lines number (before_end said) rest ≡ Ok (said ++ more)
-lines_read (empty_line {line} {lines = rest} {said = more} is says) lines number said once together fit =
-    lines_from-cons lines number (before_end said) line rest Empty (empty_read line is)
+    → lines_from version lines number (before_end said) rest ≡ Ok (said ++ more)
+lines_read {version} (empty_line {line} {lines = rest} {said = more} is says) lines number said once together fit =
+    lines_from-cons version lines number (before_end said) line rest Empty (empty_read version line is)
     ∙ lines_read says lines (suc number) said once together fit
-lines_read (said_line {line} {lines = rest} {statement = s} {said = more} is says) lines number said once together fit =
+lines_read {version} (said_line {line} {lines = rest} {statement = s} {said = more} is says) lines number said once together fit =
     let new : is_said said s ≡ false = not_said said s (first_once said more s once) in
     let fits : statement_fault lines s ≡ None = All-head (λ x. statement_fault lines x ≡ None) s more fit in
     let fault : fault_said lines said s ≡ None = none-fault lines said s fits (agrees-before said more s together) in
     let stepped : say lines number said s ≡ Ok (before_end (said ++ s ∷ [])) = rw (new, fault) refl in
     let one_list : (said ++ s ∷ []) ++ more ≡ said ++ s ∷ more = append_assoc said (s ∷ []) more in
-    lines_from-cons lines number (before_end said) line rest (Says s) (said_read line s is)
-    ∙ ap (λ r. go_on r (λ next. lines_from lines (suc number) next rest)) stepped
+    lines_from-cons version lines number (before_end said) line rest (Says s) (said_read version line s is)
+    ∙ ap (λ r. go_on r (λ next. lines_from version lines (suc number) next rest)) stepped
     ∙ lines_read says lines (suc number) (said ++ s ∷ []) (subst AreOnce (sym one_list) once) (subst AreTogether (sym one_list) together)
     (All-tail (λ x. statement_fault lines x ≡ None) s more fit)
     ∙ ap Ok one_list
-lines_read (end_line {line} {lines = rest} is all) lines number said once together fit =
-    lines_from-cons lines number (before_end said) line rest End (end_read line is)
-    ∙ empties_read rest lines (suc number) said all
+lines_read {version} (end_line {line} {lines = rest} is all) lines number said once together fit =
+    lines_from-cons version lines number (before_end said) line rest End (end_read version line is)
+    ∙ empties_read version rest lines (suc number) said all
     ∙ ap Ok (sym (append-nil said))
 
 -- what is read of lines after END
@@ -91,42 +92,42 @@ answered said = Ok said
 same_ok : (a b : List Statement) → answered a ≡ answered b → a ≡ b
 same_ok a b e = cc
 
-ends_by : (content : Content) (line : List ℕ) (rest : List (List ℕ)) (lines number : ℕ) (said all : List Statement)
-    → content_of line ≡ content
-    → (lines_from lines (suc number) (after_end said) rest ≡ Ok all → Ends rest said all)
-    → go_on (step lines number (after_end said) content) (λ next. lines_from lines (suc number) next rest) ≡ Ok all
+ends_by : (version : Version) (content : Content) (line : List ℕ) (rest : List (List ℕ)) (lines number : ℕ) (said all : List Statement)
+    → content_of version line ≡ content
+    → (lines_from version lines (suc number) (after_end said) rest ≡ Ok all → Ends rest said all)
+    → go_on (step lines number (after_end said) content) (λ next. lines_from version lines (suc number) next rest) ≡ Ok all
     → Ends (line ∷ rest) said all
-ends_by Empty line rest lines number said all is others read =
+ends_by version Empty line rest lines number said all is others read =
     let r = others read in
-    record { empty = (is_content line Empty is, r.empty); nothing = r.nothing }
-ends_by End line rest lines number said all is others read = cc
-ends_by (Says s) line rest lines number said all is others read = cc
-ends_by NoLine line rest lines number said all is others read = cc
+    record { empty = (is_content version line Empty is, r.empty); nothing = r.nothing }
+ends_by version End line rest lines number said all is others read = cc
+ends_by version (Says s) line rest lines number said all is others read = cc
+ends_by version NoLine line rest lines number said all is others read = cc
 
-ends : (rest : List (List ℕ)) (lines number : ℕ) (said all : List Statement)
-    → lines_from lines number (after_end said) rest ≡ Ok all → Ends rest said all
+ends : (version : Version) (rest : List (List ℕ)) (lines number : ℕ) (said all : List Statement)
+    → lines_from version lines number (after_end said) rest ≡ Ok all → Ends rest said all
 unfolding lines_from
-ends [] lines number said all read = record { empty = tt; nothing = same_ok all said (sym read) }
-ends (line ∷ rest) lines number said all read =
-    ends_by (content_of line) line rest lines number said all refl (ends rest lines (suc number) said all) read
+ends version [] lines number said all read = record { empty = tt; nothing = same_ok all said (sym read) }
+ends version (line ∷ rest) lines number said all read =
+    ends_by version (content_of version line) line rest lines number said all refl (ends version rest lines (suc number) said all) read
 
 -- what is read of lines
-pub record AreSaid (lines : ℕ) (rest : List (List ℕ)) (said all : List Statement) : Type 0 where
+pub record AreSaid (version : Version) (lines : ℕ) (rest : List (List ℕ)) (said all : List Statement) : Type 0 where
   pub more : List Statement
   pub is : all ≡ said ++ more
-  pub says : SaysLines rest more
+  pub says : SaysLines version rest more
   pub once : AreOnce said → AreOnce all
   pub fit : AreFit lines said → AreFit lines all
   pub together : AreTogether said → AreTogether all
 
 -- a statement more
-pushed : (lines : ℕ) (line : List ℕ) (rest : List (List ℕ)) (said all : List Statement) (s : Statement)
-    → content_of line ≡ Says s → is_said said s ≡ false → fault_said lines said s ≡ None
-    → AreSaid lines rest (said ++ s ∷ []) all → AreSaid lines (line ∷ rest) said all
-pushed lines line rest said all s is new fits others = record {
+pushed : (version : Version) (lines : ℕ) (line : List ℕ) (rest : List (List ℕ)) (said all : List Statement) (s : Statement)
+    → content_of version line ≡ Says s → is_said said s ≡ false → fault_said lines said s ≡ None
+    → AreSaid version lines rest (said ++ s ∷ []) all → AreSaid version lines (line ∷ rest) said all
+pushed version lines line rest said all s is new fits others = record {
   more = s ∷ others.more;
   is = others.is ∙ append_assoc said (s ∷ []) others.more;
-  says = said_line (is_content line (Says s) is) others.says;
+  says = said_line (is_content version line (Says s) is) others.says;
   once = λ once. others.once (all_pairs_push (λ one other. one ≢ other) said s once
       (λ k d within e. none_contained said s new
       (k, within, subst (λ (x : Statement). get_or said k x ≡ s) e (other_default k d within e))));
@@ -138,45 +139,45 @@ pushed lines line rest said all s is new fits others = record {
         → get_or said k (get_or said k d) ≡ s
     other_default k d within e = grind (arith, common_steps, e, within)
 
-said_by : (faults : Option SetupFault) (test : Bool) (line : List ℕ) (rest : List (List ℕ)) (lines number : ℕ)
-    (said all : List Statement) (s : Statement) → content_of line ≡ Says s → is_said said s ≡ test
+said_by : (version : Version) (faults : Option SetupFault) (test : Bool) (line : List ℕ) (rest : List (List ℕ)) (lines number : ℕ)
+    (said all : List Statement) (s : Statement) → content_of version line ≡ Says s → is_said said s ≡ test
     → fault_said lines said s ≡ faults
-    → (lines_from lines (suc number) (before_end (said ++ s ∷ [])) rest ≡ Ok all → AreSaid lines rest (said ++ s ∷ []) all)
+    → (lines_from version lines (suc number) (before_end (said ++ s ∷ [])) rest ≡ Ok all → AreSaid version lines rest (said ++ s ∷ []) all)
     → go_on (cond test (Err (LineTwice number)) (new_said number said s faults))
-    (λ next. lines_from lines (suc number) next rest) ≡ Ok all
-    → AreSaid lines (line ∷ rest) said all
-said_by faults true line rest lines number said all s is test fault others read = cc
-said_by None false line rest lines number said all s is test fault others read =
-    pushed lines line rest said all s is test fault (others read)
-said_by (Some f) false line rest lines number said all s is test fault others read = cc
+    (λ next. lines_from version lines (suc number) next rest) ≡ Ok all
+    → AreSaid version lines (line ∷ rest) said all
+said_by version faults true line rest lines number said all s is test fault others read = cc
+said_by version None false line rest lines number said all s is test fault others read =
+    pushed version lines line rest said all s is test fault (others read)
+said_by version (Some f) false line rest lines number said all s is test fault others read = cc
 
-reads_by : (content : Content) (line : List ℕ) (rest : List (List ℕ)) (lines number : ℕ) (said all : List Statement)
-    → content_of line ≡ content
-    → ((so : List Statement) → lines_from lines (suc number) (before_end so) rest ≡ Ok all → AreSaid lines rest so all)
-    → go_on (step lines number (before_end said) content) (λ next. lines_from lines (suc number) next rest) ≡ Ok all
-    → AreSaid lines (line ∷ rest) said all
-reads_by Empty line rest lines number said all is others read =
+reads_by : (version : Version) (content : Content) (line : List ℕ) (rest : List (List ℕ)) (lines number : ℕ) (said all : List Statement)
+    → content_of version line ≡ content
+    → ((so : List Statement) → lines_from version lines (suc number) (before_end so) rest ≡ Ok all → AreSaid version lines rest so all)
+    → go_on (step lines number (before_end said) content) (λ next. lines_from version lines (suc number) next rest) ≡ Ok all
+    → AreSaid version lines (line ∷ rest) said all
+reads_by version Empty line rest lines number said all is others read =
     let r = others said read in
-    record { more = r.more; is = r.is; says = empty_line (is_content line Empty is) r.says; once = r.once; fit = r.fit; together = r.together }
-reads_by End line rest lines number said all is others read =
-    let r = ends rest lines (suc number) said all read in
+    record { more = r.more; is = r.is; says = empty_line (is_content version line Empty is) r.says; once = r.once; fit = r.fit; together = r.together }
+reads_by version End line rest lines number said all is others read =
+    let r = ends version rest lines (suc number) said all read in
     record {
       more = [];
       is = r.nothing ∙ sym (append-nil said);
-      says = end_line (is_content line End is) r.empty;
+      says = end_line (is_content version line End is) r.empty;
       once = subst AreOnce (sym r.nothing);
       fit = subst (AreFit lines) (sym r.nothing);
       together = subst AreTogether (sym r.nothing);
     }
-reads_by (Says s) line rest lines number said all is others read =
-    said_by (fault_said lines said s) (is_said said s) line rest lines number said all s is refl refl
+reads_by version (Says s) line rest lines number said all is others read =
+    said_by version (fault_said lines said s) (is_said said s) line rest lines number said all s is refl refl
     (others (said ++ s ∷ [])) read
-reads_by NoLine line rest lines number said all is others read = cc
+reads_by version NoLine line rest lines number said all is others read = cc
 
-pub reads_what_is_read : (rest : List (List ℕ)) (lines number : ℕ) (said all : List Statement)
-    → lines_from lines number (before_end said) rest ≡ Ok all → AreSaid lines rest said all
+pub reads_what_is_read : (version : Version) (rest : List (List ℕ)) (lines number : ℕ) (said all : List Statement)
+    → lines_from version lines number (before_end said) rest ≡ Ok all → AreSaid version lines rest said all
 unfolding lines_from
-reads_what_is_read [] lines number said all read = cc
-reads_what_is_read (line ∷ rest) lines number said all read =
-    reads_by (content_of line) line rest lines number said all refl
-    (λ so. reads_what_is_read rest lines (suc number) so all) read
+reads_what_is_read version [] lines number said all read = cc
+reads_what_is_read version (line ∷ rest) lines number said all read =
+    reads_by version (content_of version line) line rest lines number said all refl
+    (λ so. reads_what_is_read version rest lines (suc number) so all) read

@@ -1,7 +1,7 @@
 -- A token is the name of a hub exactly where it is read as one.
 use Rattle.std.proofs.Common.{◌≡◌, ℕ, true, not, leb, List, [], ◌∷◌, ◌++◌, Some, refl, ap, sym, ◌∙◌, subst, arith, append-nil, append_assoc}
 use Rattle.std.proofs.lemmas.Bool.{and_parts, and_from, leb-true, ne_eqb}
-use Rattle.std.proofs.lemmas.Option.{same_Some}
+use Rattle.std.proofs.lemmas.Option.{none-some, same_Some}
 use Rattle.std.specs.List.{slice_split, list_all}
 use Rattle.hub_table.specs.HubTable.{row_of}
 use Rattle.hub_table.specs.Places.{has_as_many}
@@ -11,7 +11,7 @@ use Rattle.tokens.specs.Number.{IsNumber, is_digit}
 use Rattle.tokens.specs.NumberReading.{number_of}
 use Rattle.tokens.proofs.NumberGrammar.{number_is, number_read}
 use Rattle.tokens.proofs.Steps.{bound, granted}
-use Rattle.wiring_text.specs.HubNames.{IsPointed, IsDotted, bare, one, two, three, IsHubName}
+use Rattle.wiring_text.specs.HubNames.{IsGroup, IsPointed, IsDotted, bare, one, two, three, IsHubName}
 use Rattle.wiring_reader.specs.Reading.{is_point, letters_spelled, numbers_spelled, numbers_from_one, numbers_from_two, numbers_from_three, name_of_pieces, name_spelled}
 use Rattle.wiring_text.specs.declared.statement.HubName.{HubName}
 use Rattle.wiring_reader.proofs.LetterReading.{no_point, letters_is, letters_read, letters_plain}
@@ -137,3 +137,61 @@ name_read token name is =
     ap (λ t. name_of_pieces (slice_split is_point t)) is.spelled
     ∙ ap name_of_pieces (f.falls (row_of name.letters).spelled (letters_plain name.letters))
     ∙ (rw (letters_read name.letters, f.read, is.as_many) refl)
+
+-- the numbers of a counter group
+pair_from_two : (l m w n : ℕ) (pieces : List (List ℕ)) → numbers_from_two l m pieces ≡ Some (Two w n)
+    → (pieces ≡ []) × (l ≡ w) × (m ≡ n)
+pair_from_two l m w n [] read = (refl, ap first_of same, ap second_of same)
+  where
+    first_of : Numbers → ℕ
+    first_of (Two a b) = a
+    first_of other = 0
+
+    second_of : Numbers → ℕ
+    second_of (Two a b) = b
+    second_of other = 0
+
+    same : Two l m ≡ Two w n
+    same = same_Some (Two l m) (Two w n) read
+pair_from_two l m w n (c ∷ pieces) read = absurd (no_pair pieces (bound (number_of c) _ (Two w n) read))
+  where
+    no_pair : (pieces : List (List ℕ)) → (k : ℕ) × (number_of c ≡ Some k) × (numbers_from_three l m k pieces ≡ Some (Two w n)) → ⊥
+    no_pair [] found = clash (same_Some (Three l m found.0) (Two w n) found.2)
+      where
+        clash : Three l m found.0 ≡ Two w n → ⊥
+        clash e = cc
+    no_pair (d ∷ ds) found = none-some (Two w n) found.2
+
+pair_is : (group : List ℕ) (w n : ℕ) (pieces : List (List ℕ)) → joined pieces ≡ group → numbers_spelled pieces ≡ Some (Two w n)
+    → IsGroup group w n
+pair_is group w n [] same read = absurd (clash (same_Some Bare (Two w n) read))
+  where
+    clash : Bare ≡ Two w n → ⊥
+    clash e = cc
+pair_is group w n (a ∷ []) same read =
+    let l = bound (number_of a) _ (Two w n) read in
+    absurd (clash l.0 (same_Some (One l.0) (Two w n) l.2))
+  where
+    clash : (l : ℕ) → One l ≡ Two w n → ⊥
+    clash l e = cc
+pair_is group w n (a ∷ b ∷ pieces) same read =
+    let l = bound (number_of a) _ (Two w n) read in
+    let m = bound (number_of b) _ (Two w n) l.2 in
+    let pair = pair_from_two l.0 m.0 w n pieces m.2 in
+    record {
+      digits = a;
+      after = 46 ∷ b;
+      spelled = sym same ∙ ap (λ (ps : List (List ℕ)). a ++ 46 ∷ (b ++ dotted ps)) pair.0 ∙ ap (λ (s : List ℕ). a ++ 46 ∷ s) (append-nil b);
+      wide = subst (IsNumber a) pair.1 (number_is a l.0 l.1);
+      numbered = record { digits = b; spelled = refl; value = subst (IsNumber b) pair.2 (number_is b m.0 m.1) };
+    }
+
+pub group_is : (group : List ℕ) (w n : ℕ) → numbers_spelled (slice_split is_point group) ≡ Some (Two w n) → IsGroup group w n
+group_is group w n read = pair_is group w n (slice_split is_point group) (joined_pieces group) read
+
+pub group_read : (group : List ℕ) (w n : ℕ) → IsGroup group w n → numbers_spelled (slice_split is_point group) ≡ Some (Two w n)
+group_read group w n is =
+    ap (λ s. numbers_spelled (slice_split is_point s)) (is.spelled ∙ ap (λ (s : List ℕ). is.digits ++ s) is.numbered.spelled)
+    ∙ ap numbers_spelled (split_after is.digits is.numbered.digits (plain_number is.digits w is.wide)
+    ∙ ap (λ ps. is.digits ∷ ps) (split_alone is.numbered.digits (plain_number is.numbered.digits n is.numbered.value)))
+    ∙ (rw (number_read is.digits w is.wide, number_read is.numbered.digits n is.numbered.value) refl)

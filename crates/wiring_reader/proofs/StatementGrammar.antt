@@ -1,8 +1,11 @@
 -- The tokens of a line say exactly what is read of them.
-use Rattle.std.proofs.Common.{◌≡◌, ℕ, Bool, true, false, cond, leb, List, [], ◌∷◌, Option, Some, None, option_map, refl, ap, sym, ◌∙◌, subst, codes}
-use Rattle.std.proofs.lemmas.Bool.{leb-true, le-leb, and_from}
+use Rattle.std.proofs.Common.{◌≡◌, ℕ, Bool, true, false, cond, leb, eqb, List, [], ◌∷◌, Option, Some, None, option_map, refl, ap, sym, ◌∙◌, subst, codes}
+use Rattle.std.proofs.lemmas.Bool.{leb-true, le-leb, and_from, both_ways, eq-eqb, ne_eqb}
 use Rattle.std.proofs.lemmas.Option.{same_Some}
+use Rattle.std.specs.List.{slice_split}
 use Rattle.std.specs.Str.{bytes_eq}
+use Rattle.hub_table.specs.declared.shape.Numbers.{Numbers}
+use Rattle.hub_table.specs.declared.shape.Numbers.TheVariants.{Two}
 use Rattle.hubs.specs.Jacks.{is_jack_in_range}
 use Rattle.hubs.specs.declared.jack.Jack.{Jack}
 use Rattle.hubs.specs.declared.jack.Jack.TheVariants as jacks
@@ -10,17 +13,20 @@ use Rattle.tokens.specs.Number.{IsNumberTo}
 use Rattle.tokens.specs.NumberReading.{number_of, number_to}
 use Rattle.tokens.specs.Dividing.{tokens_of}
 use Rattle.tokens.proofs.NumberGrammar.{number_is, number_read, number_to_is, number_to_read}
-use Rattle.tokens.proofs.Steps.{bound, granted}
+use Rattle.tokens.proofs.Steps.{bound, granted, refused}
 use Rattle.tokens.proofs.TokenWord.{is_word}
 use Rattle.tokens.proofs.TokenGrammar.{has_what_is_read, read_what_it_has, mapped}
-use Rattle.wiring_reader.specs.Reading.{name_spelled, numbered_jack, jack_of, stop_of, wire_of, statement_of, form_of}
-use Rattle.wiring_text.specs.Statements.{SaysJack, list, total, head, link, suppress, symbol, Says, stop, plug, wire}
+use Rattle.wiring_reader.specs.Reading.{carry_of, couple_of, is_point, name_spelled, numbers_spelled, ring_numbered, ring_of, numbered_jack, jack_of, stop_of, wire_of, statement_of, form_of}
+use Rattle.wiring_text.specs.Statements.{SaysJack, list, total, head, link, suppress, symbol, Says, stop, plug, wire, ring, couple, may_be_wired}
+use Rattle.wiring_text.specs.HubNames.{carry_entry, carry_exit}
 use Rattle.wiring_reader.specs.TextReading.{IsSayable, divided_form}
 use Rattle.wiring_text.specs.WiringText.{IsFormLine}
 use Rattle.wiring_text.specs.declared.statement.FormNumbers.{FormNumbers}
 use Rattle.wiring_text.specs.declared.statement.Statement.{Statement}
 use Rattle.wiring_text.specs.declared.statement.Statement.TheVariants.{Stop, Plug, Wire}
-use Rattle.wiring_reader.proofs.NameGrammar.{name_is, name_read}
+use Rattle.wiring_reader.proofs.NameGrammar.{group_is, group_read, name_is, name_read}
+use Rattle.wiring_text.specs.declared.statement.Version.{Version}
+use Rattle.wiring_text.specs.declared.statement.Version.TheVariants.{First, Second}
 
 -- a token that is tested for a word
 word_then : {A : Type 0} (token word : List ℕ) (p q : Option A) (x : A) (P : Type 0)
@@ -75,50 +81,100 @@ jack_read (suppress {token} {wheel} is) = rw (number_to_read 120 token wheel is)
 jack_read (symbol {token} {wheel} is) = rw (number_to_read 120 token wheel is) refl
 
 -- a stop, and a wire
-stop_is : (operands : List (List ℕ)) (s : Statement) → stop_of operands ≡ Some s → Says (codes "STOP" ∷ operands) s
+stop_is : (version : Version) (operands : List (List ℕ)) (s : Statement) → stop_of operands ≡ Some s → Says version (codes "STOP" ∷ operands) s
 unfolding stop_of
-stop_is [] s read = cc
-stop_is (a ∷ []) s read = cc
-stop_is (channel ∷ line ∷ []) s read =
+stop_is version [] s read = cc
+stop_is version (a ∷ []) s read = cc
+stop_is version (channel ∷ line ∷ []) s read =
     let c = bound (number_to 11 channel) _ s read in
     let n = bound (number_of line) _ s c.2 in
     let test = granted (leb 2 c.0) _ s n.2 in
-    subst (Says (codes "STOP" ∷ channel ∷ line ∷ [])) (same_Some (Stop c.0 n.0) s test.1)
+    subst (Says version (codes "STOP" ∷ channel ∷ line ∷ [])) (same_Some (Stop c.0 n.0) s test.1)
     (stop (number_to_is 11 channel c.0 c.1) (leb-true 2 c.0 test.0) (number_is line n.0 n.1))
-stop_is (a ∷ b ∷ c ∷ others) s read = cc
+stop_is version (a ∷ b ∷ c ∷ others) s read = cc
 
-wire_is : (operands : List (List ℕ)) (s : Statement) → wire_of operands ≡ Some s → Says (codes "WIRE" ∷ operands) s
+wire_is : (version : Version) (operands : List (List ℕ)) (s : Statement) → wire_of version operands ≡ Some s
+    → Says version (codes "WIRE" ∷ operands) s
 unfolding wire_of
-wire_is [] s read = cc
-wire_is (a ∷ []) s read = cc
-wire_is (from ∷ to ∷ []) s read =
+wire_is version [] s read = cc
+wire_is version (a ∷ []) s read = cc
+wire_is version (from ∷ to ∷ []) s read =
     let exit = bound (name_spelled from) _ s read in
     let entry = bound (name_spelled to) _ s exit.2 in
-    subst (Says (codes "WIRE" ∷ from ∷ to ∷ [])) (same_Some (Wire exit.0 entry.0) s entry.2)
-    (wire (name_is from exit.0 exit.1) (name_is to entry.0 entry.1))
-wire_is (a ∷ b ∷ c ∷ others) s read = cc
+    let test = granted (may_be_wired version exit.0 entry.0) _ s entry.2 in
+    subst (Says version (codes "WIRE" ∷ from ∷ to ∷ [])) (same_Some (Wire exit.0 entry.0) s test.1)
+    (wire (name_is from exit.0 exit.1) (name_is to entry.0 entry.1) test.0)
+wire_is version (a ∷ b ∷ c ∷ others) s read = cc
+
+-- a ring, and two groups that are coupled
+ring_by : (version : Version) (group : List ℕ) (numbers : Numbers) (s : Statement) → version ≡ Second
+    → numbers_spelled (slice_split is_point group) ≡ Some numbers → ring_numbered numbers ≡ Some s
+    → Says version (codes "RING" ∷ group ∷ []) s
+ring_by version group (Two w n) s second read made =
+    subst (Says version (codes "RING" ∷ group ∷ [])) (same_Some (Wire (carry_exit w n) (carry_entry w n)) s made)
+    (ring second (group_is group w n read))
+ring_by version group other s second read made = cc
+
+ring_is : (version : Version) (operands : List (List ℕ)) (s : Statement) → version ≡ Second → ring_of operands ≡ Some s
+    → Says version (codes "RING" ∷ operands) s
+unfolding ring_of
+ring_is version [] s second read = cc
+ring_is version (group ∷ []) s second read =
+    let numbers = bound (numbers_spelled (slice_split is_point group)) _ s read in
+    ring_by version group numbers.0 s second numbers.1 numbers.2
+ring_is version (a ∷ b ∷ others) s second read = cc
+
+couple_is : (version : Version) (operands : List (List ℕ)) (s : Statement) → version ≡ Second → couple_of operands ≡ Some s
+    → Says version (codes "COUPLE" ∷ operands) s
+unfolding couple_of
+couple_is version [] s second read = cc
+couple_is version (a ∷ []) s second read = cc
+couple_is version (from ∷ to ∷ []) s second read =
+    let m = bound (number_of from) _ s read in
+    let n = bound (number_of to) _ s m.2 in
+    let test = refused (eqb m.0 n.0) _ s n.2 in
+    subst (Says version (codes "COUPLE" ∷ from ∷ to ∷ [])) (same_Some (Wire (carry_exit 8 m.0) (carry_entry 8 n.0)) s test.1)
+    (couple second (number_is from m.0 m.1) (number_is to n.0 n.1) (λ e. both_ways (eqb m.0 n.0) test.0 (eq-eqb m.0 n.0 e)))
+couple_is version (a ∷ b ∷ c ∷ others) s second read = cc
+
+carry_is : (version : Version) (word : List ℕ) (operands : List (List ℕ)) (s : Statement) → carry_of version word operands ≡ Some s
+    → Says version (word ∷ operands) s
+unfolding carry_of
+carry_is First word operands s read = cc
+carry_is Second word operands s read =
+    word_then word (codes "RING") _ _ s (Says Second (word ∷ operands) s) read
+    (λ same r. subst (λ (w : List ℕ). Says Second (w ∷ operands) s) (sym same) (ring_is Second operands s refl r))
+    (λ r. word_then word (codes "COUPLE") _ _ s (Says Second (word ∷ operands) s) r
+    (λ same r. subst (λ (w : List ℕ). Says Second (w ∷ operands) s) (sym same) (couple_is Second operands s refl r))
+    (λ r. cc))
 
 -- what tokens say
-pub says_is : (tokens : List (List ℕ)) (s : Statement) → statement_of tokens ≡ Some s → Says tokens s
+pub says_is : (version : Version) (tokens : List (List ℕ)) (s : Statement) → statement_of version tokens ≡ Some s
+    → Says version tokens s
 unfolding statement_of
-says_is [] s read = cc
-says_is (word ∷ operands) s read =
-    word_then word (codes "STOP") _ _ s (Says (word ∷ operands) s) read
-    (λ same r. subst (λ (w : List ℕ). Says (w ∷ operands) s) (sym same) (stop_is operands s r))
-    (λ r. word_then word (codes "JACK") _ _ s (Says (word ∷ operands) s) r
-    (λ same r. subst (λ (w : List ℕ). Says (w ∷ operands) s) (sym same)
+says_is version [] s read = cc
+says_is version (word ∷ operands) s read =
+    word_then word (codes "STOP") _ _ s (Says version (word ∷ operands) s) read
+    (λ same r. subst (λ (w : List ℕ). Says version (w ∷ operands) s) (sym same) (stop_is version operands s r))
+    (λ r. word_then word (codes "JACK") _ _ s (Says version (word ∷ operands) s) r
+    (λ same r. subst (λ (w : List ℕ). Says version (w ∷ operands) s) (sym same)
     (let j = mapped Plug (jack_of operands) s r in
-    subst (Says (codes "JACK" ∷ operands)) j.2 (plug (jack_is operands j.0 j.1))))
-    (λ r. word_then word (codes "WIRE") _ _ s (Says (word ∷ operands) s) r
-    (λ same r. subst (λ (w : List ℕ). Says (w ∷ operands) s) (sym same) (wire_is operands s r))
-    (λ r. cc)))
+    subst (Says version (codes "JACK" ∷ operands)) j.2 (plug (jack_is operands j.0 j.1))))
+    (λ r. word_then word (codes "WIRE") _ _ s (Says version (word ∷ operands) s) r
+    (λ same r. subst (λ (w : List ℕ). Says version (w ∷ operands) s) (sym same) (wire_is version operands s r))
+    (carry_is version word operands s)))
 
-pub says_read : {tokens : List (List ℕ)} {s : Statement} → Says tokens s → statement_of tokens ≡ Some s
-unfolding statement_of stop_of wire_of
+pub says_read : {version : Version} {tokens : List (List ℕ)} {s : Statement} → Says version tokens s
+    → statement_of version tokens ≡ Some s
+unfolding statement_of stop_of wire_of carry_of ring_of couple_of
 says_read (stop {channel} {line} {c} {n} is from also) =
     rw (number_to_read 11 channel c is, number_read line n also, le-leb 2 c from) refl
 says_read (plug {operands} {j} is) = rw (jack_read is) refl
-says_read (wire {from} {to} {exit} {entry} is also) = rw (name_read from exit is, name_read to entry also) refl
+says_read (wire {from} {to} {exit} {entry} is also plain) =
+    rw (name_read from exit is, name_read to entry also, plain) refl
+says_read (ring {group} {width} {n} second is) = rw (second, group_read group width n is) refl
+says_read (couple {from} {to} {m} {n} second is also other) =
+    rw (second, number_read from m is, number_read to n also, ne_eqb m n other) refl
 
 -- what is said can be said: its channel or its jack is in range
 jack_sayable : {tokens : List (List ℕ)} {j : Jack} → SaysJack tokens j → is_jack_in_range j ≡ true
@@ -129,10 +185,12 @@ jack_sayable (link {token} {wheel} is) = and_from _ _ (le-leb 1 wheel is.least) 
 jack_sayable (suppress {token} {wheel} is) = and_from _ _ (le-leb 1 wheel is.least) (le-leb wheel 120 is.most)
 jack_sayable (symbol {token} {wheel} is) = and_from _ _ (le-leb 1 wheel is.least) (le-leb wheel 120 is.most)
 
-pub said_sayable : {tokens : List (List ℕ)} {s : Statement} → Says tokens s → IsSayable s
+pub said_sayable : {version : Version} {tokens : List (List ℕ)} {s : Statement} → Says version tokens s → IsSayable s
 said_sayable (stop is from also) = (from, is.most)
 said_sayable (plug is) = jack_sayable is
-said_sayable (wire is also) = tt
+said_sayable (wire is also plain) = tt
+said_sayable (ring second is) = tt
+said_sayable (couple second is also other) = tt
 
 -- the form of line 2
 form_tokens_is : (line : List ℕ) (tokens : List (List ℕ)) (form : FormNumbers) → tokens_of line ≡ Some tokens

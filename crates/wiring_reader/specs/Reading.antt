@@ -14,10 +14,14 @@ use Rattle.hub_table.specs.declared.shape.Numbers.{Numbers}
 use Rattle.hub_table.specs.declared.shape.Numbers.TheVariants.{Bare, One, Two, Three}
 use Rattle.tokens.specs.NumberReading.{number_of, number_to}
 use Rattle.tokens.specs.Steps.{◌>>=◌}
+use Rattle.wiring_text.specs.HubNames.{carry_entry, carry_exit}
+use Rattle.wiring_text.specs.Statements.{may_be_wired}
 use Rattle.wiring_text.specs.declared.statement.FormNumbers.{FormNumbers}
 use Rattle.wiring_text.specs.declared.statement.HubName.{HubName}
 use Rattle.wiring_text.specs.declared.statement.Statement.{Statement}
 use Rattle.wiring_text.specs.declared.statement.Statement.TheVariants.{Stop, Plug, Wire}
+use Rattle.wiring_text.specs.declared.statement.Version.{Version}
+use Rattle.wiring_text.specs.declared.statement.Version.TheVariants.{First, Second}
 
 -- a point's byte
 abbrev pub is_point : ℕ → Bool
@@ -98,24 +102,55 @@ stop_of (channel ∷ line ∷ []) = do
   if nat_le 2 c then Some (Stop c n) else None
 stop_of (channel ∷ line ∷ next ∷ others) = None
 
--- the wire that tokens name
-unfoldable pub wire_of : List (List ℕ) → Option Statement
-wire_of [] = None
-wire_of (from ∷ []) = None
-wire_of (from ∷ to ∷ []) = do
+-- the wire that tokens name, where the version writes it so
+unfoldable pub wire_of : Version → List (List ℕ) → Option Statement
+wire_of version [] = None
+wire_of version (from ∷ []) = None
+wire_of version (from ∷ to ∷ []) = do
   exit ← name_spelled from
   entry ← name_spelled to
-  Some (Wire exit entry)
-wire_of (from ∷ to ∷ next ∷ others) = None
+  if may_be_wired version exit entry then Some (Wire exit entry) else None
+wire_of version (from ∷ to ∷ next ∷ others) = None
+
+-- the ring of a counter group with these numbers
+abbrev pub ring_numbered : Numbers → Option Statement
+ring_numbered (Two width number) = Some (Wire (carry_exit width number) (carry_entry width number))
+ring_numbered other = None
+
+-- the ring that tokens name
+unfoldable pub ring_of : List (List ℕ) → Option Statement
+ring_of [] = None
+ring_of (group ∷ []) = do
+  numbers ← numbers_spelled (slice_split is_point group)
+  ring_numbered numbers
+ring_of (group ∷ next ∷ others) = None
+
+-- the wire that couples the groups of 8 positions that tokens name
+unfoldable pub couple_of : List (List ℕ) → Option Statement
+couple_of [] = None
+couple_of (from ∷ []) = None
+couple_of (from ∷ to ∷ []) = do
+  m ← number_of from
+  n ← number_of to
+  if m == n then None else Some (Wire (carry_exit 8 m) (carry_entry 8 n))
+couple_of (from ∷ to ∷ next ∷ others) = None
+
+-- the carry wire that a word and tokens name, in version 2 alone
+unfoldable pub carry_of : Version → List ℕ → List (List ℕ) → Option Statement
+carry_of First word operands = None
+carry_of Second word operands =
+    if bytes_eq word (codes "RING") then ring_of operands
+    else if bytes_eq word (codes "COUPLE") then couple_of operands
+    else None
 
 -- what tokens say
-unfoldable pub statement_of : List (List ℕ) → Option Statement
-statement_of [] = None
-statement_of (word ∷ operands) =
+unfoldable pub statement_of : Version → List (List ℕ) → Option Statement
+statement_of version [] = None
+statement_of version (word ∷ operands) =
     if bytes_eq word (codes "STOP") then stop_of operands
     else if bytes_eq word (codes "JACK") then option_map Plug (jack_of operands)
-    else if bytes_eq word (codes "WIRE") then wire_of operands
-    else None
+    else if bytes_eq word (codes "WIRE") then wire_of version operands
+    else carry_of version word operands
 
 -- the form that tokens name
 unfoldable pub form_of : List (List ℕ) → Option FormNumbers

@@ -16,23 +16,35 @@ use Rattle.tokens.specs.declared.frame.Content as frame
 use Rattle.tokens.specs.declared.frame.Content.TheVariants.{Empty, End, Says, NoLine}
 use Rattle.wiring_reader.specs.Reading.{statement_of, form_of, is_said}
 use Rattle.wiring_text.specs.Statements.{do_statements_agree, statement_fault}
-use Rattle.wiring_text.specs.WiringText.{IsSetupOf}
+use Rattle.wiring_text.specs.WiringText.{IsSetupOf, version_text}
 use Rattle.wiring_text.specs.declared.statement.FormNumbers.{FormNumbers}
 use Rattle.wiring_text.specs.declared.fault.WiringFault.{WiringFault}
 use Rattle.wiring_text.specs.declared.fault.WiringFault.TheVariants.{TooLarge, NoFirstLine, NotALine, LineTwice, Unfit, NoEnd, Memory}
 use Rattle.wiring_text.specs.declared.statement.Statement.{Statement}
 use Rattle.wiring_text.specs.declared.statement.Statement.TheVariants.{Stop, Plug, Wire}
+use Rattle.wiring_text.specs.declared.statement.Version.{Version}
+use Rattle.wiring_text.specs.declared.statement.Version.TheVariants.{First, Second}
 
 -- what a line of a wiring chart is
 abbrev pub Content : Type 0
 Content = frame.Content Statement
 
-unfoldable pub content_of : List ℕ → Content
-content_of line = divided_content statement_of (tokens_of line)
+unfoldable pub content_of : Version → List ℕ → Content
+content_of version line = divided_content (statement_of version) (tokens_of line)
 
--- whether a line is the first line
-abbrev pub is_first : List ℕ → Bool
-is_first line = is_title_line (codes "WIRING407") (codes "1") line
+-- whether a line is the first line of a version
+abbrev pub is_first : Version → List ℕ → Bool
+is_first version line = is_title_line (codes "WIRING407") (version_text version) line
+
+-- the version of which one of two tests tells
+abbrev pub tested_version : Bool → Bool → Option Version
+tested_version true second = Some First
+tested_version false true = Some Second
+tested_version false false = None
+
+-- the version that a first line names
+abbrev pub version_named : List ℕ → Option Version
+version_named line = tested_version (is_first First line) (is_first Second line)
 
 -- the form that the tokens of the second line are
 abbrev pub divided_form : Option (List (List ℕ)) → Option FormNumbers
@@ -100,10 +112,10 @@ abbrev pub finished : SoFar → Result (List Statement) WiringFault
 finished so_far = if so_far.ended then Ok so_far.said else Err NoEnd
 
 -- what the lines from a number on say, on a form of so many lines
-unfoldable pub lines_from : ℕ → ℕ → SoFar → List (List ℕ) → Result (List Statement) WiringFault
-lines_from lines number so_far [] = finished so_far
-lines_from lines number so_far (line ∷ rest) =
-    go_on (step lines number so_far (content_of line)) (λ next. lines_from lines (suc number) next rest)
+unfoldable pub lines_from : Version → ℕ → ℕ → SoFar → List (List ℕ) → Result (List Statement) WiringFault
+lines_from version lines number so_far [] = finished so_far
+lines_from version lines number so_far (line ∷ rest) =
+    go_on (step lines number so_far (content_of version line)) (λ next. lines_from version lines (suc number) next rest)
 
 -- what a text says: its form and its statements
 pub record Told : Type 0 where
@@ -115,21 +127,21 @@ abbrev pub with_form : FormNumbers → Result (List Statement) WiringFault → R
 with_form form read = go_on read (λ statements. Ok (record { form = form; statements = statements }))
 
 -- the lines after a form
-abbrev pub formed_lines : FormNumbers → List (List ℕ) → Result Told WiringFault
-formed_lines form others =
-    if is_formed form then with_form form (lines_from form.lines 3 start others) else Err (Unfit 2 panel.TapeFault)
+abbrev pub formed_lines : Version → FormNumbers → List (List ℕ) → Result Told WiringFault
+formed_lines version form others =
+    if is_formed form then with_form form (lines_from version form.lines 3 start others) else Err (Unfit 2 panel.TapeFault)
 
 -- the lines after the first two
-abbrev pub headed_lines : Bool → Option FormNumbers → List (List ℕ) → Result Told WiringFault
-headed_lines true (Some form) others = formed_lines form others
-headed_lines true None others = Err NoFirstLine
-headed_lines false form others = Err NoFirstLine
+abbrev pub headed_lines : Option Version → Option FormNumbers → List (List ℕ) → Result Told WiringFault
+headed_lines (Some version) (Some form) others = formed_lines version form others
+headed_lines (Some version) None others = Err NoFirstLine
+headed_lines None form others = Err NoFirstLine
 
 -- all lines of a text that is not too large
 abbrev pub lines_told : List (List ℕ) → Result Told WiringFault
 lines_told [] = Err NoFirstLine
 lines_told (first ∷ []) = Err NoFirstLine
-lines_told (first ∷ second ∷ others) = headed_lines (is_first first) (divided_form (tokens_of second)) others
+lines_told (first ∷ second ∷ others) = headed_lines (version_named first) (divided_form (tokens_of second)) others
 
 -- a text
 unfoldable pub text_told : List ℕ → Result Told WiringFault

@@ -24,6 +24,13 @@ pub(crate) fn read_hub_name(token: &[u8]) -> Option<HubName>
     }
 }
 
+/// The numbers of a token that a hub's letters and a point may stand before.
+pub(crate) fn read_group(token: &[u8]) -> Option<Numbers>
+    ensures { result ≡ numbers_spelled (slice_split is_point token.now) }
+{
+    read_numbers(Some(token))
+}
+
 /// The letters that are spelled so.
 fn read_letters(spelled: &[u8]) -> Option<Letters>
     ensures { result ≡ letters_spelled spelled.now }

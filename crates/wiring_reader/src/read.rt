@@ -4,7 +4,7 @@ ghost use Rattle.std.specs.Prelude.{◌≡◌, ◌≢◌, ◌≤◌, ◌⊎◌, 
 ghost use Rattle.card_code.specs.Lines.{lines_of};
 ghost use Rattle.setups.specs.Tapes.{has_stop};
 ghost use Rattle.setups.specs.Wiring.{Wiring};
-ghost use Rattle.wiring_reader.specs.TextReading.{Answers, HasSayable, Holds, Refuses, Takes, is_formed, lines_from, numbers_of_tape, start, text_told, with_form};
+ghost use Rattle.wiring_reader.specs.TextReading.{Answers, HasSayable, Holds, Refuses, Takes, is_formed, lines_from, numbers_of_tape, start, text_told, version_named, with_form};
 ghost use Rattle.wiring_text.specs.WiringText.{ReadsAs};
 ghost use Rattle.wiring_text.specs.WiringFaults.{HasWiringFault};
 
@@ -15,7 +15,7 @@ use card_code::next_line;
 use setups::{Setup, SetupFault, Tape};
 use std::alloc::Global;
 use tokens::Content;
-use wiring_text::{FormNumbers, Statement, WiringFault};
+use wiring_text::{FormNumbers, Statement, Version, WiringFault};
 
 /// How many lines a wiring chart has at most.
 const MAX_LINES: usize = 1_000_000;
@@ -28,7 +28,7 @@ const MAX_LINE_BYTES: usize = 60;
 /// # Errors
 ///
 /// The text's one fault, asked in this order: `TooLarge` for more than 1,000,000 lines or a line of more than 60 bytes;
-/// `NoFirstLine` where line 1 is not `WIRING407 1` or line 2 not `FORM` with three numbers; then, at the lowest line at fault,
+/// `NoFirstLine` where line 1 is neither `WIRING407 1` nor `WIRING407 2`, or line 2 not `FORM` with three numbers; then, at the lowest line at fault,
 /// `NotALine` where it is no line of a wiring chart or stands after END, else `LineTwice` where it stood before, else `Unfit` where the
 /// panel can't have what it says; `NoEnd` where no line is END. `Memory` only where memory was refused; what was read so far is freed then.
 pub fn read_setup(alloc: Global, text: &[u8]) -> Result<Setup, WiringFault>
@@ -58,9 +58,9 @@ fn read_text(alloc: Global, text: &[u8]) -> Result<Setup, WiringFault>
     let Some((second, others)) = next_line(after) else {
         return Err(WiringFault::NoFirstLine);
     };
-    if !is_title_line(first, b"WIRING407", b"1") {
+    let Some(version) = named_version(first) else {
         return Err(WiringFault::NoFirstLine);
-    }
+    };
     let Some(form) = read_form(alloc, second)? else {
         return Err(WiringFault::NoFirstLine);
     };
@@ -70,7 +70,20 @@ fn read_text(alloc: Global, text: &[u8]) -> Result<Setup, WiringFault>
             fault: SetupFault::TapeFault,
         });
     };
-    read_lines(alloc, Setup::new(alloc, tape), others)
+    read_lines(alloc, version, Setup::new(alloc, tape), others)
+}
+
+/// The version that a first line names.
+fn named_version(line: &[u8]) -> Option<Version>
+    ensures { result ≡ version_named line.now }
+{
+    if is_title_line(line, b"WIRING407", b"1") {
+        Some(Version::First)
+    } else if is_title_line(line, b"WIRING407", b"2") {
+        Some(Version::Second)
+    } else {
+        None
+    }
 }
 
 /// The tape of a form, without a stop, where a tape can have its numbers.
@@ -88,18 +101,23 @@ fn tape_of(form: FormNumbers) -> Option<Tape>
 }
 
 /// The setup of the lines from line 3 on, put to a setup of which nothing is said so far.
-fn read_lines(alloc: Global, setup: Setup, text: &[u8]) -> Result<Setup, WiringFault>
+fn read_lines(
+    alloc: Global,
+    version: Version,
+    setup: Setup,
+    text: &[u8],
+) -> Result<Setup, WiringFault>
     requires few { length (lines_of text.now) ≤ 1000000 }
     requires new { Holds (numbers_of_tape setup.tape) [] setup }
     ensures { Answers result
-        (with_form (numbers_of_tape setup.tape) (lines_from setup.tape.lines 3 start (lines_of text.now))) }
+        (with_form (numbers_of_tape setup.tape) (lines_from version setup.tape.lines 3 start (lines_of text.now))) }
 {
     let mut setup = setup;
     let mut ended = false;
     let mut number = 3;
     let mut rest = text;
     while let Some((line, after)) = next_line(rest) {
-        let content = read_line(alloc, line)?;
+        let content = read_line(alloc, version, line)?;
         take_line(content, number, &mut setup, &mut ended)?;
         number += 1;
         rest = after;

@@ -1,9 +1,10 @@
 -- Which parts of the machine serve what of a chart, by its plan, and which totals of an amount come one above the other.
-use Rattle.std.specs.Prelude.{◌≡◌, ℕ, ◌<◌, ◌==◌, List, Contains, Option, option_and_then, option_map, true}
+use Rattle.std.specs.Prelude.{◌≡◌, ℕ, ◌+◌, ◌<◌, ◌≤◌, ◌==◌, List, Contains, Option, Some, option_and_then, option_map, true, ◌⊎◌}
 use Rattle.wanted.specs.ChartTotals.{totals_of}
 use Rattle.plans.specs.Counters.{single_group}
 use Rattle.plans.specs.Plans.{Lists, counter_on, number_where}
 use Rattle.plans.specs.declared.counter.TotalCounter.{TotalCounter}
+use Rattle.plans.specs.declared.counter.TotalCounter.TheVariants as of
 use Rattle.wanted.specs.Positions.{is_same_position}
 use Rattle.wanted.specs.Wanted.{indicate_at}
 use Rattle.wanted.specs.declared.position.Position.{Position}
@@ -26,6 +27,29 @@ use Rattle.hubs.specs.declared.hub.Hub.TheVariants.{CC, PIN, PIT, PX}
 abbrev pub panel_group : CounterGroup → Group
 panel_group group = record { width = group.width; number = group.number }
 
+-- a group of the panel is one of those of a counter
+abbrev pub HasPanelGroup : TotalCounter → Group → Type 0
+HasPanelGroup (of.Single own) group = panel_group own ≡ group
+HasPanelGroup (of.Coupled lower upper) group = (panel_group lower ≡ group) ⊎ (panel_group upper ≡ group)
+
+-- the group of the highest positions of a counter; the balance of the total is that of this group
+abbrev pub top_group : TotalCounter → Group
+top_group (of.Single group) = panel_group group
+top_group (of.Coupled lower upper) = panel_group upper
+
+-- A position of a counter stands at a place of a group of the panel. The positions of two groups are first those of the lower
+-- group, then those of the upper one.
+abbrev pub StandsAt : TotalCounter → (position : ℕ) → Group → (place : ℕ) → Type 0
+StandsAt (of.Single own) position group place = (panel_group own ≡ group) × (position ≡ place)
+StandsAt (of.Coupled lower upper) position group place =
+    ((panel_group lower ≡ group) × (position ≡ place)) ⊎ ((panel_group upper ≡ group) × (position ≡ lower.width + place))
+
+-- A position of a counter is a place of one of its groups, counted from 1 at the units of that group.
+pub record IsPlaceOf (counter : TotalCounter) (position : ℕ) (group : Group) (place : ℕ) : Type 0 where
+  pub from : 1 ≤ place
+  pub to : place ≤ group.width
+  pub at : StandsAt counter position group place
+
 -- the counter of the total on a line of the chart
 abbrev pub counter_for : List Line → Lists → ℕ → Option TotalCounter
 counter_for lines plan number = counter_on (totals_of lines) plan.counters number
@@ -33,6 +57,22 @@ counter_for lines plan number = counter_on (totals_of lines) plan.counters numbe
 -- the counter group of the total on a line of the chart that has only one
 abbrev pub group_for : List Line → Lists → ℕ → Option Group
 group_for lines plan number = option_map panel_group (option_and_then single_group (counter_for lines plan number))
+
+-- A counter group serves the total on a line of the chart: it is one of those of its counter.
+pub record ServesTotal (lines : List Line) (plan : Lists) (number : ℕ) (group : Group) : Type 0 where
+  pub counter : TotalCounter
+  pub there : counter_for lines plan number ≡ Some counter
+  pub has : HasPanelGroup counter group
+
+-- the counter group with the balance of the total on a line of the chart
+abbrev pub top_for : List Line → Lists → ℕ → Option Group
+top_for lines plan number = option_map top_group (counter_for lines plan number)
+
+-- A place of a counter group serves a position of the total on a line of the chart.
+pub record ServesPosition (lines : List Line) (plan : Lists) (number position : ℕ) (group : Group) (place : ℕ) : Type 0 where
+  pub counter : TotalCounter
+  pub there : counter_for lines plan number ≡ Some counter
+  pub at : IsPlaceOf counter position group place
 
 -- the pilot of an amount
 abbrev pub pilot_for : Lists → List ℕ → Option ℕ

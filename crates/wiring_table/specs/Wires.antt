@@ -1,6 +1,8 @@
 -- The wires of a chart, by its plan: for each line of the chart the wires that it gives, and no others.
 use Rattle.std.specs.Prelude.{◌≡◌, ◌≢◌, ℕ, ◌+◌, ◌-◌, ◌<◌, ◌≤◌, List, Contains, Option, Some}
+use Rattle.capacity.specs.declared.group.CounterGroup.{CounterGroup}
 use Rattle.plans.specs.Plans.{Lists}
+use Rattle.plans.specs.declared.counter.TotalCounter.TheVariants as of
 use Rattle.field_rules.specs.Fields.{field_named}
 use Rattle.print_rules.specs.declared.items.Figure.{Figure}
 use Rattle.charts.specs.Field.{columns_of, decimals_of, column_of_rule, sign_column}
@@ -22,7 +24,7 @@ use Rattle.hubs.specs.declared.hub.Group.{Group}
 use Rattle.hubs.specs.declared.hub.Hub.{Hub}
 use Rattle.hubs.specs.declared.hub.Hub.TheVariants.{FR, SR, CX, GX, CO, BAN, BAT, SX, IX, CSD, EM, CC, PX, CA, CB, GE, PL, MI, RO, BT, CI, BAC, PIC, PIX, SE, SI, SO, IE, CSE, W, ST, SP, SK, RS}
 use Rattle.wiring_table.specs.Figures.{IsText, IsAmount, IsSigned, IsUnsigned, IsLiteral, IsFigure, HasPunch, HasPunchAt, rule_of, digit_wheel, point_wheel, mark_wheel, mark_text, detail_emitter, total_emitter}
-use Rattle.wiring_table.specs.Parts.{IsLowest, IsNextHigher, group_for, pilot_for, comparing_for, indicate_for, split_for, unit_for, negative_side, positive_side, source_of}
+use Rattle.wiring_table.specs.Parts.{IsLowest, IsNextHigher, ServesPosition, ServesTotal, counter_for, group_for, top_for, panel_group, pilot_for, comparing_for, indicate_for, split_for, unit_for, negative_side, positive_side, source_of}
 
 -- The wires of a line of the chart with a number. Columns, wheels and digits are counted from 1, digits from the units; `j` and `k`
 -- are places in a text, from 0.
@@ -79,99 +81,108 @@ pub data LineWire (lines : List Line) (plan : Lists) (number : ℕ) : Statement 
       → rule_of field.kind ≡ Some rule → pilot_for plan field.name ≡ Some pilot
       → LineWire lines plan number (says.Field field) (FR (column_of_rule rule)) (PIX pilot)
   -- The lowest total of an amount: each column at second reading enters it. Without a sign rule each card adds; with one it adds or
-  -- subtracts by position 1 of the pilot.
+  -- subtracts by position 1 of the pilot. Both groups of a counter of two are told so.
   entry : (level : Level) (wheel : ℕ) (name : List ℕ) (digits : ℕ) (mark : Option Mark) (field : Field) (group : Group)
-      (position : ℕ)
-      → IsLowest lines name (level_number level) → group_for lines plan number ≡ Some group
+      (position place : ℕ)
+      → IsLowest lines name (level_number level) → ServesPosition lines plan number position group place
       → IsAmount lines name field → 1 ≤ position → position ≤ columns_of field
       → LineWire lines plan number (says.TotalAmount level wheel name digits mark)
-      (SR (field.last + 1 - position)) (GE group position)
+      (SR (field.last + 1 - position)) (GE group place)
   entry_adds : (level : Level) (wheel : ℕ) (name : List ℕ) (digits : ℕ) (mark : Option Mark) (group : Group)
-      → IsLowest lines name (level_number level) → group_for lines plan number ≡ Some group → IsUnsigned lines name
+      → IsLowest lines name (level_number level) → ServesTotal lines plan number group → IsUnsigned lines name
       → LineWire lines plan number (says.TotalAmount level wheel name digits mark) CC (PL group)
   entry_sign : (level : Level) (wheel : ℕ) (name : List ℕ) (digits : ℕ) (mark : Option Mark) (rule : SignRule) (pilot : ℕ)
       → IsLowest lines name (level_number level) → IsSigned lines name rule → pilot_for plan name ≡ Some pilot
       → LineWire lines plan number (says.TotalAmount level wheel name digits mark) CC (PIC pilot 1)
   entry_plus : (level : Level) (wheel : ℕ) (name : List ℕ) (digits : ℕ) (mark : Option Mark) (rule : SignRule) (pilot : ℕ)
       (group : Group)
-      → IsLowest lines name (level_number level) → group_for lines plan number ≡ Some group
+      → IsLowest lines name (level_number level) → ServesTotal lines plan number group
       → IsSigned lines name rule → pilot_for plan name ≡ Some pilot
       → LineWire lines plan number (says.TotalAmount level wheel name digits mark) (positive_side rule pilot 1) (PL group)
   entry_minus : (level : Level) (wheel : ℕ) (name : List ℕ) (digits : ℕ) (mark : Option Mark) (rule : SignRule) (pilot : ℕ)
       (group : Group)
-      → IsLowest lines name (level_number level) → group_for lines plan number ≡ Some group
+      → IsLowest lines name (level_number level) → ServesTotal lines plan number group
       → IsSigned lines name rule → pilot_for plan name ≡ Some pilot
       → LineWire lines plan number (says.TotalAmount level wheel name digits mark) (negative_side rule pilot 1) (MI group)
   -- The read-out of a total in the cycle that prints it: its digits to their wheels.
   read_out : (level : Level) (wheel : ℕ) (name : List ℕ) (digits : ℕ) (mark : Option Mark) (group : Group)
-      → group_for lines plan number ≡ Some group
+      → ServesTotal lines plan number group
       → LineWire lines plan number (says.TotalAmount level wheel name digits mark) (PX (level_number level) 3) (RO group)
   total_digit : (level : Level) (wheel : ℕ) (name : List ℕ) (digits : ℕ) (mark : Option Mark) (field : Field) (group : Group)
-      (position : ℕ)
-      → group_for lines plan number ≡ Some group → IsAmount lines name field → 1 ≤ position → position ≤ digits
+      (position place : ℕ)
+      → ServesPosition lines plan number position group place → IsAmount lines name field → 1 ≤ position → position ≤ digits
       → LineWire lines plan number (says.TotalAmount level wheel name digits mark)
-      (GX group position) (W (digit_wheel wheel digits (decimals_of field.kind) position))
-  -- The sign conversion of a signed total. Its wheels form a ring. The first program cycle of the level tests the balance; the
-  -- second, where the balance is below 0, reads the group out into itself by minus, on all its positions, which leaves the figure.
+      (GX group place) (W (digit_wheel wheel digits (decimals_of field.kind) position))
+  -- The carry of a total with two groups goes from the lower one to the upper one.
+  carry_up : (level : Level) (wheel : ℕ) (name : List ℕ) (digits : ℕ) (mark : Option Mark) (lower upper : CounterGroup)
+      → counter_for lines plan number ≡ Some (of.Coupled lower upper)
+      → LineWire lines plan number (says.TotalAmount level wheel name digits mark) (CO (panel_group lower)) (CI (panel_group upper))
+  -- The sign conversion of a signed total. Its wheels form a ring, of one group or of both. The first program cycle of the level
+  -- tests the balance, that of the top group; the second, where the balance is below 0, reads the total out into itself by minus, on
+  -- all positions of its groups, which leaves the figure.
   ring : (level : Level) (wheel : ℕ) (name : List ℕ) (digits : ℕ) (mark : Option Mark) (rule : SignRule) (group : Group)
       → group_for lines plan number ≡ Some group → IsSigned lines name rule
       → LineWire lines plan number (says.TotalAmount level wheel name digits mark) (CO group) (CI group)
-  balance_test : (level : Level) (wheel : ℕ) (name : List ℕ) (digits : ℕ) (mark : Option Mark) (rule : SignRule) (group : Group)
-      → group_for lines plan number ≡ Some group → IsSigned lines name rule
-      → LineWire lines plan number (says.TotalAmount level wheel name digits mark) (PX (level_number level) 1) (BT group)
-  conversion : (level : Level) (wheel : ℕ) (name : List ℕ) (digits : ℕ) (mark : Option Mark) (rule : SignRule) (group : Group)
-      → group_for lines plan number ≡ Some group → IsSigned lines name rule
-      → LineWire lines plan number (says.TotalAmount level wheel name digits mark) (PX (level_number level) 2) (BAC group 1)
+  carry_round : (level : Level) (wheel : ℕ) (name : List ℕ) (digits : ℕ) (mark : Option Mark) (rule : SignRule)
+      (lower upper : CounterGroup)
+      → counter_for lines plan number ≡ Some (of.Coupled lower upper) → IsSigned lines name rule
+      → LineWire lines plan number (says.TotalAmount level wheel name digits mark) (CO (panel_group upper)) (CI (panel_group lower))
+  balance_test : (level : Level) (wheel : ℕ) (name : List ℕ) (digits : ℕ) (mark : Option Mark) (rule : SignRule) (top : Group)
+      → top_for lines plan number ≡ Some top → IsSigned lines name rule
+      → LineWire lines plan number (says.TotalAmount level wheel name digits mark) (PX (level_number level) 1) (BT top)
+  conversion : (level : Level) (wheel : ℕ) (name : List ℕ) (digits : ℕ) (mark : Option Mark) (rule : SignRule) (top : Group)
+      → top_for lines plan number ≡ Some top → IsSigned lines name rule
+      → LineWire lines plan number (says.TotalAmount level wheel name digits mark) (PX (level_number level) 2) (BAC top 1)
   conversion_read_out : (level : Level) (wheel : ℕ) (name : List ℕ) (digits : ℕ) (mark : Option Mark) (rule : SignRule)
-      (group : Group)
-      → group_for lines plan number ≡ Some group → IsSigned lines name rule
-      → LineWire lines plan number (says.TotalAmount level wheel name digits mark) (BAT group 1) (RO group)
+      (top group : Group)
+      → top_for lines plan number ≡ Some top → ServesTotal lines plan number group → IsSigned lines name rule
+      → LineWire lines plan number (says.TotalAmount level wheel name digits mark) (BAT top 1) (RO group)
   conversion_minus : (level : Level) (wheel : ℕ) (name : List ℕ) (digits : ℕ) (mark : Option Mark) (rule : SignRule)
-      (group : Group)
-      → group_for lines plan number ≡ Some group → IsSigned lines name rule
-      → LineWire lines plan number (says.TotalAmount level wheel name digits mark) (BAT group 1) (MI group)
+      (top group : Group)
+      → top_for lines plan number ≡ Some top → ServesTotal lines plan number group → IsSigned lines name rule
+      → LineWire lines plan number (says.TotalAmount level wheel name digits mark) (BAT top 1) (MI group)
   feedback : (level : Level) (wheel : ℕ) (name : List ℕ) (digits : ℕ) (mark : Option Mark) (rule : SignRule) (group : Group)
-      (position : ℕ)
-      → group_for lines plan number ≡ Some group → IsSigned lines name rule → 1 ≤ position → position ≤ group.width
-      → LineWire lines plan number (says.TotalAmount level wheel name digits mark) (GX group position) (GE group position)
+      (place : ℕ)
+      → ServesTotal lines plan number group → IsSigned lines name rule → 1 ≤ place → place ≤ group.width
+      → LineWire lines plan number (says.TotalAmount level wheel name digits mark) (GX group place) (GE group place)
   -- The mark of a signed total: the rows of its characters pass through the balance positions 3 and 4, on the side that is closed
   -- while the latch is set.
-  total_mark_in : (level : Level) (wheel : ℕ) (name : List ℕ) (digits : ℕ) (mark : Mark) (rule : SignRule) (group : Group)
+  total_mark_in : (level : Level) (wheel : ℕ) (name : List ℕ) (digits : ℕ) (mark : Mark) (rule : SignRule) (top : Group)
       (k row : ℕ)
-      → group_for lines plan number ≡ Some group → IsSigned lines name rule → HasPunchAt (mark_text mark) k row
+      → top_for lines plan number ≡ Some top → IsSigned lines name rule → HasPunchAt (mark_text mark) k row
       → LineWire lines plan number (says.TotalAmount level wheel name digits (Some mark))
-      (EM (total_emitter (level_number level)) row) (BAC group (3 + k))
+      (EM (total_emitter (level_number level)) row) (BAC top (3 + k))
   total_mark_out : (level : Level) (wheel : ℕ) (name : List ℕ) (digits : ℕ) (mark : Mark) (rule : SignRule) (field : Field)
-      (group : Group) (k row : ℕ)
-      → group_for lines plan number ≡ Some group → IsSigned lines name rule → field_named lines name ≡ Some field
+      (top : Group) (k row : ℕ)
+      → top_for lines plan number ≡ Some top → IsSigned lines name rule → field_named lines name ≡ Some field
       → HasPunchAt (mark_text mark) k row
       → LineWire lines plan number (says.TotalAmount level wheel name digits (Some mark))
-      (BAT group (3 + k)) (W (mark_wheel wheel digits (decimals_of field.kind) + k))
-  -- The transfer of a total to the next higher total of its amount: its digits enter that one, which adds them, or subtracts them where
-  -- the balance is below 0.
+      (BAT top (3 + k)) (W (mark_wheel wheel digits (decimals_of field.kind) + k))
+  -- The transfer of a total to the next higher total of its amount: its digits enter that one, position by position, which adds
+  -- them, or subtracts them where the balance is below 0.
   transfer : (level : Level) (wheel : ℕ) (name : List ℕ) (digits : ℕ) (mark : Option Mark) (group upper : Group)
-      (other position : ℕ)
-      → group_for lines plan number ≡ Some group → IsNextHigher lines name (level_number level) other
-      → group_for lines plan other ≡ Some upper → 1 ≤ position → position ≤ digits
-      → LineWire lines plan number (says.TotalAmount level wheel name digits mark) (GX group position) (GE upper position)
+      (other position place upper_place : ℕ)
+      → ServesPosition lines plan number position group place → IsNextHigher lines name (level_number level) other
+      → ServesPosition lines plan other position upper upper_place → 1 ≤ position → position ≤ digits
+      → LineWire lines plan number (says.TotalAmount level wheel name digits mark) (GX group place) (GE upper upper_place)
   transfer_adds : (level : Level) (wheel : ℕ) (name : List ℕ) (digits : ℕ) (mark : Option Mark) (upper : Group) (other : ℕ)
-      → IsUnsigned lines name → IsNextHigher lines name (level_number level) other → group_for lines plan other ≡ Some upper
+      → IsUnsigned lines name → IsNextHigher lines name (level_number level) other → ServesTotal lines plan other upper
       → LineWire lines plan number (says.TotalAmount level wheel name digits mark) (PX (level_number level) 3) (PL upper)
-  transfer_sign : (level : Level) (wheel : ℕ) (name : List ℕ) (digits : ℕ) (mark : Option Mark) (rule : SignRule) (group : Group)
+  transfer_sign : (level : Level) (wheel : ℕ) (name : List ℕ) (digits : ℕ) (mark : Option Mark) (rule : SignRule) (top : Group)
       (other : ℕ)
-      → group_for lines plan number ≡ Some group → IsSigned lines name rule
+      → top_for lines plan number ≡ Some top → IsSigned lines name rule
       → IsNextHigher lines name (level_number level) other
-      → LineWire lines plan number (says.TotalAmount level wheel name digits mark) (PX (level_number level) 3) (BAC group 2)
+      → LineWire lines plan number (says.TotalAmount level wheel name digits mark) (PX (level_number level) 3) (BAC top 2)
   transfer_plus : (level : Level) (wheel : ℕ) (name : List ℕ) (digits : ℕ) (mark : Option Mark) (rule : SignRule)
-      (group upper : Group) (other : ℕ)
-      → group_for lines plan number ≡ Some group → IsSigned lines name rule
-      → IsNextHigher lines name (level_number level) other → group_for lines plan other ≡ Some upper
-      → LineWire lines plan number (says.TotalAmount level wheel name digits mark) (BAN group 2) (PL upper)
+      (top upper : Group) (other : ℕ)
+      → top_for lines plan number ≡ Some top → IsSigned lines name rule
+      → IsNextHigher lines name (level_number level) other → ServesTotal lines plan other upper
+      → LineWire lines plan number (says.TotalAmount level wheel name digits mark) (BAN top 2) (PL upper)
   transfer_minus : (level : Level) (wheel : ℕ) (name : List ℕ) (digits : ℕ) (mark : Option Mark) (rule : SignRule)
-      (group upper : Group) (other : ℕ)
-      → group_for lines plan number ≡ Some group → IsSigned lines name rule
-      → IsNextHigher lines name (level_number level) other → group_for lines plan other ≡ Some upper
-      → LineWire lines plan number (says.TotalAmount level wheel name digits mark) (BAT group 2) (MI upper)
+      (top upper : Group) (other : ℕ)
+      → top_for lines plan number ≡ Some top → IsSigned lines name rule
+      → IsNextHigher lines name (level_number level) other → ServesTotal lines plan other upper
+      → LineWire lines plan number (says.TotalAmount level wheel name digits mark) (BAT top 2) (MI upper)
   -- A text on a total line: a storage unit takes its columns from each card, and gives them in the cycle that prints the line.
   total_text_in : (level : Level) (wheel : ℕ) (name : List ℕ) (field : Field) (unit j : ℕ)
       → IsText lines name field → j < columns_of field → unit_for plan number ≡ Some unit

@@ -1,9 +1,11 @@
 -- Hubs as they are written: letters, and after each of its numbers' points the number.
-use Rattle.std.specs.Prelude.{◌≡◌, ℕ, List, [], ◌∷◌, ◌++◌, true, Option}
+use Rattle.std.specs.Prelude.{◌≡◌, ℕ, List, [], ◌∷◌, ◌++◌, Bool, true, false, Option}
 use Rattle.hub_table.specs.HubTable.{row_of}
 use Rattle.hubs.specs.Hubs.{letters_of, numbers_of, hub_named}
 use Rattle.hub_table.specs.Places.{has_as_many}
 use Rattle.hubs.specs.declared.hub.Hub.{Hub}
+use Rattle.hub_table.specs.declared.letters.Letters.{Letters}
+use Rattle.hub_table.specs.declared.letters.Letters.TheVariants as kind
 use Rattle.hub_table.specs.declared.shape.Numbers.{Numbers}
 use Rattle.hub_table.specs.declared.shape.Numbers.TheVariants.{Bare, One, Two, Three}
 use Rattle.tokens.specs.Number.{IsNumber}
@@ -37,3 +39,24 @@ name_of hub = record { letters = letters_of hub; numbers = numbers_of hub }
 -- the hub of a name
 abbrev pub hub_of : HubName → Option Hub
 hub_of name = hub_named name.letters name.numbers
+
+-- the token is the numbers of a counter group, its width and its number, with a point between them
+pub record IsGroup (token : List ℕ) (width number : ℕ) : Type 0 where
+  pub digits : List ℕ
+  pub after : List ℕ
+  pub spelled : token ≡ digits ++ after
+  pub wide : IsNumber digits width
+  pub numbered : IsPointed after number
+
+-- the names of the carry exit and of the carry entry of a counter group
+abbrev pub carry_exit : ℕ → ℕ → HubName
+carry_exit width number = record { letters = kind.CO; numbers = Two width number }
+
+abbrev pub carry_entry : ℕ → ℕ → HubName
+carry_entry width number = record { letters = kind.CI; numbers = Two width number }
+
+-- whether letters are those of carry exits or of carry entries
+abbrev pub is_carry : Letters → Bool
+is_carry kind.CO = true
+is_carry kind.CI = true
+is_carry other = false

@@ -1,5 +1,5 @@
 -- The lines of a wiring chart: what the tokens of a line between FORM and END say, and what is wrong with what they say.
-use Rattle.std.specs.Prelude.{ℕ, ◌≤◌, List, [], ◌∷◌, not, Bool, true, Option, Some, None, codes, if◌then◌else◌}
+use Rattle.std.specs.Prelude.{◌≡◌, ◌≢◌, ℕ, ◌≤◌, List, [], ◌∷◌, ◌||◌, not, Bool, true, Option, Some, None, codes, if◌then◌else◌}
 use Rattle.hubs.specs.Carries.{do_wires_agree, keeps_carry}
 use Rattle.hubs.specs.Hubs.{is_exit_hub, is_entry_hub}
 use Rattle.hub_table.specs.Ranges.{is_within}
@@ -9,10 +9,12 @@ use Rattle.hubs.specs.declared.hub.Hub.{Hub}
 use Rattle.hubs.specs.declared.jack.Jack.{Jack}
 use Rattle.hubs.specs.declared.jack.Jack.TheVariants as jacks
 use Rattle.tokens.specs.Number.{IsNumber, IsNumberTo}
-use Rattle.wiring_text.specs.HubNames.{IsHubName, hub_of}
+use Rattle.wiring_text.specs.HubNames.{IsGroup, IsHubName, carry_entry, carry_exit, hub_of, is_carry}
 use Rattle.wiring_text.specs.declared.statement.HubName.{HubName}
 use Rattle.wiring_text.specs.declared.statement.Statement.{Statement}
 use Rattle.wiring_text.specs.declared.statement.Statement.TheVariants.{Stop, Plug, Wire}
+use Rattle.wiring_text.specs.declared.statement.Version.{Version}
+use Rattle.wiring_text.specs.declared.statement.Version.TheVariants.{First, Second}
 
 -- a jack that the panel has
 pub data SaysJack : List (List ℕ) → Jack → Type 0 where
@@ -24,13 +26,23 @@ pub data SaysJack : List (List ℕ) → Jack → Type 0 where
       → SaysJack (codes "SUPPRESS" ∷ token ∷ []) (jacks.Suppress wheel)
   symbol : {token : List ℕ} {wheel : ℕ} → IsNumberTo 120 token wheel → SaysJack (codes "SYMBOL" ∷ token ∷ []) (jacks.Symbol wheel)
 
--- the three kinds of lines, and what each says
-pub data Says : List (List ℕ) → Statement → Type 0 where
+-- whether a line WIRE may name these hubs: in version 2 no carry hub
+abbrev pub may_be_wired : Version → HubName → HubName → Bool
+may_be_wired First exit entry = true
+may_be_wired Second exit entry = not (is_carry exit.letters || is_carry entry.letters)
+
+-- The kinds of lines, and what each says. In version 2 RING is the wire from the carry exit of a counter group to its carry entry,
+-- and COUPLE that from the carry exit of a group of 8 positions to the carry entry of another.
+pub data Says (version : Version) : List (List ℕ) → Statement → Type 0 where
   stop : {channel line : List ℕ} {c n : ℕ} → IsNumberTo 11 channel c → 2 ≤ c → IsNumber line n
-      → Says (codes "STOP" ∷ channel ∷ line ∷ []) (Stop c n)
-  plug : {operands : List (List ℕ)} {j : Jack} → SaysJack operands j → Says (codes "JACK" ∷ operands) (Plug j)
+      → Says version (codes "STOP" ∷ channel ∷ line ∷ []) (Stop c n)
+  plug : {operands : List (List ℕ)} {j : Jack} → SaysJack operands j → Says version (codes "JACK" ∷ operands) (Plug j)
   wire : {from to : List ℕ} {exit entry : HubName} → IsHubName from exit → IsHubName to entry
-      → Says (codes "WIRE" ∷ from ∷ to ∷ []) (Wire exit entry)
+      → may_be_wired version exit entry ≡ true → Says version (codes "WIRE" ∷ from ∷ to ∷ []) (Wire exit entry)
+  ring : {group : List ℕ} {width n : ℕ} → version ≡ Second → IsGroup group width n
+      → Says version (codes "RING" ∷ group ∷ []) (Wire (carry_exit width n) (carry_entry width n))
+  couple : {from to : List ℕ} {m n : ℕ} → version ≡ Second → IsNumber from m → IsNumber to n → m ≢ n
+      → Says version (codes "COUPLE" ∷ from ∷ to ∷ []) (Wire (carry_exit 8 m) (carry_entry 8 n))
 
 -- what is wrong with a wire between two hubs by itself, asked in this order: no exit, no entry, a carry that can't go that way
 abbrev pub fault_between : Hub → Hub → Option SetupFault

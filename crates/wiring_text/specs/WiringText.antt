@@ -1,4 +1,4 @@
--- A wiring chart as text: line 1 names it, line 2 is the form, the lines after are stops, jacks and wires in any order,
+-- A wiring chart as text: line 1 names it and the version of its language, line 2 is the form, the lines after are stops, jacks and wires in any order,
 -- and END ends it. Empty lines may stand after line 2. Which lines are empty or END is said of every text format in the crate tokens;
 -- what is wrong with other texts stands in WiringFaults.
 use Rattle.std.specs.Prelude.{◌≡◌, ◌≢◌, ◌↔◌, ℕ, true, List, [], ◌∷◌, All, AllPairs, Contains, None, codes}
@@ -17,10 +17,17 @@ use Rattle.wiring_text.specs.Statements.{Says, do_statements_agree, statement_fa
 use Rattle.wiring_text.specs.declared.statement.FormNumbers.{FormNumbers}
 use Rattle.wiring_text.specs.declared.statement.Statement.{Statement}
 use Rattle.wiring_text.specs.declared.statement.Statement.TheVariants.{Stop, Plug, Wire}
+use Rattle.wiring_text.specs.declared.statement.Version.{Version}
+use Rattle.wiring_text.specs.declared.statement.Version.TheVariants.{First, Second}
 
--- a line `WIRING407 1`
-abbrev pub IsFirstLine : List ℕ → Type 0
-IsFirstLine line = IsTitleLine (codes "WIRING407") (codes "1") line
+-- how a version is written
+abbrev pub version_text : Version → List ℕ
+version_text First = codes "1"
+version_text Second = codes "2"
+
+-- a line `WIRING407` with the version
+abbrev pub IsFirstLine : Version → List ℕ → Type 0
+IsFirstLine version line = IsTitleLine (codes "WIRING407") (version_text version) line
 
 -- a line `FORM` with three numbers
 pub record IsFormLine (line : List ℕ) (form : FormNumbers) : Type 0 where
@@ -33,34 +40,35 @@ pub record IsFormLine (line : List ℕ) (form : FormNumbers) : Type 0 where
   pub overflow : IsNumber bottom form.overflow
 
 -- a line that says something
-pub record SaysLine (line : List ℕ) (statement : Statement) : Type 0 where
+pub record SaysLine (version : Version) (line : List ℕ) (statement : Statement) : Type 0 where
   pub tokens : List (List ℕ)
   pub divided : HasTokens line tokens
-  pub said : Says tokens statement
+  pub said : Says version tokens statement
 
 -- what lines up to END say: statements and empty lines, END, and empty lines alone
-pub data SaysLines : List (List ℕ) → List Statement → Type 0 where
+pub data SaysLines (version : Version) : List (List ℕ) → List Statement → Type 0 where
   empty_line : {line : List ℕ} {lines : List (List ℕ)} {said : List Statement}
-      → IsEmptyLine line → SaysLines lines said → SaysLines (line ∷ lines) said
+      → IsEmptyLine line → SaysLines version lines said → SaysLines version (line ∷ lines) said
   said_line : {line : List ℕ} {lines : List (List ℕ)} {statement : Statement} {said : List Statement}
-      → SaysLine line statement → SaysLines lines said → SaysLines (line ∷ lines) (statement ∷ said)
+      → SaysLine version line statement → SaysLines version lines said → SaysLines version (line ∷ lines) (statement ∷ said)
   end_line : {line : List ℕ} {lines : List (List ℕ)}
-      → IsEndLine line → AllByRecursion IsEmptyLine lines → SaysLines (line ∷ lines) []
+      → IsEndLine line → AllByRecursion IsEmptyLine lines → SaysLines version (line ∷ lines) []
 
 -- more than 1,000,000 lines, or a line of more than 60 bytes
 abbrev pub IsTooLarge : List (List ℕ) → Type 0
 IsTooLarge lines = IsLarger 1000000 60 lines
 
--- the text has these numbers of a form and says these statements
+-- the text is of some version, has these numbers of a form and says these statements
 pub record Reads (bytes : List ℕ) (form : FormNumbers) (statements : List Statement) : Type 0 where
   pub size : ¬ IsTooLarge (lines_of bytes)
+  pub version : Version
   pub first : List ℕ
   pub second : List ℕ
   pub others : List (List ℕ)
   pub lines : lines_of bytes ≡ first ∷ second ∷ others
-  pub begun : IsFirstLine first
+  pub begun : IsFirstLine version first
   pub formed : IsFormLine second form
-  pub said : SaysLines others statements
+  pub said : SaysLines version others statements
 
 -- The text is a wiring chart: its form is one that a tape can have, nothing stands in it twice, and the panel can have each
 -- stop and each wire, and each two together.

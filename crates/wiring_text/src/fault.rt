@@ -14,7 +14,7 @@ pub enum WiringFault {
     /// More than 1,000,000 lines, or a line of more than 60 bytes: fault 71.
     #[error("the text is too large")]
     TooLarge,
-    /// Line 1 is not `WIRING407 1`, or line 2 not `FORM` with three numbers: fault 72.
+    /// Line 1 is neither `WIRING407 1` nor `WIRING407 2`, or line 2 not `FORM` with three numbers: fault 72.
     #[error("the text does not begin as a wiring chart")]
     NoFirstLine,
     /// The lowest line at fault is none of a wiring chart, or stands after END: fault 73.

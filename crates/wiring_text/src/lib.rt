@@ -10,4 +10,4 @@ mod fault;
 mod statement;
 
 pub use fault::WiringFault;
-pub use statement::{FormNumbers, HubName, Statement};
+pub use statement::{FormNumbers, HubName, Statement, Version};

@@ -12,6 +12,15 @@ pub struct HubName {
     pub numbers: Numbers,
 }
 
+/// The versions of the language of wiring charts, by the number on line 1.
+#[derive(Clone, Copy, Debug, PartialEq, Eq)]
+pub enum Version {
+    /// `WIRING407 1`: all wires are WIRE lines.
+    First,
+    /// `WIRING407 2`: the wires between carry exits and carry entries are RING and COUPLE lines.
+    Second,
+}
+
 /// The numbers of a form as they are written, 0 to 999 each.
 #[derive(Clone, Copy, Debug, PartialEq, Eq)]
 pub struct FormNumbers {
@@ -30,6 +39,6 @@ pub enum Statement {
     Stop(u8, u16),
     /// `JACK`: a jack that the panel has.
     Plug(Jack),
-    /// `WIRE`: a wire from the first hub to the second.
+    /// `WIRE`, and in version 2 `RING` and `COUPLE`: a wire from the first hub to the second.
     Wire(HubName, HubName),
 }

@@ -1,6 +1,5 @@
-use Rattle.std.proofs.Common.{refl, subst, sym}
+use Rattle.std.proofs.Common.{refl}
 use Rattle.std.proofs.lemmas.Result.{err_from_is_err_and}
-use Rattle.card_code.specs.Deck.{Deck}
 use Rattle.commands.proofs.Outcomes.{refusal_is_not_memory}
 use Rattle.commands.proofs.PrintedPages.{printed_front, printed_whole}
 use Rattle.commands.proofs.Refusing.{deck_refused, wiring_refused}
@@ -16,22 +15,22 @@ returns-in_err-setup-clause-refused g c =
       refl,
     ))
 
-pub returns-in_err-cards-clause-refused : goal.returns-in_err-cards-clause-refused
-returns-in_err-cards-clause-refused g c =
-    let exit = err_from_is_err_and c.from_residual-in_err-cards.result c.from_residual-in_err-cards.ensures.1 in
+pub returns-in_err-check_deck-clause-refused : goal.returns-in_err-check_deck-clause-refused
+returns-in_err-check_deck-clause-refused g c =
+    let exit = err_from_is_err_and c.from_residual-in_err-check_deck.result c.from_residual-in_err-check_deck.ensures.1 in
     rw exit.1 (λ three. (
       punches c.in_ok-setup.setup c.in_ok-setup.ensures.read
-          (deck_refused c.args.deck.now c.in_err-cards.field-0.0 exit.0 c.in_err-cards.ensures.fault exit.2 (refusal_is_not_memory exit.0 three)),
+          (deck_refused c.args.deck.now c.in_err-check_deck.field-0.0 exit.0 (λ other. c.in_err-check_deck.ensures.fault) exit.2
+          (refusal_is_not_memory exit.0 three)),
       refl,
     ))
 
 pub returns-clause-pages : goal.returns-clause-pages
 returns-clause-pages g c =
-    printed_whole c.args.wiring.now c.args.deck.now c.in_ok-setup.setup c.in_ok-setup.ensures.read c.as_slice.result.now
-    (subst (Deck c.args.deck.now) (sym c.as_slice.ensures.value) c.in_ok-cards.ensures.deck) c.print_deck.result _ _ c.print_deck.ensures.pages
+    printed_whole c.args.wiring.now c.args.deck.now c.in_ok-setup.setup c.in_ok-setup.ensures.read c.print_deck.result _ _
+    c.print_deck.ensures.pages
 
 pub returns-clause-front : goal.returns-clause-front
 returns-clause-front g c =
-    printed_front c.args.wiring.now c.args.deck.now c.in_ok-setup.setup c.in_ok-setup.ensures.read c.as_slice.result.now
-    (subst (Deck c.args.deck.now) (sym c.as_slice.ensures.value) c.in_ok-cards.ensures.deck) c.print_deck.result _ _ _
+    printed_front c.args.wiring.now c.args.deck.now c.in_ok-setup.setup c.in_ok-setup.ensures.read c.print_deck.result _ _ _
     c.print_deck.ensures.front

@@ -39,6 +39,23 @@ returns-in-Wire-clause-failed g c =
     failed_by c.serve_wire.result c.args.command command.Wire c.args.text.now (g.R.Read.remaining c.args.deck) _ _ _ _ c.in-Wire.is
     (stops_for_deck c.serve_wire.result _ _ c.serve_wire.ensures.stopped)
 
+pub returns-in-Upgrade-clause-done : goal.returns-in-Upgrade-clause-done
+returns-in-Upgrade-clause-done g c =
+    served_by c.serve_upgrade.result c.args.command command.Upgrade c.args.text.now (g.R.Read.remaining c.args.deck) _ _ c.in-Upgrade.is
+    (done_for_deck c.serve_upgrade.result command.Upgrade command.Upgrade c.args.text.now (g.R.Read.remaining c.args.deck) _ _ refl
+    c.serve_upgrade.ensures.done)
+
+pub returns-in-Upgrade-clause-refused : goal.returns-in-Upgrade-clause-refused
+returns-in-Upgrade-clause-refused g c =
+    refused_by c.serve_upgrade.result c.args.command command.Upgrade c.args.text.now (g.R.Read.remaining c.args.deck) _ _ _ c.in-Upgrade.is
+    (refused_for_deck c.serve_upgrade.result command.Upgrade command.Upgrade c.args.text.now (g.R.Read.remaining c.args.deck) _ refl
+    c.serve_upgrade.ensures.refused)
+
+pub returns-in-Upgrade-clause-failed : goal.returns-in-Upgrade-clause-failed
+returns-in-Upgrade-clause-failed g c =
+    failed_by c.serve_upgrade.result c.args.command command.Upgrade c.args.text.now (g.R.Read.remaining c.args.deck) _ _ _ _ c.in-Upgrade.is
+    (stops_for_deck c.serve_upgrade.result _ _ c.serve_upgrade.ensures.stopped)
+
 pub returns-in-Run-clause-done : goal.returns-in-Run-clause-done
 returns-in-Run-clause-done g c =
     served_by c.print_run.result c.args.command command.Run c.args.text.now (g.R.Read.remaining c.args.deck) _ _ c.in-Run.is

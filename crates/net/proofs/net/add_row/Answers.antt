@@ -1,16 +1,17 @@
 use Rattle.std.proofs.Common.{◌∙◌, refl, arith}
-use Rattle.net.proofs.NetWires.{AddsRow-none, AddsRow-more, AddsRow-all}
+use Rattle.net.proofs.NetWires.{Adds-none, Adds-more, Adds-all}
+use Rattle.bit_sets.specs.Rows.{leads}
 use Rattle.net.proofs.net.add_row.Goals as goal
 
 pub loop-to-init : goal.loop-to-init
-loop-to-init c = record { long = refl; added = AddsRow-none c.args.rows.now c.args.place }
+loop-to-init c = record { long = refl; added = Adds-none (leads c.args.rows.now) c.args.place }
 
 pub loop-to-preserved : goal.loop-to-preserved
 loop-to-preserved c =
     let entry = c.requires.entries c.loop-to.to-index 0 c.loop-to-test.true in
     record {
       long = c.add.ensures.long ∙ c.loop-to.invariant.long;
-      added = AddsRow-more c.args.rows.now c.loop-to.rows c.add.new.self c.args.place c.args.entries.now c.loop-to.to-index 0
+      added = Adds-more (leads c.args.rows.now) (leads c.loop-to.rows) (leads c.add.new.self) c.args.place c.args.entries.now c.loop-to.to-index 0
           _ c.loop-to-test.true refl (omega (arith, entry.0)) c.add.ensures.added c.loop-to.invariant.added;
     }
 
@@ -27,5 +28,5 @@ add-requires c =
 
 pub returns-clause-added : goal.returns-clause-added
 returns-clause-added c =
-    AddsRow-all c.args.rows.now c.loop-to.rows c.args.place c.args.entries.now c.loop-to.to-index c.loop-to-test.false
+    Adds-all (leads c.args.rows.now) (leads c.loop-to.rows) c.args.place c.args.entries.now c.loop-to.to-index c.loop-to-test.false
     c.loop-to.invariant.added

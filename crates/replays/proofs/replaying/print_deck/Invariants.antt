@@ -1,9 +1,12 @@
-use Rattle.std.proofs.Common.{◌≡◌, drop}
-use Rattle.replays.specs.HelperStanding.{Stands}
+use Rattle.std.proofs.Common.{◌≡◌, length}
+use Rattle.replays.specs.HelperStanding.{StandsInText}
 use Rattle.replays.proofs.replaying.print_deck.Given as goal
 
-abbrev pub invariant-loop-card : goal.invariant-loop-card
-invariant-loop-card g l = record {
-  stands : Stands g.S.Sink.held l.setup l.cards (drop l.card-index l.cards) l.initial.pages.out l.machine l.pages;
+abbrev pub invariant-loop-next : goal.invariant-loop-next
+invariant-loop-next g l = record {
+  place : StandsInText g.S.Sink.held l.setup l.deck l.text l.initial.pages.out l.machine l.pages;
   same : g.S.Sink.borrow l.pages.out.sink ≡ g.S.Sink.borrow l.initial.pages.out.sink;
 }
+
+abbrev pub decreases-loop-next : goal.decreases-loop-next
+decreases-loop-next g l = length l.text

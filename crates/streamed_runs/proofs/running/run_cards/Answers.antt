@@ -37,3 +37,9 @@ returns-clause-run g c =
     let goes = c.in_ok-step.ensures.goes_on start c.requires.serves c.loop-run.invariant.stands in
     subst (GoesOn g.S.Source.left g.W.Sink.held g.W.Sink.has_failed c.args.chart.now start c.step.new.cards c.step.new.run c.step.new.pages)
     c.if-branch.false goes
+
+pub returns-in_err-step-clause-run : goal.returns-in_err-step-clause-run
+returns-in_err-step-clause-run g c =
+    let start = start_of g.S.Source.left g.W.Sink.held c.args.setup.now c.args.cards.now c.args.pages.now in
+    let p = err_from_is_err_and c.from_residual-in_err-step.result c.from_residual-in_err-step.ensures.1 in
+    rw (p.1, p.2) (c.in_err-step.ensures.goes_on start c.requires.serves c.loop-run.invariant.stands)

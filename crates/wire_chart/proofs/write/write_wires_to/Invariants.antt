@@ -4,4 +4,4 @@ use Rattle.wire_chart.proofs.write.write_wires_to.Given as goal
 
 abbrev pub invariant-loop-number : goal.invariant-loop-number
 invariant-loop-number l =
-    GainsWires (IsWireToBelow l.exit l.entries l.number) (string_bytes l.fn.text) (string_bytes l.text)
+    GainsWires l.version l.form (IsWireToBelow l.exit l.entries l.number) (string_bytes l.fn.text) (string_bytes l.text)

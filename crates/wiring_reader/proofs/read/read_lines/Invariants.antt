@@ -4,7 +4,7 @@ use Rattle.wiring_reader.proofs.LineSteps.{ReadsSoFar}
 use Rattle.wiring_reader.proofs.read.read_lines.Given as goal
 
 abbrev pub invariant-loop-line : goal.invariant-loop-line
-invariant-loop-line l = ReadsSoFar (numbers_of_tape l.fn.setup.tape) l.setup l.ended l.number l.rest l.text
+invariant-loop-line l = ReadsSoFar l.version (numbers_of_tape l.fn.setup.tape) l.setup l.ended l.number l.rest l.text
 
 abbrev pub decreases-loop-line : goal.decreases-loop-line
 decreases-loop-line l = length l.rest

@@ -6,8 +6,9 @@ use Rattle.machine.proofs.units.Units.end_cycle.Goals as goal
 
 pub invariant_of-self : goal.invariant_of-self
 invariant_of-self c = record {
-  ordered = ended-in_order c.self.inside.groups c.end_all.new.units c.args.cycle c.end_all.ensures c.self.invariant.ordered;
-  busy = subst (AreBusy c.none-self-inside.result) (sym c.end_all.ensures) (ended-busy c.self.inside.groups c.args.cycle c.none-self-inside.result);
+  ordered = ended-in_order c.self.inside.groups c.end_groups.new.groups c.args.cycle c.end_groups.ensures c.self.invariant.ordered;
+  busy = subst (AreBusy c.none-self-inside.result) (sym c.end_groups.ensures)
+      (ended-busy c.self.inside.groups c.args.cycle c.self.inside.busy c.none-self-inside.result c.self.invariant.busy);
 }
 
 pub returns : goal.returns
@@ -16,8 +17,8 @@ returns c =
     (λ i. record {
       stations = c.self.inside.stations;
       comparing = c.end_cycle.ensures i;
-      groups = c.end_all.ensures i;
-      storage = c.end_all-2.ensures i;
+      groups = c.end_groups.ensures i;
+      storage = c.end_all.ensures i;
       pilots = c.end_cycle-2.ensures i;
       indicate = c.end_cycle-3.ensures i;
       splits = c.self.inside.splits;

@@ -1,6 +1,5 @@
 use Rattle.std.proofs.Common.{subst, sym, ap, ◌∙◌, List, map, refl}
 use Rattle.counters.specs.Counters.{Counter, counter_number}
-use Rattle.machine.specs.Machine.{group_units}
 use Rattle.machine.specs.Rest.{AreBusy}
 use Rattle.machine.proofs.Rest.{start-busy}
 use Rattle.machine.proofs.units.Units.new.Goals as goal
@@ -8,5 +7,5 @@ use Rattle.machine.proofs.units.Units.new.Goals as goal
 pub invariant_of-result : goal.invariant_of-result
 invariant_of-result c = record {
   ordered = ap (λ (gs : List Counter). map counter_number gs) c.groups.ensures ∙ refl;
-  busy = subst (AreBusy c.none.result) (sym c.groups.ensures) (start-busy group_units c.none.result);
+  busy = subst (AreBusy c.none.result) (sym c.groups.ensures) (start-busy c.none.result);
 }

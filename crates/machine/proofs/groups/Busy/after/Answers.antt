@@ -1,0 +1,18 @@
+use Rattle.std.proofs.Common.{◌-◌}
+use Rattle.net.specs.Panel.{unit_of}
+use Rattle.machine.proofs.Rest.{neither}
+use Rattle.machine.proofs.groups.Busy.after.Goals as goal
+
+pub returns-in-C-clause-uncontrolled : goal.returns-in-C-clause-uncontrolled
+returns-in-C-clause-uncontrolled c k off = (neither c.args.self.controlled c.told.result k off).0
+
+pub returns-in-C-clause-told : goal.returns-in-C-clause-told
+returns-in-C-clause-told c _ name from off =
+    c.told.ensures name from (neither c.args.self.controlled c.told.result (unit_of name - 3) off).1
+
+pub returns-in-K-clause-empty : goal.returns-in-K-clause-empty
+returns-in-K-clause-empty c k off = (neither c.args.self.carried c.carries.result k off).0
+
+pub returns-in-K-clause-carries : goal.returns-in-K-clause-carries
+returns-in-K-clause-carries c _ name from off =
+    c.carries.ensures name from (neither c.args.self.carried c.carries.result (unit_of name - 3) off).1

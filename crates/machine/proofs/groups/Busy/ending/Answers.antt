@@ -1,0 +1,5 @@
+use Rattle.bit_sets.proofs.BitLemmas.{is_bit-or}
+use Rattle.machine.proofs.groups.Busy.ending.Goals as goal
+
+pub returns : goal.returns
+returns c k = is_bit-or c.args.self.controlled c.args.self.carried k

@@ -1,0 +1,15 @@
+use Rattle.std.proofs.Common.{◌≡◌, ◌||◌}
+use Rattle.hubs.specs.declared.hub.Hub.{Hub}
+use Rattle.net.specs.HubSets.{has_hub}
+use Rattle.machine.specs.Marked.{any_marked}
+use Rattle.machine.proofs.marked.emit_marked.Given as goal
+
+-- what stands, with what the units of the marks left emit, is all
+abbrev pub invariant-loop-left : goal.invariant-loop-left
+invariant-loop-left g l =
+    (exit : Hub)
+    → (has_hub l.exits exit || any_marked l.left 0 (λ unit. g.U.Unit.emits unit l.cycle l.point exit) l.units)
+    ≡ (has_hub l.fn.exits exit || any_marked l.marks 0 (λ unit. g.U.Unit.emits unit l.cycle l.point exit) l.units)
+
+abbrev pub decreases-loop-left : goal.decreases-loop-left
+decreases-loop-left g l = l.left

@@ -1,0 +1,13 @@
+use Rattle.std.proofs.Common.{◌≡◌}
+use Rattle.net.specs.HubSets.{has_hub}
+use Rattle.machine.specs.Marked.{marked_changed}
+use Rattle.machine.proofs.marked.sense_marked.Given as goal
+
+-- with the marks left all is done
+abbrev pub invariant-loop-left : goal.invariant-loop-left
+invariant-loop-left g l =
+    marked_changed l.left 0 (λ unit. g.U.Unit.sensed unit l.cycle l.point (has_hub l.picture)) l.units
+    ≡ marked_changed l.marks 0 (λ unit. g.U.Unit.sensed unit l.cycle l.point (has_hub l.picture)) l.fn.units
+
+abbrev pub decreases-loop-left : goal.decreases-loop-left
+decreases-loop-left g l = l.left

@@ -1,0 +1,14 @@
+-- Units of one kind of which some are marked by the bits of a word: the unit at place k by bit k.
+use Rattle.std.specs.Prelude.{ℕ, suc, ◌&&◌, ◌||◌, Bool, false, List, [], ◌∷◌, if◌then◌else◌}
+use Rattle.net.specs.HubSets.{is_bit}
+
+-- whether the test is true of some marked unit, where the first of these stands at place k
+abbrev pub any_marked : {X : Type 0} → ℕ → ℕ → (X → Bool) → List X → Bool
+any_marked marks k test [] = false
+any_marked marks k test (unit ∷ units) = (is_bit marks k && test unit) || any_marked marks (suc k) test units
+
+-- the units with each marked one changed, where the first of these stands at place k
+abbrev pub marked_changed : {X : Type 0} → ℕ → ℕ → (X → X) → List X → List X
+marked_changed marks k change [] = []
+marked_changed marks k change (unit ∷ units) =
+    (if is_bit marks k then change unit else unit) ∷ marked_changed marks (suc k) change units

@@ -1,0 +1,140 @@
+//! Cycles whose points are kept: what emitted at each, and which contacts were closed.
+
+ghost use Rattle.std.specs.Prelude.{◌≡◌, Some};
+
+use crate::closed::Closed;
+use crate::groups::nines;
+use crate::units::Units;
+use card_code::Card;
+use net::{Contacts, Cycle, Net, POINTS, Picture, Point};
+use placed_lines::PlacedLine;
+use selectors::with_carries;
+
+/// A point of a cycle as it was.
+#[derive(Clone, Copy, Debug)]
+pub struct KeptPoint {
+    /// The exits that emitted.
+    pub exits: Picture,
+    /// The contacts that were closed, by their exits.
+    pub contacts: Contacts,
+}
+
+/// A cycle that placed a line.
+#[derive(Clone, Copy, Debug)]
+pub struct KeptCycle {
+    /// Which cycle it was.
+    pub cycle: Cycle,
+    /// Its points in their order.
+    pub points: [KeptPoint; 14],
+    /// The line that it placed.
+    pub line: PlacedLine,
+}
+
+impl Units {
+    ghost use Rattle.std.specs.Prelude.{◌≡◌, Some, None, IfSome, All, [], ◌∷◌};
+    ghost use Rattle.setups.specs.Wiring.{Wiring};
+    ghost use Rattle.net.specs.Nets.{IsNetOf};
+    ghost use Rattle.machine.specs.Cycles.{CycleRun, line_of};
+    ghost use Rattle.machine.specs.Feeds.{FeedStep, due_in, taken};
+    ghost use Rattle.machine.specs.Ends.{EndsCycle, GoesOn};
+    ghost use Rattle.machine.specs.Kept.{FeedsPast, IsElsewhere, IsKept, KeepsPoints, PlacedInFeed};
+    ghost use Rattle.machine.specs.Steady.{AreSteady};
+
+    // A cycle, and its points in their order.
+    pub(crate) fn run_cycle_kept(&mut self, net: &Net, cycle: Cycle) -> [KeptPoint; 14]
+        ensures ran { (wiring : Wiring) → IsNetOf wiring net.now → CycleRun wiring cycle self.old self.new }
+        ensures ends { EndsCycle cycle self.old self.new }
+        ensures kept { (wiring : Wiring) → IsNetOf wiring net.now → KeepsPoints wiring cycle self.old 14 result }
+    {
+        let closed = self.closed(cycle);
+        let mut points = [KeptPoint {
+            exits: Picture::new(),
+            contacts: Contacts::new(),
+        }; 14];
+        for place in 0..14 {
+            points[place] = self.keep_point(&closed, cycle, POINTS[place]);
+            self.step(net, &closed, cycle, POINTS[place]);
+        }
+        self.end_cycle(cycle);
+        points
+    }
+
+    // What emits at a point, and which contacts are closed.
+    fn keep_point(&self, closed: &Closed, cycle: Cycle, point: Point) -> KeptPoint
+        requires { AreSteady cycle closed.now self.now }
+        ensures { IsKept cycle point self.now result }
+    {
+        let mut exits = Picture::new();
+        self.emit(cycle, point, &mut exits);
+        KeptPoint {
+            exits,
+            contacts: with_carries(*closed.at(point), point, &nines(&self.groups)),
+        }
+    }
+
+    // Runs the cycle that is due and keeps its points, and answers whether something still waits.
+    fn run_due_kept(
+        &mut self,
+        net: &Net,
+        cycle: Cycle,
+        waits: bool,
+        next: &Option<Card>,
+    ) -> (bool, [KeptPoint; 14])
+        requires { due_in (record { machine = self.old; waits = waits; next = next.now }) ≡ Some cycle }
+        ensures step { (wiring : Wiring)
+            → IsNetOf wiring net.now
+            → FeedStep wiring cycle (record { machine = self.old; waits = waits; next = next.now })
+            (record { machine = self.new; waits = result.0; next = next.now }) }
+        ensures goes_on { GoesOn cycle (record { machine = self.old; waits = waits; next = next.now })
+            (record { machine = self.new; waits = result.0; next = next.now }) }
+        ensures points { (wiring : Wiring)
+            → IsNetOf wiring net.now
+            → KeepsPoints wiring cycle (taken cycle (record { machine = self.old; waits = waits; next = next.now })).machine 14 result.1 }
+    {
+        let waits = self.take(cycle, waits, next);
+        let points = self.run_cycle_kept(net, cycle);
+        (waits, points)
+    }
+
+    // Feeds a card, or the end, and runs the cycles that follow, up to the one that places a line at a page and a line of it.
+    pub(crate) fn feed_to(
+        &mut self,
+        net: &Net,
+        next: &Option<Card>,
+        page: u64,
+        line: u32,
+    ) -> Option<KeptCycle>
+        ensures found { (wiring : Wiring) → IsNetOf wiring net.now → IfSome result (PlacedInFeed wiring self.old next.now) }
+        ensures page { IfSome result (λ kept. kept.line.page ≡ page) }
+        ensures line { IfSome result (λ kept. kept.line.line ≡ line) }
+        ensures none { (wiring : Wiring) → IsNetOf wiring net.now → result ≡ None
+            → FeedsPast wiring self.old next.now self.new page line }
+    {
+        let mut waits = self.begin(next);
+        while let Some(cycle) = self.due_in(waits, next) {
+            let (still, points) = self.run_due_kept(net, cycle, waits, next);
+            waits = still;
+            if let Some(line) = self.placed_at(page, line) {
+                return Some(KeptCycle {
+                    cycle,
+                    points,
+                    line,
+                });
+            }
+        }
+        None
+    }
+
+    // The line that the cycle that ended last placed, if it placed one at this page and this line of it.
+    fn placed_at(&self, page: u64, line: u32) -> Option<PlacedLine>
+        ensures placed { IfSome result (λ placed. line_of self.now ≡ placed ∷ []) }
+        ensures page { IfSome result (λ placed. placed.page ≡ page) }
+        ensures line { IfSome result (λ placed. placed.line ≡ line) }
+        ensures none { result ≡ None → All (IsElsewhere page line) (line_of self.now) }
+    {
+        match self.placed_line() {
+            Some(placed) if placed.page == page && placed.line == line => Some(placed),
+            _ => None,
+        }
+    }
+}

@@ -1,0 +1,62 @@
+-- Links: wires one by one, from place to place. A set of rows for each place is a number: bit r tells of the row at place r among the
+-- points. Sets are spread along links.
+use Rattle.std.specs.Prelude.{◌≡◌, ℕ, ◌-◌, ◌<◌, ◌≤◌, ◌==◌, ◌&&◌, ◌||◌, All, Bool, false, List, Option, Some, None, slice_index_or}
+use Rattle.std.specs.List.{list_any}
+use Rattle.hubs.specs.Hubs.{number_of}
+use Rattle.hubs.specs.declared.hub.Hub.{Hub}
+use Rattle.bit_sets.specs.Bits.{is_bit}
+use Rattle.bit_sets.specs.Contacts.{AreCommons}
+use Rattle.bit_sets.specs.Rows.{leads}
+use Rattle.bit_sets.specs.declared.contacts.Run.{Run}
+use Rattle.net.specs.NetRows.{Adds}
+use Rattle.net.specs.declared.links.Link.{Link}
+
+-- a link leads from an exit to an entry of the panel
+pub record IsInRange (link : Link) : Type 0 where
+  pub from : link.from < 1040
+  pub low : 1040 ≤ link.to
+  pub high : link.to < 1936
+
+-- whether the link leads from one place to another
+abbrev pub is_link : ℕ → ℕ → Link → Bool
+is_link from to link = (from == link.from) && (to == link.to)
+
+-- whether one of the links leads from one place to another
+abbrev pub is_linked : List Link → ℕ → ℕ → Bool
+is_linked links from to = list_any (is_link from to) links
+
+-- new leads where old does, and from a place to those whose numbers are listed
+abbrev pub AddsLinks : List Link → List Link → ℕ → List ℕ → Type 0
+AddsLinks old new place entries = Adds (is_linked old) (is_linked new) place entries
+
+-- whether the set of a place has a row
+abbrev pub has_at : List ℕ → ℕ → ℕ → Bool
+has_at sets place row = is_bit (slice_index_or sets place 0) row
+
+-- whether one of the links leads to a place from one whose set has the row
+abbrev pub is_fed_at : List Link → List ℕ → ℕ → ℕ → Bool
+is_fed_at links sets place row = list_any (λ link. (link.to == place) && has_at sets link.from row) links
+
+-- the far end of the link has gained the rows of its near end, and no other place has gained or lost any
+abbrev pub IsFollowed : Link → List ℕ → List ℕ → Type 0
+IsFollowed link old new =
+    (place row : ℕ) → has_at new place row ≡ (has_at old place row || ((link.to == place) && has_at old link.from row))
+
+-- each place has the rows that it had, and those of the places from which links lead to it, and no other
+abbrev pub Spreads : List Link → List ℕ → List ℕ → Type 0
+Spreads links old new = (place row : ℕ) → has_at new place row ≡ (has_at old place row || is_fed_at links old place row)
+
+-- whether the set of a hub's number has a row; none where there is no number
+abbrev pub has_at_number : List ℕ → ℕ → Option ℕ → Bool
+has_at_number sets row (Some number) = has_at sets (number - 1) row
+has_at_number sets row None = false
+
+-- whether the set of a hub has the row at this place among the points: the set of the hub with the number h is the one at place h - 1
+abbrev pub has_row_at : List ℕ → ℕ → Hub → Bool
+has_row_at sets row hub = has_at_number sets row (number_of hub)
+
+-- The links lead on where the rows do, each in range, and the common places of the contacts are known.
+pub record IsNetInside (contacts : List Run) (common_places : List ℕ) (links : List Link) (rows : List (List ℕ)) : Type 0 where
+  pub commons : AreCommons contacts common_places
+  pub in_range : All IsInRange links
+  pub agree : (from to : ℕ) → is_linked links from to ≡ leads rows from to

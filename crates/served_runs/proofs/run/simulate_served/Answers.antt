@@ -1,0 +1,90 @@
+use Rattle.std.proofs.Common.{◌≡◌, ◌∙◌, ◌++◌, ap, sym, refl, subst, arith, List, [], option_to_list}
+use Rattle.machine.proofs.FewCycles.{IsSupplied, ahead}
+use Rattle.machine.proofs.Order.{MachineLines-in_order}
+use Rattle.machine.specs.Machine.{MachineState}
+use Rattle.machine.specs.Runs.{InRun, cards_moved, run_at_start}
+use Rattle.placed_lines.specs.declared.placed_line.PlacedLine.{PlacedLine}
+use Rattle.served_runs.specs.Course.{IsPanelOf}
+use Rattle.served_runs.specs.Runs.{no_counts}
+use Rattle.served_runs.proofs.Running.{RunSoFar, goes_on, run_all, run_none, run_step, served_lines, start_ahead, start_supplied}
+use Rattle.served_runs.proofs.run.simulate_served.Goals as goal
+
+pub loop-cycle-init : goal.loop-cycle-init
+loop-cycle-init c =
+    let wiring = c.args.setup.now in
+    let cards = c.args.cards.now in
+    let now : InRun = record { machine = c.move_cards-hopper.new.self; hopper = c.move_cards-hopper.result.now } in
+    let is : run_at_start wiring cards ≡ now =
+    ap (λ (m : MachineState). cards_moved m cards) (sym c.new-units.ensures) ∙ c.move_cards-hopper.ensures in
+    let few = start_ahead wiring cards in
+    let same = ap ahead is in
+    record {
+      goes = subst (λ (lines : List PlacedLine). RunSoFar wiring c.args.service.now cards now no_counts lines) (sym c.new-lines.ensures.items)
+          (subst (λ (run : InRun). RunSoFar wiring c.args.service.now cards run no_counts []) is
+          (run_none wiring c.args.service.now cards));
+      supplied = subst (λ (run : InRun). IsSupplied run.machine) is (start_supplied wiring cards);
+      rounds = omega (arith, few, same);
+      seen = omega (arith, few, same);
+    }
+
+pub serve_cycle-requires-clause-panel : goal.serve_cycle-requires-clause-panel
+serve_cycle-requires-clause-panel c = (
+  c.args.setup.now,
+  record { net = c.in_ok-net.ensures; waits = c.waits-waits.ensures c.args.setup.now c.in_ok-net.ensures },
+)
+
+pub serve_cycle-requires-clause-rounds : goal.serve_cycle-requires-clause-rounds
+serve_cycle-requires-clause-rounds c = omega (arith, c.loop-cycle.invariant.rounds, c.requires)
+
+pub serve_cycle-requires-clause-seen : goal.serve_cycle-requires-clause-seen
+serve_cycle-requires-clause-seen c = omega (arith, c.loop-cycle.invariant.seen, c.requires)
+
+pub loop-cycle-smaller : goal.loop-cycle-smaller
+loop-cycle-smaller c =
+    let wiring = c.args.setup.now in
+    let is_panel : IsPanelOf wiring (record { net = c.in_ok-net.net; waits = c.waits-waits.result }) =
+    record { net = c.in_ok-net.ensures; waits = c.waits-waits.ensures wiring c.in_ok-net.ensures } in
+    let now : InRun = record { machine = c.loop-cycle.units; hopper = c.loop-cycle.hopper.now } in
+    let ready : InRun = record { machine = c.make_ready-hopper.new.self; hopper = c.make_ready-hopper.result.now } in
+    (goes_on wiring c.args.service.now c.in-Some.cycle now ready c.serve_cycle.result.0 c.loop-cycle.counts c.serve_cycle.result.1
+    c.make_ready-hopper.ensures c.loop-cycle.invariant.supplied (sym c.cycle_due.ensures ∙ c.in-Some.is) c.known.ensures.ordered
+    (c.serve_cycle.ensures.ran wiring is_panel)).falls
+
+pub loop-cycle-preserved : goal.loop-cycle-preserved
+loop-cycle-preserved c =
+    let wiring = c.args.setup.now in
+    let is_panel : IsPanelOf wiring (record { net = c.in_ok-net.net; waits = c.waits-waits.result }) =
+    record { net = c.in_ok-net.ensures; waits = c.waits-waits.ensures wiring c.in_ok-net.ensures } in
+    let now : InRun = record { machine = c.loop-cycle.units; hopper = c.loop-cycle.hopper.now } in
+    let ready : InRun = record { machine = c.make_ready-hopper.new.self; hopper = c.make_ready-hopper.result.now } in
+    let due = sym c.cycle_due.ensures ∙ c.in-Some.is in
+    let on =
+    goes_on wiring c.args.service.now c.in-Some.cycle now ready c.serve_cycle.result.0 c.loop-cycle.counts c.serve_cycle.result.1
+    c.make_ready-hopper.ensures c.loop-cycle.invariant.supplied due c.known.ensures.ordered (c.serve_cycle.ensures.ran wiring is_panel) in
+    record {
+      goes = subst
+          (λ (lines : List PlacedLine).
+          RunSoFar wiring c.args.service.now c.args.cards.now
+          (record { machine = c.serve_cycle.result.0; hopper = c.make_ready-hopper.result.now }) c.serve_cycle.result.1 lines)
+          (sym c.in_ok-append.ensures.appended)
+          (run_step wiring c.args.service.now c.args.cards.now now ready c.loop-cycle.counts c.serve_cycle.result.1 c.loop-cycle.lines.items
+          (option_to_list c.placed_line.result) c.in-Some.cycle c.serve_cycle.result.0 c.make_ready-hopper.ensures due
+          (c.serve_cycle.ensures.ran wiring is_panel) c.placed_line.ensures c.loop-cycle.invariant.goes);
+      supplied = on.supplied;
+      rounds = omega (arith, c.loop-cycle.invariant.rounds, on.falls, c.serve_cycle.ensures.few_rounds);
+      seen = omega (arith, c.loop-cycle.invariant.seen, on.falls, c.serve_cycle.ensures.few_seen);
+    }
+
+pub returns : goal.returns
+returns c =
+    let wiring = c.args.setup.now in
+    let cards = c.args.cards.now in
+    let now : InRun = record { machine = c.loop-cycle.units; hopper = c.loop-cycle.hopper.now } in
+    let run = run_all wiring c.args.service.now cards now c.loop-cycle.counts c.loop-cycle.lines.items
+    (sym c.cycle_due.ensures ∙ c.in_default.is) c.loop-cycle.invariant.goes in
+    let lines = served_lines wiring c.args.service.now cards c.loop-cycle.lines.items c.loop-cycle.counts run in
+    record {
+      lines = lines;
+      in_order = MachineLines-in_order wiring cards c.loop-cycle.lines.items c.known-form.ensures.form c.requires lines;
+      served = run;
+    }

@@ -1,0 +1,6 @@
+pub mod Fields
+pub mod Units
+pub mod Contacts
+pub mod Course
+pub mod Seen
+pub mod Runs

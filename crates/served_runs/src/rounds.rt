@@ -1,0 +1,41 @@
+//! A cycle, in rounds by the orders of a service.
+
+ghost use Rattle.std.specs.Prelude.{◌≤◌, ◌<◌, ◌+◌, ◌^◌};
+ghost use Rattle.served.specs.Orders.{unit_count};
+ghost use Rattle.served_runs.specs.Course.{IsPanelOf};
+ghost use Rattle.served_runs.specs.Runs.{CycleInRounds, most_rounds, most_seen};
+ghost use Rattle.setups.specs.Wiring.{Wiring};
+
+use crate::counts::Counts;
+use crate::course::{Course, Panel};
+use crate::units::Units;
+use net::Cycle;
+use served::Service;
+
+// A cycle, in rounds until it is over for all units; then each ends it.
+pub(crate) fn serve_cycle(
+    units: Units,
+    panel: &Panel,
+    cycle: Cycle,
+    service: &Service,
+    before: Counts,
+) -> (Units, Counts)
+    requires panel { (wiring : Wiring) × IsPanelOf wiring panel.now }
+    requires rounds { before.rounds + most_rounds < 2 ^ 64 }
+    requires seen { before.seen + most_seen < 2 ^ 64 }
+    ensures ran { (wiring : Wiring) → IsPanelOf wiring panel.now
+        → CycleInRounds wiring service.now cycle units result.0 before result.1 }
+    ensures few_rounds { result.1.rounds ≤ before.rounds + most_rounds }
+    ensures few_seen { result.1.seen ≤ before.seen + most_seen }
+{
+    let mut counts = before;
+    let mut course = Course::start(units, cycle);
+    while !course.is_over() {
+        counts.seen += course.round(panel, cycle, service.order(counts.rounds));
+        counts.rounds += 1;
+    }
+    let mut units = course.units;
+    units.known();
+    units.end_cycle(cycle);
+    (units, counts)
+}

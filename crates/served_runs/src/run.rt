@@ -1,0 +1,72 @@
+//! A whole served run.
+
+ghost use Rattle.std.specs.Prelude.{◌≡◌, ◌≤◌, ◌++◌, IfOk, OnErr, OnOk, length, option_to_list};
+ghost use Rattle.card_code.specs.MostCards.{most_cards};
+ghost use Rattle.machine.specs.Runs.{MachineLines};
+ghost use Rattle.placed_lines.specs.InOrder.{IsInOrder};
+ghost use Rattle.served_runs.specs.Runs.{IsServedRun};
+
+use crate::counts::Counts;
+use crate::course::Panel;
+use crate::rounds::serve_cycle;
+use crate::units::Units;
+use card_code::Card;
+use net::Net;
+use placed_lines::PlacedLine;
+use served::Service;
+use setups::Setup;
+use std::alloc::{AllocError, Global};
+use waits::waits;
+
+/// A served run of a deck.
+#[derive(Drop)]
+pub struct ServedRun {
+    /// The printed lines in order with their places.
+    pub lines: Vec<PlacedLine>,
+    /// What was counted.
+    pub counts: Counts,
+}
+
+/// Runs a deck of at most 999,999 cards through a setup of the panel. In each cycle the units are served in rounds, by the orders of
+/// the service in turn; the rounds are counted on from cycle to cycle.
+///
+/// The lines are those of the machine in which all units act at once, whatever the orders are. Any setup will do. An empty deck takes no
+/// round. The only error is that no memory is left.
+pub fn simulate_served(
+    alloc: Global,
+    setup: &Setup,
+    cards: &[Card],
+    service: &Service,
+) -> Result<ServedRun, AllocError>
+    requires { length cards.now ≤ most_cards }
+    ensures lines { IfOk result (λ run. MachineLines setup.now cards.now run.lines.items) }
+    ensures in_order { IfOk result (λ run. IsInOrder setup.now.tape.lines run.lines.items) }
+    ensures served { IfOk result (λ run. IsServedRun setup.now service.now cards.now run.lines.items run.counts) }
+{
+    let _form = setup.known();
+    let net = Net::of(alloc, setup)?;
+    let waits = waits(&net);
+    let panel = Panel { net, waits };
+    let mut units = Units::new(setup);
+    let mut hopper = units.move_cards(cards);
+    let mut counts = Counts { rounds: 0, seen: 0 };
+    let mut lines = Vec::new(alloc);
+    while let Some(cycle) = units.cycle_due() {
+        hopper = units.make_ready(cycle, hopper);
+        units.known();
+        (units, counts) = serve_cycle(units, &panel, cycle, service, counts);
+        append(&mut lines, units.placed_line())?;
+    }
+    Ok(ServedRun { lines, counts })
+}
+
+// Puts the line, if there is one, after the others. Where memory is refused they stay as they were.
+fn append(lines: &mut Vec<PlacedLine>, line: Option<PlacedLine>) -> Result<(), AllocError>
+    ensures appended { OnOk result (lines.new.items ≡ lines.old.items ++ option_to_list line) }
+    ensures refused { OnErr result (lines.new.items ≡ lines.old.items) }
+{
+    if let Some(line) = line {
+        lines.push(line)?;
+    }
+    Ok(())
+}
