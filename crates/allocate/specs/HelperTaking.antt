@@ -1,5 +1,5 @@
 -- A helper of the code: how totals take their counters one after the other. So far each total has a counter, or waits for one.
-use Rattle.std.specs.Prelude.{◌≡◌, ◌≢◌, ◌⊎◌, ⊥, ℕ, ◌<◌, ◌≤◌, Bool, true, false, List, length, map, Option, Some, None, slice_index_or}
+use Rattle.std.specs.Prelude.{◌≡◌, ◌≢◌, ◌⊎◌, ℕ, ◌<◌, ◌≤◌, Bool, true, false, List, length, map, Option, Some, None, slice_index_or}
 use Rattle.capacity.specs.Capacities.{Capacities, HasGroup, groups_of}
 use Rattle.capacity.specs.declared.group.CounterGroup.{CounterGroup}
 use Rattle.allocate.specs.Groups.{takes_before}
