@@ -116,46 +116,25 @@ groups-more totals p q i within implies misses passes = by (is_pair totals i) re
 pub none_where_over : (width : ℕ) (totals : List Total) (machine : Capacities) (counters : List TotalCounter)
     → groups_at_least machine width < wanted_at width totals → ¬ IsAssignment totals machine counters
 none_where_over width totals machine counters over assigned =
-    let few : groups_where totals (is_wide totals width) ≤ groups_at_least machine width =
-    count-apart (is_wide totals width) (λ k. is_pair totals k && is_wide totals width k)
-    (λ k. place_of machine (lower_group (counter_at counters k))) (λ k. place_of machine (upper_group (counter_at counters k)))
-    (length totals) (groups_at_least machine width)
-    (record {
-      first_below = λ k within wide. below k (lower_group (counter_at counters k)) within wide (has-lower (counter_at counters k));
-      second_below = λ k within both. below k (upper_group (counter_at counters k)) within (and_parts _ _ both).1 (has-upper (counter_at counters k));
-      first_single = λ j k within other _ _ same.
-          single j k (lower_group (counter_at counters j)) (lower_group (counter_at counters k)) within other
-          (has-lower (counter_at counters j)) (has-lower (counter_at counters k)) same;
-      second_single = λ j k within other _ _ same.
-          single j k (upper_group (counter_at counters j)) (upper_group (counter_at counters k)) within other
-          (has-upper (counter_at counters j)) (has-upper (counter_at counters k)) same;
-      apart = λ j k within other _ both same.
-          let lower = lower_group (counter_at counters j) in
-          let upper = upper_group (counter_at counters k) in
-          let one : j ≡ k = single j k lower upper within other (has-lower (counter_at counters j)) (has-upper (counter_at counters k)) same in
-          let groups : lower ≡ upper = place_of-injective machine lower upper
-          (has j lower within (has-lower (counter_at counters j))) (has k upper other (has-upper (counter_at counters k))) same in
-          let two : 8 < (total_at totals k).need = ltb-true _ _ (and_parts _ _ both).0 in
-          two_groups machine (total_at totals k).need (counter_at counters k) two (assigned.there k _ (got k other))
-          (assigned.enough k _ _ (slice_get-get_or totals k _ other) (got k other))
-          (ap (λ i. lower_group (counter_at counters i)) (sym one) ∙ groups);
-    }) in
     let count = wanted_at-is totals width in
     omega (arith, few, count, over)
   where
     got : (k : ℕ) → k < length totals → slice_get counters k ≡ Some (counter_at counters k)
     got k within = let low : k < length counters = let many = assigned.many in omega (arith, many, within) in slice_get-get_or counters k _ low
 
+    listed : (k : ℕ) → k < length totals → slice_get totals k ≡ Some (total_at totals k)
+    listed k within = slice_get-get_or totals k _ within
+
     has : (k : ℕ) (group : CounterGroup) → k < length totals → IsGroupOf (counter_at counters k) group → HasGroup machine group
     has k group within is =
-        (of_class machine (total_at totals k).need (counter_at counters k) group (assigned.there k _ (got k within))
-        (assigned.enough k _ _ (slice_get-get_or totals k _ within) (got k within)) is).has
+        (of_class machine (total_at totals k).need (counter_at counters k) group (assigned.there k (counter_at counters k) (got k within))
+        (assigned.enough k (total_at totals k) (counter_at counters k) (listed k within) (got k within)) is).has
 
     below : (k : ℕ) (group : CounterGroup) → k < length totals → is_wide totals width k ≡ true → IsGroupOf (counter_at counters k) group
         → place_of machine group < groups_at_least machine width
     below k group within wide is =
-        let class = of_class machine (total_at totals k).need (counter_at counters k) group (assigned.there k _ (got k within))
-        (assigned.enough k _ _ (slice_get-get_or totals k _ within) (got k within)) is in
+        let class = of_class machine (total_at totals k).need (counter_at counters k) group (assigned.there k (counter_at counters k) (got k within))
+        (assigned.enough k (total_at totals k) (counter_at counters k) (listed k within) (got k within)) is in
         let enough = class.wide in
         let least : width ≤ class_of (total_at totals k).need = leb-true _ _ wide in
         place_of-below machine group width class.has (omega (arith, enough, least))
@@ -166,6 +145,32 @@ none_where_over width totals machine counters over assigned =
         let groups : one ≡ other = place_of-injective machine one other (has j one within is) (has k other its_within its) same in
         assigned.own j k (counter_at counters j) (counter_at counters k) (got j within) (got k its_within)
         (shares (counter_at counters j) (counter_at counters k) other (rw groups at is) its)
+
+    few : groups_where totals (is_wide totals width) ≤ groups_at_least machine width
+    few =
+        count-apart (is_wide totals width) (λ k. is_pair totals k && is_wide totals width k)
+        (λ k. place_of machine (lower_group (counter_at counters k))) (λ k. place_of machine (upper_group (counter_at counters k)))
+        (length totals) (groups_at_least machine width)
+        (record {
+          first_below = λ k within wide. below k (lower_group (counter_at counters k)) within wide (has-lower (counter_at counters k));
+          second_below = λ k within both. below k (upper_group (counter_at counters k)) within (and_parts (is_pair totals k) (is_wide totals width k) both).1 (has-upper (counter_at counters k));
+          first_single = λ j k within other _ _ same.
+              single j k (lower_group (counter_at counters j)) (lower_group (counter_at counters k)) within other
+              (has-lower (counter_at counters j)) (has-lower (counter_at counters k)) same;
+          second_single = λ j k within other _ _ same.
+              single j k (upper_group (counter_at counters j)) (upper_group (counter_at counters k)) within other
+              (has-upper (counter_at counters j)) (has-upper (counter_at counters k)) same;
+          apart = λ j k within other _ both same.
+              let lower = lower_group (counter_at counters j) in
+              let upper = upper_group (counter_at counters k) in
+              let one : j ≡ k = single j k lower upper within other (has-lower (counter_at counters j)) (has-upper (counter_at counters k)) same in
+              let groups : lower ≡ upper = place_of-injective machine lower upper
+              (has j lower within (has-lower (counter_at counters j))) (has k upper other (has-upper (counter_at counters k))) same in
+              let two : 8 < (total_at totals k).need = ltb-true 8 (total_at totals k).need (and_parts (is_pair totals k) (is_wide totals width k) both).0 in
+              two_groups machine (total_at totals k).need (counter_at counters k) two (assigned.there k (counter_at counters k) (got k other))
+              (assigned.enough k (total_at totals k) (counter_at counters k) (listed k other) (got k other))
+              (ap (λ i. lower_group (counter_at counters i)) (sym one) ∙ groups);
+        })
 
 -- how many groups those totals take that go before the one at a place
 abbrev pub rank : List Total → ℕ → ℕ
