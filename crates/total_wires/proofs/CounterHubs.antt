@@ -1,5 +1,5 @@
 -- The hubs of a position of a counter, and the wires of both its groups.
-use Rattle.std.proofs.Common.{◌≡◌, ap}
+use Rattle.std.proofs.Common.{◌≡◌, ℕ, ap}
 use Rattle.capacity.specs.declared.group.CounterGroup.{CounterGroup}
 use Rattle.hubs.specs.declared.hub.Group.{Group}
 use Rattle.hubs.specs.declared.hub.Hub.TheVariants.{GE, GX}
@@ -10,13 +10,12 @@ use Rattle.plans.specs.declared.counter.TotalCounter.{TotalCounter}
 use Rattle.plans.specs.declared.counter.TotalCounter.TheVariants as of
 use Rattle.setups.specs.Wiring.{Wiring}
 use Rattle.total_wires.specs.HelperCounters.{EachGroup, entry_of, exit_of}
-use Rattle.total_wires.specs.declared.counter.CounterPlace.{CounterPlace}
 use Rattle.wiring_table.specs.Parts.{panel_group}
 
-pub same-exit : {at other : CounterPlace} → at ≡ other → GX at.group at.place ≡ exit_of other
+pub same-exit : {at other : Group × ℕ} → at ≡ other → GX at.0 at.1 ≡ exit_of other
 same-exit e = ap exit_of e
 
-pub same-entry : {at other : CounterPlace} → at ≡ other → GE at.group at.place ≡ entry_of other
+pub same-entry : {at other : Group × ℕ} → at ≡ other → GE at.0 at.1 ≡ entry_of other
 same-entry e = ap entry_of e
 
 -- the wires of the lower group of two, and then those of the upper one

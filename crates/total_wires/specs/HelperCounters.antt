@@ -6,13 +6,10 @@ use Rattle.plans.specs.declared.counter.TotalCounter.TheVariants as of
 use Rattle.hub_table.specs.Places.{is_width}
 use Rattle.hubs.specs.declared.hub.Group.{Group}
 use Rattle.hubs.specs.declared.hub.Hub.{Hub}
-use Rattle.hubs.specs.declared.hub.Hub.TheVariants.{GX, CO, GE, PL, MI, RO, CI}
+use Rattle.hubs.specs.declared.hub.Hub.TheVariants.{GX, CO, GE, CI}
 use Rattle.line_wires.specs.HelperAdds.{One, Both}
 use Rattle.line_wires.specs.HelperItems.{NoWires}
 use Rattle.line_wires.specs.HelperRows.{Wires}
-use Rattle.total_wires.specs.declared.counter.Control.{Control}
-use Rattle.total_wires.specs.declared.counter.Control.TheVariants as told
-use Rattle.total_wires.specs.declared.counter.CounterPlace.{CounterPlace}
 use Rattle.wiring_table.specs.Parts.{panel_group}
 
 -- the panel has a counter group
@@ -38,38 +35,29 @@ abbrev pub positions_of : TotalCounter → ℕ
 positions_of (of.Single group) = group.width
 positions_of (of.Coupled lower upper) = lower.width + upper.width
 
--- the place of a position of a counter: of two groups first those of the lower one, then those of the upper one
-abbrev pub place_of : TotalCounter → (position : ℕ) → CounterPlace
-place_of (of.Single group) position = record { group = panel_group group; place = position }
+-- the group with a position of a counter, and its place there: of two groups first those of the lower one, then those of the upper
+-- one
+abbrev pub place_of : TotalCounter → (position : ℕ) → Group × ℕ
+place_of (of.Single group) position = (panel_group group, position)
 place_of (of.Coupled lower upper) position =
-    if nat_le position lower.width then record { group = panel_group lower; place = position }
-    else record { group = panel_group upper; place = position - lower.width }
+    if nat_le position lower.width then (panel_group lower, position)
+    else (panel_group upper, position - lower.width)
 
 -- the exit of a place, and its entry
-abbrev pub exit_of : CounterPlace → Hub
-exit_of at = GX at.group at.place
+abbrev pub exit_of : Group × ℕ → Hub
+exit_of (group, place) = GX group place
 
-abbrev pub entry_of : CounterPlace → Hub
-entry_of at = GE at.group at.place
+abbrev pub entry_of : Group × ℕ → Hub
+entry_of (group, place) = GE group place
 
 -- the wires of each group of a counter
 abbrev pub EachGroup : TotalCounter → (Group → Wires) → Wires
 EachGroup (of.Single group) wires = wires (panel_group group)
 EachGroup (of.Coupled lower upper) wires = Both (wires (panel_group lower)) (wires (panel_group upper))
 
--- the entry of a group that takes a control
-abbrev pub control_entry : Control → Group → Hub
-control_entry told.Plus group = PL group
-control_entry told.Minus group = MI group
-control_entry told.ReadOut group = RO group
-
--- an exit to a control of a group
-abbrev pub ControlWire : Hub → Control → Group → Wires
-ControlWire exit control group = One exit (control_entry control group)
-
--- an exit to a control of each group of a counter
-abbrev pub ControlWires : Hub → Control → TotalCounter → Wires
-ControlWires exit control counter = EachGroup counter (ControlWire exit control)
+-- an exit to a control of each group of a counter: to its plus, minus or read-out entry
+abbrev pub ControlWires : Hub → (control : Group → Hub) → TotalCounter → Wires
+ControlWires exit control counter = EachGroup counter (λ group. One exit (control group))
 
 -- the carry from the lower group of two to the upper one
 abbrev pub CarryUpWires : TotalCounter → Wires

@@ -9,11 +9,10 @@ use Rattle.charts.specs.declared.statement.Field.{Field}
 use Rattle.charts.specs.declared.statement.Mark.{Mark}
 use Rattle.charts.specs.declared.statement.SignRule.{SignRule}
 use Rattle.hubs.specs.declared.hub.Group.{Group}
-use Rattle.hubs.specs.declared.hub.Hub.TheVariants.{SR, GX, BAN, BAT, SX, CC, PX, GE, BT, BAC, PIC, SE, SI, SO, W}
+use Rattle.hubs.specs.declared.hub.Hub.TheVariants.{SR, GX, BAN, BAT, SX, CC, PX, GE, PL, MI, RO, BT, BAC, PIC, SE, SI, SO, W}
 use Rattle.wiring_table.specs.Figures.{rule_of, digit_wheel, mark_text, total_emitter}
 use Rattle.line_wires.specs.HelperAdds.{One, Both, Upto, OfSome}
 use Rattle.total_wires.specs.HelperCounters.{ControlWires, EachGroup, RingWires, entry_of, exit_of, place_of}
-use Rattle.total_wires.specs.declared.counter.Control.TheVariants as told
 use Rattle.wiring_table.specs.Parts.{pilot_for, negative_side, positive_side, top_group}
 use Rattle.line_wires.specs.HelperRows.{MarkWires, Wires}
 
@@ -24,14 +23,14 @@ EntryDigits field counter =
 
 -- each card adds
 abbrev pub AddingWires : TotalCounter → Wires
-AddingWires counter = ControlWires CC told.Plus counter
+AddingWires counter = ControlWires CC PL counter
 
 -- each card adds or subtracts by its pilot
 abbrev pub SignedEntry : Lists → (name : List ℕ) → TotalCounter → SignRule → Wires
 SignedEntry plan name counter rule = OfSome (pilot_for plan name) (λ pilot.
     Both (One CC (PIC pilot 1))
-    (Both (ControlWires (positive_side rule pilot 1) told.Plus counter)
-    (ControlWires (negative_side rule pilot 1) told.Minus counter)))
+    (Both (ControlWires (positive_side rule pilot 1) PL counter)
+    (ControlWires (negative_side rule pilot 1) MI counter)))
 
 -- each card adds, or it adds or subtracts where the amount has a sign rule
 abbrev pub EntrySense : Lists → (name : List ℕ) → TotalCounter → Option SignRule → Wires
@@ -51,7 +50,7 @@ TotalDigits wheel digits decimals counter =
 -- the read-out of a total in the cycle that prints it
 abbrev pub ReadOutWires : Level → (wheel digits decimals : ℕ) → TotalCounter → Wires
 ReadOutWires level wheel digits decimals counter =
-    Both (ControlWires (PX (level_number level) 3) told.ReadOut counter) (TotalDigits wheel digits decimals counter)
+    Both (ControlWires (PX (level_number level) 3) RO counter) (TotalDigits wheel digits decimals counter)
 
 -- a group back into itself, on all its positions
 abbrev pub FeedbackWires : Group → Wires
@@ -62,8 +61,8 @@ abbrev pub BalanceWires : Level → TotalCounter → Wires
 BalanceWires level counter =
     Both (One (PX (level_number level) 1) (BT (top_group counter)))
     (Both (One (PX (level_number level) 2) (BAC (top_group counter) 1))
-    (Both (ControlWires (BAT (top_group counter) 1) told.ReadOut counter)
-    (ControlWires (BAT (top_group counter) 1) told.Minus counter)))
+    (Both (ControlWires (BAT (top_group counter) 1) RO counter)
+    (ControlWires (BAT (top_group counter) 1) MI counter)))
 
 -- the sign conversion of a signed total: its ring, its balance, and each of its groups back into itself
 abbrev pub ConversionWires : Level → TotalCounter → Wires
@@ -88,12 +87,12 @@ TransferDigits digits counter higher =
 abbrev pub SignedTransfer : (program : ℕ) → (counter higher : TotalCounter) → Wires
 SignedTransfer program counter higher =
     Both (One (PX program 3) (BAC (top_group counter) 2))
-    (Both (ControlWires (BAN (top_group counter) 2) told.Plus higher)
-    (ControlWires (BAT (top_group counter) 2) told.Minus higher))
+    (Both (ControlWires (BAN (top_group counter) 2) PL higher)
+    (ControlWires (BAT (top_group counter) 2) MI higher))
 
 -- the higher counter adds, or it adds or subtracts where the amount has a sign rule
 abbrev pub TransferSense : Level → (counter higher : TotalCounter) → Option SignRule → Wires
-TransferSense level counter higher None = ControlWires (PX (level_number level) 3) told.Plus higher
+TransferSense level counter higher None = ControlWires (PX (level_number level) 3) PL higher
 TransferSense level counter higher (Some rule) = SignedTransfer (level_number level) counter higher
 
 -- the transfer of a total to the counter of another

@@ -1,3 +1,4 @@
+pub mod HelperControls
 pub mod HelperCounters
 pub mod HelperTotalRows
 pub mod HelperLevels

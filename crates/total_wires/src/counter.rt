@@ -2,8 +2,9 @@
 
 ghost use Rattle.std.specs.Prelude.{◌≡◌, ◌+◌, ◌≤◌, None, OnOk, true};
 ghost use Rattle.hubs.specs.Hubs.{carry_out_of, is_exit_hub};
-ghost use Rattle.line_wires.specs.HelperAdds.{Adds};
-ghost use Rattle.total_wires.specs.HelperCounters.{CarryUpWires, ControlWire, ControlWires, IsCounterOnPanel, IsOnPanel, RingWires, place_of, positions_of};
+ghost use Rattle.line_wires.specs.HelperAdds.{Adds, One};
+ghost use Rattle.total_wires.specs.HelperControls.{control_entry};
+ghost use Rattle.total_wires.specs.HelperCounters.{CarryUpWires, ControlWires, IsCounterOnPanel, IsOnPanel, RingWires, place_of, positions_of};
 ghost use Rattle.wiring_table.specs.Parts.{panel_group, top_group};
 
 use capacity::CounterGroup;
@@ -22,15 +23,6 @@ pub(crate) enum Control {
     Minus,
     /// To show its number.
     ReadOut,
-}
-
-/// A place of a counter group of the panel, counted from 1 at the units of that group.
-#[derive(Clone, Copy)]
-pub(crate) struct CounterPlace {
-    /// The group.
-    pub(crate) group: Group,
-    /// The place.
-    pub(crate) place: u8,
 }
 
 /// A counter group of a plan as a group of the panel.
@@ -55,33 +47,24 @@ pub(crate) fn top_group(counter: TotalCounter) -> Group
     }
 }
 
-/// The place of a position of a counter, counted from 1 at the units. The positions of two groups are first those of the lower
-/// group, then those of the upper one.
-pub(crate) fn place_of(counter: TotalCounter, position: u8) -> CounterPlace
+/// The group with a position of a counter, counted from 1 at the units, and its place there, counted from 1 at the units of that group.
+/// The positions of two groups are first those of the lower group, then those of the upper one.
+pub(crate) fn place_of(counter: TotalCounter, position: u8) -> (Group, u8)
     requires counter { IsCounterOnPanel counter }
     requires from { 1 ≤ position }
     requires to { position ≤ positions_of counter }
     ensures value { result ≡ place_of counter position }
-    ensures on_panel { IsOnPanel result.group }
-    ensures from { 1 ≤ result.place }
-    ensures to { result.place ≤ result.group.width }
+    ensures on_panel { IsOnPanel result.0 }
+    ensures from { 1 ≤ result.1 }
+    ensures to { result.1 ≤ result.0.width }
 {
     match counter {
-        TotalCounter::Single { group } => CounterPlace {
-            group: panel_group(group),
-            place: position,
-        },
+        TotalCounter::Single { group } => (panel_group(group), position),
         TotalCounter::Coupled { lower, upper } => {
             if position <= lower.width {
-                CounterPlace {
-                    group: panel_group(lower),
-                    place: position,
-                }
+                (panel_group(lower), position)
             } else {
-                CounterPlace {
-                    group: panel_group(upper),
-                    place: position - lower.width,
-                }
+                (panel_group(upper), position - lower.width)
             }
         }
     }
@@ -97,7 +80,7 @@ fn wire_group_control(
     requires exit { is_exit_hub exit ≡ true }
     requires no_carry { carry_out_of exit ≡ None }
     requires group { IsOnPanel group }
-    ensures { OnOk result (Adds (ControlWire exit control group) setup.old setup.new) }
+    ensures { OnOk result (Adds (One exit (control_entry control group)) setup.old setup.new) }
 {
     match control {
         Control::Plus => connect(setup, exit, Hub::PL(group)),
@@ -116,7 +99,7 @@ pub(crate) fn wire_controls(
     requires exit { is_exit_hub exit ≡ true }
     requires no_carry { carry_out_of exit ≡ None }
     requires counter { IsCounterOnPanel counter }
-    ensures { OnOk result (Adds (ControlWires exit control counter) setup.old setup.new) }
+    ensures { OnOk result (Adds (ControlWires exit (control_entry control) counter) setup.old setup.new) }
 {
     match counter {
         TotalCounter::Single { group } => {

@@ -57,8 +57,8 @@ fn wire_entry_digits(
     let end = field.last as u8 + 1;
     for place in 0..field.columns() as u8 {
         let position = place + 1;
-        let at = place_of(counter, position);
-        connect(setup, Hub::SR(end - position), Hub::GE(at.group, at.place))?;
+        let (group, place) = place_of(counter, position);
+        connect(setup, Hub::SR(end - position), Hub::GE(group, place))?;
     }
     Ok(())
 }

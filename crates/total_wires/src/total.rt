@@ -32,8 +32,8 @@ fn wire_total_digits(
     for place in 0..digits {
         let position = place + 1;
         let entry = digit_wheel(wheel, digits, decimals, position);
-        let at = place_of(counter, position as u8);
-        connect(setup, Hub::GX(at.group, at.place), Hub::W(entry))?;
+        let (group, place) = place_of(counter, position as u8);
+        connect(setup, Hub::GX(group, place), Hub::W(entry))?;
     }
     Ok(())
 }

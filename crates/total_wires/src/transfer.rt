@@ -82,12 +82,9 @@ fn wire_transfer_digits(
 {
     for place in 0..digits as u8 {
         let position = place + 1;
-        let (from, to) = (place_of(counter, position), place_of(higher, position));
-        connect(
-            setup,
-            Hub::GX(from.group, from.place),
-            Hub::GE(to.group, to.place),
-        )?;
+        let (group, place) = place_of(counter, position);
+        let (upper, upper_place) = place_of(higher, position);
+        connect(setup, Hub::GX(group, place), Hub::GE(upper, upper_place))?;
     }
     Ok(())
 }

@@ -7,7 +7,7 @@ pub loop-place-init : goal.loop-place-init
 loop-place-init c = upto-none
 
 pub loop-place-preserved : goal.loop-place-preserved
-loop-place-preserved c = upto-more c.loop-place.invariant (one-as c.in_ok-connect.ensures refl (same-entry c.place_of-at.ensures.value))
+loop-place-preserved c = upto-more c.loop-place.invariant (one-as c.in_ok-connect.ensures refl (same-entry c.place_of-place.ensures.value))
 
 pub returns : goal.returns
 returns c = upto-all c.loop-place.invariant (omega arith)

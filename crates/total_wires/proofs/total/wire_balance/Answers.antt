@@ -1,8 +1,7 @@
-use Rattle.hubs.specs.declared.hub.Hub.TheVariants.{BAC, BAT, BT, PX}
+use Rattle.hubs.specs.declared.hub.Hub.TheVariants.{BAC, BAT, BT, MI, PX, RO}
 use Rattle.std.proofs.Common.{ap}
 use Rattle.line_wires.proofs.Steps.{adds-both, adds-by, one-as}
 use Rattle.total_wires.specs.HelperCounters.{ControlWires}
-use Rattle.total_wires.specs.declared.counter.Control.TheVariants as told
 use Rattle.total_wires.proofs.total.wire_balance.Goals as goal
 
 pub returns : goal.returns
@@ -11,5 +10,5 @@ returns c =
     let top = c.top_group-top.ensures.value in
     adds-both (one-as c.in_ok-connect.ensures (ap (λ n. PX n 1) e) (ap BT top))
     (adds-both (one-as c.in_ok-connect-2.ensures (ap (λ n. PX n 2) e) (ap (λ g. BAC g 1) top))
-    (adds-both (adds-by (λ g. ControlWires (BAT g 1) told.ReadOut c.args.counter) c.in_ok-wire_controls.ensures top)
-    (adds-by (λ g. ControlWires (BAT g 1) told.Minus c.args.counter) c.in_ok-wire_controls-2.ensures top)))
+    (adds-both (adds-by (λ g. ControlWires (BAT g 1) RO c.args.counter) c.in_ok-wire_controls.ensures top)
+    (adds-by (λ g. ControlWires (BAT g 1) MI c.args.counter) c.in_ok-wire_controls-2.ensures top)))

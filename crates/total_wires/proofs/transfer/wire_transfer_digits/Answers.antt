@@ -9,7 +9,7 @@ loop-place-init c = upto-none
 pub loop-place-preserved : goal.loop-place-preserved
 loop-place-preserved c =
     upto-more c.loop-place.invariant
-    (one-as c.in_ok-connect.ensures (same-exit c.place_of-from.ensures.value) (same-entry c.place_of-to.ensures.value))
+    (one-as c.in_ok-connect.ensures (same-exit c.place_of-place.ensures.value) (same-entry c.place_of-upper_place.ensures.value))
 
 pub returns : goal.returns
 returns c = upto-all c.loop-place.invariant (omega arith)
