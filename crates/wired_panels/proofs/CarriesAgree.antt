@@ -1,19 +1,18 @@
 -- The carry wires of a chart: the panel can have each of them, and each two of them together.
-use Rattle.std.proofs.Common.{◌≡◌, ◌≢◌, ◌∙◌, refl, sym, ap, subst, ℕ, ◌==◌, ◌&&◌, ◌||◌, Bool, true, false, is_some, List, Option, Some, None, inl, inr, option_map, option_and_then, arith}
+use Rattle.std.proofs.Common.{◌≡◌, ◌∙◌, refl, sym, ap, subst, ℕ, ◌==◌, ◌&&◌, ◌||◌, Bool, true, false, is_some, List, Option, Some, None, inl, inr, option_map, option_and_then, arith}
 use Rattle.std.proofs.lemmas.Bool.{and_parts}
 use Rattle.std.proofs.lemmas.Bool.Decides.{nat_tests}
 use Rattle.std.proofs.lemmas.Option.{same_Some}
 use Rattle.capacity.specs.declared.group.CounterGroup.{CounterGroup}
 use Rattle.charts.specs.declared.chart.Line.{Line}
 use Rattle.charts.specs.declared.statement.Statement.{Statement}
-use Rattle.hubs.specs.Carries.{are_alike, do_carries_agree, do_groups_agree, do_wires_agree, is_one_group, keeps_carry, may_carry}
+use Rattle.hubs.specs.Carries.{are_alike, do_groups_agree, do_wires_agree, is_one_group, keeps_carry, may_carry}
 use Rattle.hubs.specs.Hubs.{carry_into, carry_out_of}
 use Rattle.hubs.specs.declared.hub.Group.{Group}
 use Rattle.hubs.specs.declared.hub.Hub.{Hub}
 use Rattle.hubs.specs.declared.hub.Hub.TheVariants.{CI, CO}
 use Rattle.plans.specs.Counters.{ServesAsPair, single_group}
 use Rattle.plans.specs.Plans.{Lists, IsFor}
-use Rattle.plans.specs.declared.counter.TotalCounter.{TotalCounter}
 use Rattle.plans.specs.declared.counter.TotalCounter.TheVariants as of
 use Rattle.setups.specs.Wiring.{CanJoin, HasWire, Wiring}
 use Rattle.wired_panels.proofs.Chains.{ToCarry, carry_kept, from_itself, from_lower, from_upper, to_carry}
@@ -163,10 +162,6 @@ module _ (lines : List Line) (plan : Lists) (planned : IsFor lines plan) where
       → do_wires_agree x (CI group) y (CI its) ≡ true
   pairs_agree number lower upper there wire its_wire = by wire its_wire
     where
-      low up : Group
-      low = panel_group lower
-      up = panel_group upper
-
       differ : is_one_group (panel_group lower) (panel_group upper) ≡ false
       differ =
           let (need, pair) = pair_serves number lower upper there in
@@ -200,7 +195,8 @@ module _ (lines : List Line) (plan : Lists) (planned : IsFor lines plan) where
   own_agree number group its (from_upper lower upper there same) other =
       pairs_agree number lower upper there (of_pair number lower upper there (from_upper lower upper there same))
       (of_pair number lower upper there other)
-  own_agree number group its (from_itself name rule is signed) (from_itself its_name its_rule its_is its_signed) = alike refl refl
+  own_agree number group its (from_itself name rule is signed) (from_itself its_name its_rule its_is its_signed) =
+      alike {a = is_one_group group its} {c = is_one_group group its} refl refl
   own_agree number group its (from_itself name rule is signed) (from_lower lower upper there same) =
       absurd (no_single number group lower upper there is)
   own_agree number group its (from_itself name rule is signed) (from_upper lower upper there same) =
