@@ -1,8 +1,8 @@
 -- How many numbers below a bound pass a test.
 use Rattle.std.proofs.Common.{◌≡◌, ◌≢◌, refl, sym, ap, ◌∙◌, ℕ, ◌<◌, ◌≤◌, ◌+◌, zero, suc, eqb, cond, arith}
-use Rattle.std.proofs.Common.{Bool, true, false, not, ◌&&◌, List, [], ◌∷◌, length, get_or}
+use Rattle.std.proofs.Common.{Bool, true, false, not, ◌&&◌, List, [], ◌∷◌, length, get_or, ◌⊎◌, inl, inr, ⊎_elim, below_more}
 use Rattle.std.specs.List.{count_by}
-use Rattle.std.proofs.lemmas.Bool.{and_parts, eq-eqb, false≢true, not-true}
+use Rattle.std.proofs.lemmas.Bool.{and_parts, eq-eqb, eqb-true, false≢true, not-true}
 use Rattle.std.proofs.lemmas.Bool.Decides.{nat_tests}
 use Rattle.std.proofs.lemmas.List.Sums.{sum_by-cons}
 
@@ -92,24 +92,6 @@ count-one_more p q (suc n) single =
 abbrev but : (ℕ → Bool) → (ℕ → ℕ) → ℕ → ℕ → Bool
 but p f m k = p k && not (eqb (f k) m)
 
--- if numbers that pass the test stand for each number below m, then at least m numbers pass it
-pub count-covers : (p : ℕ → Bool) (f : ℕ → ℕ) (n m : ℕ)
-    → ((v : ℕ) → v < m → (k : ℕ) × (k < n) × (p k ≡ true) × (f k ≡ v)) → m ≤ count_below p n
-count-covers p f n zero covers = omega arith
-count-covers p f n (suc m) covers =
-    let last = covers m (omega arith) in
-    let fewer : m ≤ count_below (but p f m) n =
-    count-covers (but p f m) f n m
-    (λ v below.
-    let here = covers v (omega arith) in
-    let stands : but p f m here.0 ≡ true =
-    let passes = here.2 in let is = here.3 in let other : v ≢ m = omega arith in grind (arith, nat_tests) in
-    (here.0, here.1, stands, here.3)) in
-    let strict : count_below (but p f m) n < count_below p n =
-    count-strict (but p f m) p n last.0 (λ k within both. (and_parts _ _ both).0) last.1
-    (let is = last.3 in grind (arith, nat_tests)) last.2 in
-    omega arith
-
 -- if the numbers that pass the test stand each for another number below m, then at most m numbers pass it
 pub count-injective : (p : ℕ → Bool) (f : ℕ → ℕ) (n m : ℕ) → ((k : ℕ) → k < n → p k ≡ true → f k < m)
     → ((j k : ℕ) → j < n → k < n → p j ≡ true → p k ≡ true → f j ≡ f k → j ≡ k) → count_below p n ≤ m
@@ -138,6 +120,159 @@ count-injective p f n (suc m) below single =
   where
     left : (k : ℕ) → p k ≡ true → but p f m k ≡ false → f k ≡ m
     left k is_in is_out = grind (arith, nat_tests)
+
+-- a number that passes the test and stands for m, if there is one
+find : (p : ℕ → Bool) (f : ℕ → ℕ) (m n : ℕ)
+    → ((k : ℕ) × (k < n) × (p k ≡ true) × (f k ≡ m)) ⊎ ((k : ℕ) → k < n → p k ≡ true → f k ≢ m)
+find p f m zero = inr (λ k within passes. absurd (omega (arith, within)))
+find p f m (suc n) = by (find p f m n)
+  where
+    here : (a b : Bool) → p n ≡ a → eqb (f n) m ≡ b → ((k : ℕ) → k < n → p k ≡ true → f k ≢ m)
+        → ((k : ℕ) × (k < suc n) × (p k ≡ true) × (f k ≡ m)) ⊎ ((k : ℕ) → k < suc n → p k ≡ true → f k ≢ m)
+    here true true passes is none = inl (n, omega arith, passes, eqb-true (f n) m is)
+    here true false passes is none =
+        inr (λ k within. below_more (λ k. p k ≡ true → f k ≢ m) n none (λ _ same. false≢true (sym is ∙ eq-eqb (f n) m same)) k (omega (arith, within)))
+    here false b fails is none =
+        inr (λ k within. below_more (λ k. p k ≡ true → f k ≢ m) n none (λ passes. absurd (false≢true (sym fails ∙ passes))) k (omega (arith, within)))
+
+    by : ((k : ℕ) × (k < n) × (p k ≡ true) × (f k ≡ m)) ⊎ ((k : ℕ) → k < n → p k ≡ true → f k ≢ m)
+        → ((k : ℕ) × (k < suc n) × (p k ≡ true) × (f k ≡ m)) ⊎ ((k : ℕ) → k < suc n → p k ≡ true → f k ≢ m)
+    by (inl found) = inl (found.0, omega (arith, found.1), found.2, found.3)
+    by (inr none) = here (p n) (eqb (f n) m) refl refl none
+
+-- where numbers that pass a test stand for others than m, none is left out
+but-all : (p : ℕ → Bool) (f : ℕ → ℕ) (n m : ℕ) → ((k : ℕ) → k < n → p k ≡ true → f k ≢ m)
+    → count_below p n ≤ count_below (but p f m) n
+but-all p f n m none =
+    count-mono p (but p f m) n
+    (λ k within passes. let other = none k within passes in grind (arith, nat_tests))
+
+-- where they stand each for another number, one is left out at most
+but-one : (p : ℕ → Bool) (f : ℕ → ℕ) (n m : ℕ)
+    → ((j k : ℕ) → j < n → k < n → p j ≡ true → p k ≡ true → f j ≡ f k → j ≡ k)
+    → count_below p n ≤ count_below (but p f m) n + 1
+but-one p f n m single =
+    count-one_more p (but p f m) n
+    (λ j k within other is_in is_out other_in other_out.
+    single j k within other is_in other_in (left j is_in is_out ∙ sym (left k other_in other_out)))
+  where
+    left : (k : ℕ) → p k ≡ true → but p f m k ≡ false → f k ≡ m
+    left k is_in is_out = grind (arith, nat_tests)
+
+-- Numbers that pass the tests p and q stand each for another number below m, by f and by g.
+pub record StandApart (p q : ℕ → Bool) (f g : ℕ → ℕ) (n m : ℕ) : Type 0 where
+  pub first_below : (k : ℕ) → k < n → p k ≡ true → f k < m
+  pub second_below : (k : ℕ) → k < n → q k ≡ true → g k < m
+  pub first_single : (j k : ℕ) → j < n → k < n → p j ≡ true → p k ≡ true → f j ≡ f k → j ≡ k
+  pub second_single : (j k : ℕ) → j < n → k < n → q j ≡ true → q k ≡ true → g j ≡ g k → j ≡ k
+  pub apart : (j k : ℕ) → j < n → k < n → p j ≡ true → q k ≡ true → f j ≢ g k
+
+-- what is left where none may stand for m
+apart-but : (p q : ℕ → Bool) (f g : ℕ → ℕ) (n m : ℕ) → StandApart p q f g n (suc m)
+    → StandApart (but p f m) (but q g m) f g n m
+apart-but p q f g n m all =
+    record {
+      first_below = low p f all.first_below;
+      second_below = low q g all.second_below;
+      first_single = λ j k within other one two. all.first_single j k within other (passes p f j one) (passes p f k two);
+      second_single = λ j k within other one two. all.second_single j k within other (passes q g j one) (passes q g k two);
+      apart = λ j k within other one two. all.apart j k within other (passes p f j one) (passes q g k two);
+    }
+  where
+    low : (test : ℕ → Bool) (h : ℕ → ℕ) → ((k : ℕ) → k < n → test k ≡ true → h k < suc m)
+        → (k : ℕ) → k < n → but test h m k ≡ true → h k < m
+    low test h below k within both =
+        let parts = and_parts _ _ both in
+        let low : h k < suc m = below k within parts.0 in
+        let other : eqb (h k) m ≡ false = not-true _ parts.1 in
+        let differs : h k ≢ m = λ same. false≢true (sym other ∙ eq-eqb (h k) m same) in
+        omega arith
+
+    passes : (test : ℕ → Bool) (h : ℕ → ℕ) (k : ℕ) → but test h m k ≡ true → test k ≡ true
+    passes test h k both = (and_parts _ _ both).0
+
+-- one at most stands for m
+apart-step : (p q : ℕ → Bool) (f g : ℕ → ℕ) (n m : ℕ) → StandApart p q f g n (suc m)
+    → count_below (but p f m) n + count_below (but q g m) n ≤ m → count_below p n + count_below q n ≤ suc m
+apart-step p q f g n m all rest = by (find p f m n)
+  where
+    by : ((k : ℕ) × (k < n) × (p k ≡ true) × (f k ≡ m)) ⊎ ((k : ℕ) → k < n → p k ≡ true → f k ≢ m)
+        → count_below p n + count_below q n ≤ suc m
+    by (inl found) =
+        let first = but-one p f n m all.first_single in
+        let second = but-all q g n m (λ k within is same. all.apart found.0 k found.1 within found.2 is (found.3 ∙ sym same)) in
+        omega (arith, rest, first, second)
+    by (inr none) =
+        let first = but-all p f n m none in
+        let second = but-one q g n m all.second_single in
+        omega (arith, rest, first, second)
+
+-- then at most m numbers pass the tests
+pub count-apart : (p q : ℕ → Bool) (f g : ℕ → ℕ) (n m : ℕ) → StandApart p q f g n m
+    → count_below p n + count_below q n ≤ m
+count-apart p q f g n zero all =
+    let first = count-injective p f n 0 all.first_below all.first_single in
+    let second = count-injective q g n 0 all.second_below all.second_single in
+    omega (arith, first, second)
+count-apart p q f g n (suc m) all =
+    apart-step p q f g n m all (count-apart (but p f m) (but q g m) f g n m (apart-but p q f g n m all))
+
+-- a number that passes the test p stands for v by f, or one that passes q by g
+abbrev pub StandsFor : (p q : ℕ → Bool) → (f g : ℕ → ℕ) → ℕ → ℕ → Type 0
+StandsFor p q f g n v =
+    ((k : ℕ) × (k < n) × (p k ≡ true) × (f k ≡ v)) ⊎ ((k : ℕ) × (k < n) × (q k ≡ true) × (g k ≡ v))
+
+-- those that don't stand for m stand for a number below it still
+still : (p q : ℕ → Bool) (f g : ℕ → ℕ) (n m v : ℕ) → v < m → StandsFor p q f g n v
+    → StandsFor (but p f m) (but q g m) f g n v
+still p q f g n m v below (inl here) =
+    let passes = here.2 in let is = here.3 in let other : v ≢ m = omega arith in
+    inl (here.0, here.1, grind (arith, nat_tests), here.3)
+still p q f g n m v below (inr here) =
+    let passes = here.2 in let is = here.3 in let other : v ≢ m = omega arith in
+    inr (here.0, here.1, grind (arith, nat_tests), here.3)
+
+-- where a number that passes the tests stands for m, fewer stand for others
+fewer : (p q : ℕ → Bool) (f g : ℕ → ℕ) (n m : ℕ) → StandsFor p q f g n m
+    → count_below (but p f m) n + count_below (but q g m) n < count_below p n + count_below q n
+fewer p q f g n m (inl last) =
+    let strict = count-strict (but p f m) p n last.0 (λ k within both. (and_parts _ _ both).0) last.1
+    (let is = last.3 in grind (arith, nat_tests)) last.2 in
+    let mono = count-mono (but q g m) q n (λ k within both. (and_parts _ _ both).0) in
+    omega (arith, strict, mono)
+fewer p q f g n m (inr last) =
+    let strict = count-strict (but q g m) q n last.0 (λ k within both. (and_parts _ _ both).0) last.1
+    (let is = last.3 in grind (arith, nat_tests)) last.2 in
+    let mono = count-mono (but p f m) p n (λ k within both. (and_parts _ _ both).0) in
+    omega (arith, strict, mono)
+
+-- if numbers that pass the tests stand for each number below m, then at least m numbers pass them
+pub count-covers : (p q : ℕ → Bool) (f g : ℕ → ℕ) (n m : ℕ) → ((v : ℕ) → v < m → StandsFor p q f g n v)
+    → m ≤ count_below p n + count_below q n
+count-covers p q f g n zero covers = omega arith
+count-covers p q f g n (suc m) covers =
+    let rest = count-covers (but p f m) (but q g m) f g n m
+    (λ v below. still p q f g n m v below (covers v (omega (arith, below)))) in
+    let less = fewer p q f g n m (covers m (omega arith)) in
+    omega (arith, rest, less)
+
+-- and if they stand for each but one, then one fewer
+pub count-covers_but : (p q : ℕ → Bool) (f g : ℕ → ℕ) (n m spare : ℕ)
+    → ((v : ℕ) → v < m → StandsFor p q f g n v ⊎ (v ≡ spare)) → m ≤ count_below p n + count_below q n + 1
+count-covers_but p q f g n zero spare covers = omega arith
+count-covers_but p q f g n (suc m) spare covers =
+    by (covers m (omega arith))
+    (count-covers_but (but p f m) (but q g m) f g n m spare
+    (λ v below. ⊎_elim (λ here. inl (still p q f g n m v below here)) (λ same. inr same) (covers v (omega (arith, below)))))
+  where
+    by : StandsFor p q f g n m ⊎ (m ≡ spare)
+        → m ≤ count_below (but p f m) n + count_below (but q g m) n + 1
+        → suc m ≤ count_below p n + count_below q n + 1
+    by (inl last) rest = let less = fewer p q f g n m last in omega (arith, rest, less)
+    by (inr last) rest =
+        let all = count-covers p q f g n m
+        (λ v below. ⊎_elim (λ here. here) (λ same. absurd (omega (arith, below, last, same))) (covers v (omega (arith, below)))) in
+        omega (arith, all)
 
 -- counting the elements of a list is counting their places
 pub count_by-below : {X : Type 0} (p : X → Bool) (xs : List X) (d : X)

@@ -150,6 +150,14 @@ class_of-le machine group need has enough = by group.width enough (width-cases m
 pub le-class_of : (need : ℕ) → need ≤ 8 → need ≤ class_of need
 le-class_of need fits = grind (arith, nat_tests)
 
+-- no class is wider than 8
+pub class_of-most : (need : ℕ) → class_of need ≤ 8
+class_of-most need = grind (arith, nat_tests)
+
+-- the class of a need of more than 8 positions is 8
+pub class_of-two : (need : ℕ) → 8 < need → class_of need ≡ 8
+class_of-two need two = grind (arith, nat_tests)
+
 -- the greater need has the wider class
 pub class_of-mono : (need other : ℕ) → need ≤ other → class_of need ≤ class_of other
 class_of-mono need other less = grind (arith, nat_tests)

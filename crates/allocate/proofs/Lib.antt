@@ -3,10 +3,10 @@ pub mod Counting
 pub mod Exclusions
 pub mod Fitting
 pub mod GroupPlaces
+pub mod Held
 pub mod Lowest
 pub mod OneFault
 pub mod OneList
 pub mod Order
 pub mod Orders
-pub mod Singles
 pub mod Taking

@@ -1,7 +1,7 @@
 -- The order in which totals take their groups, and the order of groups.
-use Rattle.std.proofs.Common.{◌≡◌, ◌≢◌, refl, ℕ, ◌≤◌, ltb, arith, Bool, true, false}
-use Rattle.std.proofs.Common.{List, ◌⊎◌}
-use Rattle.std.proofs.lemmas.Bool.Decides.{nat_tests}
+use Rattle.std.proofs.Common.{◌≡◌, ◌≢◌, refl, ap, ℕ, ◌≤◌, ltb, arith, Bool, true, false}
+use Rattle.std.proofs.Common.{List, ◌⊎◌, inl, inr, ⊎_elim}
+use Rattle.std.proofs.lemmas.Bool.Decides.{nat_tests, eqb_tells}
 use Rattle.capacity.specs.declared.group.CounterGroup.{CounterGroup}
 use Rattle.allocate.specs.Groups.{total_at, is_before, takes_before, is_lower}
 use Rattle.charts.specs.Levels.{level_number}
@@ -77,3 +77,15 @@ pub is_lower-total : (one other : CounterGroup) → one ≢ other
 is_lower-total one other differ =
     before-total one.width other.width _ _
     (λ width. ltb-total one.number other.number (λ number. differ (same_group one other width number)))
+
+-- groups are the same, or one is lower than the other
+pub same_or_lower : (one other : CounterGroup)
+    → (one ≡ other) ⊎ (is_lower one other ≡ true) ⊎ (is_lower other one ≡ true)
+same_or_lower one other =
+    ⊎_elim
+    (λ width.
+    ⊎_elim (λ number. inl (same_group one other width.1 number.1))
+    (λ number. inr (is_lower-total one other (λ same. number.1 (ap (λ (g : CounterGroup). g.number) same))))
+    (eqb_tells one.number other.number))
+    (λ width. inr (is_lower-total one other (λ same. width.1 (ap (λ (g : CounterGroup). g.width) same))))
+    (eqb_tells one.width other.width)

@@ -1,29 +1,33 @@
--- Totals that take their groups one after the other.
+-- Totals that take their counters one after the other.
 use Rattle.std.proofs.Common.{◌≡◌, ◌≢◌, refl, sym, ap, ◌∙◌, ⊎_elim, ℕ, zero, suc, ◌<◌, ◌≤◌, ◌+◌, eqb, arith}
-use Rattle.std.proofs.Common.{Bool, true, false, List, replicate, [], ◌∷◌, length, set, map, ◌⊎◌, inl, inr, Option, Some, None}
+use Rattle.std.proofs.Common.{Bool, true, false, ◌&&◌, List, replicate, [], ◌∷◌, length, set, map, ◌⊎◌, inl, inr, Option, Some, None}
 use Rattle.std.proofs.Common.{MatchOption, below_more, unwrap_or, cond}
 use Rattle.std.specs.Option.{is_some}
 use Rattle.std.specs.List.{slice_get, sum_by}
-use Rattle.std.proofs.lemmas.Bool.{false≢true, false_from_ne_true, eqb-true, eq-eqb}
+use Rattle.std.proofs.lemmas.Bool.{false≢true, false_from_ne_true, eqb-true, eq-eqb, ltb-true, lt-ltb}
 use Rattle.std.proofs.lemmas.Option.{get_or_from_slice_get, slice_get_within}
 use Rattle.std.proofs.lemmas.List.Sums.{sum_by-set}
 use Rattle.std.proofs.lemmas.Bool.Decides.{eqb_tells}
 use Rattle.std.proofs.lemmas.List.{get_or-set_same, get_or-set_other, length-set, length-map, get_or-map}
 use Rattle.capacity.specs.Capacities.{Capacities, groups_at_least, HasGroup}
 use Rattle.capacity.specs.declared.group.CounterGroup.{CounterGroup}
-use Rattle.allocate.specs.Groups.{total_at, group_at, takes_before, TakesBefore, is_lower, IsByRule}
-use Rattle.allocate.proofs.Singles.{GivesGroups}
+use Rattle.allocate.specs.Groups.{total_at, counter_at, takes_before, TakesBefore, IsByRule, IsTakenBefore, Takes}
+use Rattle.plans.specs.Assignments.{IsAssignment}
+use Rattle.plans.specs.Counters.{IsGroupOf}
+use Rattle.plans.specs.declared.counter.TotalCounter.{TotalCounter}
+use Rattle.plans.specs.declared.counter.TotalCounter.TheVariants as of
 use Rattle.wanted.specs.Totals.{NeedsFit, class_of, wanted_at}
 use Rattle.allocate.specs.HelperCounters.{HasGroupsFor}
-use Rattle.allocate.specs.HelperTaking.{taken_at, NoneWaitsBelow, IsNext, goes_first, IsLowest, AreAllTaken}
+use Rattle.allocate.specs.HelperTaking.{taken_at, IsHeld, IsTaken, IsUsed, NoneWaitsBelow, IsNext, goes_first, AreAllTaken, AreTooFew}
 use Rattle.wanted.specs.declared.total.Total.{Total}
-use Rattle.allocate.proofs.Counting.{count-covers}
-use Rattle.allocate.proofs.GroupPlaces.{place_of, group_of, group_of-at, le-class_of}
-use Rattle.allocate.proofs.Assignments.{rank, rank-below, wanted_at-class}
+use Rattle.allocate.proofs.Counting.{StandsFor, count-covers, count-covers_but}
+use Rattle.allocate.proofs.GroupPlaces.{place_of, group_of, group_of-at, le-class_of, class_of-two}
+use Rattle.allocate.proofs.Held.{lower_group, upper_group, shared-of, group-of-same, takes-same, takes-there, takes-free, takes-enough}
+use Rattle.allocate.proofs.Assignments.{is_pair, own, rank, rank-below, wanted_at-class}
 use Rattle.allocate.proofs.Orders.{takes_before-trans, takes_before-total, takes_before-self}
 
 -- the next total that was found stays so where the one at the next place has a group or doesn't go before it
-pub next-stays : (totals : List Total) (taken : List (Option CounterGroup)) (place : ℕ) (next : Option ℕ)
+pub next-stays : (totals : List Total) (taken : List (Option TotalCounter)) (place : ℕ) (next : Option ℕ)
     → MatchOption next (NoneWaitsBelow place taken) (IsNext totals taken place)
     → (taken_at taken place ≡ None → goes_first totals place next ≡ false)
     → MatchOption next (NoneWaitsBelow (place + 1) taken) (IsNext totals taken (place + 1))
@@ -38,7 +42,7 @@ next-stays totals taken place (Some first) next later =
     }
 
 -- the total at the next place is the next where it waits and goes before the one that was found
-pub next-moves : (totals : List Total) (taken : List (Option CounterGroup)) (place : ℕ) (next : Option ℕ)
+pub next-moves : (totals : List Total) (taken : List (Option TotalCounter)) (place : ℕ) (next : Option ℕ)
     → MatchOption next (NoneWaitsBelow place taken) (IsNext totals taken place) → taken_at taken place ≡ None
     → goes_first totals place next ≡ true → IsNext totals taken (place + 1) place
 next-moves totals taken place None none waits goes =
@@ -69,34 +73,30 @@ pub some-waits : {X : Type 0} (o : Option X) → is_some o ≡ true → o ≢ No
 some-waits None is waits = cc
 some-waits (Some x) is waits = cc
 
--- What the total at a place took: a group of the machine, wide enough, that none before it has, and those before it have
--- each lower one that is wide enough.
-pub record IsChosen (totals : List Total) (machine : Capacities) (taken : List (Option CounterGroup)) (place : ℕ)
-    (group : CounterGroup) : Type 0 where
-  pub there : HasGroup machine group
-  pub enough : (total_at totals place).need ≤ group.width
-  pub free : (earlier : ℕ) → TakesBefore totals earlier place → taken_at taken earlier ≢ Some group
-  pub lowest :
-      (other : CounterGroup) → HasGroup machine other → (total_at totals place).need ≤ other.width
-      → is_lower other group ≡ true
-      → (earlier : ℕ) × TakesBefore totals earlier place × (taken_at taken earlier ≡ Some other)
+-- a total that takes before the one at a place has the group so far
+pub record IsTakenBy (totals : List Total) (taken : List (Option TotalCounter)) (place : ℕ) (group : CounterGroup) : Type 0 where
+  pub earlier : ℕ
+  pub before : TakesBefore totals earlier place
+  pub held : IsHeld (taken_at taken earlier) group
 
--- Some totals have taken their groups by the rule, and each that goes before one of these has.
-pub record IsPartly (totals : List Total) (machine : Capacities) (taken : List (Option CounterGroup)) : Type 0 where
+-- Some totals have taken their counters by the rule, and each that goes before one of these has.
+pub record IsPartly (totals : List Total) (machine : Capacities) (taken : List (Option TotalCounter)) : Type 0 where
   pub many : length taken ≡ length totals
   pub closed :
-      (earlier place : ℕ) (group : CounterGroup) → TakesBefore totals earlier place → taken_at taken place ≡ Some group
+      (earlier place : ℕ) (counter : TotalCounter) → TakesBefore totals earlier place → taken_at taken place ≡ Some counter
       → taken_at taken earlier ≢ None
-  pub chosen : (place : ℕ) (group : CounterGroup) → taken_at taken place ≡ Some group → IsChosen totals machine taken place group
+  pub chosen :
+      (place : ℕ) (counter : TotalCounter) → taken_at taken place ≡ Some counter
+      → Takes (total_at totals place).need machine (IsTakenBy totals taken place) counter
 
-some_none : (group : CounterGroup) → ◌≢◌ {A = Option CounterGroup} (Some group) None
-some_none group same = cc
+some_none : (counter : TotalCounter) → ◌≢◌ {A = Option TotalCounter} (Some counter) None
+some_none counter same = cc
 
-is_within : (taken : List (Option CounterGroup)) (k : ℕ) (group : CounterGroup) → taken_at taken k ≡ Some group
+is_within : (taken : List (Option TotalCounter)) (k : ℕ) (counter : TotalCounter) → taken_at taken k ≡ Some counter
     → k < length taken
-is_within [] k group got = cc
-is_within (slot ∷ taken) zero group got = omega arith
-is_within (slot ∷ taken) (suc k) group got = let rest : k < length taken = is_within taken k group got in omega arith
+is_within [] k counter got = cc
+is_within (slot ∷ taken) zero counter got = omega arith
+is_within (slot ∷ taken) (suc k) counter got = let rest : k < length taken = is_within taken k counter got in omega arith
 
 -- in a list of slots of which each waits, each waits
 pub at_none : (count place : ℕ) → taken_at (replicate count None) place ≡ None
@@ -104,138 +104,143 @@ at_none zero place = refl
 at_none (suc count) zero = refl
 at_none (suc count) (suc place) = at_none count place
 
--- at first no total has a group
-pub partly-none : (totals : List Total) (machine : Capacities) (taken : List (Option CounterGroup))
+-- at first no total has a counter
+pub partly-none : (totals : List Total) (machine : Capacities) (taken : List (Option TotalCounter))
     → length taken ≡ length totals → ((place : ℕ) → taken_at taken place ≡ None) → IsPartly totals machine taken
 partly-none totals machine taken many none =
     record {
       many = many;
-      closed = λ earlier place group before got. absurd (some_none group (sym got ∙ none place));
-      chosen = λ place group got. absurd (some_none group (sym got ∙ none place));
+      closed = λ earlier place counter before got. absurd (some_none counter (sym got ∙ none place));
+      chosen = λ place counter got. absurd (some_none counter (sym got ∙ none place));
     }
 
--- a total has a group or waits for one
-pub waits-or_has : (taken : List (Option CounterGroup)) (place : ℕ)
-    → (taken_at taken place ≡ None) ⊎ ((group : CounterGroup) × (taken_at taken place ≡ Some group))
-waits-or_has taken place = by (taken_at taken place)
-  where
-    by : (o : Option CounterGroup) → (o ≡ None) ⊎ ((group : CounterGroup) × (o ≡ Some group))
-    by None = inl refl
-    by (Some group) = inr (group, refl)
+-- A total has this counter.
+record HasTaken (taken : List (Option TotalCounter)) (place : ℕ) : Type 0 where
+  pub counter : TotalCounter
+  pub got : taken_at taken place ≡ Some counter
 
--- Where a total is next, those that have a group are those that go before it.
-pub has-before : (totals : List Total) (machine : Capacities) (taken : List (Option CounterGroup)) (place k : ℕ)
-    (group : CounterGroup) → IsPartly totals machine taken → IsNext totals taken (length totals) place
-    → taken_at taken k ≡ Some group → TakesBefore totals k place
-has-before totals machine taken place k group partly next got =
-    let within : k < length totals = let low = is_within taken k group got in let many = partly.many in omega arith in
-    let apart : k ≢ place = λ same. some_none group (sym got ∙ rw same next.waits) in
+-- a total has a counter or waits for one
+waits-or_has : (taken : List (Option TotalCounter)) (place : ℕ) → (taken_at taken place ≡ None) ⊎ HasTaken taken place
+waits-or_has taken place = by (taken_at taken place) refl
+  where
+    by : (o : Option TotalCounter) → taken_at taken place ≡ o → (taken_at taken place ≡ None) ⊎ HasTaken taken place
+    by None is = inl is
+    by (Some counter) is = inr (record { counter = counter; got = is })
+
+-- a total that holds a group has a counter
+held-has : (taken : List (Option TotalCounter)) (place : ℕ) (group : CounterGroup) → IsHeld (taken_at taken place) group
+    → (has : HasTaken taken place) × IsGroupOf has.counter group
+held-has taken place group held = by (taken_at taken place) refl
+  where
+    by : (o : Option TotalCounter) → taken_at taken place ≡ o → (has : HasTaken taken place) × IsGroupOf has.counter group
+    by None is = absurd (rw is at held)
+    by (Some counter) is = (record { counter = counter; got = is }, rw is at held)
+
+-- Where a total is next, those that have a counter are those that go before it.
+has-before : (totals : List Total) (machine : Capacities) (taken : List (Option TotalCounter)) (place k : ℕ)
+    (counter : TotalCounter) → IsPartly totals machine taken → IsNext totals taken (length totals) place
+    → taken_at taken k ≡ Some counter → TakesBefore totals k place
+has-before totals machine taken place k counter partly next got =
+    let within : k < length totals = let low = is_within taken k counter got in let many = partly.many in omega arith in
+    let apart : k ≢ place = λ same. some_none counter (sym got ∙ rw same next.waits) in
     ⊎_elim (λ before. (within, before))
-    (λ before. absurd (partly.closed place k group (next.within, before) got next.waits))
+    (λ before. absurd (partly.closed place k counter (next.within, before) got next.waits))
     (takes_before-total totals k place apart)
 
-pub before-has : (totals : List Total) (taken : List (Option CounterGroup)) (place k : ℕ)
-    → IsNext totals taken (length totals) place → TakesBefore totals k place
-    → (group : CounterGroup) × (taken_at taken k ≡ Some group)
+before-has : (totals : List Total) (taken : List (Option TotalCounter)) (place k : ℕ)
+    → IsNext totals taken (length totals) place → TakesBefore totals k place → HasTaken taken k
 before-has totals taken place k next before =
     ⊎_elim (λ waits. absurd (false≢true (sym (next.first k before.0 waits) ∙ before.1))) (λ has. has)
     (waits-or_has taken k)
 
--- a total more takes its group
-pub partly-more : (totals : List Total) (machine : Capacities) (taken : List (Option CounterGroup)) (place : ℕ)
-    (group : CounterGroup) → IsPartly totals machine taken → IsNext totals taken (length totals) place
-    → IsLowest (total_at totals place).need machine taken group
-    → IsPartly totals machine (set taken place (Some group))
-partly-more totals machine taken place group partly next lowest =
+-- a total more takes its counter
+pub partly-more : (totals : List Total) (machine : Capacities) (taken : List (Option TotalCounter)) (place : ℕ)
+    (counter : TotalCounter) → IsPartly totals machine taken → IsNext totals taken (length totals) place
+    → Takes (total_at totals place).need machine (IsTaken taken) counter
+    → IsPartly totals machine (set taken place (Some counter))
+partly-more totals machine taken place counter partly next takes =
     record {
-      many = length-set taken place (Some group) ∙ partly.many;
+      many = length-set taken place (Some counter) ∙ partly.many;
       closed =
-          λ earlier later g before got.
+          λ earlier later c before got.
           ⊎_elim
           (λ same.
           let had = before-has totals taken place earlier next (rw same.1 at before) in
-          λ none. some_none had.0 (sym (kept earlier had.0 had.1) ∙ none))
+          λ none. some_none had.counter (sym (kept earlier had.counter had.got) ∙ none))
           (λ other.
           ⊎_elim
-          (λ waits. absurd (partly.closed earlier later g before (sym (others later other.1) ∙ got) waits))
-          (λ had. λ none. some_none had.0 (sym (kept earlier had.0 had.1) ∙ none))
+          (λ waits. absurd (partly.closed earlier later c before (sym (others later other.1) ∙ got) waits))
+          (λ had. λ none. some_none had.counter (sym (kept earlier had.counter had.got) ∙ none))
           (waits-or_has taken earlier))
           (eqb_tells later place);
       chosen =
-          λ later g got.
+          λ later c got.
           ⊎_elim
           (λ same.
-          let is : g ≡ group = is_last g (rw same.1 at got) in
+          let is : c ≡ counter = is_last c (rw same.1 at got) in
           rw (same.1, is) here)
           (λ other.
-          let had : taken_at taken later ≡ Some g = sym (others later other.1) ∙ got in
-          stays later g other.1 (partly.chosen later g had) had)
+          let had : taken_at taken later ≡ Some c = sym (others later other.1) ∙ got in
+          stays later c had)
           (eqb_tells later place);
     }
   where
-    is_last : (g : CounterGroup) → taken_at (set taken place (Some group)) place ≡ Some g → g ≡ group
-    is_last g got =
+    new : List (Option TotalCounter)
+    new = set taken place (Some counter)
+
+    is_last : (c : TotalCounter) → taken_at new place ≡ Some c → c ≡ counter
+    is_last c got =
         let low : place < length taken = let within = next.within in let many = partly.many in omega arith in
-        let last : taken_at (set taken place (Some group)) place ≡ Some group =
-        get_or-set_same taken place (Some group) None low in
-        let same : ◌≡◌ {A = Option CounterGroup} (Some g) (Some group) = sym got ∙ last in
+        let last : taken_at new place ≡ Some counter =
+        get_or-set_same taken place (Some counter) None low in
+        let same : ◌≡◌ {A = Option TotalCounter} (Some c) (Some counter) = sym got ∙ last in
         cc
 
-    others : (k : ℕ) → k ≢ place → taken_at (set taken place (Some group)) k ≡ taken_at taken k
-    others k other = get_or-set_other taken place k (Some group) None other
+    others : (k : ℕ) → k ≢ place → taken_at new k ≡ taken_at taken k
+    others k other = get_or-set_other taken place k (Some counter) None other
 
-    kept : (k : ℕ) (g : CounterGroup) → taken_at taken k ≡ Some g → taken_at (set taken place (Some group)) k ≡ Some g
-    kept k g got =
-        let apart : k ≢ place = λ same. some_none g (sym got ∙ rw same next.waits) in others k apart ∙ got
+    kept : (k : ℕ) (c : TotalCounter) → taken_at taken k ≡ Some c → taken_at new k ≡ Some c
+    kept k c got =
+        let apart : k ≢ place = λ same. some_none c (sym got ∙ rw same next.waits) in others k apart ∙ got
 
-    here : IsChosen totals machine (set taken place (Some group)) place group
+    -- what is held stays held, and nothing more but by the total that is next
+    keeps : (k : ℕ) (group : CounterGroup) → IsHeld (taken_at taken k) group → IsHeld (taken_at new k) group
+    keeps k group held =
+        let has = held-has taken k group held in rw (kept k has.0.counter has.0.got) has.1
+
+    kept-back : (k : ℕ) (group : CounterGroup) → k ≢ place → IsHeld (taken_at new k) group → IsHeld (taken_at taken k) group
+    kept-back k group apart held = rw (others k apart) at held
+
+    here : Takes (total_at totals place).need machine (IsTakenBy totals new place) counter
     here =
+        takes-same (total_at totals place).need machine (IsTaken taken) (IsTakenBy totals new place) counter
+        (λ group is.
+        let has = held-has taken is.place group is.held in
         record {
-          there = lowest.there;
-          enough = lowest.enough;
-          free =
-              λ earlier before got.
-              let apart : earlier ≢ place =
-              λ same. false≢true (sym (takes_before-self totals place) ∙ (rw same at before.1)) in
-              lowest.free (earlier, sym (others earlier apart) ∙ got);
-          lowest =
-              λ other has wide lower.
-              let has_it = lowest.lowest other has wide lower in (
-                has_it.0,
-                has-before totals machine taken place has_it.0 other partly next has_it.1,
-                kept has_it.0 other has_it.1,
-              );
-        }
+          earlier = is.place;
+          before = has-before totals machine taken place is.place has.0.counter partly next has.0.got;
+          held = keeps is.place group is.held;
+        })
+        (λ group by.
+        let apart : by.earlier ≢ place = λ same. false≢true (sym (takes_before-self totals place) ∙ (rw same at by.before.1)) in
+        record { place = by.earlier; held = kept-back by.earlier group apart by.held })
+        takes
 
-    stays : (later : ℕ) (g : CounterGroup) → later ≢ place → IsChosen totals machine taken later g
-        → taken_at taken later ≡ Some g → IsChosen totals machine (set taken place (Some group)) later g
-    stays later g other chosen got =
-        record {
-          there = chosen.there;
-          enough = chosen.enough;
-          free =
-              λ earlier before has.
-              let apart : earlier ≢ place =
-              λ same. partly.closed place later g (rw same at before) got next.waits in
-              chosen.free earlier before (sym (others earlier apart) ∙ has);
-          lowest =
-              λ lower there wide is_lower.
-              let has_it = chosen.lowest lower there wide is_lower in
-              (has_it.0, has_it.1, kept has_it.0 lower has_it.2);
-        }
+    stays : (later : ℕ) (c : TotalCounter) → taken_at taken later ≡ Some c
+        → Takes (total_at totals later).need machine (IsTakenBy totals new later) c
+    stays later c got =
+        takes-same (total_at totals later).need machine (IsTakenBy totals taken later) (IsTakenBy totals new later) c
+        (λ group by. record { earlier = by.earlier; before = by.before; held = keeps by.earlier group by.held })
+        (λ group by.
+        let apart : by.earlier ≢ place = λ same. partly.closed place later c (rw same at by.before) got next.waits in
+        record { earlier = by.earlier; before = by.before; held = kept-back by.earlier group apart by.held })
+        (partly.chosen later c got)
 
--- where the machine has groups enough, one that is wide enough is free for the next total
-pub some_free : (totals : List Total) (machine : Capacities) (taken : List (Option CounterGroup)) (place : ℕ)
-    → NeedsFit totals → HasGroupsFor machine totals → IsPartly totals machine taken
-    → IsNext totals taken (length totals) place → ¬ AreAllTaken (total_at totals place).need machine taken
-some_free totals machine taken place fit enough partly next all =
-    let covered : groups_at_least machine class ≤ rank totals place =
-    count-covers (λ k. takes_before totals k place)
-    (λ k. place_of machine (unwrap_or (taken_at taken k) (record { width = 0; number = 0 }))) (length totals)
-    (groups_at_least machine class) covers in
-    let less : rank totals place < wanted_at class totals = rank-below totals place next.within in
-    let few : wanted_at class totals ≤ groups_at_least machine class = wanted_at-class totals machine need enough in
-    omega arith
+-- where the machine has groups enough, as many are free as the next total takes
+pub enough_free : (totals : List Total) (machine : Capacities) (taken : List (Option TotalCounter)) (place : ℕ)
+    → HasGroupsFor machine totals → IsPartly totals machine taken
+    → IsNext totals taken (length totals) place → ¬ AreTooFew (total_at totals place).need machine taken
+enough_free totals machine taken place enough partly next few = by few
   where
     need : ℕ
     need = (total_at totals place).need
@@ -243,95 +248,177 @@ some_free totals machine taken place fit enough partly next all =
     class : ℕ
     class = class_of need
 
-    covers : (v : ℕ) → v < groups_at_least machine class
-        → (k : ℕ) × (k < length totals) × (takes_before totals k place ≡ true)
-        × (place_of machine (unwrap_or (taken_at taken k) (record { width = 0; number = 0 })) ≡ v)
-    covers v below =
-        let at = group_of-at machine class v below in
-        let small : need ≤ 8 = fit place _ next.within in
-        let needs : need ≤ class = le-class_of need small in
-        let wide : class ≤ (group_of machine v).width = at.enough in
-        let has = all (group_of machine v) at.has (let enough : need ≤ (group_of machine v).width = omega arith in enough) in
-        let before = has-before totals machine taken place has.0 (group_of machine v) partly next has.1 in (
-          has.0,
-          before.0,
-          before.1,
-          ap (λ o. place_of machine (unwrap_or o (record { width = 0; number = 0 }))) has.1 ∙ at.place_is,
-        )
+    none : TotalCounter
+    none = of.Single (record { width = 0; number = 0 })
 
--- where each total has a group, the groups are those of the rule
-pub partly-all : (totals : List Total) (machine : Capacities) (taken : List (Option CounterGroup))
-    (groups : List CounterGroup) → IsPartly totals machine taken → map Some groups ≡ taken
-    → IsByRule totals machine groups
-partly-all totals machine taken groups partly all =
+    room : rank totals place + own totals place ≤ groups_at_least machine class
+    room =
+        let below = rank-below totals place next.within in
+        let wanted = wanted_at-class totals machine need enough in
+        omega (arith, below, wanted)
+
+    before : ℕ → Bool
+    before k = takes_before totals k place
+
+    pair-before : ℕ → Bool
+    pair-before k = is_pair totals k && takes_before totals k place
+
+    lower_place : ℕ → ℕ
+    lower_place k = place_of machine (lower_group (unwrap_or (taken_at taken k) none))
+
+    upper_place : ℕ → ℕ
+    upper_place k = place_of machine (upper_group (unwrap_or (taken_at taken k) none))
+
+    -- a taken group stands where one of a total before stands
+    stands : (v k : ℕ) (counter : TotalCounter) → taken_at taken k ≡ Some counter → IsGroupOf counter (group_of machine v)
+        → place_of machine (group_of machine v) ≡ v → StandsFor before pair-before lower_place upper_place (length totals) v
+    stands v k (of.Single group) got is there =
+        let first = has-before totals machine taken place k (of.Single group) partly next got in
+        let lower : lower_place k ≡ v =
+        ap (λ o. place_of machine (lower_group (unwrap_or o none))) got ∙ ap (place_of machine) is ∙ there in
+        inl (k, first.0, first.1, lower)
+    stands v k (of.Coupled lower upper) got (inl is) there =
+        let first = has-before totals machine taken place k (of.Coupled lower upper) partly next got in
+        let here : lower_place k ≡ v =
+        ap (λ o. place_of machine (lower_group (unwrap_or o none))) got ∙ ap (place_of machine) is ∙ there in
+        inl (k, first.0, first.1, here)
+    stands v k (of.Coupled lower upper) got (inr is) there =
+        let first = has-before totals machine taken place k (of.Coupled lower upper) partly next got in
+        let here : upper_place k ≡ v =
+        ap (λ o. place_of machine (upper_group (unwrap_or o none))) got ∙ ap (place_of machine) is ∙ there in
+        let two : is_pair totals k ≡ true = lt-ltb _ _ (partly.chosen k (of.Coupled lower upper) got).two in
+        let passes : pair-before k ≡ true = ap (λ b. b && takes_before totals k place) two ∙ first.1 in
+        inr (k, first.0, passes, here)
+
+    used : (v : ℕ) (aside : Option CounterGroup) → place_of machine (group_of machine v) ≡ v → IsUsed taken aside (group_of machine v)
+        → StandsFor before pair-before lower_place upper_place (length totals) v ⊎ (aside ≡ Some (group_of machine v))
+    used v aside there (inl is) =
+        let has = held-has taken is.place (group_of machine v) is.held in
+        inl (stands v is.place has.0.counter has.0.got has.1 there)
+    used v aside there (inr same) = inr same
+
+    none-some : (group : CounterGroup) → ◌≢◌ {A = Option CounterGroup} None (Some group)
+    none-some group same = cc
+
+    -- where the group set aside stands
+    spare : Option CounterGroup → ℕ
+    spare aside = place_of machine (unwrap_or aside (record { width = 0; number = 0 }))
+
+    one : need ≤ 8 → AreAllTaken need machine (IsUsed taken None) → groups_at_least machine class ≤ rank totals place
+    one small all =
+        count-covers before pair-before lower_place upper_place (length totals) (groups_at_least machine class)
+        (λ v below.
+        let at = group_of-at machine class v below in
+        let needs = le-class_of need small in
+        let wide : class ≤ (group_of machine v).width = at.enough in
+        ⊎_elim (λ here. here) (λ same. absurd (none-some (group_of machine v) same))
+        (used v None at.place_is (all (group_of machine v) at.has (omega (arith, needs, wide)))))
+
+    two : 8 < need → (aside : Option CounterGroup) → AreAllTaken 8 machine (IsUsed taken aside)
+        → groups_at_least machine class ≤ rank totals place + 1
+    two large aside all =
+        count-covers_but before pair-before lower_place upper_place (length totals) (groups_at_least machine class) (spare aside)
+        (λ v below.
+        let at = group_of-at machine class v below in
+        let eight = class_of-two need large in
+        let wide : class ≤ (group_of machine v).width = at.enough in
+        ⊎_elim (λ here. inl here)
+        (λ same. inr (sym at.place_is ∙ ap spare (sym same)))
+        (used v aside at.place_is (all (group_of machine v) at.has (omega (arith, eight, wide)))))
+
+    own-some : (pair : Bool) → 1 ≤ cond pair 2 1
+    own-some true = omega arith
+    own-some false = omega arith
+
+    by : AreTooFew need machine taken → ⊥
+    by (inl few) =
+        let covered = one few.0 few.1 in let some = own-some (is_pair totals place) in omega (arith, covered, room, some)
+    by (inr few) =
+        let covered = two few.0 few.1 few.2 in
+        let pair : is_pair totals place ≡ true = lt-ltb _ _ few.0 in
+        let takes : own totals place ≡ 2 = ap (λ b. cond b 2 1) pair in
+        omega (arith, covered, room, takes)
+
+-- where each total has a counter, the counters are those of the rule
+pub partly-all : (totals : List Total) (machine : Capacities) (taken : List (Option TotalCounter))
+    (counters : List TotalCounter) → IsPartly totals machine taken → map Some counters ≡ taken
+    → IsByRule totals machine counters
+partly-all totals machine taken counters partly all =
     record {
       many = many;
       each =
           λ place within.
-          let chosen = partly.chosen place (group_at groups place) (got place within) in
-          record {
-            there = chosen.there;
-            enough = chosen.enough;
-            free = λ earlier before same. chosen.free earlier before (got earlier before.0 ∙ ap Some same);
-            lowest =
-                λ other has wide lower.
-                let has_it = chosen.lowest other has wide lower in
-                (has_it.0, has_it.1, is_one _ _ (sym (got has_it.0 has_it.1.0) ∙ has_it.2));
-          };
+          takes-same (total_at totals place).need machine (IsTakenBy totals taken place) (IsTakenBefore totals counters place)
+          (counter_at counters place)
+          (λ group by. record {
+            earlier = by.earlier;
+            before = by.before;
+            has = rw (got by.earlier by.before.0) at by.held;
+          })
+          (λ group by. record {
+            earlier = by.earlier;
+            before = by.before;
+            held = rw (got by.earlier by.before.0) by.has;
+          })
+          (partly.chosen place (counter_at counters place) (got place within));
     }
   where
-    many : length groups ≡ length totals
-    many = sym (length-map groups Some) ∙ ap length all ∙ partly.many
+    many : length counters ≡ length totals
+    many = sym (length-map counters Some) ∙ ap length all ∙ partly.many
 
-    got : (k : ℕ) → k < length totals → taken_at taken k ≡ Some (group_at groups k)
+    got : (k : ℕ) → k < length totals → taken_at taken k ≡ Some (counter_at counters k)
     got k within =
-        let low : k < length groups = let all = many in omega arith in
-        rw (← all) (get_or-map Some groups k (record { width = 0; number = 0 }) None low)
+        let low : k < length counters = let all = many in omega arith in
+        rw (← all) (get_or-map Some counters k (of.Single (record { width = 0; number = 0 })) None low)
 
-    is_one : (one other : CounterGroup) → ◌≡◌ {A = Option CounterGroup} (Some one) (Some other) → one ≡ other
-    is_one one other same = cc
-
--- how many totals wait for a group
-abbrev pub waiting : List (Option CounterGroup) → ℕ
+-- how many totals wait for a counter
+abbrev pub waiting : List (Option TotalCounter) → ℕ
 waiting taken = sum_by (λ slot. cond (is_some slot) 0 1) taken
 
--- groups by the rule are the totals' own
-pub GivesGroups-by_rule : (totals : List Total) (machine : Capacities) (groups : List CounterGroup)
-    → IsByRule totals machine groups → GivesGroups totals machine groups
-GivesGroups-by_rule totals machine groups rule =
+-- counters by the rule are the totals' own
+pub IsAssignment-by_rule : (totals : List Total) (machine : Capacities) (counters : List TotalCounter) → NeedsFit totals
+    → IsByRule totals machine counters → IsAssignment totals machine counters
+IsAssignment-by_rule totals machine counters fit rule =
     record {
       many = rule.many;
-      there = λ place group got. rw (← is place group got) (rule.each place (within place group got)).there;
+      there =
+          λ place counter got.
+          rw (is place counter got) at
+          (takes-there (total_at totals place).need machine (IsTakenBefore totals counters place) (counter_at counters place)
+          (rule.each place (within place counter got)));
       enough =
-          λ place total group is_total got.
-          let wide : (total_at totals place).need ≤ (group_at groups place).width =
-          (rule.each place (within place group got)).enough in
-          rw (is place group got, get_or_from_slice_get totals place total _ is_total) at wide;
+          λ place total counter is_total got.
+          rw (is place counter got, get_or_from_slice_get totals place total _ is_total) at
+          (takes-enough (total_at totals place).need machine (IsTakenBefore totals counters place) (counter_at counters place)
+          (fit place _ (within place counter got)) (rule.each place (within place counter got)));
       own =
-          λ one other group got_one got_other.
-          same one other group (within one group got_one) (within other group got_other)
-          (is one group got_one) (is other group got_other) (eqb one other) refl;
+          λ one other counter its_counter got_one got_other shared.
+          let common = shared-of counter its_counter shared in
+          same one other common.group (within one counter got_one) (within other its_counter got_other)
+          (group-of-same counter (counter_at counters one) common.group (sym (is one counter got_one)) common.has)
+          (group-of-same its_counter (counter_at counters other) common.group (sym (is other its_counter got_other)) common.also)
+          (eqb one other) refl;
     }
   where
-    within : (place : ℕ) (group : CounterGroup) → slice_get groups place ≡ Some group → place < length totals
-    within place group got =
-        let low : place < length groups = slice_get_within groups place group got in let many = rule.many in omega arith
+    within : (place : ℕ) (counter : TotalCounter) → slice_get counters place ≡ Some counter → place < length totals
+    within place counter got =
+        let low : place < length counters = slice_get_within counters place counter got in let many = rule.many in omega arith
 
-    is : (place : ℕ) (group : CounterGroup) → slice_get groups place ≡ Some group → group_at groups place ≡ group
-    is place group got = get_or_from_slice_get groups place group _ got
+    is : (place : ℕ) (counter : TotalCounter) → slice_get counters place ≡ Some counter → counter_at counters place ≡ counter
+    is place counter got = get_or_from_slice_get counters place counter _ got
 
-    apart : (one other : ℕ) (group : CounterGroup) → one < length totals → other < length totals
-        → group_at groups one ≡ group → group_at groups other ≡ group → ¬ (one ≢ other)
-    apart one other group one_within other_within is_one is_other differ =
-        ⊎_elim
-        (λ before. (rule.each other other_within).free one (one_within, before) (is_one ∙ sym is_other))
-        (λ before. (rule.each one one_within).free other (other_within, before) (is_other ∙ sym is_one))
-        (takes_before-total totals one other differ)
+    apart : (one other : ℕ) (group : CounterGroup) → TakesBefore totals one other → other < length totals
+        → IsGroupOf (counter_at counters one) group → IsGroupOf (counter_at counters other) group → ⊥
+    apart one other group before low has also =
+        takes-free (total_at totals other).need machine (IsTakenBefore totals counters other) (counter_at counters other) group
+        (rule.each other low) also (record { earlier = one; before = before; has = has })
 
     same : (one other : ℕ) (group : CounterGroup) → one < length totals → other < length totals
-        → group_at groups one ≡ group → group_at groups other ≡ group → (b : Bool) → eqb one other ≡ b → one ≡ other
-    same one other group one_within other_within is_one is_other true e = eqb-true one other e
-    same one other group one_within other_within is_one is_other false e =
+        → IsGroupOf (counter_at counters one) group → IsGroupOf (counter_at counters other) group → (b : Bool) → eqb one other ≡ b
+        → one ≡ other
+    same one other group one_within other_within has also true e = eqb-true one other e
+    same one other group one_within other_within has also false e =
         absurd
-        (apart one other group one_within other_within is_one is_other
-        (λ here. false≢true (sym e ∙ eq-eqb one other here)))
+        (⊎_elim (λ before. apart one other group (one_within, before) other_within has also)
+        (λ before. apart other one group (other_within, before) one_within also has)
+        (takes_before-total totals one other (λ here. false≢true (sym e ∙ eq-eqb one other here))))

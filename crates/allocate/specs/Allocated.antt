@@ -3,9 +3,9 @@ use Rattle.std.specs.Prelude.{◌≡◌}
 use Rattle.capacity.specs.Capacities.{Capacities}
 use Rattle.wanted.specs.Wanted.{Wanted}
 use Rattle.plans.specs.Plans.{Lists}
-use Rattle.allocate.specs.Groups.{AreByRule}
+use Rattle.allocate.specs.Groups.{IsByRule}
 
 -- The plan of what is wanted on a machine: the counters by the rule of allocation, the other parts as wanted.
 pub record IsPlanOf (wanted : Wanted) (machine : Capacities) (plan : Lists) : Type 0 where
-  pub counters : AreByRule wanted.totals machine plan.counters
+  pub counters : IsByRule wanted.totals machine plan.counters
   pub parts : plan.parts ≡ wanted.parts

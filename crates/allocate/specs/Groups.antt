@@ -1,11 +1,13 @@
--- The counter groups that totals take: by need, the greatest first, then by level, then by line, each total takes the
--- lowest number that is free of the smallest width that is enough and still has one free.
-use Rattle.std.specs.Prelude.{◌≡◌, ◌≢◌, ℕ, ◌<◌, ◌≤◌, nat_eq, nat_lt, Bool, true, ◌&&◌, ◌||◌}
-use Rattle.std.specs.Prelude.{List, length, map, slice_index_or}
+-- The counter groups that totals take, by need, the greatest first, then by level, then by line: a total that needs more
+-- than 8 positions takes the two lowest numbers that are free of the groups of 8, and any other the lowest number that is
+-- free of the smallest width that is enough and still has one free.
+use Rattle.std.specs.Prelude.{◌≡◌, ◌⊎◌, ℕ, ◌<◌, ◌≤◌, nat_eq, nat_lt, Bool, true, ◌&&◌, ◌||◌}
+use Rattle.std.specs.Prelude.{List, length, slice_index_or}
 use Rattle.capacity.specs.Capacities.{Capacities, HasGroup}
 use Rattle.capacity.specs.declared.group.CounterGroup.{CounterGroup}
 use Rattle.charts.specs.Levels.{level_number}
 use Rattle.charts.specs.declared.level.Level.TheVariants as level
+use Rattle.plans.specs.Counters.{IsGroupOf}
 use Rattle.plans.specs.declared.counter.TotalCounter.{TotalCounter}
 use Rattle.plans.specs.declared.counter.TotalCounter.TheVariants as of
 use Rattle.wanted.specs.declared.total.Total.{Total}
@@ -14,9 +16,9 @@ use Rattle.wanted.specs.declared.total.Total.{Total}
 abbrev pub total_at : List Total → ℕ → Total
 total_at totals place = slice_index_or totals place (record { level = level.Minor; line = 0; need = 0 })
 
--- the group at a place of the list; past its end one that no machine has
-abbrev pub group_at : List CounterGroup → ℕ → CounterGroup
-group_at groups place = slice_index_or groups place (record { width = 0; number = 0 })
+-- the counter at a place of the list; past its end one that no machine has
+abbrev pub counter_at : List TotalCounter → ℕ → TotalCounter
+counter_at counters place = slice_index_or counters place (of.Single (record { width = 0; number = 0 }))
 
 -- one comes before another by a number of theirs, or, where these are equal, by what is compared next
 abbrev pub is_before : ℕ → ℕ → Bool → Bool
@@ -38,25 +40,37 @@ TakesBefore totals earlier place = (earlier < length totals) × (takes_before to
 abbrev pub is_lower : CounterGroup → CounterGroup → Bool
 is_lower one other = is_before one.width other.width (nat_lt one.number other.number)
 
--- What the total at a place has by the rule: the lowest group, by width and then by number, of those that are wide
--- enough for it and that no total before it took.
-pub record IsLowestFree (totals : List Total) (machine : Capacities) (groups : List CounterGroup) (place : ℕ)
+-- The lowest group, by width and then by number, of those of a machine that have so many positions and are not taken.
+pub record IsLowestFree (need : ℕ) (machine : Capacities) (IsTaken : CounterGroup → Type 0) (group : CounterGroup)
     : Type 0 where
-  pub there : HasGroup machine (group_at groups place)
-  pub enough : (total_at totals place).need ≤ (group_at groups place).width
-  pub free : (earlier : ℕ) → TakesBefore totals earlier place → group_at groups earlier ≢ group_at groups place
+  pub there : HasGroup machine group
+  pub enough : need ≤ group.width
+  pub free : ¬ IsTaken group
   pub lowest :
-      (other : CounterGroup) → HasGroup machine other → (total_at totals place).need ≤ other.width
-      → is_lower other (group_at groups place) ≡ true
-      → (earlier : ℕ) × TakesBefore totals earlier place × (group_at groups earlier ≡ other)
+      (other : CounterGroup) → HasGroup machine other → need ≤ other.width → is_lower other group ≡ true → IsTaken other
 
--- the groups of totals, in the order of the totals, are those that the rule gives them
-pub record IsByRule (totals : List Total) (machine : Capacities) (groups : List CounterGroup) : Type 0 where
-  pub many : length groups ≡ length totals
-  pub each : (place : ℕ) → place < length totals → IsLowestFree totals machine groups place
+-- The two groups that a total takes where one has too few positions for it: the lowest of 8 that is free, and the next.
+pub record AreLowestTwo (need : ℕ) (machine : Capacities) (IsTaken : CounterGroup → Type 0) (lower upper : CounterGroup)
+    : Type 0 where
+  pub two : 8 < need
+  pub first : IsLowestFree 8 machine IsTaken lower
+  pub second : IsLowestFree 8 machine (λ group. IsTaken group ⊎ (lower ≡ group)) upper
 
--- the counters of totals, in the order of the totals: each is one group, and these are the groups that the rule gives the totals
-pub record AreByRule (totals : List Total) (machine : Capacities) (counters : List TotalCounter) : Type 0 where
-  pub groups : List CounterGroup
-  pub are_single : counters ≡ map of.Single groups
-  pub rule : IsByRule totals machine groups
+-- what a total that needs so many positions takes where some groups of a machine are taken
+abbrev pub Takes : ℕ → Capacities → (CounterGroup → Type 0) → TotalCounter → Type 0
+Takes need machine IsTaken (of.Single group) = IsLowestFree need machine IsTaken group
+Takes need machine IsTaken (of.Coupled lower upper) = AreLowestTwo need machine IsTaken lower upper
+
+-- a total that takes before the one at this place has the group
+pub record IsTakenBefore (totals : List Total) (counters : List TotalCounter) (place : ℕ) (group : CounterGroup)
+    : Type 0 where
+  pub earlier : ℕ
+  pub before : TakesBefore totals earlier place
+  pub has : IsGroupOf (counter_at counters earlier) group
+
+-- the counters of totals, in the order of the totals, are those that the rule gives them
+pub record IsByRule (totals : List Total) (machine : Capacities) (counters : List TotalCounter) : Type 0 where
+  pub many : length counters ≡ length totals
+  pub each :
+      (place : ℕ) → place < length totals
+      → Takes (total_at totals place).need machine (IsTakenBefore totals counters place) (counter_at counters place)

@@ -10,12 +10,13 @@ use thiserror::Error;
 /// Why a chart has no plan: the first capacity of the machine that it exceeds. Or memory was refused.
 #[derive(Clone, Copy, Debug, PartialEq, Eq, Error)]
 pub enum CapacityFault {
-    /// More totals need counter groups of a width, or wider ones, than the machine has: fault 61.
-    #[error("{wanted} totals need counter groups of {width} positions or more, and there are {there}")]
+    /// Totals want more counter groups of a width, or wider ones, than the machine has: fault 61.
+    #[error("{wanted} counter groups of {width} positions or more are wanted, and there are {there}")]
     Counters {
         /// The first such width of 8, 6, 4 and 3.
         width: u8,
-        /// How many totals have that class or a wider one.
+        /// How many groups are wanted: one for each total of that class or a wider one, and a second one for each that
+        /// needs more than 8 positions.
         wanted: usize,
         /// How many groups have that width or a greater one.
         there: u32,

@@ -2,7 +2,7 @@
 
 ghost use Rattle.std.specs.Prelude.{◌≡◌, List};
 ghost use Rattle.capacity.specs.Capacities.{Capacities};
-ghost use Rattle.capacity.specs.declared.group.CounterGroup.{CounterGroup};
+ghost use Rattle.plans.specs.declared.counter.TotalCounter.{TotalCounter};
 ghost use Rattle.charts.specs.Chart.{Chart};
 ghost use Rattle.chart_rules.specs.Rules.{IsLawful};
 ghost use Rattle.wanted.specs.ChartTotals.{totals_of};
@@ -11,8 +11,8 @@ ghost use Rattle.allocate.specs.Groups.{IsByRule};
 ghost use Rattle.allocate.specs.Laws.{ChartsWithinHaveAnAssignment, ChartsOverHaveNone, FittingChartsHaveNoFault, ChartsExceedOneCapacity};
 ghost use Rattle.wanted.specs.declared.total.Total.{Total};
 
-/// For every chart that breaks no rule: no total needs more positions than the widest counter group has; where the
-/// counter groups are exceeded at no width, each total can have a counter of its own; where they are exceeded at one, not
+/// For every chart that breaks no rule: no total needs more positions than two of the widest counter groups have; where the
+/// counter groups are exceeded at no width, each total can have a counter of its own, one group or two of 8; where they are exceeded at one, not
 /// all can.
 pub fn totals_fit_exactly_where_no_width_is_over()
     ensures needs { (chart : Chart) → IsLawful chart → NeedsFit (totals_of chart.lines) }
@@ -20,10 +20,10 @@ pub fn totals_fit_exactly_where_no_width_is_over()
     ensures over { ChartsOverHaveNone }
 {}
 
-/// The rule gives totals at most one list of groups.
+/// The rule gives totals at most one list of counters.
 pub fn the_rule_gives_one_list()
-    ensures { (totals : List Total) (machine : Capacities) (groups others : List CounterGroup)
-        → IsByRule totals machine groups → IsByRule totals machine others → groups ≡ others }
+    ensures { (totals : List Total) (machine : Capacities) (counters others : List TotalCounter)
+        → IsByRule totals machine counters → IsByRule totals machine others → counters ≡ others }
 {}
 
 /// What fits a machine has no fault on it.

@@ -19,7 +19,7 @@ pub enum Rule {
     NoControl,
     /// 28: a text on a total line that is no control field of its level or a higher one.
     TotalTextNotControl,
-    /// 29: a total in fewer digits than its field, in more than 8, or in more than 7 with a sign column.
+    /// 29: a total in fewer digits than its field, in more than 16, or in more than 15 with a sign column.
     DigitsRange,
     /// 30: a total in fewer digits than one of the same amount at a lower level.
     DigitsShrink,

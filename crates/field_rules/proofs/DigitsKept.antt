@@ -5,11 +5,11 @@ use Rattle.charts.specs.Field.{columns_of, sign_column}
 use Rattle.charts.specs.declared.statement.Field.{Field}
 use Rattle.field_rules.specs.Digits.{is_out_of_digits}
 
--- Its digits are as many as its field's or more, and 8 at most, or 7 with a sign.
+-- Its digits are as many as its field's or more, and 16 at most, or 15 with a sign.
 pub record AreGoodDigits (field : Field) (digits : ℕ) : Type 0 where
   pub enough : columns_of field ≤ digits
-  pub few : digits ≤ 8
-  pub signed : is_some (sign_column field.kind) ≡ true → digits ≤ 7
+  pub few : digits ≤ 16
+  pub signed : is_some (sign_column field.kind) ≡ true → digits ≤ 15
 
 pub digits-kept : (field : Field) (digits : ℕ) → is_out_of_digits (Some field) digits ≡ false → AreGoodDigits field digits
 digits-kept field digits kept = record {

@@ -6,12 +6,12 @@ use Rattle.charts.specs.declared.statement.Statement.TheVariants as says
 use Rattle.field_rules.specs.Fields.{first_named}
 use Rattle.charts.specs.Field.{sign_column, columns_of}
 
--- whether a total of a field has fewer digits than the field, more than 8, or more than 7 with a sign column
+-- whether a total of a field has fewer digits than the field, more than 16, or more than 15 with a sign column
 abbrev pub is_out_of_digits : Option Field → ℕ → Bool
-is_out_of_digits (Some field) digits = nat_lt digits (columns_of field) || nat_lt 8 digits || (is_some (sign_column field.kind) && nat_lt 7 digits)
+is_out_of_digits (Some field) digits = nat_lt digits (columns_of field) || nat_lt 16 digits || (is_some (sign_column field.kind) && nat_lt 15 digits)
 is_out_of_digits None digits = false
 
--- Digits range: a total in fewer digits than its field, in more than 8, or in more than 7 with a sign column.
+-- Digits range: a total in fewer digits than its field, in more than 16, or in more than 15 with a sign column.
 abbrev pub breaks_digits_range : List Field → Statement → Bool
 breaks_digits_range fields (says.TotalAmount level wheel name digits mark) = is_out_of_digits (first_named fields name) digits
 breaks_digits_range fields other = false

@@ -6,20 +6,20 @@ ghost use Rattle.field_rules.specs.Digits as rule;
 use crate::fields::Fields;
 use charts::{Field, Statement};
 
-/// Whether a total of a field has fewer digits than the field, more than 8, or more than 7 with a sign column.
+/// Whether a total of a field has fewer digits than the field, more than 16, or more than 15 with a sign column.
 fn is_out_of_digits(field: Option<Field>, digits: u16) -> bool
     ensures { result ≡ rule.is_out_of_digits field digits }
 {
     match field {
         Some(field) => {
             let has_sign = field.kind.sign_column().is_some();
-            u32::from(digits) < field.columns() || digits > 8 || (has_sign && digits > 7)
+            u32::from(digits) < field.columns() || digits > 16 || (has_sign && digits > 15)
         }
         None => false,
     }
 }
 
-/// Whether a line is a total in fewer digits than its field, in more than 8, or in more than 7 with a sign column.
+/// Whether a line is a total in fewer digits than its field, in more than 16, or in more than 15 with a sign column.
 pub fn breaks_digits_range(fields: &Fields, statement: &Statement) -> bool
     ensures { result ≡ rule.breaks_digits_range fields.now statement.now }
 {

@@ -67,7 +67,7 @@ impl TotalCounter {
     }
 
     /// Whether a group is one of its own.
-    fn has(self, group: CounterGroup) -> bool
+    pub fn has(self, group: CounterGroup) -> bool
         ensures { IsTrue result ↔ IsGroupOf self group }
     {
         match self {

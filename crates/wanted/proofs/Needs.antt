@@ -1,4 +1,4 @@
--- The totals of a lawful chart need 8 positions at most.
+-- The totals of a lawful chart need 16 positions at most.
 use Rattle.std.proofs.Common.{◌≡◌, ℕ, get_or, ◌+◌, ◌≤◌, Bool, true, false, cond, List, Option, Some, None, is_some, is_none, refl, arith}
 use Rattle.std.proofs.lemmas.List.Elements.{Contains-get_or}
 use Rattle.charts.specs.Chart.{Chart}
@@ -19,18 +19,18 @@ use Rattle.wanted.specs.declared.total.Total.{Total}
 use Rattle.wanted.specs.Totals.{NeedsFit}
 use Rattle.wanted.specs.ChartTotals.{need_of, line_total, totals_of}
 
--- a total whose digits are in range needs 8 positions at most
-need-fits : (field : Option Field) (digits : ℕ) → is_none field ≡ false → is_out_of_digits field digits ≡ false → need_of field digits ≤ 8
+-- a total whose digits are in range needs 16 positions at most
+need-fits : (field : Option Field) (digits : ℕ) → is_none field ≡ false → is_out_of_digits field digits ≡ false → need_of field digits ≤ 16
 need-fits None digits known range = absurd (cc)
 need-fits (Some field) digits known range = by (is_some (sign_column field.kind)) (digits-kept field digits range).few (digits-kept field digits range).signed
   where
-    by : (signed : Bool) → digits ≤ 8 → (signed ≡ true → digits ≤ 7) → digits + cond signed 1 0 ≤ 8
+    by : (signed : Bool) → digits ≤ 16 → (signed ≡ true → digits ≤ 15) → digits + cond signed 1 0 ≤ 16
     by true few with_sign = omega (arith, with_sign refl)
     by false few with_sign = omega (arith, few)
 
 -- the total of a line that keeps these rules
 total-fits : (lines : List Line) (number : ℕ) (statement : Statement) (total : Total) → line_total lines number statement ≡ Some total
-    → breaks_unknown_name (fields_of lines) statement ≡ false → breaks_digits_range (fields_of lines) statement ≡ false → total.need ≤ 8
+    → breaks_unknown_name (fields_of lines) statement ≡ false → breaks_digits_range (fields_of lines) statement ≡ false → total.need ≤ 16
 total-fits lines number (says.TotalAmount level wheel name digits mark) total is known range =
     let need : need_of (field_named lines name) digits ≡ total.need = cc in
     rw (← need) (need-fits (field_named lines name) digits known range)

@@ -5,7 +5,8 @@ use Rattle.wanted.specs.Wanted.{Wanted, indicate_at}
 use Rattle.wanted.specs.declared.count.Capacity.{Capacity}
 use Rattle.wanted.specs.declared.count.Capacity.TheVariants as of
 
--- How many are wanted: at a width of counter groups, the totals of that class or a wider one; a pilot for each signed
+-- How many are wanted: at a width of counter groups, a group for each total of that class
+-- or a wider one, and a second one for each that takes two; a pilot for each signed
 -- amount that is shown; a comparing position for each column of each CONTROL line; a storage unit wider than 16 columns for
 -- each total text that is; a storage unit for each total text; a split for each DETAIL amount with its sign column inside;
 -- an indicate position of a level for each column of each INDICATE item.

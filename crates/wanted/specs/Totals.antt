@@ -1,16 +1,27 @@
--- The totals of a chart, and the widths of counter groups that they need.
-use Rattle.std.specs.Prelude.{ℕ, ◌≤◌, nat_le, if◌then◌else◌}
+-- The totals of a chart, and the counter groups that they want.
+use Rattle.std.specs.Prelude.{ℕ, ◌+◌, ◌≤◌, Bool, ◌&&◌, nat_le, nat_lt, if◌then◌else◌}
 use Rattle.std.specs.Prelude.{List, All, count_by}
 use Rattle.wanted.specs.declared.total.Total.{Total}
 
--- no total needs more positions than the widest counter group has
+-- no total needs more positions than two of the widest counter groups have
 abbrev pub NeedsFit : List Total → Type 0
-NeedsFit totals = All (λ total. total.need ≤ 8) totals
+NeedsFit totals = All (λ total. total.need ≤ 16) totals
 
--- the class of a need: the smallest width of 3, 4, 6 and 8 positions that is enough
+-- whether a total that needs so many positions takes two counter groups of 8, since one of them is not enough
+abbrev pub takes_two : ℕ → Bool
+takes_two need = nat_lt 8 need
+
+-- the class of a need: the smallest width of 3, 4, 6 and 8 positions that is enough, or 8 where none is
 abbrev pub class_of : ℕ → ℕ
 class_of need = if nat_le need 3 then 3 else if nat_le need 4 then 4 else if nat_le need 6 then 6 else 8
 
--- how many totals have this width as their class or a wider one
+-- whether a need has this width as its class or a wider one
+abbrev pub is_at_least : ℕ → ℕ → Bool
+is_at_least width need = nat_le width (class_of need)
+
+-- How many counter groups of this width or a wider one totals want: one for each total that has it as its class or a
+-- wider one, and a second one for each of these that takes two.
 unfoldable pub wanted_at : ℕ → List Total → ℕ
-wanted_at width totals = count_by (λ total. nat_le width (class_of total.need)) totals
+wanted_at width totals =
+    count_by (λ total. is_at_least width total.need) totals
+    + count_by (λ total. takes_two total.need && is_at_least width total.need) totals

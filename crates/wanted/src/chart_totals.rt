@@ -60,7 +60,7 @@ pub fn total_place(chart: &Chart, line: u16) -> Option<usize>
         .position(|total| total.line == line)
 }
 
-/// The totals of a chart, in the order of their lines. None needs more than 8 positions.
+/// The totals of a chart, in the order of their lines. None needs more than 16 positions.
 pub(crate) fn totals_of(alloc: Global, chart: &Chart) -> Result<Vec<Total>, AllocError>
     ensures value { IfOk result (λ list. list.items ≡ totals.totals_of chart.now.lines) }
     ensures needs { IfOk result (λ list. NeedsFit list.items) }

@@ -17,7 +17,7 @@ mod unit;
 mod wanted;
 
 pub use chart_totals::{line_total, total_place};
-pub use count::Capacity;
+pub use count::{Capacity, takes_two};
 pub use parts::Parts;
 pub use position::Position;
 pub use total::Total;

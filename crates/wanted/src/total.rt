@@ -9,6 +9,6 @@ pub struct Total {
     pub level: Level,
     /// The number of its line.
     pub line: u16,
-    /// How many counter positions it needs: its digits, and one more where it is signed. Charts have totals of 1 to 8.
+    /// How many counter positions it needs: its digits, and one more where it is signed. Charts have totals of 1 to 16.
     pub need: u32,
 }

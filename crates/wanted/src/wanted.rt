@@ -58,7 +58,7 @@ impl Wanted {
         })
     }
 
-    /// The totals, in the order of their lines. None needs more than 8 positions.
+    /// The totals, in the order of their lines. None needs more than 16 positions.
     pub fn totals(&self) -> &[Total]
         ensures value { result.now ≡ self.now.totals }
         ensures needs { NeedsFit self.now.totals }

@@ -2,8 +2,7 @@ use Rattle.std.proofs.Common.{◌∙◌, ap, rules, length, None}
 use Rattle.std.proofs.lemmas.List.{length-replicate}
 use Rattle.std.proofs.lemmas.Result.{IfOk-weaker}
 use Rattle.allocate.specs.HelperTaking.{taken_at}
-use Rattle.allocate.proofs.Taking.{partly-none, at_none, partly-more, some_free, partly-all, GivesGroups-by_rule}
-use Rattle.allocate.proofs.Singles.{singles-assigned, taken-groups}
+use Rattle.allocate.proofs.Taking.{partly-none, at_none, partly-more, enough_free, partly-all, IsAssignment-by_rule}
 use Rattle.allocate.proofs.groups.assign.Goals as goal
 
 pub loop-place-init : goal.loop-place-init
@@ -15,33 +14,26 @@ loop-place-init c =
 
 pub unreachable-requires : goal.unreachable-requires
 unreachable-requires c =
-    some_free c.args.totals.now c.args.profile.now c.loop-place.taken.items c.in-Some.place c.requires.needs
+    enough_free c.args.totals.now c.args.profile.now c.loop-place.taken.items c.in-Some.place
     c.requires.enough c.loop-place.invariant (rw c.deref.ensures.value at c.in-Some.ensures)
-    (rw c.deref-in-Some.ensures.value at c.in_default-lowest_free.ensures)
+    (rw c.deref-in-Some.ensures.value at c.in_default-lowest_counter.ensures)
 
 pub loop-place-preserved : goal.loop-place-preserved
 loop-place-preserved c =
     partly-more c.args.totals.now c.args.profile.now c.loop-place.taken.items c.in-Some.place
-    c.in-Some-lowest_free.group c.loop-place.invariant (rw c.deref.ensures.value at c.in-Some.ensures)
-    (rw c.deref-in-Some.ensures.value at c.in-Some-lowest_free.ensures)
+    c.in-Some-lowest_counter.counter c.loop-place.invariant (rw c.deref.ensures.value at c.in-Some.ensures)
+    (rw c.deref-in-Some.ensures.value at c.in-Some-lowest_counter.ensures)
 
 pub returns-clause-rule : goal.returns-clause-rule
 returns-clause-rule c =
     IfOk-weaker c.all_taken.result _ _
     (λ counters all.
-    let had = taken-groups c.loop-place.taken.items counters.items (rw c.deref-2.ensures.value at all) in
-    record {
-      groups = had.groups;
-      are_single = had.single;
-      rule = partly-all c.args.totals.now c.args.profile.now c.loop-place.taken.items had.groups c.loop-place.invariant had.took;
-    })
+    partly-all c.args.totals.now c.args.profile.now c.loop-place.taken.items counters.items c.loop-place.invariant
+    (rw c.deref-2.ensures.value at all))
     c.all_taken.ensures
 
 pub returns-clause-own : goal.returns-clause-own
 returns-clause-own c =
     IfOk-weaker c.all_taken.result _ _
-    (λ counters by_rule.
-    rw by_rule.are_single
-    (singles-assigned c.args.totals.now c.args.profile.now by_rule.groups
-    (GivesGroups-by_rule c.args.totals.now c.args.profile.now by_rule.groups by_rule.rule)))
+    (λ counters by_rule. IsAssignment-by_rule c.args.totals.now c.args.profile.now counters.items c.requires.needs by_rule)
     (returns-clause-rule c)

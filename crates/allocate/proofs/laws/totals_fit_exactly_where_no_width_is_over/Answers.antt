@@ -1,6 +1,3 @@
-use Rattle.std.proofs.Common.{map}
-use Rattle.plans.specs.declared.counter.TotalCounter.TheVariants as of
-use Rattle.allocate.proofs.Singles.{singles-assigned}
 use Rattle.allocate.proofs.Assignments.{widest_first, widest_first-assigns, none_where_over}
 use Rattle.wanted.proofs.Needs.{NeedsFit-lawful}
 use Rattle.wanted.specs.ChartTotals.{totals_of}
@@ -11,11 +8,9 @@ returns-clause-needs c = NeedsFit-lawful
 
 pub returns-clause-fit : goal.returns-clause-fit
 returns-clause-fit c chart machine lawful within =
-    let totals = totals_of chart.lines in (
-      map of.Single (widest_first totals machine),
-      singles-assigned totals machine (widest_first totals machine) (widest_first-assigns totals machine (NeedsFit-lawful chart lawful) within),
-    )
+    let totals = totals_of chart.lines in
+    (widest_first totals machine, widest_first-assigns totals machine (NeedsFit-lawful chart lawful) within)
 
 pub returns-clause-over : goal.returns-clause-over
 returns-clause-over c chart machine width counters lawful over =
-    none_where_over width (totals_of chart.lines) machine counters (NeedsFit-lawful chart lawful) over
+    none_where_over width (totals_of chart.lines) machine counters over
