@@ -1,1 +1,2 @@
+mod CounterHubs
 mod TotalLevels

@@ -1,6 +1,7 @@
--- A helper of the code: the totals of an amount by their levels, and their counter groups.
-use Rattle.std.specs.Prelude.{◌≡◌, ℕ, ◌==◌, ◌&&◌, ◌≤◌, Bool, true, false, List, Option, Some, option_map, find}
+-- A helper of the code: the totals of an amount by their levels, and their counters.
+use Rattle.std.specs.Prelude.{◌≡◌, ℕ, ◌==◌, ◌&&◌, ◌≤◌, Bool, false, List, Option, Some, option_map, find}
 use Rattle.plans.specs.Plans.{Lists}
+use Rattle.plans.specs.declared.counter.TotalCounter.{TotalCounter}
 use Rattle.charts.specs.Levels.{level_number}
 use Rattle.charts.specs.Name.{is_same_name}
 use Rattle.charts.specs.declared.chart.Line.{Line}
@@ -8,13 +9,12 @@ use Rattle.charts.specs.declared.level.Level.{Level}
 use Rattle.charts.specs.declared.statement.SignRule.{SignRule}
 use Rattle.charts.specs.declared.statement.Statement.{Statement}
 use Rattle.charts.specs.declared.statement.Statement.TheVariants as says
-use Rattle.hub_table.specs.Places.{is_width}
-use Rattle.hubs.specs.declared.hub.Group.{Group}
 use Rattle.hubs.specs.declared.hub.Hub.{Hub}
 use Rattle.line_wires.specs.HelperAdds.{OfSome}
+use Rattle.total_wires.specs.HelperCounters.{IsCounterOnPanel, positions_of}
 use Rattle.total_wires.specs.HelperTotalRows.{TransferWires}
 use Rattle.line_wires.specs.HelperRows.{Wires}
-use Rattle.wiring_table.specs.Parts.{IsNextHigher, group_for}
+use Rattle.wiring_table.specs.Parts.{IsNextHigher, counter_for}
 
 -- whether a line is a total of the amount of a name, at a level
 abbrev pub is_total_of : List ℕ → ℕ → Statement → Bool
@@ -27,25 +27,19 @@ abbrev pub total_at : List Line → List ℕ → ℕ → Option ℕ
 total_at lines name level =
     option_map (λ line. line.number) (find (λ line. is_total_of name level line.statement) lines)
 
--- the panel has a counter group
-pub record IsOnPanel (group : Group) : Type 0 where
-  pub width : is_width group.width ≡ true
-  pub from : 1 ≤ group.number
-  pub to : group.number ≤ 8
-
--- the total on a line of the chart has a counter group of the panel with so many positions
-pub record HasGroupFor (lines : List Line) (plan : Lists) (number positions : ℕ) : Type 0 where
-  pub group : Group
-  pub there : group_for lines plan number ≡ Some group
-  pub on_panel : IsOnPanel group
-  pub wide : positions ≤ group.width
+-- the total on a line of the chart has a counter of groups of the panel with so many positions
+pub record HasCounterFor (lines : List Line) (plan : Lists) (number positions : ℕ) : Type 0 where
+  pub counter : TotalCounter
+  pub there : counter_for lines plan number ≡ Some counter
+  pub on_panel : IsCounterOnPanel counter
+  pub wide : positions ≤ positions_of counter
 
 -- the wires of the next higher total of an amount above a level
 pub data OfNext (lines : List Line) (name : List ℕ) (level : ℕ) (of : ℕ → Wires) (exit entry : Hub) : Type 0 where
   next : (number : ℕ) → IsNextHigher lines name level number → of number exit entry → OfNext lines name level of exit entry
 
 -- the wires of the transfer of a total to the next higher one, if there is one
-abbrev pub NextWires : List Line → Lists → (name : List ℕ) → Level → (digits : ℕ) → Group → Option SignRule → Wires
-NextWires lines plan name level digits group rule =
+abbrev pub NextWires : List Line → Lists → (name : List ℕ) → Level → (digits : ℕ) → TotalCounter → Option SignRule → Wires
+NextWires lines plan name level digits counter rule =
     OfNext lines name (level_number level) (λ number.
-    OfSome (group_for lines plan number) (λ upper. TransferWires level digits group upper rule))
+    OfSome (counter_for lines plan number) (λ higher. TransferWires level digits counter higher rule))

@@ -1,6 +1,7 @@
 -- A helper of the code: the wires that each function of a total line adds, in the order of the table.
 use Rattle.std.specs.Prelude.{ℕ, ◌+◌, ◌-◌, List, Option, Some, None}
 use Rattle.plans.specs.Plans.{Lists}
+use Rattle.plans.specs.declared.counter.TotalCounter.{TotalCounter}
 use Rattle.charts.specs.Field.{columns_of}
 use Rattle.charts.specs.Levels.{level_number}
 use Rattle.charts.specs.declared.level.Level.{Level}
@@ -8,91 +9,96 @@ use Rattle.charts.specs.declared.statement.Field.{Field}
 use Rattle.charts.specs.declared.statement.Mark.{Mark}
 use Rattle.charts.specs.declared.statement.SignRule.{SignRule}
 use Rattle.hubs.specs.declared.hub.Group.{Group}
-use Rattle.hubs.specs.declared.hub.Hub.TheVariants.{SR, GX, CO, BAN, BAT, SX, CC, PX, GE, PL, MI, RO, BT, CI, BAC, PIC, SE, SI, SO, W}
+use Rattle.hubs.specs.declared.hub.Hub.TheVariants.{SR, GX, BAN, BAT, SX, CC, PX, GE, PL, MI, RO, BT, BAC, PIC, SE, SI, SO, W}
 use Rattle.wiring_table.specs.Figures.{rule_of, digit_wheel, mark_text, total_emitter}
 use Rattle.line_wires.specs.HelperAdds.{One, Both, Upto, OfSome}
-use Rattle.wiring_table.specs.Parts.{pilot_for, negative_side, positive_side}
+use Rattle.total_wires.specs.HelperCounters.{ControlWires, EachGroup, RingWires, entry_of, exit_of, place_of}
+use Rattle.wiring_table.specs.Parts.{pilot_for, negative_side, positive_side, top_group}
 use Rattle.line_wires.specs.HelperRows.{MarkWires, Wires}
 
--- the columns of an amount to the positions of a group
-abbrev pub EntryDigits : Field → Group → Wires
-EntryDigits field group =
-    Upto (columns_of field) (λ place. One (SR (field.last + 1 - (place + 1))) (GE group (place + 1)))
+-- the columns of an amount to the positions of a counter
+abbrev pub EntryDigits : Field → TotalCounter → Wires
+EntryDigits field counter =
+    Upto (columns_of field) (λ place. One (SR (field.last + 1 - (place + 1))) (entry_of (place_of counter (place + 1))))
 
 -- each card adds
-abbrev pub AddingWires : Group → Wires
-AddingWires group = One CC (PL group)
+abbrev pub AddingWires : TotalCounter → Wires
+AddingWires counter = ControlWires CC PL counter
 
 -- each card adds or subtracts by its pilot
-abbrev pub SignedEntry : Lists → (name : List ℕ) → Group → SignRule → Wires
-SignedEntry plan name group rule = OfSome (pilot_for plan name) (λ pilot.
+abbrev pub SignedEntry : Lists → (name : List ℕ) → TotalCounter → SignRule → Wires
+SignedEntry plan name counter rule = OfSome (pilot_for plan name) (λ pilot.
     Both (One CC (PIC pilot 1))
-    (Both (One (positive_side rule pilot 1) (PL group)) (One (negative_side rule pilot 1) (MI group))))
+    (Both (ControlWires (positive_side rule pilot 1) PL counter)
+    (ControlWires (negative_side rule pilot 1) MI counter)))
 
 -- each card adds, or it adds or subtracts where the amount has a sign rule
-abbrev pub EntrySense : Lists → (name : List ℕ) → Group → Option SignRule → Wires
-EntrySense plan name group None = AddingWires group
-EntrySense plan name group (Some rule) = SignedEntry plan name group rule
+abbrev pub EntrySense : Lists → (name : List ℕ) → TotalCounter → Option SignRule → Wires
+EntrySense plan name counter None = AddingWires counter
+EntrySense plan name counter (Some rule) = SignedEntry plan name counter rule
 
--- the entry of an amount into the group of its lowest total
-abbrev pub EntryWires : Lists → (name : List ℕ) → Field → Group → Wires
-EntryWires plan name field group =
-    Both (EntryDigits field group) (EntrySense plan name group (rule_of field.kind))
+-- the entry of an amount into the counter of its lowest total
+abbrev pub EntryWires : Lists → (name : List ℕ) → Field → TotalCounter → Wires
+EntryWires plan name field counter =
+    Both (EntryDigits field counter) (EntrySense plan name counter (rule_of field.kind))
 
 -- the digits of a total to their wheels
-abbrev pub TotalDigits : (wheel digits decimals : ℕ) → Group → Wires
-TotalDigits wheel digits decimals group =
-    Upto digits (λ place. One (GX group (place + 1)) (W (digit_wheel wheel digits decimals (place + 1))))
+abbrev pub TotalDigits : (wheel digits decimals : ℕ) → TotalCounter → Wires
+TotalDigits wheel digits decimals counter =
+    Upto digits (λ place. One (exit_of (place_of counter (place + 1))) (W (digit_wheel wheel digits decimals (place + 1))))
 
 -- the read-out of a total in the cycle that prints it
-abbrev pub ReadOutWires : Level → (wheel digits decimals : ℕ) → Group → Wires
-ReadOutWires level wheel digits decimals group =
-    Both (One (PX (level_number level) 3) (RO group)) (TotalDigits wheel digits decimals group)
+abbrev pub ReadOutWires : Level → (wheel digits decimals : ℕ) → TotalCounter → Wires
+ReadOutWires level wheel digits decimals counter =
+    Both (ControlWires (PX (level_number level) 3) RO counter) (TotalDigits wheel digits decimals counter)
 
 -- a group back into itself, on all its positions
 abbrev pub FeedbackWires : Group → Wires
 FeedbackWires group = Upto group.width (λ place. One (GX group (place + 1)) (GE group (place + 1)))
 
--- the ring of a group, its balance test, and the minus read-out into itself where the balance is below 0
-abbrev pub BalanceWires : Level → Group → Wires
-BalanceWires level group =
-    Both (One (CO group) (CI group))
-    (Both (One (PX (level_number level) 1) (BT group))
-    (Both (One (PX (level_number level) 2) (BAC group 1))
-    (Both (One (BAT group 1) (RO group)) (One (BAT group 1) (MI group)))))
+-- the balance test of a counter, and the minus read-out into itself where the balance is below 0
+abbrev pub BalanceWires : Level → TotalCounter → Wires
+BalanceWires level counter =
+    Both (One (PX (level_number level) 1) (BT (top_group counter)))
+    (Both (One (PX (level_number level) 2) (BAC (top_group counter) 1))
+    (Both (ControlWires (BAT (top_group counter) 1) RO counter)
+    (ControlWires (BAT (top_group counter) 1) MI counter)))
 
--- the sign conversion of a signed total
-abbrev pub ConversionWires : Level → Group → Wires
-ConversionWires level group = Both (BalanceWires level group) (FeedbackWires group)
+-- the sign conversion of a signed total: its ring, its balance, and each of its groups back into itself
+abbrev pub ConversionWires : Level → TotalCounter → Wires
+ConversionWires level counter = Both (RingWires counter) (Both (BalanceWires level counter) (EachGroup counter FeedbackWires))
 
--- the mark of a signed total, through the balance positions 3 and 4
+-- the mark of a signed total, through the balance positions 3 and 4 of a group
 abbrev pub TotalMark : Level → (wheel : ℕ) → Mark → Group → Wires
 TotalMark level wheel mark group =
     MarkWires (total_emitter (level_number level)) wheel (mark_text mark) (λ k. BAC group (3 + k)) (λ k. BAT group (3 + k))
 
 -- what only a signed total has
-abbrev pub SignedTotal : Level → (wheel : ℕ) → Option Mark → Group → Wires
-SignedTotal level wheel mark group =
-    Both (ConversionWires level group) (OfSome mark (λ its_mark. TotalMark level wheel its_mark group))
+abbrev pub SignedTotal : Level → (wheel : ℕ) → Option Mark → TotalCounter → Wires
+SignedTotal level wheel mark counter =
+    Both (ConversionWires level counter) (OfSome mark (λ its_mark. TotalMark level wheel its_mark (top_group counter)))
 
--- the digits of a total to another group
-abbrev pub TransferDigits : (digits : ℕ) → (group upper : Group) → Wires
-TransferDigits digits group upper = Upto digits (λ place. One (GX group (place + 1)) (GE upper (place + 1)))
+-- the digits of a total to another counter
+abbrev pub TransferDigits : (digits : ℕ) → (counter higher : TotalCounter) → Wires
+TransferDigits digits counter higher =
+    Upto digits (λ place. One (exit_of (place_of counter (place + 1))) (entry_of (place_of higher (place + 1))))
 
--- the upper group adds or subtracts by the balance of the lower one
-abbrev pub SignedTransfer : (program : ℕ) → (group upper : Group) → Wires
-SignedTransfer program group upper =
-    Both (One (PX program 3) (BAC group 2)) (Both (One (BAN group 2) (PL upper)) (One (BAT group 2) (MI upper)))
+-- the higher counter adds or subtracts by the balance of the lower one
+abbrev pub SignedTransfer : (program : ℕ) → (counter higher : TotalCounter) → Wires
+SignedTransfer program counter higher =
+    Both (One (PX program 3) (BAC (top_group counter) 2))
+    (Both (ControlWires (BAN (top_group counter) 2) PL higher)
+    (ControlWires (BAT (top_group counter) 2) MI higher))
 
--- the upper group adds, or it adds or subtracts where the amount has a sign rule
-abbrev pub TransferSense : Level → (group upper : Group) → Option SignRule → Wires
-TransferSense level group upper None = One (PX (level_number level) 3) (PL upper)
-TransferSense level group upper (Some rule) = SignedTransfer (level_number level) group upper
+-- the higher counter adds, or it adds or subtracts where the amount has a sign rule
+abbrev pub TransferSense : Level → (counter higher : TotalCounter) → Option SignRule → Wires
+TransferSense level counter higher None = ControlWires (PX (level_number level) 3) PL higher
+TransferSense level counter higher (Some rule) = SignedTransfer (level_number level) counter higher
 
--- the transfer of a total to the group of another
-abbrev pub TransferWires : Level → (digits : ℕ) → (group upper : Group) → Option SignRule → Wires
-TransferWires level digits group upper rule =
-    Both (TransferDigits digits group upper) (TransferSense level group upper rule)
+-- the transfer of a total to the counter of another
+abbrev pub TransferWires : Level → (digits : ℕ) → (counter higher : TotalCounter) → Option SignRule → Wires
+TransferWires level digits counter higher rule =
+    Both (TransferDigits digits counter higher) (TransferSense level counter higher rule)
 
 -- the columns of a text through a storage unit to as many wheels
 abbrev pub StoredColumns : (unit wheel : ℕ) → Field → Wires

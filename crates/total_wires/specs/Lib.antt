@@ -1,3 +1,5 @@
+pub mod HelperControls
+pub mod HelperCounters
 pub mod HelperTotalRows
 pub mod HelperLevels
 pub mod HelperTotals

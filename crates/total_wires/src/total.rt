@@ -4,12 +4,14 @@ ghost use Rattle.std.specs.Prelude.{◌≡◌, ◌+◌, ◌≤◌, OnOk, length}
 ghost use Rattle.wiring_table.specs.Figures.{mark_text, mark_wheel};
 ghost use Rattle.line_wires.specs.HelperAdds.{Adds};
 ghost use Rattle.line_wires.specs.HelperRanges.{HasWheelsForMark};
-ghost use Rattle.total_wires.specs.HelperLevels.{IsOnPanel};
-ghost use Rattle.total_wires.specs.HelperTotalRows.{TotalDigits, ReadOutWires, FeedbackWires, BalanceWires, TotalMark, SignedTotal};
+ghost use Rattle.total_wires.specs.HelperCounters.{EachGroup, IsCounterOnPanel, IsOnPanel, positions_of};
+ghost use Rattle.total_wires.specs.HelperTotalRows.{TotalDigits, ReadOutWires, FeedbackWires, BalanceWires, ConversionWires, TotalMark, SignedTotal};
 
+use crate::counter::{Control, panel_group, place_of, top_group, wire_controls, wire_ring};
 use charts::{Level, Mark};
 use hubs::{Group, Hub};
 use line_wires::{connect, digit_wheel, mark_characters, wire_character};
+use plans::TotalCounter;
 use setups::Setup;
 use std::alloc::AllocError;
 
@@ -19,18 +21,19 @@ fn wire_total_digits(
     wheel: u16,
     digits: u16,
     decimals: u16,
-    group: Group,
+    counter: TotalCounter,
 ) -> Result<(), AllocError>
-    requires group { IsOnPanel group }
-    requires wide { digits ≤ group.width }
+    requires counter { IsCounterOnPanel counter }
+    requires wide { digits ≤ positions_of counter }
     requires first { 1 ≤ wheel }
     requires last { mark_wheel wheel digits decimals ≤ 121 }
-    ensures { OnOk result (Adds (TotalDigits wheel digits decimals group) setup.old setup.new) }
+    ensures { OnOk result (Adds (TotalDigits wheel digits decimals counter) setup.old setup.new) }
 {
     for place in 0..digits {
         let position = place + 1;
         let entry = digit_wheel(wheel, digits, decimals, position);
-        connect(setup, Hub::GX(group, position as u8), Hub::W(entry))?;
+        let (group, place) = place_of(counter, position as u8);
+        connect(setup, Hub::GX(group, place), Hub::W(entry))?;
     }
     Ok(())
 }
@@ -42,16 +45,16 @@ pub(crate) fn wire_read_out(
     wheel: u16,
     digits: u16,
     decimals: u16,
-    group: Group,
+    counter: TotalCounter,
 ) -> Result<(), AllocError>
-    requires group { IsOnPanel group }
-    requires wide { digits ≤ group.width }
+    requires counter { IsCounterOnPanel counter }
+    requires wide { digits ≤ positions_of counter }
     requires first { 1 ≤ wheel }
     requires last { mark_wheel wheel digits decimals ≤ 121 }
-    ensures { OnOk result (Adds (ReadOutWires level wheel digits decimals group) setup.old setup.new) }
+    ensures { OnOk result (Adds (ReadOutWires level wheel digits decimals counter) setup.old setup.new) }
 {
-    connect(setup, Hub::PX(level.number(), 3), Hub::RO(group))?;
-    wire_total_digits(setup, wheel, digits, decimals, group)?;
+    wire_controls(setup, Hub::PX(level.number(), 3), Control::ReadOut, counter)?;
+    wire_total_digits(setup, wheel, digits, decimals, counter)?;
     Ok(())
 }
 
@@ -67,17 +70,43 @@ fn wire_feedback(setup: &mut Setup, group: Group) -> Result<(), AllocError>
     Ok(())
 }
 
-// Wires the ring of a counter group, its balance test, and the minus read-out into itself where the balance is below 0.
-fn wire_balance(setup: &mut Setup, level: Level, group: Group) -> Result<(), AllocError>
-    requires { IsOnPanel group }
-    ensures { OnOk result (Adds (BalanceWires level group) setup.old setup.new) }
+// Wires each group of a counter back into itself.
+fn wire_feedbacks(setup: &mut Setup, counter: TotalCounter) -> Result<(), AllocError>
+    requires { IsCounterOnPanel counter }
+    ensures { OnOk result (Adds (EachGroup counter FeedbackWires) setup.old setup.new) }
+{
+    match counter {
+        TotalCounter::Single { group } => wire_feedback(setup, panel_group(group))?,
+        TotalCounter::Coupled { lower, upper } => {
+            wire_feedback(setup, panel_group(lower))?;
+            wire_feedback(setup, panel_group(upper))?;
+        }
+    }
+    Ok(())
+}
+
+// Wires the balance test of a counter, and the minus read-out into itself where the balance is below 0.
+fn wire_balance(setup: &mut Setup, level: Level, counter: TotalCounter) -> Result<(), AllocError>
+    requires { IsCounterOnPanel counter }
+    ensures { OnOk result (Adds (BalanceWires level counter) setup.old setup.new) }
 {
     let program = level.number();
-    connect(setup, Hub::CO(group), Hub::CI(group))?;
-    connect(setup, Hub::PX(program, 1), Hub::BT(group))?;
-    connect(setup, Hub::PX(program, 2), Hub::BAC(group, 1))?;
-    connect(setup, Hub::BAT(group, 1), Hub::RO(group))?;
-    connect(setup, Hub::BAT(group, 1), Hub::MI(group))?;
+    let top = top_group(counter);
+    connect(setup, Hub::PX(program, 1), Hub::BT(top))?;
+    connect(setup, Hub::PX(program, 2), Hub::BAC(top, 1))?;
+    wire_controls(setup, Hub::BAT(top, 1), Control::ReadOut, counter)?;
+    wire_controls(setup, Hub::BAT(top, 1), Control::Minus, counter)?;
+    Ok(())
+}
+
+// Wires the sign conversion of a signed total: its ring, its balance, and each of its groups back into itself.
+fn wire_conversion(setup: &mut Setup, level: Level, counter: TotalCounter) -> Result<(), AllocError>
+    requires { IsCounterOnPanel counter }
+    ensures { OnOk result (Adds (ConversionWires level counter) setup.old setup.new) }
+{
+    wire_ring(setup, counter)?;
+    wire_balance(setup, level, counter)?;
+    wire_feedbacks(setup, counter)?;
     Ok(())
 }
 
@@ -112,16 +141,15 @@ pub(crate) fn wire_signed_total(
     level: Level,
     wheel: u16,
     mark: Option<Mark>,
-    group: Group,
+    counter: TotalCounter,
 ) -> Result<(), AllocError>
-    requires group { IsOnPanel group }
+    requires counter { IsCounterOnPanel counter }
     requires wheels { HasWheelsForMark wheel mark }
-    ensures { OnOk result (Adds (SignedTotal level wheel mark group) setup.old setup.new) }
+    ensures { OnOk result (Adds (SignedTotal level wheel mark counter) setup.old setup.new) }
 {
-    wire_balance(setup, level, group)?;
-    wire_feedback(setup, group)?;
+    wire_conversion(setup, level, counter)?;
     if let Some(mark) = mark {
-        wire_total_mark(setup, level, wheel, mark, group)?;
+        wire_total_mark(setup, level, wheel, mark, top_group(counter))?;
     }
     Ok(())
 }

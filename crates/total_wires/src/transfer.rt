@@ -4,28 +4,19 @@ ghost use Rattle.std.specs.Prelude.{◌≡◌, ◌↔◌, ◌≤◌, ℕ, OnOk, 
 ghost use Rattle.wanted.specs.ChartTotals.{totals_of};
 ghost use Rattle.charts.specs.Levels.{level_number};
 ghost use Rattle.line_wires.specs.HelperAdds.{Adds};
-ghost use Rattle.total_wires.specs.HelperLevels.{HasGroupFor, IsOnPanel, NextWires, is_total_of, total_at};
+ghost use Rattle.total_wires.specs.HelperCounters.{IsCounterOnPanel, positions_of};
+ghost use Rattle.total_wires.specs.HelperLevels.{HasCounterFor, NextWires, is_total_of, total_at};
 ghost use Rattle.total_wires.specs.HelperTotalRows.{SignedTransfer, TransferDigits, TransferSense, TransferWires};
-ghost use Rattle.wiring_table.specs.Parts.{IsLowest, IsNextHigher, group_for};
+ghost use Rattle.wiring_table.specs.Parts.{IsLowest, IsNextHigher};
 
+use crate::counter::{Control, place_of, top_group, wire_controls};
 use chart_rules::Chart;
 use charts::{Level, Name, SignRule, Statement};
-use hubs::{Group, Hub};
+use hubs::Hub;
 use line_wires::connect;
-use plans::Plan;
+use plans::{Plan, TotalCounter};
 use setups::Setup;
 use std::alloc::AllocError;
-
-/// The counter group of the total on a line of the chart that has only one.
-pub(crate) fn group_for(chart: &Chart, plan: &Plan, line: u16) -> Option<Group>
-    ensures { result ≡ group_for chart.now.lines plan.now line }
-{
-    let group = plan.counter_on(chart, line)?.single_group()?;
-    Some(Group {
-        width: group.width,
-        number: group.number,
-    })
-}
 
 // Whether a line is a total of the amount of a name, at a level.
 fn is_total_of(wanted: Name, wanted_level: u8, statement: &Statement) -> bool
@@ -76,60 +67,63 @@ fn next_higher(chart: &Chart, name: Name, level: Level) -> Option<u16>
     None
 }
 
-// Wires the digits of a total to another counter group.
+// Wires the digits of a total to another counter.
 fn wire_transfer_digits(
     setup: &mut Setup,
     digits: u16,
-    group: Group,
-    upper: Group,
+    counter: TotalCounter,
+    higher: TotalCounter,
 ) -> Result<(), AllocError>
-    requires group { IsOnPanel group }
-    requires wide { digits ≤ group.width }
-    requires upper { IsOnPanel upper }
-    requires upper_wide { digits ≤ upper.width }
-    ensures { OnOk result (Adds (TransferDigits digits group upper) setup.old setup.new) }
+    requires counter { IsCounterOnPanel counter }
+    requires wide { digits ≤ positions_of counter }
+    requires higher { IsCounterOnPanel higher }
+    requires higher_wide { digits ≤ positions_of higher }
+    ensures { OnOk result (Adds (TransferDigits digits counter higher) setup.old setup.new) }
 {
     for place in 0..digits as u8 {
         let position = place + 1;
-        connect(setup, Hub::GX(group, position), Hub::GE(upper, position))?;
+        let (group, place) = place_of(counter, position);
+        let (upper, upper_place) = place_of(higher, position);
+        connect(setup, Hub::GX(group, place), Hub::GE(upper, upper_place))?;
     }
     Ok(())
 }
 
-// Wires the upper counter group so that it adds the lower one, or subtracts it where the balance of that is below 0.
+// Wires the higher counter so that it adds the lower one, or subtracts it where the balance of that is below 0.
 fn wire_signed_transfer(
     setup: &mut Setup,
     program: u8,
-    group: Group,
-    upper: Group,
+    counter: TotalCounter,
+    higher: TotalCounter,
 ) -> Result<(), AllocError>
     requires program { (1 ≤ program) × (program ≤ 4) }
-    requires group { IsOnPanel group }
-    requires upper { IsOnPanel upper }
-    ensures { OnOk result (Adds (SignedTransfer program group upper) setup.old setup.new) }
+    requires counter { IsCounterOnPanel counter }
+    requires higher { IsCounterOnPanel higher }
+    ensures { OnOk result (Adds (SignedTransfer program counter higher) setup.old setup.new) }
 {
-    connect(setup, Hub::PX(program, 3), Hub::BAC(group, 2))?;
-    connect(setup, Hub::BAN(group, 2), Hub::PL(upper))?;
-    connect(setup, Hub::BAT(group, 2), Hub::MI(upper))?;
+    let top = top_group(counter);
+    connect(setup, Hub::PX(program, 3), Hub::BAC(top, 2))?;
+    wire_controls(setup, Hub::BAN(top, 2), Control::Plus, higher)?;
+    wire_controls(setup, Hub::BAT(top, 2), Control::Minus, higher)?;
     Ok(())
 }
 
-// Wires what the upper counter group does with the lower one.
+// Wires what the higher counter does with the lower one.
 fn wire_transfer_sense(
     setup: &mut Setup,
     level: Level,
-    group: Group,
-    upper: Group,
+    counter: TotalCounter,
+    higher: TotalCounter,
     rule: Option<SignRule>,
 ) -> Result<(), AllocError>
-    requires group { IsOnPanel group }
-    requires upper { IsOnPanel upper }
-    ensures { OnOk result (Adds (TransferSense level group upper rule) setup.old setup.new) }
+    requires counter { IsCounterOnPanel counter }
+    requires higher { IsCounterOnPanel higher }
+    ensures { OnOk result (Adds (TransferSense level counter higher rule) setup.old setup.new) }
 {
     let program = level.number();
     match rule {
-        Some(_) => wire_signed_transfer(setup, program, group, upper),
-        None => connect(setup, Hub::PX(program, 3), Hub::PL(upper)),
+        Some(_) => wire_signed_transfer(setup, program, counter, higher),
+        None => wire_controls(setup, Hub::PX(program, 3), Control::Plus, higher),
     }
 }
 
@@ -141,26 +135,26 @@ pub(crate) fn wire_transfer(
     name: Name,
     level: Level,
     digits: u16,
-    group: Group,
+    counter: TotalCounter,
     rule: Option<SignRule>,
 ) -> Result<(), AllocError>
-    requires group { IsOnPanel group }
-    requires wide { digits ≤ group.width }
-    requires upper { (number : ℕ) → IsNextHigher chart.now.lines name (level_number level) number
-        → HasGroupFor chart.now.lines plan.now number digits }
+    requires counter { IsCounterOnPanel counter }
+    requires wide { digits ≤ positions_of counter }
+    requires higher { (number : ℕ) → IsNextHigher chart.now.lines name (level_number level) number
+        → HasCounterFor chart.now.lines plan.now number digits }
     requires alone { (one other : ℕ) → IsNextHigher chart.now.lines name (level_number level) one
         → IsNextHigher chart.now.lines name (level_number level) other → one ≡ other }
     ensures { OnOk result (Adds
-        (NextWires chart.now.lines plan.now name level digits group rule) setup.old setup.new) }
+        (NextWires chart.now.lines plan.now name level digits counter rule) setup.old setup.new) }
 {
     let Some(line) = next_higher(chart, name, level) else {
         return Ok(());
     };
-    // Every total has a counter group.
-    let Some(upper) = group_for(chart, plan, line) else {
+    // Every total has a counter.
+    let Some(higher) = plan.counter_on(chart, line) else {
         unreachable!()
     };
-    wire_transfer_digits(setup, digits, group, upper)?;
-    wire_transfer_sense(setup, level, group, upper, rule)?;
+    wire_transfer_digits(setup, digits, counter, higher)?;
+    wire_transfer_sense(setup, level, counter, higher, rule)?;
     Ok(())
 }

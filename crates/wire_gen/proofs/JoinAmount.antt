@@ -1,7 +1,10 @@
 -- The wires that the code adds for a total of an amount are those of the table.
-use Rattle.std.proofs.Common.{◌≡◌, ℕ, ◌+◌, List, Option, Some, None, refl, sym, subst, ◌∙◌, ap, ◌≤◌, arith}
+use Rattle.std.proofs.Common.{◌≡◌, ℕ, ◌+◌, ◌<◌, ◌≤◌, List, Option, Some, None, option_and_then, option_map, refl, sym, subst, ◌∙◌, ap, arith}
 use Rattle.std.proofs.lemmas.Option.{same_Some}
+use Rattle.plans.specs.Counters.{single_group}
 use Rattle.plans.specs.Plans.{Lists}
+use Rattle.plans.specs.declared.counter.TotalCounter.{TotalCounter}
+use Rattle.plans.specs.declared.counter.TotalCounter.TheVariants as of
 use Rattle.field_rules.specs.Fields.{field_named}
 use Rattle.charts.specs.Field.{decimals_of}
 use Rattle.charts.specs.Levels.{level_number}
@@ -13,166 +16,195 @@ use Rattle.charts.specs.declared.statement.SignRule.{SignRule}
 use Rattle.charts.specs.declared.statement.Statement.TheVariants as says
 use Rattle.hubs.specs.declared.hub.Group.{Group}
 use Rattle.hubs.specs.declared.hub.Hub.{Hub}
+use Rattle.hubs.specs.declared.hub.Hub.TheVariants.{BAN, BAT, CC, MI, PL, PX, RO}
+use Rattle.line_wires.specs.HelperRows.{Wires}
 use Rattle.wiring_table.specs.Figures.{IsText, IsAmount, IsSigned, IsUnsigned, IsLiteral, on_heading, on_detail, on_total, IsFigure, HasPunch, HasPunchAt, rule_of, digit_wheel, point_wheel, mark_wheel, mark_text, detail_emitter, heading_emitter, total_emitter}
 use Rattle.wiring_table.specs.Figures as figures
 use Rattle.line_wires.specs.HelperAdds.{first, second, below, some, given, punched}
 use Rattle.total_wires.specs.HelperTotals.{IsGoodTotal, TotalWires}
 use Rattle.wire_gen.specs.HelperKnown.{IsNamed}
-use Rattle.total_wires.specs.HelperLevels.{next}
+use Rattle.total_wires.specs.HelperCounters.{CarryUpWires, IsCounterOnPanel, RingWires, place_of, positions_of}
+use Rattle.total_wires.specs.HelperLevels.{HasCounterFor, next}
 use Rattle.wire_gen.specs.HelperLines.{StatementWires}
-use Rattle.total_wires.specs.HelperTotalRows.{EntrySense, SignedTotal, TotalMark, TransferSense}
-use Rattle.wiring_table.specs.Parts.{IsLowest, IsNextHigher, ServesPosition, ServesTotal, group_for, top_for}
-use Rattle.wiring_table.proofs.Groups.{place-single, serves-single, single-place, single-serves, single-top, top-single}
+use Rattle.total_wires.specs.HelperTotalRows.{EntrySense, FeedbackWires, SignedTotal, TotalMark, TransferSense}
+use Rattle.wiring_table.specs.Parts.{HasPanelGroup, IsLowest, IsNextHigher, ServesPosition, counter_for, negative_side, panel_group, positive_side, top_group}
 use Rattle.wiring_table.specs.Wires.{LineWire}
 use Rattle.wiring_table.specs.Wires as table
+use Rattle.wire_gen.proofs.CounterWires.{controls-there, each-there, position-there, serves-there, top-there}
 use Rattle.wire_gen.proofs.Fields.{mark-punch, named-field, named-has}
 use Rattle.wire_gen.proofs.JoinLines.{by-one}
 
 module _ (lines : List Line) (plan : Lists) (number : ℕ) (level : Level) (wheel : ℕ) (name : List ℕ) (digits : ℕ)
     (mark : Option Mark) where
-  entry-there : (field : Field) (group : Group) → IsAmount lines name field → group_for lines plan number ≡ Some group
+  -- a wire of the line, by one of the table
+  abbrev Told : Wires
+  Told = LineWire lines plan number (says.TotalAmount level wheel name digits mark)
+
+  entry-there : (field : Field) (counter : TotalCounter) → IsAmount lines name field → counter_for lines plan number ≡ Some counter
       → IsLowest lines name (level_number level) → (rule : Option SignRule) → rule_of field.kind ≡ rule → (exit to : Hub)
-      → EntrySense plan name group rule exit to → LineWire lines plan number (says.TotalAmount level wheel name digits mark) exit to
-  entry-there field group is at lowest None unruled exit to w =
-      by-one (LineWire lines plan number (says.TotalAmount level wheel name digits mark)) w
-      (table.entry_adds level wheel name digits mark group lowest (single-serves lines plan number group at) (record { field = field; is_amount = is; unruled = unruled }))
-  entry-there field group is at lowest (Some rule) ruled exit to (some pilot is_pilot (first w)) =
-      by-one (LineWire lines plan number (says.TotalAmount level wheel name digits mark)) w
+      → EntrySense plan name counter rule exit to → Told exit to
+  entry-there field counter is at lowest None unruled exit to w =
+      controls-there Told CC PL counter exit to w
+      (λ group has. table.entry_adds level wheel name digits mark group lowest (serves-there lines plan number counter at group has)
+      (record { field = field; is_amount = is; unruled = unruled }))
+  entry-there field counter is at lowest (Some rule) ruled exit to (some pilot is_pilot (first w)) =
+      by-one Told w
       (table.entry_sign level wheel name digits mark rule pilot lowest
       (record { field = field; named = is.named; ruled = ruled }) is_pilot)
-  entry-there field group is at lowest (Some rule) ruled exit to (some pilot is_pilot (second (first w))) =
-      by-one (LineWire lines plan number (says.TotalAmount level wheel name digits mark)) w
-      (table.entry_plus level wheel name digits mark rule pilot group lowest (single-serves lines plan number group at)
-      (record { field = field; named = is.named; ruled = ruled }) is_pilot)
-  entry-there field group is at lowest (Some rule) ruled exit to (some pilot is_pilot (second (second w))) =
-      by-one (LineWire lines plan number (says.TotalAmount level wheel name digits mark)) w
-      (table.entry_minus level wheel name digits mark rule pilot group lowest (single-serves lines plan number group at)
-      (record { field = field; named = is.named; ruled = ruled }) is_pilot)
+  entry-there field counter is at lowest (Some rule) ruled exit to (some pilot is_pilot (second (first w))) =
+      controls-there Told (positive_side rule pilot 1) PL counter exit to w
+      (λ group has. table.entry_plus level wheel name digits mark rule pilot group lowest
+      (serves-there lines plan number counter at group has) (record { field = field; named = is.named; ruled = ruled }) is_pilot)
+  entry-there field counter is at lowest (Some rule) ruled exit to (some pilot is_pilot (second (second w))) =
+      controls-there Told (negative_side rule pilot 1) MI counter exit to w
+      (λ group has. table.entry_minus level wheel name digits mark rule pilot group lowest
+      (serves-there lines plan number counter at group has) (record { field = field; named = is.named; ruled = ruled }) is_pilot)
 
-  marked-there : (rule : SignRule) (field : Field) (group : Group) → IsSigned lines name rule
-      → field_named lines name ≡ Some field → group_for lines plan number ≡ Some group
+  marked-there : (rule : SignRule) (field : Field) (counter : TotalCounter) → IsSigned lines name rule
+      → field_named lines name ≡ Some field → counter_for lines plan number ≡ Some counter
       → (its_mark : Mark) → mark ≡ Some its_mark → (exit to : Hub)
-      → TotalMark level (mark_wheel wheel digits (decimals_of field.kind)) its_mark group exit to
-      → LineWire lines plan number (says.TotalAmount level wheel name digits mark) exit to
-  marked-there rule field group signed named at its_mark is exit to (below k less (some character there (first (punched row punch w)))) =
+      → TotalMark level (mark_wheel wheel digits (decimals_of field.kind)) its_mark (top_group counter) exit to → Told exit to
+  marked-there rule field counter signed named at its_mark is exit to (below k less (some character there (first (punched row punch w)))) =
       let P : Option Mark → Type 0 = λ m. LineWire lines plan number (says.TotalAmount level wheel name digits m) exit to in
       subst P (sym is)
       (by-one (LineWire lines plan number (says.TotalAmount level wheel name digits (Some its_mark))) w
-      (table.total_mark_in level wheel name digits its_mark rule group k row (single-top lines plan number group at) signed
+      (table.total_mark_in level wheel name digits its_mark rule (top_group counter) k row (top-there lines plan number counter at) signed
       (record { character = character; there = there; punch = punch })))
-  marked-there rule field group signed named at its_mark is exit to (below k less (some character there (second w))) =
+  marked-there rule field counter signed named at its_mark is exit to (below k less (some character there (second w))) =
       let P : Option Mark → Type 0 = λ m. LineWire lines plan number (says.TotalAmount level wheel name digits m) exit to in
       let punch = mark-punch its_mark k character there in
       subst P (sym is)
       (by-one (LineWire lines plan number (says.TotalAmount level wheel name digits (Some its_mark))) w
-      (table.total_mark_out level wheel name digits its_mark rule field group k punch.0 (single-top lines plan number group at) signed named punch.1))
+      (table.total_mark_out level wheel name digits its_mark rule field (top_group counter) k punch.0
+      (top-there lines plan number counter at) signed named punch.1))
 
-  signed-there : (rule : SignRule) (field : Field) (group : Group) → IsSigned lines name rule
-      → field_named lines name ≡ Some field → group_for lines plan number ≡ Some group → (exit to : Hub)
-      → SignedTotal level (mark_wheel wheel digits (decimals_of field.kind)) mark group exit to
-      → LineWire lines plan number (says.TotalAmount level wheel name digits mark) exit to
-  signed-there rule field group signed named at exit to (first (first (first w))) =
-      by-one (LineWire lines plan number (says.TotalAmount level wheel name digits mark)) w (table.ring level wheel name digits mark rule group at signed)
-  signed-there rule field group signed named at exit to (first (first (second (first w)))) =
-      by-one (LineWire lines plan number (says.TotalAmount level wheel name digits mark)) w (table.balance_test level wheel name digits mark rule group (single-top lines plan number group at) signed)
-  signed-there rule field group signed named at exit to (first (first (second (second (first w))))) =
-      by-one (LineWire lines plan number (says.TotalAmount level wheel name digits mark)) w (table.conversion level wheel name digits mark rule group (single-top lines plan number group at) signed)
-  signed-there rule field group signed named at exit to (first (first (second (second (second (first w)))))) =
-      by-one (LineWire lines plan number (says.TotalAmount level wheel name digits mark)) w (table.conversion_read_out level wheel name digits mark rule group group (single-top lines plan number group at) (single-serves lines plan number group at) signed)
-  signed-there rule field group signed named at exit to (first (first (second (second (second (second w)))))) =
-      by-one (LineWire lines plan number (says.TotalAmount level wheel name digits mark)) w (table.conversion_minus level wheel name digits mark rule group group (single-top lines plan number group at) (single-serves lines plan number group at) signed)
-  signed-there rule field group signed named at exit to (first (second (below place less w))) =
-      by-one (LineWire lines plan number (says.TotalAmount level wheel name digits mark)) w
-      (table.feedback level wheel name digits mark rule group (place + 1) (single-serves lines plan number group at) signed (omega arith) (omega (arith, less)))
-  signed-there rule field group signed named at exit to (second (some its_mark is wires)) =
-      marked-there rule field group signed named at its_mark is exit to wires
+  -- the carry of a counter round, and from its lower group to its upper one
+  ring-there : (rule : SignRule) (counter : TotalCounter) → IsSigned lines name rule → counter_for lines plan number ≡ Some counter
+      → (exit to : Hub) → RingWires counter exit to → Told exit to
+  ring-there rule (of.Single own) signed at exit to w =
+      by-one Told w
+      (table.ring level wheel name digits mark rule (panel_group own)
+      (ap (λ o. option_map panel_group (option_and_then single_group o)) at) signed)
+  ring-there rule (of.Coupled lower upper) signed at exit to w =
+      by-one Told w (table.carry_round level wheel name digits mark rule lower upper at signed)
 
-  sense-there : (field : Field) (group upper : Group) (other : ℕ) → IsAmount lines name field
-      → group_for lines plan number ≡ Some group → IsNextHigher lines name (level_number level) other
-      → group_for lines plan other ≡ Some upper → (rule : Option SignRule) → rule_of field.kind ≡ rule → (exit to : Hub)
-      → TransferSense level group upper rule exit to → LineWire lines plan number (says.TotalAmount level wheel name digits mark) exit to
-  sense-there field group upper other is at is_next at_upper None unruled exit to w =
-      by-one (LineWire lines plan number (says.TotalAmount level wheel name digits mark)) w
-      (table.transfer_adds level wheel name digits mark upper other (record { field = field; is_amount = is; unruled = unruled })
-      is_next (single-serves lines plan other upper at_upper))
-  sense-there field group upper other is at is_next at_upper (Some rule) ruled exit to (first w) =
-      by-one (LineWire lines plan number (says.TotalAmount level wheel name digits mark)) w
-      (table.transfer_sign level wheel name digits mark rule group other (single-top lines plan number group at)
+  carry-there : (counter : TotalCounter) → counter_for lines plan number ≡ Some counter → (exit to : Hub)
+      → CarryUpWires counter exit to → Told exit to
+  carry-there (of.Single own) at exit to w = absurd w
+  carry-there (of.Coupled lower upper) at exit to w = by-one Told w (table.carry_up level wheel name digits mark lower upper at)
+
+  signed-there : (rule : SignRule) (field : Field) (counter : TotalCounter) → IsSigned lines name rule
+      → field_named lines name ≡ Some field → counter_for lines plan number ≡ Some counter → (exit to : Hub)
+      → SignedTotal level (mark_wheel wheel digits (decimals_of field.kind)) mark counter exit to → Told exit to
+  signed-there rule field counter signed named at exit to (first (first w)) = ring-there rule counter signed at exit to w
+  signed-there rule field counter signed named at exit to (first (second (first (first w)))) =
+      by-one Told w
+      (table.balance_test level wheel name digits mark rule (top_group counter) (top-there lines plan number counter at) signed)
+  signed-there rule field counter signed named at exit to (first (second (first (second (first w))))) =
+      by-one Told w
+      (table.conversion level wheel name digits mark rule (top_group counter) (top-there lines plan number counter at) signed)
+  signed-there rule field counter signed named at exit to (first (second (first (second (second (first w)))))) =
+      controls-there Told (BAT (top_group counter) 1) RO counter exit to w
+      (λ group has. table.conversion_read_out level wheel name digits mark rule (top_group counter) group
+      (top-there lines plan number counter at) (serves-there lines plan number counter at group has) signed)
+  signed-there rule field counter signed named at exit to (first (second (first (second (second (second w)))))) =
+      controls-there Told (BAT (top_group counter) 1) MI counter exit to w
+      (λ group has. table.conversion_minus level wheel name digits mark rule (top_group counter) group
+      (top-there lines plan number counter at) (serves-there lines plan number counter at group has) signed)
+  signed-there rule field counter signed named at exit to (first (second (second w))) =
+      each-there Told FeedbackWires counter exit to w (λ group has its. fed group has exit to its)
+    where
+      fed : (group : Group) → HasPanelGroup counter group → (from into : Hub) → FeedbackWires group from into → Told from into
+      fed group has from into (below place less its) =
+          by-one Told its
+          (table.feedback level wheel name digits mark rule group (place + 1) (serves-there lines plan number counter at group has) signed
+          (omega arith) (omega (arith, less)))
+  signed-there rule field counter signed named at exit to (second (some its_mark is wires)) =
+      marked-there rule field counter signed named at its_mark is exit to wires
+
+  sense-there : (field : Field) (counter higher : TotalCounter) (other : ℕ) → IsAmount lines name field
+      → counter_for lines plan number ≡ Some counter → IsNextHigher lines name (level_number level) other
+      → counter_for lines plan other ≡ Some higher → (rule : Option SignRule) → rule_of field.kind ≡ rule → (exit to : Hub)
+      → TransferSense level counter higher rule exit to → Told exit to
+  sense-there field counter higher other is at is_next at_higher None unruled exit to w =
+      controls-there Told (PX (level_number level) 3) PL higher exit to w
+      (λ group has. table.transfer_adds level wheel name digits mark group other
+      (record { field = field; is_amount = is; unruled = unruled }) is_next (serves-there lines plan other higher at_higher group has))
+  sense-there field counter higher other is at is_next at_higher (Some rule) ruled exit to (first w) =
+      by-one Told w
+      (table.transfer_sign level wheel name digits mark rule (top_group counter) other (top-there lines plan number counter at)
       (record { field = field; named = is.named; ruled = ruled }) is_next)
-  sense-there field group upper other is at is_next at_upper (Some rule) ruled exit to (second (first w)) =
-      by-one (LineWire lines plan number (says.TotalAmount level wheel name digits mark)) w
-      (table.transfer_plus level wheel name digits mark rule group upper other (single-top lines plan number group at)
-      (record { field = field; named = is.named; ruled = ruled }) is_next (single-serves lines plan other upper at_upper))
-  sense-there field group upper other is at is_next at_upper (Some rule) ruled exit to (second (second w)) =
-      by-one (LineWire lines plan number (says.TotalAmount level wheel name digits mark)) w
-      (table.transfer_minus level wheel name digits mark rule group upper other (single-top lines plan number group at)
-      (record { field = field; named = is.named; ruled = ruled }) is_next (single-serves lines plan other upper at_upper))
+  sense-there field counter higher other is at is_next at_higher (Some rule) ruled exit to (second (first w)) =
+      controls-there Told (BAN (top_group counter) 2) PL higher exit to w
+      (λ group has. table.transfer_plus level wheel name digits mark rule (top_group counter) group other
+      (top-there lines plan number counter at) (record { field = field; named = is.named; ruled = ruled }) is_next
+      (serves-there lines plan other higher at_higher group has))
+  sense-there field counter higher other is at is_next at_higher (Some rule) ruled exit to (second (second w)) =
+      controls-there Told (BAT (top_group counter) 2) MI higher exit to w
+      (λ group has. table.transfer_minus level wheel name digits mark rule (top_group counter) group other
+      (top-there lines plan number counter at) (record { field = field; named = is.named; ruled = ruled }) is_next
+      (serves-there lines plan other higher at_higher group has))
 
-  -- a total's group, and that of the next higher total, have room for its digits
-  room : {field : Field} → IsGoodTotal lines plan number level wheel name digits mark field → (group : Group)
-      → group_for lines plan number ≡ Some group → digits ≤ group.width
-  room good group at =
-      subst (λ (g : Group). digits ≤ g.width) (same_Some good.group.group group (sym good.group.there ∙ at)) good.group.wide
+  -- a position of a counter that has room for so many digits has its place
+  placed : (its : ℕ) (counter : TotalCounter) → HasCounterFor lines plan its digits → counter_for lines plan its ≡ Some counter
+      → (place : ℕ) → place < digits
+      → ServesPosition lines plan its (place + 1) (place_of counter (place + 1)).0 (place_of counter (place + 1)).1
+  placed its counter has at place less =
+      let same = same_Some has.counter counter (sym has.there ∙ at) in
+      let wide = subst (λ c. digits ≤ positions_of c) same has.wide in
+      position-there lines plan its counter at (place + 1) (subst IsCounterOnPanel same has.on_panel) (omega arith)
+      (omega (arith, less, wide))
 
-  upper_room : {field : Field} → IsGoodTotal lines plan number level wheel name digits mark field → (other : ℕ)
-      → IsNextHigher lines name (level_number level) other → (upper : Group) → group_for lines plan other ≡ Some upper
-      → digits ≤ upper.width
-  upper_room good other is_next upper at =
-      let its = good.upper other is_next in
-      subst (λ (g : Group). digits ≤ g.width) (same_Some its.group upper (sym its.there ∙ at)) its.wide
-
-  wires-there : (field : Field) (group : Group) → IsAmount lines name field → group_for lines plan number ≡ Some group
-      → IsGoodTotal lines plan number level wheel name digits mark field → (exit to : Hub) → TotalWires lines plan name level wheel digits mark field group exit to
-      → LineWire lines plan number (says.TotalAmount level wheel name digits mark) exit to
-  wires-there field group is at good exit to (first (given lowest (first (below place less w)))) =
-      by-one (LineWire lines plan number (says.TotalAmount level wheel name digits mark)) w
-      (let wide = room good group at in
-      let enough = good.enough in
-      table.entry level wheel name digits mark field group (place + 1) (place + 1) lowest
-      (single-place lines plan number group at (place + 1) (omega arith) (omega (arith, less, enough, wide))) is (omega arith)
-      (omega (arith, less)))
-  wires-there field group is at good exit to (first (given lowest (second wires))) =
-      entry-there field group is at lowest (rule_of field.kind) refl exit to wires
-  wires-there field group is at good exit to (second (first (first w))) =
-      by-one (LineWire lines plan number (says.TotalAmount level wheel name digits mark)) w (table.read_out level wheel name digits mark group (single-serves lines plan number group at))
-  wires-there field group is at good exit to (second (first (second (below place less w)))) =
-      by-one (LineWire lines plan number (says.TotalAmount level wheel name digits mark)) w
-      (let wide = room good group at in
-      table.total_digit level wheel name digits mark field group (place + 1) (place + 1)
-      (single-place lines plan number group at (place + 1) (omega arith) (omega (arith, less, wide))) is (omega arith)
-      (omega (arith, less)))
-  wires-there field group is at good exit to (second (second (first (given has (punched row punch w))))) =
-      by-one (LineWire lines plan number (says.TotalAmount level wheel name digits mark)) w
+  wires-there : (field : Field) (counter : TotalCounter) → IsAmount lines name field → counter_for lines plan number ≡ Some counter
+      → IsGoodTotal lines plan number level wheel name digits mark field → (exit to : Hub)
+      → TotalWires lines plan name level wheel digits mark field counter exit to → Told exit to
+  wires-there field counter is at good exit to (first (given lowest (first (below place less w)))) =
+      by-one Told w
+      (let enough = good.enough in
+      table.entry level wheel name digits mark field (place_of counter (place + 1)).0 (place + 1) (place_of counter (place + 1)).1
+      lowest (placed number counter good.counter at place (omega (arith, less, enough))) is (omega arith) (omega (arith, less)))
+  wires-there field counter is at good exit to (first (given lowest (second wires))) =
+      entry-there field counter is at lowest (rule_of field.kind) refl exit to wires
+  wires-there field counter is at good exit to (second (first (first w))) =
+      controls-there Told (PX (level_number level) 3) RO counter exit to w
+      (λ group has. table.read_out level wheel name digits mark group (serves-there lines plan number counter at group has))
+  wires-there field counter is at good exit to (second (first (second (below place less w)))) =
+      by-one Told w
+      (table.total_digit level wheel name digits mark field (place_of counter (place + 1)).0 (place + 1)
+      (place_of counter (place + 1)).1 (placed number counter good.counter at place less) is (omega arith) (omega (arith, less)))
+  wires-there field counter is at good exit to (second (second (first (given has (punched row punch w))))) =
+      by-one Told w
       (table.point (says.TotalAmount level wheel name digits mark) (total_emitter (level_number level)) wheel
       (record { digits = digits; decimals = decimals_of field.kind; mark = mark }) row
       (figures.IsFigure.on_total level wheel name digits mark field is) has punch)
-  wires-there field group is at good exit to (second (second (second (first (some rule ruled wires))))) =
-      signed-there rule field group (record { field = field; named = is.named; ruled = ruled }) is.named at exit to wires
-  wires-there field group is at good exit to
-      (second (second (second (second (next other is_next (some upper at_upper (first (below place less w)))))))) =
-      by-one (LineWire lines plan number (says.TotalAmount level wheel name digits mark)) w
-      (let wide = room good group at in
-      let upper_wide = upper_room good other is_next upper at_upper in
-      table.transfer level wheel name digits mark group upper other (place + 1) (place + 1) (place + 1)
-      (single-place lines plan number group at (place + 1) (omega arith) (omega (arith, less, wide))) is_next
-      (single-place lines plan other upper at_upper (place + 1) (omega arith) (omega (arith, less, upper_wide))) (omega arith)
-      (omega (arith, less)))
-  wires-there field group is at good exit to (second (second (second (second (next other is_next (some upper at_upper (second wires))))))) =
-      sense-there field group upper other is at is_next at_upper (rule_of field.kind) refl exit to wires
+  wires-there field counter is at good exit to (second (second (second (first (some rule ruled wires))))) =
+      signed-there rule field counter (record { field = field; named = is.named; ruled = ruled }) is.named at exit to wires
+  wires-there field counter is at good exit to
+      (second (second (second (second (first (next other is_next (some higher at_higher (first (below place less w))))))))) =
+      by-one Told w
+      (table.transfer level wheel name digits mark (place_of counter (place + 1)).0 (place_of higher (place + 1)).0 other
+      (place + 1) (place_of counter (place + 1)).1 (place_of higher (place + 1)).1
+      (placed number counter good.counter at place less) is_next
+      (placed other higher (good.higher other is_next) at_higher place less) (omega arith) (omega (arith, less)))
+  wires-there field counter is at good exit to
+      (second (second (second (second (first (next other is_next (some higher at_higher (second wires)))))))) =
+      sense-there field counter higher other is at is_next at_higher (rule_of field.kind) refl exit to wires
+  wires-there field counter is at good exit to (second (second (second (second (second wires))))) = carry-there counter at exit to wires
 
   pub total-there : IsNamed (field_named lines name) (IsGoodTotal lines plan number level wheel name digits mark)
-      → (exit to : Hub) → StatementWires lines plan number (says.TotalAmount level wheel name digits mark) exit to → LineWire lines plan number (says.TotalAmount level wheel name digits mark) exit to
-  total-there good exit to (some field named (some group at wires)) =
+      → (exit to : Hub) → StatementWires lines plan number (says.TotalAmount level wheel name digits mark) exit to
+      → LineWire lines plan number (says.TotalAmount level wheel name digits mark) exit to
+  total-there good exit to (some field named (some counter at wires)) =
       let known = named-has (field_named lines name) (IsGoodTotal lines plan number level wheel name digits mark) good field named in
-      wires-there field group (record { named = named; holds_amount = known.holds_amount }) at known exit to wires
+      wires-there field counter (record { named = named; holds_amount = known.holds_amount }) at known exit to wires
 
-  -- the wires of a known field and group
-  pub known-wires : (field : Field) (group : Group) (exit to : Hub) → field_named lines name ≡ Some field
-      → group_for lines plan number ≡ Some group → TotalWires lines plan name level wheel digits mark field group exit to
+  -- the wires of a known field and counter
+  pub known-wires : (field : Field) (counter : TotalCounter) (exit to : Hub) → field_named lines name ≡ Some field
+      → counter_for lines plan number ≡ Some counter → TotalWires lines plan name level wheel digits mark field counter exit to
       → StatementWires lines plan number (says.TotalAmount level wheel name digits mark) exit to
-  known-wires field group exit to named at wires = some field named (some group at wires)
+  known-wires field counter exit to named at wires = some field named (some counter at wires)
 
-  -- where a total of the table has a group of its own, and its field is known
+  -- where a total of the table has a counter of its own, and its field is known
   pub record Known : Type 0 where
     pub field : Field
     pub named : field_named lines name ≡ Some field
@@ -184,30 +216,14 @@ module _ (lines : List Line) (plan : Lists) (number : ℕ) (level : Level) (whee
       record { field = known.0; named = known.1; good = known.2 }
 
   -- the sense of the entry of an amount
-  pub sense-wires : (group : Group) (known given_rule : Option SignRule) (exit to : Hub) → known ≡ given_rule
-      → EntrySense plan name group given_rule exit to → EntrySense plan name group known exit to
-  sense-wires group known given_rule exit to same wires =
-      let P : Option SignRule → Type 0 = λ r. EntrySense plan name group r exit to in
+  pub sense-wires : (counter : TotalCounter) (known given_rule : Option SignRule) (exit to : Hub) → known ≡ given_rule
+      → EntrySense plan name counter given_rule exit to → EntrySense plan name counter known exit to
+  sense-wires counter known given_rule exit to same wires =
+      let P : Option SignRule → Type 0 = λ r. EntrySense plan name counter r exit to in
       subst P (sym same) wires
 
-  pub transfer-wires : (group upper : Group) (known given_rule : Option SignRule) (exit to : Hub) → known ≡ given_rule
-      → TransferSense level group upper given_rule exit to → TransferSense level group upper known exit to
-  transfer-wires group upper known given_rule exit to same wires =
-      let P : Option SignRule → Type 0 = λ r. TransferSense level group upper r exit to in
+  pub transfer-wires : (counter higher : TotalCounter) (known given_rule : Option SignRule) (exit to : Hub) → known ≡ given_rule
+      → TransferSense level counter higher given_rule exit to → TransferSense level counter higher known exit to
+  transfer-wires counter higher known given_rule exit to same wires =
+      let P : Option SignRule → Type 0 = λ r. TransferSense level counter higher r exit to in
       subst P (sym same) wires
-
--- what serves a total whose counter has only one group is that group, and each position is its own place
-pub sole : (lines : List Line) (plan : Lists) (number : ℕ) {own : Group} (group : Group) → group_for lines plan number ≡ Some own
-    → ServesTotal lines plan number group → group_for lines plan number ≡ Some group
-sole lines plan number {own = own} group at serves = at ∙ ap Some (serves-single lines plan number own at group serves)
-
-pub sole-top : (lines : List Line) (plan : Lists) (number : ℕ) {own : Group} (top : Group) → group_for lines plan number ≡ Some own
-    → top_for lines plan number ≡ Some top → group_for lines plan number ≡ Some top
-sole-top lines plan number {own = own} top at is = at ∙ ap Some (top-single lines plan number own at top is)
-
-pub sole-place : (lines : List Line) (plan : Lists) (number : ℕ) {own : Group} (position : ℕ) (group : Group) (place : ℕ)
-    → group_for lines plan number ≡ Some own → ServesPosition lines plan number position group place
-    → (group_for lines plan number ≡ Some group) × (position ≡ place)
-sole-place lines plan number {own = own} position group place at serves =
-    let (same, is) = place-single lines plan number own at position group place serves in
-    (at ∙ ap Some same, is)

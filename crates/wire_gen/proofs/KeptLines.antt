@@ -22,7 +22,7 @@ use Rattle.wiring_table.specs.Figures.{mark_wheel}
 use Rattle.line_wires.specs.HelperItems.{IsGoodDetail}
 use Rattle.total_wires.specs.HelperTotals.{IsGoodTotal}
 use Rattle.wire_gen.specs.HelperKnown.{IsGood, IsGoodTotalText, IsNamed}
-use Rattle.total_wires.specs.HelperLevels.{HasGroupFor}
+use Rattle.total_wires.specs.HelperLevels.{HasCounterFor}
 use Rattle.wiring_table.specs.Parts.{IsNextHigher}
 use Rattle.std.specs.Prelude.{map}
 use Rattle.std.specs.List.{Contains, filter}
@@ -50,7 +50,7 @@ use Rattle.chart_rules.proofs.Laws.{kept-line, good-listed, good-field}
 use Rattle.field_rules.specs.Fields.{field_of}
 use Rattle.wiring_table.proofs.Totals.{digits-grow, one-total, total-digits, total-of}
 use Rattle.wire_gen.proofs.KeptFields.{known-name, named-by, good-sign, wheels-within}
-use Rattle.wire_gen.proofs.KeptTotals.{group-for}
+use Rattle.wire_gen.proofs.KeptTotals.{counter-for}
 
 -- where none of some lines is wide, a line that is listed isn't
 narrow-line : (test : Line → Bool) (lines : List Line) (line : Line) → length (map (λ l. l.number) (filter test lines)) ≡ 0
@@ -178,17 +178,17 @@ module _ (chart : Chart) (plan : Lists) (lawful : IsLawful chart) (rise : Number
       narrow-of : (field : Field) → field_named chart.lines name ≡ Some field → columns_of field ≤ 16
       narrow-of field at = narrow-field chart.lines line level wheel name field few listed is at
 
-  -- the next higher total has as many digits, and a group for them
-  upper-group : (level : Level) (wheel : ℕ) (name : List ℕ) (digits : ℕ) (mark : Option Mark)
+  -- the next higher total has as many digits, and a counter for them
+  higher-counter : (level : Level) (wheel : ℕ) (name : List ℕ) (digits : ℕ) (mark : Option Mark)
       → line.statement ≡ says.TotalAmount level wheel name digits mark → (other : ℕ)
-      → IsNextHigher chart.lines name (level_number level) other → HasGroupFor chart.lines plan other digits
-  upper-group level wheel name digits mark is other next_one =
-      let found = group-for chart plan lawful rise is_for name next_one.higher other next_one.total in
+      → IsNextHigher chart.lines name (level_number level) other → HasCounterFor chart.lines plan other digits
+  higher-counter level wheel name digits mark is other next_one =
+      let found = counter-for chart.lines plan chart.end rise is_for name next_one.higher other next_one.total in
       let less : digits ≤ next_one.total.digits =
       digits-grow chart name lawful (level_number level) next_one.higher line.number other next_one.above (total-of chart.lines line level wheel name digits mark listed is)
       next_one.total in
       let enough = found.wide in
-      record { group = found.group; there = found.there; on_panel = found.on_panel; wide = omega (arith, less, enough) }
+      record { counter = found.counter; there = found.there; on_panel = found.on_panel; wide = omega (arith, less, enough) }
 
   -- the next higher total stands on one line
   next-alone : (level : Level) (name : List ℕ) (former latter : ℕ) → IsNextHigher chart.lines name (level_number level) former
@@ -229,8 +229,8 @@ module _ (chart : Chart) (plan : Lists) (lawful : IsLawful chart) (rise : Number
           whole = omega (arith, decimals, enough);
         };
         enough = enough;
-        group = group-for chart plan lawful rise is_for name (level_number level) line.number own;
-        upper = upper-group level wheel name digits mark is;
+        counter = counter-for chart.lines plan chart.end rise is_for name (level_number level) line.number own;
+        higher = higher-counter level wheel name digits mark is;
         alone = next-alone level name;
       })
 

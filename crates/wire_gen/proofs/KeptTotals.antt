@@ -1,15 +1,21 @@
--- The counter groups of the totals of a chart.
-use Rattle.std.proofs.Common.{ℕ, inl, inr, List, arith}
+-- The counters of the totals of a chart.
+use Rattle.std.proofs.Common.{◌≡◌, ℕ, ◌≤◌, inl, inr, List, Some, refl, arith}
 use Rattle.std.proofs.lemmas.Bool.Decides.{nat_tests}
 use Rattle.capacity.specs.Capacities.{HasGroup, standard}
-use Rattle.chart_rules.specs.Rules.{IsLawful}
-use Rattle.charts.specs.Chart.{Chart, NumbersRise}
+use Rattle.charts.specs.Chart.{NumbersRise}
+use Rattle.charts.specs.declared.chart.Line.{Line}
+use Rattle.field_rules.specs.Fields.{field_named}
 use Rattle.hubs.specs.declared.hub.Group.{Group}
 use Rattle.plans.proofs.CounterGroups.{width-cases}
+use Rattle.plans.specs.Counters.{IsEnoughFor}
 use Rattle.plans.specs.Plans.{Lists, IsFor}
-use Rattle.total_wires.specs.HelperLevels.{HasGroupFor, IsOnPanel}
-use Rattle.wiring_table.proofs.Groups.{group-given, group-room, group-there}
-use Rattle.wiring_table.specs.Parts.{HasTotal}
+use Rattle.plans.specs.declared.counter.TotalCounter.{TotalCounter}
+use Rattle.plans.specs.declared.counter.TotalCounter.TheVariants as of
+use Rattle.total_wires.specs.HelperCounters.{IsCounterOnPanel, IsOnPanel, positions_of}
+use Rattle.total_wires.specs.HelperLevels.{HasCounterFor}
+use Rattle.wanted.specs.ChartTotals.{need_of}
+use Rattle.wiring_table.proofs.Groups.{counter-enough, counter-given, serves-there}
+use Rattle.wiring_table.specs.Parts.{HasTotal, counter_for, panel_group}
 
 on-panel : (group : Group) → HasGroup standard (record { width = group.width; number = group.number }) → IsOnPanel group
 on-panel group has =
@@ -27,15 +33,43 @@ on-panel group has =
       to = grind (arith, nat_tests, to);
     }
 
--- the total on a line of a lawful chart has a counter group of its plan, with at least its digits
-pub group-for : (chart : Chart) (plan : Lists) → IsLawful chart → NumbersRise chart.lines chart.end → IsFor chart.lines plan
-    → (name : List ℕ) (level number : ℕ) (total : HasTotal chart.lines name level number) → HasGroupFor chart.lines plan number total.digits
-group-for chart plan lawful rise is_for name level number total =
-    let (group, there) = group-given chart plan name level number lawful is_for total in
-    let room = group-room chart.lines plan is_for chart.end name level number group rise total there in
+-- the groups of a counter that is enough for a total of the chart are on the panel
+counter-on_panel : (lines : List Line) (plan : Lists) (number need : ℕ) (counter : TotalCounter) → IsFor lines plan
+    → counter_for lines plan number ≡ Some counter → IsEnoughFor need counter → IsCounterOnPanel counter
+counter-on_panel lines plan number need (of.Single own) is_for there enough =
+    on-panel (panel_group own)
+    (serves-there lines plan is_for number (panel_group own) (record { counter = of.Single own; there = there; has = refl }))
+counter-on_panel lines plan number need (of.Coupled lower upper) is_for there enough = record {
+  lower_there = on-panel (panel_group lower)
+      (serves-there lines plan is_for number (panel_group lower)
+      (record { counter = of.Coupled lower upper; there = there; has = inl refl }));
+  upper_there = on-panel (panel_group upper)
+      (serves-there lines plan is_for number (panel_group upper)
+      (record { counter = of.Coupled lower upper; there = there; has = inr refl }));
+  lower_width = enough.lower_width;
+  upper_width = enough.upper_width;
+}
+
+-- and they have as many positions as it needs
+enough-positions : (need : ℕ) (counter : TotalCounter) → IsEnoughFor need counter → need ≤ positions_of counter
+enough-positions need (of.Single own) enough = enough
+enough-positions need (of.Coupled lower upper) enough =
+    let most = enough.to in
+    let lower_width = enough.lower_width in
+    let upper_width = enough.upper_width in
+    omega (arith, most, lower_width, upper_width)
+
+-- the total on a line of a chart has a counter of its plan, with at least its digits
+pub counter-for : (lines : List Line) (plan : Lists) (end : ℕ) → NumbersRise lines end → IsFor lines plan
+    → (name : List ℕ) (level number : ℕ) (total : HasTotal lines name level number) → HasCounterFor lines plan number total.digits
+counter-for lines plan end rise is_for name level number total =
+    let (counter, there) = counter-given lines plan name level number is_for total in
+    let need = need_of (field_named lines name) total.digits in
+    let enough = counter-enough lines plan is_for end name level number counter rise total there in
+    let room = enough-positions need counter enough in
     record {
-      group = group;
+      counter = counter;
       there = there;
-      on_panel = on-panel group (group-there chart.lines plan is_for number group there);
+      on_panel = counter-on_panel lines plan number need counter is_for there enough;
       wide = omega (arith, room);
     }

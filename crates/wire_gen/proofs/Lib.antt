@@ -1,4 +1,5 @@
 mod AmountBack
+mod CounterWires
 mod Fields
 mod FigureLines
 mod JoinAmount

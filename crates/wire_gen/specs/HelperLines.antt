@@ -13,7 +13,7 @@ use Rattle.line_wires.specs.HelperItems.{DetailWires, NoWires}
 use Rattle.total_wires.specs.HelperTotals.{TotalWires}
 use Rattle.line_wires.specs.HelperRows.{AfterWires, ComparedWires, LiteralWires, PickupWires, SpaceWires, Wires}
 use Rattle.total_wires.specs.HelperTotalRows.{TotalTextWires}
-use Rattle.wiring_table.specs.Parts.{group_for, unit_for}
+use Rattle.wiring_table.specs.Parts.{counter_for, unit_for}
 use Rattle.wiring_table.specs.Wires.{LineWire}
 
 -- the wires that a line of the chart gives, by its number and what it says
@@ -31,8 +31,8 @@ StatementWires lines plan number (says.TotalLiteral level wheel literal) =
 StatementWires lines plan number (says.TotalText level wheel name) =
     OfSome (field_named lines name) (λ field. OfSome (unit_for plan number) (λ unit. TotalTextWires level unit wheel field))
 StatementWires lines plan number (says.TotalAmount level wheel name digits mark) =
-    OfSome (field_named lines name) (λ field. OfSome (group_for lines plan number) (λ group.
-    TotalWires lines plan name level wheel digits mark field group))
+    OfSome (field_named lines name) (λ field. OfSome (counter_for lines plan number) (λ counter.
+    TotalWires lines plan name level wheel digits mark field counter))
 StatementWires lines plan number (says.Space line spacing) = SpaceWires line spacing
 StatementWires lines plan number (says.After line action) = AfterWires line action
 StatementWires lines plan number other = NoWires

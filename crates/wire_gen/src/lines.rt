@@ -11,7 +11,7 @@ ghost use Rattle.wire_gen.specs.HelperKnown.{IsGood, IsGoodTotalText, IsNamed};
 ghost use Rattle.wire_gen.specs.HelperLines.{StatementWires, WiresBefore};
 ghost use Rattle.line_wires.specs.HelperRows.{ComparedWires};
 ghost use Rattle.total_wires.specs.HelperTotalRows.{TotalTextWires};
-ghost use Rattle.wiring_table.specs.Parts.{group_for, unit_for};
+ghost use Rattle.wiring_table.specs.Parts.{counter_for, unit_for};
 ghost use Rattle.wiring_table.specs.Wires.{LineWire};
 
 use chart_rules::Chart;
@@ -96,8 +96,8 @@ fn wire_total_line(
     requires { IsNamed (field_named chart.now.lines name)
         (IsGoodTotal chart.now.lines plan.now line level wheel name digits mark) }
     ensures { OnOk result (Adds (OfSome (field_named chart.now.lines name) (λ field.
-        OfSome (group_for chart.now.lines plan.now line) (λ group.
-        TotalWires chart.now.lines plan.now name level wheel digits mark field group))) setup.old setup.new) }
+        OfSome (counter_for chart.now.lines plan.now line) (λ counter.
+        TotalWires chart.now.lines plan.now name level wheel digits mark field counter))) setup.old setup.new) }
 {
     if let Some(field) = chart.field(name) {
         wire_total(

@@ -1,4 +1,5 @@
 pub mod Chains
+mod CarriesAgree
 pub mod Ways
 pub mod Sources
 pub mod Contacts

@@ -4,3 +4,4 @@ pub mod Groups
 pub mod PanelCycles
 pub mod CycleRows
 pub mod PanelLaws
+pub mod CarryLaws

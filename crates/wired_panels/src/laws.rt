@@ -1,5 +1,6 @@
 //! Laws of panels that are wired for charts. Each function does nothing: its contract is the law.
 
+ghost use Rattle.wired_panels.specs.CarryLaws.{ChartWiresCanJoin};
 ghost use Rattle.wired_panels.specs.PanelLaws.{BreaksCallLevels, PilotsTellTheNextCard, UnitsHoldTheCard};
 
 /// After the run-in and each card cycle the pilots tell the signs of the card that prints next, and other cycles leave them.
@@ -15,4 +16,10 @@ pub fn units_hold_the_card()
 /// After a card cycle the levels that are called for are those of the break between its card and the next.
 pub fn breaks_call_levels()
     ensures { BreaksCallLevels }
+{}
+
+/// Each wire of a chart can join a setup whose wires are all wires of the chart: its carry wires agree with one another. So where
+/// the wires of a chart alone are added one by one to a setup that has none, in any order, want of memory is the only refusal.
+pub fn chart_wires_can_join()
+    ensures { ChartWiresCanJoin }
 {}

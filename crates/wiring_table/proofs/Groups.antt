@@ -1,10 +1,10 @@
 -- Each total of a chart has a counter of its plan, enough for it, and no two totals have a group of one.
 use Rattle.std.proofs.Common.{◌≡◌, ◌∙◌, refl, sym, ap, subst, ℕ, ◌-◌, ◌<◌, ◌≤◌, ◌==◌, nat_le, Bool, true, false, List, Option, Some, None, option_map, option_and_then, position, slice_get, get_or, inl, inr, arith}
 use Rattle.std.proofs.lemmas.Bool.Decides.{nat_tests}
-use Rattle.std.proofs.lemmas.Option.{slice_get_within, slice_get-get_or, get_or_from_slice_get, same_Some}
+use Rattle.std.proofs.lemmas.Option.{slice_get_within, slice_get-get_or, same_Some}
 use Rattle.capacity.specs.Capacities.{HasGroup, standard}
 use Rattle.capacity.specs.declared.group.CounterGroup.{CounterGroup}
-use Rattle.charts.specs.Chart.{Chart, NumbersRise}
+use Rattle.charts.specs.Chart.{NumbersRise}
 use Rattle.charts.specs.declared.chart.Line.{Line}
 use Rattle.charts.specs.declared.statement.Statement.{Statement}
 use Rattle.charts.specs.declared.statement.Statement.TheVariants as says
@@ -17,8 +17,6 @@ use Rattle.plans.specs.Counters.{HasCounter, IsEnoughFor, IsGroupOf, SharesGroup
 use Rattle.plans.specs.Plans.{Lists, IsFor}
 use Rattle.plans.specs.declared.counter.TotalCounter.{TotalCounter}
 use Rattle.plans.specs.declared.counter.TotalCounter.TheVariants as of
-use Rattle.wanted.proofs.Needs.{NeedsFit-lawful}
-use Rattle.chart_rules.specs.Rules.{IsLawful}
 use Rattle.wanted.specs.ChartTotals.{need_of, line_total, totals_of}
 use Rattle.wanted.specs.declared.total.Total.{Total}
 use Rattle.wiring_table.specs.Parts.{HasPanelGroup, HasTotal, ServesPosition, ServesTotal, StandsAt, counter_for, group_for, panel_group, top_for, top_group}
@@ -65,54 +63,12 @@ is-single lines plan number group served = by (counter_for lines plan number) re
     by (Some (of.Coupled lower upper)) is same = cc
     by (Some (of.Single own)) is same = record { own = own; there = is; is_group = same_Some (panel_group own) group same }
 
-module _ (lines : List Line) (plan : Lists) (number : ℕ) (group : Group) (served : group_for lines plan number ≡ Some group) where
-  -- the only group of a counter serves the total, has its balance, and has its positions at as many places
-  pub single-serves : ServesTotal lines plan number group
-  single-serves =
-      let single = is-single lines plan number group served in
-      record { counter = of.Single single.own; there = single.there; has = single.is_group }
-
-  pub single-top : top_for lines plan number ≡ Some group
-  single-top =
-      let single = is-single lines plan number group served in ap (option_map top_group) single.there ∙ ap Some single.is_group
-
-  pub single-place : (place : ℕ) → 1 ≤ place → place ≤ group.width → ServesPosition lines plan number place group place
-  single-place place from to =
-      let single = is-single lines plan number group served in
-      record {
-        counter = of.Single single.own;
-        there = single.there;
-        at = record { from = from; to = to; at = (single.is_group, refl) };
-      }
-
-  -- and no other group does
-  pub serves-single : (other : Group) → ServesTotal lines plan number other → group ≡ other
-  serves-single other serves =
-      let single = is-single lines plan number group served in
-      by serves.counter (same_Some _ _ (sym single.there ∙ serves.there)) serves.has
-    where
-      by : (counter : TotalCounter) → of.Single (is-single lines plan number group served).own ≡ counter → HasPanelGroup counter other
-          → group ≡ other
-      by (of.Single own) same has =
-          let one : (is-single lines plan number group served).own ≡ own = cc in
-          sym (is-single lines plan number group served).is_group ∙ ap panel_group one ∙ has
-      by (of.Coupled lower upper) same has = cc
-
-  pub top-single : (other : Group) → top_for lines plan number ≡ Some other → group ≡ other
-  top-single other is = same_Some group other (sym single-top ∙ is)
-
-  pub place-single : (position : ℕ) (other : Group) (place : ℕ) → ServesPosition lines plan number position other place
-      → (group ≡ other) × (position ≡ place)
-  place-single position other place serves =
-      let single = is-single lines plan number group served in
-      by serves.counter (same_Some _ _ (sym single.there ∙ serves.there)) serves.at.at
-    where
-      by : (counter : TotalCounter) → of.Single (is-single lines plan number group served).own ≡ counter
-          → StandsAt counter position other place → (group ≡ other) × (position ≡ place)
-      by (of.Single own) same stands =
-          let one : (is-single lines plan number group served).own ≡ own = cc in
-          (sym (is-single lines plan number group served).is_group ∙ ap panel_group one ∙ stands.0, stands.1)
-      by (of.Coupled lower upper) same stands = cc
+-- the only group of a counter serves the total
+pub single-serves : (lines : List Line) (plan : Lists) (number : ℕ) (group : Group) → group_for lines plan number ≡ Some group
+    → ServesTotal lines plan number group
+single-serves lines plan number group served =
+    let single = is-single lines plan number group served in
+    record { counter = of.Single single.own; there = single.there; has = single.is_group }
 
 -- a group that serves a position of a total serves the total
 pub position-serves : (lines : List Line) (plan : Lists) (number position : ℕ) (group : Group) (place : ℕ)
@@ -153,12 +109,6 @@ shared one (of.Single its) group has its_has = in-counter one its group has its_
 shared one (of.Coupled lower upper) group has (inl its_has) = inl (in-counter one lower group has its_has)
 shared one (of.Coupled lower upper) group has (inr its_has) = inr (in-counter one upper group has its_has)
 
--- a counter that is enough for a total that needs no more positions than a group has is one group
-single-enough : (need : ℕ) (counter : TotalCounter) → need ≤ 8 → IsEnoughFor need counter
-    → (group : CounterGroup) × (counter ≡ of.Single group)
-single-enough need (of.Single group) small enough = (group, refl)
-single-enough need (of.Coupled lower upper) small enough = absurd (omega (arith, small, enough.from))
-
 -- each total has a counter
 pub counter-given : (lines : List Line) (plan : Lists) (name : List ℕ) (level number : ℕ) → IsFor lines plan
     → HasTotal lines name level number → (counter : TotalCounter) × (counter_for lines plan number ≡ Some counter)
@@ -176,33 +126,6 @@ counter-given lines plan name level number planned total =
     slice_get-get_or plan.counters place no_counter (omega (arith, within, planned.counters.many)) in
     (counter, ap (option_and_then (slice_get plan.counters)) at ∙ there)
 
-module _ (chart : Chart) (plan : Lists) (lawful : IsLawful chart) (planned : IsFor chart.lines plan) where
-  -- the counter of a total of a lawful chart has only one group
-  pub counter-single : (number : ℕ) (counter : TotalCounter) → counter_for chart.lines plan number ≡ Some counter
-      → (group : CounterGroup) × (counter ≡ of.Single group)
-  counter-single number counter there =
-      let a = is-served chart.lines plan number counter there in
-      let within = slice_get_within (totals_of chart.lines) a.place a.total a.is_total in
-      let need : a.total.need ≤ 8 =
-      subst (λ (t : Total). t.need ≤ 8) (get_or_from_slice_get (totals_of chart.lines) a.place a.total a.total a.is_total)
-      (NeedsFit-lawful chart lawful a.place a.total within) in
-      single-enough a.total.need counter need (planned.counters.enough a.place a.total counter a.is_total a.there)
-
-  -- so a group that serves a total is its only one
-  pub serving-single : (number : ℕ) (group : Group) → ServesTotal chart.lines plan number group → group_for chart.lines plan number ≡ Some group
-  serving-single number group serves =
-      let (own, is) = counter-single number serves.counter serves.there in
-      ap (λ o. option_map panel_group (option_and_then single_group o)) (serves.there ∙ ap Some is)
-      ∙ ap Some (subst (λ c. HasPanelGroup c group) is serves.has)
-
--- each total of a lawful chart has a counter group, since none needs more positions than a group has
-pub group-given : (chart : Chart) (plan : Lists) (name : List ℕ) (level number : ℕ) → IsLawful chart → IsFor chart.lines plan
-    → HasTotal chart.lines name level number → (group : Group) × (group_for chart.lines plan number ≡ Some group)
-group-given chart plan name level number lawful planned total =
-    let (counter, there) = counter-given chart.lines plan name level number planned total in
-    let (group, is) = counter-single chart plan lawful planned number counter there in
-    (panel_group group, ap (λ o. option_map panel_group (option_and_then single_group o)) (there ∙ ap Some is))
-
 module _ (lines : List Line) (plan : Lists) (planned : IsFor lines plan) where
   -- one counter group serves one line
   pub serves-own : (one other : ℕ) (group : Group) → ServesTotal lines plan one group → ServesTotal lines plan other group → one ≡ other
@@ -216,11 +139,6 @@ module _ (lines : List Line) (plan : Lists) (planned : IsFor lines plan) where
       sym a.is_total ∙ ap (slice_get (totals_of lines)) same_place ∙ b.is_total in
       let total : a.total ≡ b.total = cc in
       sym a.line ∙ ap (λ (t : Total). t.line) total ∙ b.line
-
-  pub group-own : (one other : ℕ) (group : Group) → group_for lines plan one ≡ Some group → group_for lines plan other ≡ Some group
-      → one ≡ other
-  group-own one other group served served_too =
-      serves-own one other group (single-serves lines plan one group served) (single-serves lines plan other group served_too)
 
   -- it is one of the standard machine
   pub serves-there : (number : ℕ) (group : Group) → ServesTotal lines plan number group
@@ -238,10 +156,6 @@ module _ (lines : List Line) (plan : Lists) (planned : IsFor lines plan) where
       by (of.Single own) has there = moved own has there
       by (of.Coupled lower upper) (inl has) there = moved lower has there.0
       by (of.Coupled lower upper) (inr has) there = moved upper has there.1
-
-  pub group-there : (number : ℕ) (group : Group) → group_for lines plan number ≡ Some group
-      → HasGroup standard (record { width = group.width; number = group.number })
-  group-there number group served = serves-there number group (single-serves lines plan number group served)
 
   -- the counter of a total is enough for it
   pub counter-enough : (end : ℕ) (name : List ℕ) (level number : ℕ) (counter : TotalCounter) → NumbersRise lines end
@@ -269,16 +183,6 @@ module _ (lines : List Line) (plan : Lists) (planned : IsFor lines plan) where
           → Some (record { level = total.its_level; line = its; need = need_of (field_named lines total.its_name) total.digits }) ≡ Some found
           → need_of (field_named lines total.its_name) total.digits ≡ found.need
       need-made its found is = cc
-
-  -- the only group of one has room for its total
-  pub group-room : (end : ℕ) (name : List ℕ) (level number : ℕ) (group : Group) → NumbersRise lines end
-      → (total : HasTotal lines name level number) → group_for lines plan number ≡ Some group
-      → need_of (field_named lines name) total.digits ≤ group.width
-  group-room end name level number group rise total served =
-      let single = is-single lines plan number group served in
-      let wide : single.own.width ≡ group.width = ap (λ (g : Group). g.width) single.is_group in
-      let enough = counter-enough end name level number (of.Single single.own) rise total single.there in
-      omega (arith, wide, enough)
 
   -- the two groups of a counter differ
   pub pair-apart : (number : ℕ) (lower upper : CounterGroup) → counter_for lines plan number ≡ Some (of.Coupled lower upper)

@@ -13,16 +13,17 @@ pub returns : goal.returns
 returns c =
     let d = c.decimals-decimals.ensures in
     let r = c.rule_of-rule.ensures in
-    let group = c.in-Some.group in
+    let counter = c.in-Some.counter in
     adds-some (sym c.in-Some.ensures)
     (adds-both c.in_ok-wire_lowest.ensures
-    (adds-both (adds-by (λ n. ReadOutWires c.args.level c.args.wheel c.args.digits n group) c.in_ok-wire_read_out.ensures d)
+    (adds-both (adds-by (λ n. ReadOutWires c.args.level c.args.wheel c.args.digits n counter) c.in_ok-wire_read_out.ensures d)
     (adds-both
     (adds-by (λ n. PointWires (4 + level_number c.args.level) c.args.wheel c.args.digits n)
     (adds-by (λ l. PointWires (4 + l) c.args.wheel c.args.digits c.decimals-decimals.result) c.in_ok-wire_point.ensures c.number.ensures) d)
     (adds-both
-    (adds-by (λ s. OfSome s (λ its_rule. SignedTotal c.args.level (mark_wheel c.args.wheel c.args.digits (decimals_of c.args.field.kind)) c.args.mark group))
-    (adds-by (λ w. OfSome c.rule_of-rule.result (λ its_rule. SignedTotal c.args.level w c.args.mark group))
+    (adds-by (λ s. OfSome s (λ its_rule. SignedTotal c.args.level (mark_wheel c.args.wheel c.args.digits (decimals_of c.args.field.kind)) c.args.mark counter))
+    (adds-by (λ w. OfSome c.rule_of-rule.result (λ its_rule. SignedTotal c.args.level w c.args.mark counter))
     c.in_ok-wire_sign.ensures (c.mark_wheel-after.ensures ∙ ap (mark_wheel c.args.wheel c.args.digits) d)) r)
-    (adds-by (NextWires c.args.chart.now.lines c.args.plan.now c.args.name c.args.level c.args.digits group)
-    c.in_ok-wire_transfer.ensures r)))))
+    (adds-both
+    (adds-by (NextWires c.args.chart.now.lines c.args.plan.now c.args.name c.args.level c.args.digits counter)
+    c.in_ok-wire_transfer.ensures r) c.in_ok-wire_carry_up.ensures)))))

@@ -1,12 +1,13 @@
-use Rattle.std.proofs.Common.{arith}
-use Rattle.line_wires.proofs.Steps.{upto-all, upto-more, upto-none}
+use Rattle.std.proofs.Common.{arith, refl}
+use Rattle.line_wires.proofs.Steps.{one-as, upto-all, upto-more, upto-none}
+use Rattle.total_wires.proofs.CounterHubs.{same-entry}
 use Rattle.total_wires.proofs.entry.wire_entry_digits.Goals as goal
 
 pub loop-place-init : goal.loop-place-init
 loop-place-init c = upto-none
 
 pub loop-place-preserved : goal.loop-place-preserved
-loop-place-preserved c = upto-more c.loop-place.invariant c.in_ok-connect.ensures
+loop-place-preserved c = upto-more c.loop-place.invariant (one-as c.in_ok-connect.ensures refl (same-entry c.place_of-place.ensures.value))
 
 pub returns : goal.returns
 returns c = upto-all c.loop-place.invariant (omega arith)

@@ -1,10 +1,13 @@
-use Rattle.std.proofs.Common.{refl, sym}
-use Rattle.line_wires.proofs.Steps.{adds-both, adds-some, one-as}
+use Rattle.hubs.specs.declared.hub.Hub.TheVariants.{PL, MI}
+use Rattle.std.proofs.Common.{sym}
+use Rattle.line_wires.proofs.Steps.{adds-both, adds-by, adds-some}
+use Rattle.total_wires.specs.HelperCounters.{ControlWires}
 use Rattle.total_wires.proofs.entry.wire_signed_entry.Goals as goal
 
-pub returns-in_ok-connect-3 : goal.returns-in_ok-connect-3
-returns-in_ok-connect-3 c =
+pub returns-in_ok-wire_controls-2 : goal.returns-in_ok-wire_controls-2
+returns-in_ok-wire_controls-2 c =
     adds-some (sym c.in-Some.ensures.value)
     (adds-both c.in_ok-connect.ensures
-    (adds-both (one-as c.in_ok-connect-2.ensures c.positive_side-plus.ensures.value refl)
-    (one-as c.in_ok-connect-3.ensures c.negative_side-minus.ensures.value refl)))
+    (adds-both
+    (adds-by (λ hub. ControlWires hub PL c.args.counter) c.in_ok-wire_controls.ensures c.positive_side-plus.ensures.value)
+    (adds-by (λ hub. ControlWires hub MI c.args.counter) c.in_ok-wire_controls-2.ensures c.negative_side-minus.ensures.value)))

@@ -1,12 +1,14 @@
-use Rattle.hubs.specs.declared.hub.Hub.TheVariants.{PX}
-use Rattle.std.proofs.Common.{ap, refl}
-use Rattle.line_wires.proofs.Steps.{adds-both, one-as}
+use Rattle.hubs.specs.declared.hub.Hub.TheVariants.{BAC, BAT, BT, MI, PX, RO}
+use Rattle.std.proofs.Common.{ap}
+use Rattle.line_wires.proofs.Steps.{adds-both, adds-by, one-as}
+use Rattle.total_wires.specs.HelperCounters.{ControlWires}
 use Rattle.total_wires.proofs.total.wire_balance.Goals as goal
 
 pub returns : goal.returns
 returns c =
     let e = c.number-program.ensures in
-    adds-both c.in_ok-connect.ensures
-    (adds-both (one-as c.in_ok-connect-2.ensures (ap (λ n. PX n 1) e) refl)
-    (adds-both (one-as c.in_ok-connect-3.ensures (ap (λ n. PX n 2) e) refl)
-    (adds-both c.in_ok-connect-4.ensures c.in_ok-connect-5.ensures)))
+    let top = c.top_group-top.ensures.value in
+    adds-both (one-as c.in_ok-connect.ensures (ap (λ n. PX n 1) e) (ap BT top))
+    (adds-both (one-as c.in_ok-connect-2.ensures (ap (λ n. PX n 2) e) (ap (λ g. BAC g 1) top))
+    (adds-both (adds-by (λ g. ControlWires (BAT g 1) RO c.args.counter) c.in_ok-wire_controls.ensures top)
+    (adds-by (λ g. ControlWires (BAT g 1) MI c.args.counter) c.in_ok-wire_controls-2.ensures top)))

@@ -1,8 +1,9 @@
-use Rattle.hubs.specs.declared.hub.Hub.TheVariants.{PX}
-use Rattle.std.proofs.Common.{ap, refl}
-use Rattle.line_wires.proofs.Steps.{adds-both, one-as}
+use Rattle.hubs.specs.declared.hub.Hub.TheVariants.{PX, RO}
+use Rattle.line_wires.proofs.Steps.{adds-both, adds-by}
+use Rattle.total_wires.specs.HelperCounters.{ControlWires}
 use Rattle.total_wires.proofs.total.wire_read_out.Goals as goal
 
 pub returns : goal.returns
 returns c =
-    adds-both (one-as c.in_ok-connect.ensures (ap (λ n. PX n 3) c.number.ensures) refl) c.in_ok-wire_total_digits.ensures
+    adds-both (adds-by (λ n. ControlWires (PX n 3) RO c.args.counter) c.in_ok-wire_controls.ensures c.number.ensures)
+    c.in_ok-wire_total_digits.ensures

@@ -1,6 +1,7 @@
 use Rattle.hubs.specs.declared.hub.Hub.TheVariants.{W}
-use Rattle.std.proofs.Common.{ap, arith, refl}
+use Rattle.std.proofs.Common.{ap, arith}
 use Rattle.line_wires.proofs.Steps.{one-as, upto-all, upto-more, upto-none}
+use Rattle.total_wires.proofs.CounterHubs.{same-exit}
 use Rattle.total_wires.proofs.total.wire_total_digits.Goals as goal
 
 pub loop-place-init : goal.loop-place-init
@@ -8,7 +9,8 @@ loop-place-init c = upto-none
 
 pub loop-place-preserved : goal.loop-place-preserved
 loop-place-preserved c =
-    upto-more c.loop-place.invariant (one-as c.in_ok-connect.ensures refl (ap W c.digit_wheel-entry.ensures.value))
+    upto-more c.loop-place.invariant
+    (one-as c.in_ok-connect.ensures (same-exit c.place_of-place.ensures.value) (ap W c.digit_wheel-entry.ensures.value))
 
 pub returns : goal.returns
 returns c = upto-all c.loop-place.invariant (omega arith)

@@ -1,9 +1,10 @@
-use Rattle.hubs.specs.declared.hub.Hub.TheVariants.{GX, W}
+use Rattle.hubs.specs.declared.hub.Hub.TheVariants.{W}
 use Rattle.std.proofs.Common.{◌+◌}
 use Rattle.wiring_table.specs.Figures.{digit_wheel}
 use Rattle.line_wires.specs.HelperAdds.{Adds, One, Upto}
+use Rattle.total_wires.specs.HelperCounters.{exit_of, place_of}
 use Rattle.total_wires.proofs.total.wire_total_digits.Given as goal
 
 abbrev pub invariant-loop-place : goal.invariant-loop-place
 invariant-loop-place l =
-    Adds (Upto l.place (λ place. One (GX l.group (place + 1)) (W (digit_wheel l.wheel l.digits l.decimals (place + 1))))) l.initial.setup l.setup
+    Adds (Upto l.place (λ place. One (exit_of (place_of l.counter (place + 1))) (W (digit_wheel l.wheel l.digits l.decimals (place + 1))))) l.initial.setup l.setup

@@ -9,5 +9,5 @@ returns-in_default c = adds-no_next c.in_default.ensures
 pub returns : goal.returns
 returns c =
     adds-next c.requires.alone c.in-Some.ensures
-    (adds-some (sym c.in-Some-group_for.ensures)
+    (adds-some (sym c.in-Some-counter_on.ensures)
     (adds-both c.in_ok-wire_transfer_digits.ensures c.in_ok-wire_transfer_sense.ensures))

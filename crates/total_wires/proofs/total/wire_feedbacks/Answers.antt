@@ -1,0 +1,8 @@
+use Rattle.total_wires.specs.HelperTotalRows.{FeedbackWires}
+use Rattle.total_wires.proofs.CounterHubs.{adds-pair}
+use Rattle.total_wires.proofs.total.wire_feedbacks.Goals as goal
+
+pub returns-in_ok-wire_feedback-in-Coupled-2 : goal.returns-in_ok-wire_feedback-in-Coupled-2
+returns-in_ok-wire_feedback-in-Coupled-2 c =
+    adds-pair FeedbackWires c.in-Coupled.is c.panel_group-in-Coupled.ensures c.panel_group-in-Coupled-2.ensures
+    c.in_ok-wire_feedback-in-Coupled.ensures c.in_ok-wire_feedback-in-Coupled-2.ensures

@@ -1,0 +1,14 @@
+-- A law of the carries of a chart: its carry wires agree with one another.
+use Rattle.std.specs.Prelude.{List}
+use Rattle.charts.specs.declared.chart.Line.{Line}
+use Rattle.hubs.specs.declared.hub.Hub.{Hub}
+use Rattle.plans.specs.Plans.{Lists, IsFor}
+use Rattle.setups.specs.Wiring.{CanJoin, HasWire, Wiring}
+use Rattle.wiring_table.specs.Wires.{ChartWire}
+
+-- Each wire of a chart can join a setup whose wires are all wires of the chart.
+abbrev pub ChartWiresCanJoin : Type 0
+ChartWiresCanJoin =
+    (lines : List Line) (plan : Lists) (wiring : Wiring) → IsFor lines plan
+    → ((exit entry : Hub) → HasWire wiring exit entry → ChartWire lines plan exit entry)
+    → (exit entry : Hub) → ChartWire lines plan exit entry → CanJoin wiring exit entry
