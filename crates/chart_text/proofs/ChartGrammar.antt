@@ -1,6 +1,6 @@
 -- A text is a chart exactly where the reader answers it, and has exactly the fault that the reader answers.
 use Rattle.std.proofs.Common.{◌≡◌, ℕ, ◌+◌, ◌-◌, ◌<◌, ◌≤◌, Bool, true, false, cond, List, [], ◌∷◌, length, get_or, Option, Some, None, Result, Ok, Err, suc, refl, ap, sym, ◌∙◌, subst, inl, inr, ◌⊎◌, arith, codes}
-use Rattle.std.proofs.lemmas.Bool.{cases_order, both_ways}
+use Rattle.std.proofs.lemmas.Bool.{cases_order}
 use Rattle.std.proofs.lemmas.Option.{same_Some, none-some}
 use Rattle.tokens.proofs.TokenGrammar.{read_what_it_has}
 use Rattle.std.specs.Bool.{Decides}

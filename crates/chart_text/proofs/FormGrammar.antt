@@ -8,7 +8,7 @@ use Rattle.charts.specs.Name.{IsName}
 use Rattle.chart_text.specs.Forms.{SaysSign, unsigned, by_row, by_absence, SaysMark, unmarked, total_marked, SaysOption, as_it_is, indicated, item_marked, SaysKind, detail_line, total_line, Says, text_field, amount_field, control, print_detail, print_group, head, detail_literal, detail_field, total_literal, total_text, total_amount, SaysCoupled, coupled_amount, space, page_after, skip_after, form, tape}
 use Rattle.tokens.specs.NumberReading.{number_of, numbers_of}
 use Rattle.chart_text.specs.HelperWords.{name_of, literal_of, mark_of, keyword_of, level_of, control_level_of, heading_line_of, spacing_lines_of}
-use Rattle.chart_text.specs.HelperForms.{stops_of, sign_of, total_mark_of, option_of, kind_of, field_kind_of, field_of, control_of, print_of, head_of, detail_literal_of, detail_field_of, detail_item_of, detail_of, total_literal_of, total_amount_of, total_field_of, total_item_of, total_statement, spacing_of, space_of, follower_of, after_of, form_of, tape_of, said_after, statement_of, coupled_of, said_coupled, said_by, said_of}
+use Rattle.chart_text.specs.HelperForms.{stops_of, sign_of, total_mark_of, option_of, kind_of, field_kind_of, field_of, control_of, print_of, head_of, detail_literal_of, detail_field_of, detail_item_of, detail_of, total_literal_of, total_amount_of, total_field_of, total_item_of, total_statement, spacing_of, space_of, follower_of, after_of, form_of, tape_of, said_after, statement_of, coupled_of, said_by, said_of}
 use Rattle.tokens.proofs.Steps.{bound, granted}
 use Rattle.tokens.proofs.TokenWord.{is_word}
 use Rattle.tokens.proofs.NumberGrammar.{number_is, number_read, numbers_are, numbers_read, as_many_numbers}

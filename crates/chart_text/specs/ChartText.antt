@@ -1,6 +1,6 @@
 -- A chart as text: line 1 names the language and its version, each other line is a form or empty, END ends the chart.
 -- The text rules, which say what is wrong with a text that is no chart, stand in TextFaults.
-use Rattle.std.specs.Prelude.{◌≡◌, ℕ, suc, Bool, true, false, List, [], ◌∷◌, ◌++◌, if◌then◌else◌, codes}
+use Rattle.std.specs.Prelude.{◌≡◌, ℕ, suc, true, false, List, [], ◌∷◌, ◌++◌, if◌then◌else◌, codes}
 use Rattle.std.specs.List.{AllByRecursion}
 use Rattle.card_code.specs.Lines.{lines_of}
 use Rattle.charts.specs.Chart.{Chart}
