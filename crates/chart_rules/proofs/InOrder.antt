@@ -27,7 +27,7 @@ rule_number-at number (first ∷ others) (suc place) each numbered at = omega (a
 -- the rules in order are numbered from 21
 pub AreNumbered-in_order : AreNumbered 21 in_order
 unfolding in_order
-AreNumbered-in_order = (refl, (refl, (refl, (refl, (refl, (refl, (refl, (refl, (refl, (refl, (refl, (refl, (refl, (refl, (refl, (refl, (refl, tt)))))))))))))))))
+AreNumbered-in_order = (refl, (refl, (refl, (refl, (refl, (refl, (refl, (refl, (refl, (refl, (refl, (refl, (refl, (refl, (refl, (refl, (refl, (refl, tt))))))))))))))))))
 
 -- a chart that keeps each rule of the list is lawful
 pub IsLawful-kept : (chart : Chart) → AreKept in_order (length in_order) chart → IsLawful chart

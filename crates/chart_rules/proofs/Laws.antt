@@ -20,18 +20,24 @@ use Rattle.field_rules.specs.Repeats.{repeats}
 use Rattle.chart_rules.specs.declared.rule.Rule.{Rule}
 use Rattle.chart_rules.specs.declared.rule.Rule.TheVariants as rule
 use Rattle.chart_rules.specs.HelperOnCard.{IsOnCard, AreOnCard}
-use Rattle.chart_rules.specs.Rules.{breaks, lacks, by_line, by_end, IsKept, IsLawful}
+use Rattle.chart_rules.specs.Rules.{breaks, breaks_at, lacks, by_line, by_end, IsKept, IsLawful}
 use Rattle.chart_rules.specs.ValidCard.{IsText, IsValidAmount, IsValidCard, IsValidField, IsValidKind, column_of, digit_count}
 
 -- a line of a lawful chart breaks no rule
-pub breaks-lawful : (each : Rule) (chart : Chart) (earlier : List Line) (line : Line) (later : List Line) → IsLawful chart
-    → chart.lines ≡ earlier ++ line ∷ later → breaks each chart.lines earlier line.statement ≡ false
+pub breaks_at-lawful : (each : Rule) (chart : Chart) (earlier : List Line) (line : Line) (later : List Line) → IsLawful chart
+    → chart.lines ≡ earlier ++ line ∷ later → breaks_at each chart earlier line ≡ false
 unfolding IsLawful IsKept
-breaks-lawful each chart earlier line later lawful split = by (breaks each chart.lines earlier line.statement) refl
+breaks_at-lawful each chart earlier line later lawful split = by (breaks_at each chart earlier line) refl
   where
-    by : (b : Bool) → breaks each chart.lines earlier line.statement ≡ b → b ≡ false
+    by : (b : Bool) → breaks_at each chart earlier line ≡ b → b ≡ false
     by true h = absurd (lawful each line.number (by_line earlier line later split h))
     by false h = refl
+
+-- and none by what it says alone
+pub breaks-lawful : (each : Rule) (chart : Chart) (earlier : List Line) (line : Line) (later : List Line) → IsLawful chart
+    → chart.lines ≡ earlier ++ line ∷ later → breaks each chart.lines earlier line.statement ≡ false
+breaks-lawful rule.CoupledMark chart earlier line later lawful split = refl
+breaks-lawful other chart earlier line later lawful split = breaks_at-lawful other chart earlier line later lawful split
 
 -- whichever lines stand before it
 pub kept-line : (chart : Chart) → IsLawful chart → (line : Line) → Contains chart.lines line → (each : Rule)

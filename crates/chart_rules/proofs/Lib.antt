@@ -3,3 +3,4 @@ pub mod InOrder
 pub mod Laws
 pub mod ValidCards
 pub mod OneFault
+pub mod Versions

@@ -7,22 +7,24 @@ use Rattle.charts.specs.Chart.{Chart, NumbersRise}
 use Rattle.charts.specs.declared.chart.Line.{Line}
 use Rattle.charts.proofs.Rising.{NumbersRise-tail}
 use Rattle.chart_rules.specs.declared.rule.Rule.{Rule}
-use Rattle.chart_rules.specs.Rules.{breaks, lacks, Broken, by_line, by_end, IsKept}
+use Rattle.chart_rules.specs.Rules.{breaks_at, lacks, Broken, by_line, by_end, IsKept}
 
 -- the first lines of a chart do not break a rule
-abbrev pub PassesBefore : Rule → List Line → ℕ → Type 0
-PassesBefore rule lines count =
-    (place : ℕ) → place < count → (line : Line) → slice_get lines place ≡ Some line → breaks rule lines (take place lines) line.statement ≡ false
+abbrev pub PassesBefore : Rule → Chart → ℕ → Type 0
+PassesBefore rule chart count =
+    (place : ℕ) → place < count → (line : Line) → slice_get chart.lines place ≡ Some line
+    → breaks_at rule chart (take place chart.lines) line ≡ false
 
 -- one line more that passes
-pub PassesBefore-more : (rule : Rule) (lines : List Line) (count : ℕ) (line : Line) → PassesBefore rule lines count
-    → slice_get lines count ≡ Some line → breaks rule lines (take count lines) line.statement ≡ false → PassesBefore rule lines (count + 1)
-PassesBefore-more rule lines count line before at here = below_more _ _ before same
+pub PassesBefore-more : (rule : Rule) (chart : Chart) (count : ℕ) (line : Line) → PassesBefore rule chart count
+    → slice_get chart.lines count ≡ Some line → breaks_at rule chart (take count chart.lines) line ≡ false
+    → PassesBefore rule chart (count + 1)
+PassesBefore-more rule chart count line before at here = below_more _ _ before same
   where
-    same : (other : Line) → slice_get lines count ≡ Some other → breaks rule lines (take count lines) other.statement ≡ false
+    same : (other : Line) → slice_get chart.lines count ≡ Some other → breaks_at rule chart (take count chart.lines) other ≡ false
     same other there =
         let e : line ≡ other = cc in
-        ap (λ each. breaks rule lines (take count lines) each.statement) (sym e) ∙ here
+        ap (breaks_at rule chart (take count chart.lines)) (sym e) ∙ here
 
 -- the element between two lists
 pub slice_get_seam : {X : Type 0} (xs : List X) (y : X) (ys : List X) → slice_get (xs ++ y ∷ ys) (length xs) ≡ Some y
@@ -61,16 +63,16 @@ number-rises (first ∷ lines) end (suc one) (suc other) line later rise order a
 module _ (rule : Rule) (chart : Chart) where
   -- where a line is in a chart, there is a place for it
   pub place_of-line : (earlier : List Line) (line : Line) (later : List Line) → chart.lines ≡ earlier ++ line ∷ later
-      → breaks rule chart.lines earlier line.statement ≡ true
-      → (place : ℕ) × (slice_get chart.lines place ≡ Some line) × (breaks rule chart.lines (take place chart.lines) line.statement ≡ true)
+      → breaks_at rule chart earlier line ≡ true
+      → (place : ℕ) × (slice_get chart.lines place ≡ Some line) × (breaks_at rule chart (take place chart.lines) line ≡ true)
   place_of-line earlier line later split broken = (
     length earlier,
     ap (λ lines. slice_get lines (length earlier)) split ∙ slice_get_seam earlier line later,
-    ap (λ front. breaks rule chart.lines front line.statement) (ap (take (length earlier)) split ∙ take-append_seam earlier (line ∷ later)) ∙ broken,
+    ap (λ front. breaks_at rule chart front line) (ap (take (length earlier)) split ∙ take-append_seam earlier (line ∷ later)) ∙ broken,
   )
 
   -- where all lines pass and none lacks, the rule is kept
-  pub IsKept-passes : (count : ℕ) → PassesBefore rule chart.lines count → length chart.lines ≤ count → lacks rule chart.lines ≡ false → IsKept rule chart
+  pub IsKept-passes : (count : ℕ) → PassesBefore rule chart count → length chart.lines ≤ count → lacks rule chart.lines ≡ false → IsKept rule chart
   unfolding IsKept
   IsKept-passes count passes all whole number broken = by broken
     where
@@ -83,18 +85,18 @@ module _ (rule : Rule) (chart : Chart) where
 
   -- a line that breaks a rule where the lines before it pass is the lowest
   pub Broken-at : (place : ℕ) (line : Line) → slice_get chart.lines place ≡ Some line
-      → breaks rule chart.lines (take place chart.lines) line.statement ≡ true → Broken rule chart line.number
+      → breaks_at rule chart (take place chart.lines) line ≡ true → Broken rule chart line.number
   Broken-at place line at broken =
       by_line (take place chart.lines) line (drop (suc place) chart.lines)
       (split_at chart.lines place line (slice_get_within chart.lines place line at)
       ∙ ap (λ each. take place chart.lines ++ each ∷ drop (suc place) chart.lines) (get_or_from_slice_get chart.lines place line line at))
       broken
 
-  pub lowest-at : (place : ℕ) (line : Line) → NumbersRise chart.lines chart.end → PassesBefore rule chart.lines place
+  pub lowest-at : (place : ℕ) (line : Line) → NumbersRise chart.lines chart.end → PassesBefore rule chart place
       → slice_get chart.lines place ≡ Some line → (other : ℕ) → Broken rule chart other → line.number ≤ other
   lowest-at place line rise passes at other broken = by broken
     where
-      later : (there : ℕ) (found : Line) → slice_get chart.lines there ≡ Some found → breaks rule chart.lines (take there chart.lines) found.statement ≡ true
+      later : (there : ℕ) (found : Line) → slice_get chart.lines there ≡ Some found → breaks_at rule chart (take there chart.lines) found ≡ true
           → ((there < place) ⊎ (place ≤ there)) → line.number ≤ found.number
       later there found is breaking (inl before) = absurd (true≢false (sym breaking ∙ passes there before found is))
       later there found is breaking (inr after) = number-rises chart.lines chart.end place there line found rise after at is
@@ -106,7 +108,7 @@ module _ (rule : Rule) (chart : Chart) where
       by (by_end lacking) = let below = number-below_end chart.lines chart.end place line rise at in omega arith
 
   -- END is the lowest where all lines pass
-  pub lowest-end : (count : ℕ) → PassesBefore rule chart.lines count → length chart.lines ≤ count → (other : ℕ) → Broken rule chart other → chart.end ≤ other
+  pub lowest-end : (count : ℕ) → PassesBefore rule chart count → length chart.lines ≤ count → (other : ℕ) → Broken rule chart other → chart.end ≤ other
   lowest-end count passes all other broken = by broken
     where
       by : {other : ℕ} → Broken rule chart other → chart.end ≤ other

@@ -10,7 +10,7 @@ unfoldable pub in_order : List Rule
 in_order =
     rule.NameTwice ∷ rule.Columns ∷ rule.AmountSize ∷ rule.UnknownName ∷ rule.WrongKind ∷ rule.LineTwice ∷ rule.NoControl
     ∷ rule.TotalTextNotControl ∷ rule.DigitsRange ∷ rule.DigitsShrink ∷ rule.MarkMismatch ∷ rule.WheelRange ∷ rule.WheelOverlap
-    ∷ rule.WheelClash ∷ rule.PrintKind ∷ rule.Form ∷ rule.Tape ∷ []
+    ∷ rule.WheelClash ∷ rule.PrintKind ∷ rule.Form ∷ rule.Tape ∷ rule.CoupledMark ∷ []
 
 -- no line breaks the first rules of a list
 abbrev pub AreKept : List Rule → ℕ → Chart → Type 0

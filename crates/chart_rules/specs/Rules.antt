@@ -1,7 +1,8 @@
 -- The rules of a chart: which lines break which rule, and which charts are lawful.
-use Rattle.std.specs.Prelude.{◌≡◌, ℕ, ◌<◌, ◌≤◌, Bool, true, false, List, ◌∷◌, ◌++◌}
+use Rattle.std.specs.Prelude.{◌≡◌, ℕ, ◌<◌, ◌≤◌, Bool, true, false, List, [], ◌∷◌, ◌++◌}
 use Rattle.charts.specs.Chart.{Chart}
 use Rattle.charts.specs.declared.chart.Line.{Line}
+use Rattle.charts.specs.declared.chart.Version.TheVariants.{First}
 use Rattle.charts.specs.declared.statement.Statement.{Statement}
 use Rattle.chart_rules.specs.declared.rule.Rule.{Rule}
 use Rattle.chart_rules.specs.declared.rule.Rule.TheVariants as rule
@@ -11,6 +12,7 @@ use Rattle.field_rules.specs.Columns.{breaks_columns, breaks_amount_size}
 use Rattle.field_rules.specs.Repeats.{breaks_line_twice}
 use Rattle.field_rules.specs.Control.{breaks_no_control, breaks_total_text_not_control}
 use Rattle.field_rules.specs.Digits.{breaks_digits_range}
+use Rattle.field_rules.specs.Coupled.{breaks_coupled_mark}
 use Rattle.field_rules.specs.Shrink.{breaks_digits_shrink}
 use Rattle.print_rules.specs.Marks.{breaks_mark_mismatch}
 use Rattle.print_rules.specs.Wheels.{breaks_wheel_range, breaks_wheel_overlap, breaks_wheel_clash}
@@ -18,31 +20,37 @@ use Rattle.print_rules.specs.Printing.{breaks_print_kind, lacks_print}
 use Rattle.print_rules.specs.Forms.{breaks_form, lacks_form}
 use Rattle.print_rules.specs.Tapes.{breaks_tape}
 
--- The number of a rule, and whether a line breaks it, by all lines of the chart, the lines before this one, and what it says.
-abbrev pub row_of : Rule → ℕ × (List Line → List Line → Statement → Bool)
-row_of rule.NameTwice = (21, λ lines earlier statement. breaks_name_twice (fields_of earlier) statement)
-row_of rule.Columns = (22, λ lines earlier statement. breaks_columns statement)
-row_of rule.AmountSize = (23, λ lines earlier statement. breaks_amount_size statement)
-row_of rule.UnknownName = (24, λ lines earlier statement. breaks_unknown_name (fields_of lines) statement)
-row_of rule.WrongKind = (25, λ lines earlier statement. breaks_wrong_kind (fields_of lines) statement)
-row_of rule.LineTwice = (26, λ lines earlier statement. breaks_line_twice earlier statement)
-row_of rule.NoControl = (27, λ lines earlier statement. breaks_no_control lines statement)
-row_of rule.TotalTextNotControl = (28, λ lines earlier statement. breaks_total_text_not_control lines statement)
-row_of rule.DigitsRange = (29, λ lines earlier statement. breaks_digits_range (fields_of lines) statement)
-row_of rule.DigitsShrink = (30, λ lines earlier statement. breaks_digits_shrink lines statement)
-row_of rule.MarkMismatch = (31, λ lines earlier statement. breaks_mark_mismatch (fields_of lines) statement)
-row_of rule.WheelRange = (32, λ lines earlier statement. breaks_wheel_range (fields_of lines) statement)
-row_of rule.WheelOverlap = (33, λ lines earlier statement. breaks_wheel_overlap (fields_of lines) earlier statement)
-row_of rule.WheelClash = (34, λ lines earlier statement. breaks_wheel_clash (fields_of lines) earlier statement)
-row_of rule.PrintKind = (35, λ lines earlier statement. breaks_print_kind lines statement)
-row_of rule.Form = (36, λ lines earlier statement. breaks_form lines statement)
-row_of rule.Tape = (37, λ lines earlier statement. breaks_tape lines statement)
+-- The number of a rule, and whether a line of a chart breaks it, by the chart, the lines before this one, and the line.
+abbrev pub row_of : Rule → ℕ × (Chart → List Line → Line → Bool)
+row_of rule.NameTwice = (21, λ chart earlier line. breaks_name_twice (fields_of earlier) line.statement)
+row_of rule.Columns = (22, λ chart earlier line. breaks_columns line.statement)
+row_of rule.AmountSize = (23, λ chart earlier line. breaks_amount_size line.statement)
+row_of rule.UnknownName = (24, λ chart earlier line. breaks_unknown_name (fields_of chart.lines) line.statement)
+row_of rule.WrongKind = (25, λ chart earlier line. breaks_wrong_kind (fields_of chart.lines) line.statement)
+row_of rule.LineTwice = (26, λ chart earlier line. breaks_line_twice earlier line.statement)
+row_of rule.NoControl = (27, λ chart earlier line. breaks_no_control chart.lines line.statement)
+row_of rule.TotalTextNotControl = (28, λ chart earlier line. breaks_total_text_not_control chart.lines line.statement)
+row_of rule.DigitsRange = (29, λ chart earlier line. breaks_digits_range (fields_of chart.lines) line.statement)
+row_of rule.DigitsShrink = (30, λ chart earlier line. breaks_digits_shrink chart.lines line.statement)
+row_of rule.MarkMismatch = (31, λ chart earlier line. breaks_mark_mismatch (fields_of chart.lines) line.statement)
+row_of rule.WheelRange = (32, λ chart earlier line. breaks_wheel_range (fields_of chart.lines) line.statement)
+row_of rule.WheelOverlap = (33, λ chart earlier line. breaks_wheel_overlap (fields_of chart.lines) earlier line.statement)
+row_of rule.WheelClash = (34, λ chart earlier line. breaks_wheel_clash (fields_of chart.lines) earlier line.statement)
+row_of rule.PrintKind = (35, λ chart earlier line. breaks_print_kind chart.lines line.statement)
+row_of rule.Form = (36, λ chart earlier line. breaks_form chart.lines line.statement)
+row_of rule.Tape = (37, λ chart earlier line. breaks_tape chart.lines line.statement)
+row_of rule.CoupledMark = (38, λ chart earlier line. breaks_coupled_mark (fields_of chart.lines) chart.version chart.coupled line)
 
 abbrev pub rule_number : Rule → ℕ
 rule_number rule = (row_of rule).0
 
+abbrev pub breaks_at : Rule → Chart → List Line → Line → Bool
+breaks_at rule = (row_of rule).1
+
+-- the same of what a line says alone, of which all rules are asked but CoupledMark: as it is in a chart of version 1
 abbrev pub breaks : Rule → List Line → List Line → Statement → Bool
-breaks rule = (row_of rule).1
+breaks rule lines earlier statement =
+    breaks_at rule (record { version = First; lines = lines; coupled = []; end = 0 }) earlier (record { number = 0; statement = statement })
 
 -- whether a chart lacks a line that a rule demands: PRINT or FORM
 abbrev pub lacks : Rule → List Line → Bool
@@ -52,7 +60,7 @@ lacks other lines = false
 
 -- The line with a number breaks a rule: a line of the chart by what it says, or the line END where a line is missing.
 pub data Broken (broken : Rule) (chart : Chart) : ℕ → Type 0 where
-  by_line : (earlier : List Line) (line : Line) (later : List Line) → chart.lines ≡ earlier ++ line ∷ later → breaks broken chart.lines earlier line.statement ≡ true → Broken broken chart line.number
+  by_line : (earlier : List Line) (line : Line) (later : List Line) → chart.lines ≡ earlier ++ line ∷ later → breaks_at broken chart earlier line ≡ true → Broken broken chart line.number
   by_end : lacks broken chart.lines ≡ true → Broken broken chart chart.end
 
 -- no line breaks a rule

@@ -7,7 +7,8 @@ use std::marker::Model;
 
 /// A planning chart that breaks no rule.
 ///
-/// Contracts see it, as a raw chart, as its lines in order and the number of the line END.
+/// Contracts see it as a raw chart: as its version, its lines in order, the numbers of those whose total bears the word COUPLED,
+/// and the number of the line END.
 #[derive(Drop)]
 pub struct Chart {
     raw: RawChart,

@@ -10,11 +10,11 @@ ghost use Rattle.chart_rules.specs.HelperOrder as order;
 use crate::chart::Chart;
 use crate::fault::RuleFault;
 use crate::rule::Rule;
-use charts::{Line, RawChart, Statement};
+use charts::{Line, RawChart};
 use field_rules::{
-    Fields, breaks_amount_size, breaks_columns, breaks_digits_range, breaks_digits_shrink,
-    breaks_line_twice, breaks_name_twice, breaks_no_control, breaks_total_text_not_control,
-    breaks_unknown_name, breaks_wrong_kind,
+    Fields, breaks_amount_size, breaks_columns, breaks_coupled_mark, breaks_digits_range,
+    breaks_digits_shrink, breaks_line_twice, breaks_name_twice, breaks_no_control,
+    breaks_total_text_not_control, breaks_unknown_name, breaks_wrong_kind,
 };
 use print_rules::{
     breaks_form, breaks_mark_mismatch, breaks_print_kind, breaks_tape, breaks_wheel_clash,
@@ -23,7 +23,7 @@ use print_rules::{
 use std::alloc::Global;
 
 /// The rules in the order of their numbers.
-static RULES: [Rule; 17] = [
+static RULES: [Rule; 18] = [
     Rule::NameTwice,
     Rule::Columns,
     Rule::AmountSize,
@@ -41,6 +41,7 @@ static RULES: [Rule; 17] = [
     Rule::PrintKind,
     Rule::Form,
     Rule::Tape,
+    Rule::CoupledMark,
 ];
 
 /// The chart of the lines that were read, if they break no rule.
@@ -93,7 +94,7 @@ fn lowest_line(rule: Rule, fields: &Fields, raw: &RawChart) -> Option<u16>
 {
     let lines = raw.lines();
     for (place, line) in lines.iter().enumerate() {
-        if breaks(rule, fields, lines, &lines[..place], &line.statement) {
+        if breaks(rule, fields, raw, &lines[..place], line) {
             return Some(line.number);
         }
     }
@@ -104,18 +105,14 @@ fn lowest_line(rule: Rule, fields: &Fields, raw: &RawChart) -> Option<u16>
     }
 }
 
-/// Whether a line breaks a rule, by all lines of the chart and those before it.
-fn breaks(
-    rule: Rule,
-    fields: &Fields,
-    lines: &[Line],
-    earlier: &[Line],
-    statement: &Statement,
-) -> bool
-    requires all { fields.now ≡ fields_of lines.now }
+/// Whether a line breaks a rule, by the chart and the lines before it.
+fn breaks(rule: Rule, fields: &Fields, raw: &RawChart, earlier: &[Line], line: &Line) -> bool
+    requires all { fields.now ≡ fields_of raw.now.lines }
     requires front { (later : List Field) × (fields.now ≡ fields_of earlier.now ++ later) }
-    ensures { result ≡ law.breaks rule lines.now earlier.now statement.now }
+    ensures { result ≡ law.breaks_at rule raw.now earlier.now line.now }
 {
+    let lines = raw.lines();
+    let statement = &line.statement;
     match rule {
         Rule::NameTwice => breaks_name_twice(fields, earlier, statement),
         Rule::Columns => breaks_columns(statement),
@@ -134,6 +131,7 @@ fn breaks(
         Rule::PrintKind => breaks_print_kind(lines, statement),
         Rule::Form => breaks_form(lines, statement),
         Rule::Tape => breaks_tape(lines, statement),
+        Rule::CoupledMark => breaks_coupled_mark(fields, raw.version(), raw.coupled(), line),
     }
 }
 

@@ -27,7 +27,7 @@ impl RuleFault {
     ghost use Rattle.std.specs.Prelude.{◌≡◌};
     ghost use Rattle.chart_rules.specs.RuleFaults.{fault_number};
 
-    /// Its number in the catalogue of faults, that of the rule, 21 to 37; want of memory has none.
+    /// Its number in the catalogue of faults, that of the rule, 21 to 38; want of memory has none.
     pub fn number(self) -> Option<u8>
         ensures { result ≡ fault_number self }
     {

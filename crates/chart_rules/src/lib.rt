@@ -6,7 +6,7 @@
 //! fields, levels and totals, in `print_rules` what is said of the wheels and the form.
 //!
 //! `specs/Rules.antt` joins those tests to the rules of a chart, and says which charts are lawful. That a chart or a card has
-//! one fault at most is a law. The files `Helper..` there are words of the code alone, but for `HelperChecked`, which says
+//! one fault at most is a law, and so is that charts of both versions that say the same are lawful alike (`specs/Versions.antt`). The files `Helper..` there are words of the code alone, but for `HelperChecked`, which says
 //! what a checked chart keeps, and `HelperOnCard`, which proofs of the crates above speak of.
 #![tactic(auto)]
 
@@ -21,6 +21,6 @@ pub use card::{CardFault, valid_card};
 pub use chart::Chart;
 pub use checking::check;
 pub use fault::RuleFault;
-pub use outcomes::{cards_have_one_fault, charts_have_one_fault};
+pub use outcomes::{cards_have_one_fault, charts_have_one_fault, versions_are_lawful_alike};
 pub use print_rules::{Figure, Item, PrintedLine};
 pub use rule::Rule;

@@ -37,13 +37,16 @@ pub enum Rule {
     Form,
     /// 37: a channel or stops out of range, or a skip to a channel without a TAPE line.
     Tape,
+    /// 38: in a chart of version 2, a total with the word COUPLED that needs 8 positions or fewer, or one without it that needs
+    /// more. In a chart of version 1 no line breaks it.
+    CoupledMark,
 }
 
 impl Rule {
     ghost use Rattle.std.specs.Prelude.{◌≡◌};
     ghost use Rattle.chart_rules.specs.Rules.{rule_number};
 
-    /// The number of the rule, 21 to 37.
+    /// The number of the rule, 21 to 38.
     pub fn number(self) -> u8
         ensures { result ≡ rule_number self }
     {
@@ -65,6 +68,7 @@ impl Rule {
             Rule::PrintKind => 35,
             Rule::Form => 36,
             Rule::Tape => 37,
+            Rule::CoupledMark => 38,
         }
     }
 }

@@ -1,14 +1,14 @@
 -- The tokens of a line say exactly what the reader of forms answers.
-use Rattle.std.proofs.Common.{◌≡◌, ℕ, Bool, true, false, cond, leb, ◌&&◌, List, [], ◌∷◌, ◌++◌, length, Option, Some, None, refl, ap, sym, ◌∙◌, subst, arith, codes}
+use Rattle.std.proofs.Common.{◌≡◌, ℕ, Bool, true, false, cond, leb, ◌&&◌, List, [], ◌∷◌, ◌++◌, length, Option, Some, None, option_map, refl, ap, sym, ◌∙◌, subst, arith, codes}
 use Rattle.std.proofs.lemmas.Bool.{and_parts, leb-true, le-leb}
 use Rattle.std.proofs.lemmas.Option.{same_Some, cond_some}
 use Rattle.std.specs.Str.{bytes_eq}
 use Rattle.tokens.specs.Number.{IsNumber}
 use Rattle.charts.specs.Name.{IsName}
-use Rattle.chart_text.specs.Forms.{SaysSign, unsigned, by_row, by_absence, SaysMark, unmarked, total_marked, SaysOption, as_it_is, indicated, item_marked, SaysKind, detail_line, total_line, Says, text_field, amount_field, control, print_detail, print_group, head, detail_literal, detail_field, total_literal, total_text, total_amount, space, page_after, skip_after, form, tape}
+use Rattle.chart_text.specs.Forms.{SaysSign, unsigned, by_row, by_absence, SaysMark, unmarked, total_marked, SaysOption, as_it_is, indicated, item_marked, SaysKind, detail_line, total_line, Says, text_field, amount_field, control, print_detail, print_group, head, detail_literal, detail_field, total_literal, total_text, total_amount, SaysCoupled, coupled_amount, space, page_after, skip_after, form, tape}
 use Rattle.tokens.specs.NumberReading.{number_of, numbers_of}
 use Rattle.chart_text.specs.HelperWords.{name_of, literal_of, mark_of, keyword_of, level_of, control_level_of, heading_line_of, spacing_lines_of}
-use Rattle.chart_text.specs.HelperForms.{stops_of, sign_of, total_mark_of, option_of, kind_of, field_kind_of, field_of, control_of, print_of, head_of, detail_literal_of, detail_field_of, detail_item_of, detail_of, total_literal_of, total_field_of, total_item_of, total_statement, spacing_of, space_of, follower_of, after_of, form_of, tape_of, said_after, statement_of}
+use Rattle.chart_text.specs.HelperForms.{stops_of, sign_of, total_mark_of, option_of, kind_of, field_kind_of, field_of, control_of, print_of, head_of, detail_literal_of, detail_field_of, detail_item_of, detail_of, total_literal_of, total_amount_of, total_field_of, total_item_of, total_statement, spacing_of, space_of, follower_of, after_of, form_of, tape_of, said_after, statement_of, coupled_of, said_by, said_of}
 use Rattle.tokens.proofs.Steps.{bound, granted}
 use Rattle.tokens.proofs.TokenWord.{is_word}
 use Rattle.tokens.proofs.NumberGrammar.{number_is, number_read, numbers_are, numbers_read, as_many_numbers}
@@ -25,6 +25,12 @@ use Rattle.charts.specs.declared.statement.DetailOption.{DetailOption}
 use Rattle.charts.specs.declared.statement.DetailOption.TheVariants.{Plain, Indicated, Marked}
 use Rattle.charts.specs.declared.statement.Statement.{Statement}
 use Rattle.charts.specs.declared.statement.Statement.TheVariants as says
+use Rattle.charts.specs.Levels.{level_number}
+use Rattle.charts.specs.declared.level.Level.{Level}
+use Rattle.charts.specs.declared.chart.Version.{Version}
+use Rattle.charts.specs.declared.chart.Version.TheVariants.{First, Second}
+use Rattle.chart_text.specs.ChartText.{SaysIn, in_both, in_second}
+use Rattle.chart_text.specs.declared.forms.Said.{Said}
 use Rattle.chart_text.specs.declared.words.Keyword.{Keyword}
 use Rattle.chart_text.specs.declared.words.Keyword.TheVariants as words
 
@@ -245,6 +251,43 @@ detail_is [] s read = cc
 detail_is (wheel ∷ []) s read = cc
 detail_is (wheel ∷ item ∷ others) s read = detail_item_is wheel item others s (literal_of item) refl read
 
+-- a total
+record IsAmount (level wheel name digits : List ℕ) (mark : List (List ℕ)) (s : Statement) : Type 0 where
+  l : Level
+  w : ℕ
+  n : List ℕ
+  g : ℕ
+  m : Option Mark
+  is_level : IsNumber level (level_number l)
+  is_wheel : IsNumber wheel w
+  is_name : IsName name n
+  is_digits : IsNumber digits g
+  is_mark : SaysMark mark m
+  same : says.TotalAmount l w n g m ≡ s
+
+amount_is : (level wheel name digits : List ℕ) (mark : List (List ℕ)) (s : Statement) → total_amount_of level wheel name digits mark ≡ Some s
+    → IsAmount level wheel name digits mark s
+unfolding total_amount_of
+amount_is level wheel name digits mark s read =
+    let l = bound (level_of level) _ s read in
+    let w = bound (number_of wheel) _ s l.2 in
+    let n = bound (name_of name) _ s w.2 in
+    let g = bound (number_of digits) _ s n.2 in
+    let m = bound (total_mark_of mark) _ s g.2 in
+    record {
+      l = l.0;
+      w = w.0;
+      n = n.0;
+      g = g.0;
+      m = m.0;
+      is_level = level_is level l.0 l.1;
+      is_wheel = number_is wheel w.0 w.1;
+      is_name = name_is name n.0 n.1;
+      is_digits = number_is digits g.0 g.1;
+      is_mark = total_mark_is mark m.0 m.1;
+      same = same_Some _ s m.2;
+    }
+
 total_item_is : (level wheel item : List ℕ) (others : List (List ℕ)) (s : Statement) (characters : Option (List ℕ))
     → literal_of item ≡ characters
     → total_item_of level wheel item others characters ≡ Some s → Says (codes "TOTAL" ∷ level ∷ wheel ∷ item ∷ others) s
@@ -262,14 +305,9 @@ total_item_is level wheel item [] s None found read =
     subst (Says (codes "TOTAL" ∷ level ∷ wheel ∷ item ∷ [])) (same_Some _ s n.2)
     (total_text (level_is level l.0 l.1) (number_is wheel w.0 w.1) (name_is item n.0 n.1))
 total_item_is level wheel item (digits ∷ mark) s None found read =
-    let l = bound (level_of level) _ s read in
-    let w = bound (number_of wheel) _ s l.2 in
-    let n = bound (name_of item) _ s w.2 in
-    let g = bound (number_of digits) _ s n.2 in
-    let m = bound (total_mark_of mark) _ s g.2 in
-    subst (Says (codes "TOTAL" ∷ level ∷ wheel ∷ item ∷ digits ∷ mark)) (same_Some _ s m.2)
-    (total_amount (level_is level l.0 l.1) (number_is wheel w.0 w.1) (name_is item n.0 n.1)
-    (number_is digits g.0 g.1) (total_mark_is mark m.0 m.1))
+    let t = amount_is level wheel item digits mark s read in
+    subst (Says (codes "TOTAL" ∷ level ∷ wheel ∷ item ∷ digits ∷ mark)) t.same
+    (total_amount t.is_level t.is_wheel t.is_name t.is_digits t.is_mark)
 
 total_is : (operands : List (List ℕ)) (s : Statement) → total_statement operands ≡ Some s → Says (codes "TOTAL" ∷ operands) s
 unfolding total_statement
@@ -401,7 +439,7 @@ says_what_is_read (word ∷ operands) s read =
 -- what tokens say is read
 pub read_what_it_says : {tokens : List (List ℕ)} {s : Statement} → Says tokens s → statement_of tokens ≡ Some s
 unfolding statement_of field_of field_kind_of control_of print_of head_of detail_of detail_literal_of detail_field_of
-    total_statement total_literal_of total_field_of space_of spacing_of after_of follower_of form_of tape_of stops_of
+    total_statement total_literal_of total_amount_of total_field_of space_of spacing_of after_of follower_of form_of tape_of stops_of
 read_what_it_says (text_field {name} {first} {last} {n} {a} {b} is_n is_a is_b) = rw
     (name_read name n is_n, number_read first a is_a, number_read last b is_b) refl
 read_what_it_says
@@ -452,3 +490,81 @@ read_what_it_says (tape {channel} {stops} {c} {numbers} is are some few) =
           (length stops) 10 (omega (arith, as_many_numbers are)),
       numbers_read are,
     ) refl
+
+-- what is read of a total with the word COUPLED is what it says
+coupled_is : (tokens : List (List ℕ)) (s : Statement) → coupled_of tokens ≡ Some s → SaysCoupled tokens s
+unfolding coupled_of
+coupled_is (total ∷ level ∷ wheel ∷ name ∷ digits ∷ word ∷ mark) s read =
+    let test = granted (bytes_eq total (codes "TOTAL") && bytes_eq word (codes "COUPLED")) _ s read in
+    let words = and_parts (bytes_eq total (codes "TOTAL")) (bytes_eq word (codes "COUPLED")) test.0 in
+    let t = amount_is level wheel name digits mark s test.1 in
+    subst (λ (w : List ℕ). SaysCoupled (w ∷ level ∷ wheel ∷ name ∷ digits ∷ word ∷ mark) s) (sym (is_word total (codes "TOTAL") words.0))
+    (subst (λ (w : List ℕ). SaysCoupled (codes "TOTAL" ∷ level ∷ wheel ∷ name ∷ digits ∷ w ∷ mark) s) (sym (is_word word (codes "COUPLED") words.1))
+    (subst (SaysCoupled (codes "TOTAL" ∷ level ∷ wheel ∷ name ∷ digits ∷ codes "COUPLED" ∷ mark)) t.same
+    (coupled_amount t.is_level t.is_wheel t.is_name t.is_digits t.is_mark)))
+coupled_is other s read = cc
+
+coupled_read : {tokens : List (List ℕ)} {s : Statement} → SaysCoupled tokens s → coupled_of tokens ≡ Some s
+unfolding coupled_of total_amount_of
+coupled_read (coupled_amount {level} {wheel} {name} {digits} {n} {mark} {l} {w} {g} {m} is_l is_w is_n is_g said) =
+    rw (
+      level_read level l is_l,
+      number_read wheel w is_w,
+      name_read name n is_n,
+      number_read digits g is_g,
+      total_mark_read said,
+    ) refl
+
+-- no total with the word COUPLED is a form of both versions
+no_mark : {mark : List (List ℕ)} {m : Option Mark} → SaysMark mark m → total_mark_of (codes "COUPLED" ∷ mark) ≡ None
+unfolding total_mark_of
+no_mark unmarked = refl
+no_mark (total_marked is) = refl
+
+coupled_in_both : {tokens : List (List ℕ)} {s : Statement} → SaysCoupled tokens s → statement_of tokens ≡ None
+unfolding statement_of total_statement total_field_of total_amount_of
+coupled_in_both (coupled_amount {level} {wheel} {name} {digits} {n} {mark} {l} {w} {g} {m} is_l is_w is_n is_g said) =
+    rw (
+      name_no_literal name n is_n,
+      level_read level l is_l,
+      number_read wheel w is_w,
+      name_read name n is_n,
+      number_read digits g is_g,
+      no_mark said,
+    ) refl
+
+-- what is read of tokens in a version is what they say in it
+pub says_in_what_is_read : (version : Version) (tokens : List (List ℕ)) (said : Said) → said_of version tokens ≡ Some said
+    → SaysIn version tokens said
+unfolding said_of
+says_in_what_is_read version tokens said read = by version (statement_of tokens) refl read
+  where
+    by_coupled : (found : Option Statement) → coupled_of tokens ≡ found
+        → option_map (λ statement. record { statement = statement; coupled = true }) found ≡ Some said → SaysIn Second tokens said
+    by_coupled (Some s) is same = subst (SaysIn Second tokens) (same_Some _ said same) (in_second (coupled_is tokens s is))
+    by_coupled None is same = cc
+
+    by : (version : Version) (found : Option Statement) → statement_of tokens ≡ found → said_by version tokens found ≡ Some said
+        → SaysIn version tokens said
+    by version (Some s) is same = subst (SaysIn version tokens) (same_Some _ said same) (in_both (says_what_is_read tokens s is))
+    by First None is same = cc
+    by Second None is same = by_coupled (coupled_of tokens) refl same
+
+pub read_what_it_says_in : {version : Version} {tokens : List (List ℕ)} {said : Said} → SaysIn version tokens said
+    → said_of version tokens ≡ Some said
+unfolding said_of
+read_what_it_says_in (in_both {version} {tokens} {statement} is) = ap (said_by version tokens) (read_what_it_says is)
+read_what_it_says_in (in_second {tokens} {statement} is) =
+    ap (said_by Second tokens) (coupled_in_both is)
+    ∙ ap (option_map (λ statement. record { statement = statement; coupled = true })) (coupled_read is)
+
+-- no tokens, and END alone, say nothing
+pub nothing_said : (version : Version) → said_of version [] ≡ None
+unfolding said_of statement_of coupled_of
+nothing_said First = refl
+nothing_said Second = refl
+
+pub end_says_nothing : (version : Version) → said_of version (codes "END" ∷ []) ≡ None
+unfolding said_of statement_of coupled_of
+end_says_nothing First = refl
+end_says_nothing Second = refl

@@ -1,12 +1,14 @@
 -- The literals of charts that are read from a text.
 use Rattle.std.proofs.Common.{◌≡◌, ◌∙◌, ap, subst, ℕ, zero, suc, List, Some, arith}
 use Rattle.charts.specs.Chart.{Chart}
-use Rattle.chart_text.specs.ChartText.{Reads, ReadsFrom, empty_line, form_line, end_line}
-use Rattle.chart_text.specs.Forms.{Says, head, detail_literal, total_literal}
+use Rattle.chart_text.specs.ChartText.{Reads, ReadsFrom, SaysIn, in_both, in_second, empty_line, form_line, end_line}
+use Rattle.chart_text.specs.Forms.{Says, head, detail_literal, total_literal, coupled_amount}
 use Rattle.charts.specs.Literal.{IsLiteralText}
 use Rattle.charts.specs.Literals.{HaveLiteralTexts, literal_in}
 use Rattle.charts.specs.declared.chart.Line.{Line}
 use Rattle.charts.specs.declared.statement.Statement.{Statement}
+use Rattle.charts.specs.declared.chart.Version.{Version}
+use Rattle.chart_text.specs.declared.forms.Said.{Said}
 
 -- a literal text by another name
 same-text : (characters literal : List ℕ) → IsLiteralText characters → Some characters ≡ Some literal → IsLiteralText literal
@@ -20,11 +22,17 @@ form-literal (detail_literal wheel is) literal same = same-text _ literal is.tex
 form-literal (total_literal level wheel is) literal same = same-text _ literal is.text same
 form-literal other literal same = cc
 
+said-literal : {version : Version} {tokens : List (List ℕ)} {said : Said} → SaysIn version tokens said → (literal : List ℕ)
+    → literal_in said.statement ≡ Some literal → IsLiteralText literal
+said-literal (in_both is) literal same = form-literal is literal same
+said-literal (in_second (coupled_amount level wheel name digits mark)) literal same = cc
+
 -- and so have those of the lines that are read
-read-literals : {number end : ℕ} {lines : List (List ℕ)} {said : List Line} → ReadsFrom number lines said end → HaveLiteralTexts said
+read-literals : {version : Version} {number end : ℕ} {lines : List (List ℕ)} {said : List Line} {coupled : List ℕ}
+    → ReadsFrom version number lines said coupled end → HaveLiteralTexts said
 read-literals (empty_line empty rest) line literal there same = read-literals rest line literal there same
 read-literals (form_line form rest) line literal (zero, within, is) same =
-    form-literal form.said literal (ap (λ (l : Line). literal_in l.statement) is ∙ same)
+    said-literal form.said literal (ap (λ (l : Line). literal_in l.statement) is ∙ same)
 read-literals (form_line form rest) line literal (suc k, within, is) same =
     read-literals rest line literal (k, omega (arith, within), is) same
 read-literals (end_line end empty) line literal (k, within, is) same = absurd (omega (arith, within))

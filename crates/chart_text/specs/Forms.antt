@@ -97,3 +97,9 @@ pub data Says : List (List ℕ) → Statement → Type 0 where
   tape : {channel : List ℕ} {stops : List (List ℕ)} {c : ℕ} {numbers : List ℕ}
       → IsNumber channel c → AreNumbers stops numbers → 1 ≤ length numbers → length numbers ≤ 10
       → Says (codes "TAPE" ∷ channel ∷ stops) (says.Tape c numbers)
+
+-- a total with the word COUPLED after its digits, which version 2 has, and what it says but for that word
+pub data SaysCoupled : List (List ℕ) → Statement → Type 0 where
+  coupled_amount : {level wheel name digits n : List ℕ} {mark : List (List ℕ)} {l : Level} {w g : ℕ} {m : Option Mark}
+      → IsNumber level (level_number l) → IsNumber wheel w → IsName name n → IsNumber digits g → SaysMark mark m
+      → SaysCoupled (codes "TOTAL" ∷ level ∷ wheel ∷ name ∷ digits ∷ codes "COUPLED" ∷ mark) (says.TotalAmount l w n g m)

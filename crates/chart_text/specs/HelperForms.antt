@@ -1,6 +1,6 @@
 -- A helper of the code: what the readers of forms answer, as functions of lists of tokens.
 -- These are steps between the code and the grammar: no public clause speaks of them.
-use Rattle.std.specs.Prelude.{ℕ, ◌&&◌, List, [], ◌∷◌, length, Option, Some, None, if◌then◌else◌, nat_le, codes}
+use Rattle.std.specs.Prelude.{ℕ, ◌&&◌, true, false, List, [], ◌∷◌, length, Option, Some, None, option_map, if◌then◌else◌, nat_le, codes}
 use Rattle.std.specs.Str.{bytes_eq}
 use Rattle.tokens.specs.NumberReading.{number_of, numbers_of}
 use Rattle.tokens.specs.Steps.{◌>>=◌}
@@ -18,6 +18,9 @@ use Rattle.charts.specs.declared.statement.DetailOption.{DetailOption}
 use Rattle.charts.specs.declared.statement.DetailOption.TheVariants.{Plain, Indicated, Marked}
 use Rattle.charts.specs.declared.statement.Statement.{Statement}
 use Rattle.charts.specs.declared.statement.Statement.TheVariants as says
+use Rattle.charts.specs.declared.chart.Version.{Version}
+use Rattle.charts.specs.declared.chart.Version.TheVariants.{First, Second}
+use Rattle.chart_text.specs.declared.forms.Said.{Said}
 use Rattle.chart_text.specs.declared.words.Keyword.{Keyword}
 use Rattle.chart_text.specs.declared.words.Keyword.TheVariants as words
 
@@ -145,6 +148,16 @@ total_literal_of level wheel characters [] = do
   Some (says.TotalLiteral l w characters)
 total_literal_of level wheel characters (next ∷ others) = None
 
+-- what a total says
+unfoldable pub total_amount_of : List ℕ → List ℕ → List ℕ → List ℕ → List (List ℕ) → Option Statement
+total_amount_of level wheel name digits mark = do
+  l ← level_of level
+  w ← number_of wheel
+  n ← name_of name
+  g ← number_of digits
+  m ← total_mark_of mark
+  Some (says.TotalAmount l w n g m)
+
 -- what a field on a total line says
 unfoldable pub total_field_of : List ℕ → List ℕ → List ℕ → List (List ℕ) → Option Statement
 total_field_of level wheel name [] = do
@@ -152,13 +165,7 @@ total_field_of level wheel name [] = do
   w ← number_of wheel
   n ← name_of name
   Some (says.TotalText l w n)
-total_field_of level wheel name (digits ∷ mark) = do
-  l ← level_of level
-  w ← number_of wheel
-  n ← name_of name
-  g ← number_of digits
-  m ← total_mark_of mark
-  Some (says.TotalAmount l w n g m)
+total_field_of level wheel name (digits ∷ mark) = total_amount_of level wheel name digits mark
 
 -- what an item of a total line says, a literal where its token is one
 abbrev pub total_item_of : List ℕ → List ℕ → List ℕ → List (List ℕ) → Option (List ℕ) → Option Statement
@@ -239,3 +246,23 @@ statement_of [] = None
 statement_of (word ∷ operands) = do
   keyword ← keyword_of word
   said_after keyword operands
+
+-- what the tokens of a total with the word COUPLED say, but for that word
+unfoldable pub coupled_of : List (List ℕ) → Option Statement
+coupled_of (total ∷ level ∷ wheel ∷ name ∷ digits ∷ word ∷ mark) =
+    if bytes_eq total (codes "TOTAL") && bytes_eq word (codes "COUPLED") then total_amount_of level wheel name digits mark else None
+coupled_of _ = None
+
+-- what the tokens of a line say that are no form of both versions
+abbrev pub said_coupled : Version → List (List ℕ) → Option Said
+said_coupled First tokens = None
+said_coupled Second tokens = option_map (λ statement. record { statement = statement; coupled = true }) (coupled_of tokens)
+
+-- what the tokens of a line say, where these are a form of both versions
+abbrev pub said_by : Version → List (List ℕ) → Option Statement → Option Said
+said_by version tokens (Some statement) = Some (record { statement = statement; coupled = false })
+said_by version tokens None = said_coupled version tokens
+
+-- what the tokens of a line say in a version
+unfoldable pub said_of : Version → List (List ℕ) → Option Said
+said_of version tokens = said_by version tokens (statement_of tokens)

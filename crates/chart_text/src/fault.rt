@@ -12,10 +12,10 @@ pub enum TextFault {
     /// The text has more than 500 lines, or a line of more than 200 bytes.
     #[error("the text has more than 500 lines, or a line of more than 200 bytes")]
     TooLarge,
-    /// Line 1 is not `CHART407 1`.
-    #[error("line 1 is not `CHART407 1`")]
+    /// Line 1 is neither `CHART407 1` nor `CHART407 2`.
+    #[error("line 1 is neither `CHART407 1` nor `CHART407 2`")]
     NoFirstLine,
-    /// A line is no form of a chart, or stands after END. It is the lowest such line.
+    /// A line is no form of a chart of its version, or stands after END. It is the lowest such line.
     #[error("line {line} is no form of a chart")]
     NotALine {
         /// Its number, from 2.

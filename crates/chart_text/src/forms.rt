@@ -4,7 +4,7 @@ ghost use Rattle.std.specs.Prelude.{◌≡◌, ℕ, length, IfOk, IfSome, Some, 
 ghost use Rattle.std.specs.Str.{bytes_eq};
 ghost use Rattle.tokens.specs.NumberReading.{numbers_of};
 ghost use Rattle.tokens.specs.Texts.{texts};
-ghost use Rattle.chart_text.specs.HelperForms.{sign_of, total_mark_of, option_of, kind_of, stops_of, field_kind_of, field_of, control_of, print_of, head_of, detail_literal_of, detail_field_of, detail_of, total_literal_of, total_field_of, total_statement, spacing_of, space_of, follower_of, after_of, form_of, tape_of, said_after, statement_of};
+ghost use Rattle.chart_text.specs.HelperForms.{sign_of, total_mark_of, option_of, kind_of, stops_of, field_kind_of, field_of, control_of, print_of, head_of, detail_literal_of, detail_field_of, detail_of, total_literal_of, total_amount_of, total_field_of, total_statement, coupled_of, said_coupled, said_of, spacing_of, space_of, follower_of, after_of, form_of, tape_of, said_after, statement_of};
 
 use crate::scanner::read_number;
 use crate::words::{
@@ -13,17 +13,71 @@ use crate::words::{
 };
 use charts::{
     After, BodyLine, DetailOption, Field, FieldKind, Literal, MAX_STOPS, Mark, Printing, SignRule,
-    Statement, Stops,
+    Statement, Stops, Version,
 };
 use std::alloc::{AllocError, Global};
 use tokens::is;
 
-/// What the tokens of a line say, or `None` where they are no form.
-#[tactic(auto, unfolding(crate::specs::HelperForms::statement_of))]
-pub(crate) fn read_statement(
+/// What a line of a chart says.
+#[derive(Debug, Drop)]
+pub struct Said {
+    /// What it says in both versions.
+    pub statement: Statement,
+    /// Whether it is a total that bears the word COUPLED, which version 2 has.
+    pub coupled: bool,
+}
+
+/// What the tokens of a line say in a version, or `None` where they are no form of it.
+#[tactic(auto, unfolding(crate::specs::HelperForms::said_of))]
+pub(crate) fn read_said(
     alloc: Global,
+    version: Version,
     tokens: &[&[u8]],
-) -> Result<Option<Statement>, AllocError>
+) -> Result<Option<Said>, AllocError>
+    ensures { IfOk result (λ said. said ≡ said_of version (texts tokens.now)) }
+{
+    match read_statement(alloc, tokens)? {
+        Some(statement) => Ok(Some(Said {
+            statement,
+            coupled: false,
+        })),
+        None => Ok(read_said_coupled(version, tokens)),
+    }
+}
+
+/// What the tokens of a line say that are no form of both versions.
+fn read_said_coupled(version: Version, tokens: &[&[u8]]) -> Option<Said>
+    ensures { result ≡ said_coupled version (texts tokens.now) }
+{
+    match version {
+        Version::First => None,
+        Version::Second => {
+            let statement = read_coupled(tokens)?;
+            Some(Said {
+                statement,
+                coupled: true,
+            })
+        }
+    }
+}
+
+/// `TOTAL l w name g COUPLED` with or without a mark: what it says but for the word.
+#[tactic(auto, unfolding(crate::specs::HelperForms::coupled_of))]
+fn read_coupled(tokens: &[&[u8]]) -> Option<Statement>
+    ensures { result ≡ coupled_of (texts tokens.now) }
+{
+    match tokens {
+        [total, level, wheel, name, digits, word, mark @ ..]
+            if is(total, b"TOTAL") && is(word, b"COUPLED") => {
+            read_total_amount(level, wheel, name, digits, mark)
+        }
+        _ => None,
+    }
+}
+
+/// What the tokens of a line say in both versions, or `None` where they are no form.
+#[tactic(auto, unfolding(crate::specs::HelperForms::statement_of))]
+fn read_statement(alloc: Global, tokens: &[&[u8]]) -> Result<Option<Statement>, AllocError>
     ensures { IfOk result (λ statement. statement ≡ statement_of (texts tokens.now)) }
 {
     let [word, operands @ ..] = tokens else {
@@ -249,23 +303,40 @@ fn read_total_literal(
 fn read_total_field(level: &[u8], wheel: &[u8], name: &[u8], others: &[&[u8]]) -> Option<Statement>
     ensures { result ≡ total_field_of level.now wheel.now name.now (texts others.now) }
 {
+    match others {
+        [] => {
+            let level = read_level(level)?;
+            let wheel = read_number(wheel)?;
+            let name = read_name(name)?;
+            Some(Statement::TotalText { level, wheel, name })
+        }
+        [digits, mark @ ..] => read_total_amount(level, wheel, name, digits, mark),
+    }
+}
+
+/// A total on a total line.
+#[tactic(auto, unfolding(crate::specs::HelperForms::total_amount_of))]
+fn read_total_amount(
+    level: &[u8],
+    wheel: &[u8],
+    name: &[u8],
+    digits: &[u8],
+    mark: &[&[u8]],
+) -> Option<Statement>
+    ensures { result ≡ total_amount_of level.now wheel.now name.now digits.now (texts mark.now) }
+{
     let level = read_level(level)?;
     let wheel = read_number(wheel)?;
     let name = read_name(name)?;
-    match others {
-        [] => Some(Statement::TotalText { level, wheel, name }),
-        [digits, mark @ ..] => {
-            let digits = read_number(digits)?;
-            let mark = read_total_mark(mark)?;
-            Some(Statement::TotalAmount {
-                level,
-                wheel,
-                name,
-                digits,
-                mark,
-            })
-        }
-    }
+    let digits = read_number(digits)?;
+    let mark = read_total_mark(mark)?;
+    Some(Statement::TotalAmount {
+        level,
+        wheel,
+        name,
+        digits,
+        mark,
+    })
 }
 
 /// The mark of a total: nothing, or `MARK m`.

@@ -6,14 +6,16 @@ ghost use Rattle.tokens.specs.Frame.{IsEmptyLine, IsEndLine};
 ghost use Rattle.chart_text.specs.ChartText.{IsFormLine, Reads};
 ghost use Rattle.charts.specs.Literals.{HaveLiteralTexts};
 ghost use Rattle.chart_text.specs.TextFaults.{HasTextFault};
-ghost use Rattle.charts.specs.declared.statement.Statement.{Statement};
+ghost use Rattle.charts.specs.declared.chart.Version.{Version};
+ghost use Rattle.chart_text.specs.declared.forms.Said.{Said};
 ghost use Rattle.chart_text.specs.declared.fault.TextFault.{TextFault};
 
-/// A line says one thing at most: what one form says, or END, or nothing.
+/// A line says one thing at most in a version: what one form says, or END, or nothing.
 pub fn line_is_unambiguous()
-    ensures one_statement { (line : List ℕ) (one other : Statement) → IsFormLine line one → IsFormLine line other → one ≡ other }
-    ensures end_is_no_form { (line : List ℕ) (statement : Statement) → IsEndLine line → ¬ IsFormLine line statement }
-    ensures empty_is_no_form { (line : List ℕ) (statement : Statement) → IsEmptyLine line → ¬ IsFormLine line statement }
+    ensures one_statement { (version : Version) (line : List ℕ) (one other : Said)
+        → IsFormLine version line one → IsFormLine version line other → one ≡ other }
+    ensures end_is_no_form { (version : Version) (line : List ℕ) (said : Said) → IsEndLine line → ¬ IsFormLine version line said }
+    ensures empty_is_no_form { (version : Version) (line : List ℕ) (said : Said) → IsEmptyLine line → ¬ IsFormLine version line said }
     ensures empty_is_no_end { (line : List ℕ) → IsEmptyLine line → ¬ IsEndLine line }
 {}
 

@@ -5,6 +5,9 @@
 //! for the characters that a wheel prints, and on `tokens`, for the tokens and numbers of a line. Only what reads texts
 //! needs this crate: the meaning of charts stands on `charts` alone.
 //!
+//! The language has two versions, which line 1 tells apart. They have the same lines, but that in version 2 a total that takes
+//! two counter groups bears the word COUPLED.
+//!
 //! `specs/` has the grammar apart from any scanner: literals, forms, whole texts and text rules are relations on
 //! lines. That one chart at most fits a text is a law of them. The files `Helper..` there are words of the code alone:
 //! no contract that a caller sees speaks of them.
@@ -18,5 +21,6 @@ mod scanner;
 mod words;
 
 pub use fault::TextFault;
+pub use forms::Said;
 pub use laws::{chart_text_is_unambiguous, line_is_unambiguous, read_literals_print};
 pub use read::read_chart;

@@ -1,20 +1,20 @@
 //! Reading a chart.
 
-ghost use Rattle.std.specs.Prelude.{◌≡◌, ◌≢◌, ◌+◌, ◌<◌, ◌≤◌, ℕ, length, IfOk, IfErr, IfSome, OnOk, None, unwrap_or, ◌⊎◌};
+ghost use Rattle.std.specs.Prelude.{◌≡◌, ◌≢◌, ◌+◌, ◌<◌, ◌≤◌, ℕ, length, IfOk, IfErr, IfSome, OnOk, None, unwrap_or, ◌⊎◌, ◌++◌, [], ◌∷◌};
 ghost use Rattle.card_code.specs.Lines.{lines_of};
 ghost use Rattle.tokens.specs.HelperLines.{tokens_content};
 ghost use Rattle.tokens.specs.Texts.{texts};
-ghost use Rattle.chart_text.specs.HelperForms.{statement_of};
+ghost use Rattle.chart_text.specs.HelperForms.{said_of};
 ghost use Rattle.charts.specs.Chart.{Chart, NumbersRise};
-ghost use Rattle.chart_text.specs.ChartText.{Reads};
+ghost use Rattle.chart_text.specs.ChartText.{Reads, line_of, number_if_coupled};
 ghost use Rattle.chart_text.specs.TextFaults.{HasTextFault};
-ghost use Rattle.chart_text.specs.HelperText.{content_of, chart_from, chart_of, chart_of_lines, Answers, TakesLine, RefusesLine};
+ghost use Rattle.chart_text.specs.HelperText.{content_of, version_of, chart_from, chart_of, chart_of_lines, Answers, TakesLine, RefusesLine};
 
 use crate::fault::TextFault;
-use crate::forms::read_statement;
+use crate::forms::{Said, read_said};
 use crate::scanner::{is_larger, is_title_line, split_line};
 use card_code::next_line;
-use charts::{Line, RawChart, Statement};
+use charts::{Line, RawChart, Version};
 use std::alloc::{AllocError, Global};
 use tokens::{Content, is};
 
@@ -29,8 +29,8 @@ const MAX_LINE_BYTES: usize = 200;
 /// # Errors
 ///
 /// The first of the text rules that is broken, in this order: `TooLarge` for more than 500 lines or a line
-/// of more than 200 bytes; `NoFirstLine` where line 1 is not `CHART407 1`; `NotALine` for the lowest line
-/// that no form derives, text after END included; `NoEnd` where no line is END. `Memory` only where memory
+/// of more than 200 bytes; `NoFirstLine` where line 1 is neither `CHART407 1` nor `CHART407 2`; `NotALine` for the lowest line
+/// that no form of that version derives, text after END included; `NoEnd` where no line is END. `Memory` only where memory
 /// was refused; what was read so far is freed then.
 pub fn read_chart(alloc: Global, text: &[u8]) -> Result<RawChart, TextFault>
     // What is read is the chart of the text, and a fault is the one of the text.
@@ -57,67 +57,87 @@ fn read_text(alloc: Global, text: &[u8]) -> Result<RawChart, TextFault>
     let Some((first, others)) = next_line(text) else {
         return Err(TextFault::NoFirstLine);
     };
-    if !is_title_line(first, b"CHART407", b"1") {
-        return Err(TextFault::NoFirstLine);
+    match read_version(first) {
+        Some(version) => read_lines(alloc, version, others),
+        None => Err(TextFault::NoFirstLine),
     }
-    read_lines(alloc, others)
+}
+
+/// The version that line 1 names.
+fn read_version(line: &[u8]) -> Option<Version>
+    ensures { result ≡ version_of line.now }
+{
+    if is_title_line(line, b"CHART407", b"1") {
+        Some(Version::First)
+    } else if is_title_line(line, b"CHART407", b"2") {
+        Some(Version::Second)
+    } else {
+        None
+    }
 }
 
 /// What a line is.
 #[tactic(auto, unfolding(crate::specs::HelperText::content_of))]
-fn read_line(alloc: Global, line: &[u8]) -> Result<Content<Statement>, AllocError>
-    ensures { IfOk result (λ content. content ≡ content_of line.now) }
+fn read_line(alloc: Global, version: Version, line: &[u8]) -> Result<Content<Said>, AllocError>
+    ensures { IfOk result (λ content. content ≡ content_of version line.now) }
 {
     match split_line(alloc, line)? {
-        Some(tokens) => read_tokens(alloc, tokens.as_slice()),
+        Some(tokens) => read_tokens(alloc, version, tokens.as_slice()),
         None => Ok(Content::NoLine),
     }
 }
 
 /// What a line of these tokens is.
-fn read_tokens(alloc: Global, tokens: &[&[u8]]) -> Result<Content<Statement>, AllocError>
-    ensures { IfOk result (λ content. content ≡ tokens_content statement_of (texts tokens.now)) }
+fn read_tokens(
+    alloc: Global,
+    version: Version,
+    tokens: &[&[u8]],
+) -> Result<Content<Said>, AllocError>
+    ensures { IfOk result (λ content. content ≡ tokens_content (said_of version) (texts tokens.now)) }
 {
     match tokens {
         [] => return Ok(Content::Empty),
         [word] if is(word, b"END") => return Ok(Content::End),
         _ => {}
     }
-    match read_statement(alloc, tokens)? {
-        Some(statement) => Ok(Content::Says(statement)),
+    match read_said(alloc, version, tokens)? {
+        Some(said) => Ok(Content::Says(said)),
         None => Ok(Content::NoLine),
     }
 }
 
 /// The chart of the lines from line 2 on.
-fn read_lines(alloc: Global, text: &[u8]) -> Result<RawChart, TextFault>
+fn read_lines(alloc: Global, version: Version, text: &[u8]) -> Result<RawChart, TextFault>
     requires { length (lines_of text.now) < 500 }
-    ensures { Answers result (chart_from None 2 (lines_of text.now)) }
+    ensures { Answers result (chart_from version None 2 (lines_of text.now)) }
 {
     let mut lines = Vec::new(alloc);
+    let mut coupled = Vec::new(alloc);
     let mut end = None;
     let mut number = 2;
     let mut rest = text;
     while let Some((line, after)) = next_line(rest) {
-        let content = read_line(alloc, line)?;
-        take_line(content, number, &mut lines, &mut end)?;
+        let content = read_line(alloc, version, line)?;
+        take_line(content, number, &mut lines, &mut coupled, &mut end)?;
         number += 1;
         rest = after;
     }
     match end {
-        Some(end) => Ok(RawChart::new(lines, end)),
+        Some(end) => Ok(RawChart::new(version, lines, coupled, end)),
         None => Err(TextFault::NoEnd),
     }
 }
 
 /// Takes the line of a number: after the lines so far, or as END where there was none.
 fn take_line(
-    content: Content<Statement>,
+    content: Content<Said>,
     number: u16,
     lines: &mut Vec<Line>,
+    coupled: &mut Vec<u16>,
     end: &mut Option<u16>,
 ) -> Result<(), TextFault>
-    ensures taken { OnOk result (TakesLine content number lines.old.items end.old lines.new.items end.new) }
+    ensures taken { OnOk result (TakesLine content number lines.old.items coupled.old.items end.old
+        lines.new.items coupled.new.items end.new) }
     ensures refused { IfErr result (RefusesLine content number end.old) }
     ensures rising { OnOk result (NumbersRise lines.old.items (unwrap_or end.old number)
         → NumbersRise lines.new.items (unwrap_or end.new (number + 1))) }
@@ -126,8 +146,26 @@ fn take_line(
     match (content, *end) {
         (Content::Empty, _) => {}
         (Content::End, None) => *end = Some(number),
-        (Content::Says(statement), None) => lines.push(Line { number, statement })?,
+        (Content::Says(said), None) => take_said(said, number, lines, coupled)?,
         _ => return Err(TextFault::NotALine { line: number }),
     }
+    Ok(())
+}
+
+/// Takes a line that says something: after the lines so far, and after the numbers so far where it bears the word COUPLED.
+fn take_said(
+    said: Said,
+    number: u16,
+    lines: &mut Vec<Line>,
+    coupled: &mut Vec<u16>,
+) -> Result<(), AllocError>
+    ensures lines { OnOk result (lines.new.items ≡ lines.old.items ++ line_of number said ∷ []) }
+    ensures coupled { OnOk result (coupled.new.items ≡ coupled.old.items ++ number_if_coupled number said) }
+{
+    if said.coupled {
+        coupled.push(number)?;
+    }
+    let statement = said.statement;
+    lines.push(Line { number, statement })?;
     Ok(())
 }

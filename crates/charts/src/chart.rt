@@ -12,12 +12,24 @@ pub struct Line {
     pub statement: Statement,
 }
 
+/// The versions of the language of planning charts, by the number on line 1.
+#[derive(Clone, Copy, Debug, PartialEq, Eq)]
+pub enum Version {
+    /// `CHART407 1`: nothing is said of how many counter groups a total takes.
+    First,
+    /// `CHART407 2`: a total that takes two coupled counter groups bears the word COUPLED.
+    Second,
+}
+
 /// A planning chart as its text says it.
 ///
-/// Contracts see it as its lines in order and the number of the line END; the lines' numbers rise.
+/// Contracts see it as its version, its lines in order, the numbers of those whose total bears the word COUPLED, and the number
+/// of the line END; the lines' numbers rise.
 #[derive(Debug, Drop)]
 pub struct RawChart {
+    version: Version,
     lines: Vec<Line>,
+    coupled: Vec<u16>,
     end: u16,
 }
 
@@ -26,7 +38,12 @@ impl Model for RawChart {
 
     ghost Value = { Chart };
 
-    ghost view = { λ chart. record { lines = chart.lines.items; end = chart.end } };
+    ghost view = { λ chart. record {
+      version = chart.version;
+      lines = chart.lines.items;
+      coupled = chart.coupled.items;
+      end = chart.end;
+    } };
 
     ghost invariant = { λ chart. NumbersRise chart.lines.items chart.end };
 }
@@ -35,13 +52,28 @@ impl RawChart {
     ghost use Rattle.std.specs.Prelude.{◌≡◌};
     ghost use Rattle.charts.specs.Chart.{NumbersRise};
 
-    /// The chart of these lines, the numbers of which rise up to that of END.
-    pub fn new(lines: Vec<Line>, end: u16) -> Self
+    /// The chart of a version and of these lines, the numbers of which rise up to that of END. The totals of the lines with the
+    /// numbers of `coupled` bear the word COUPLED.
+    pub fn new(version: Version, lines: Vec<Line>, coupled: Vec<u16>, end: u16) -> Self
         requires { NumbersRise lines.items end }
+        ensures version { result.version ≡ version }
         ensures lines { result.lines ≡ lines.items }
+        ensures coupled { result.coupled ≡ coupled.items }
         ensures end { result.end ≡ end }
     {
-        RawChart { lines, end }
+        RawChart {
+            version,
+            lines,
+            coupled,
+            end,
+        }
+    }
+
+    /// The version of its language.
+    pub fn version(&self) -> Version
+        ensures { result ≡ self.now.version }
+    {
+        self.version
     }
 
     /// The lines that say something, in order.
@@ -50,6 +82,13 @@ impl RawChart {
         ensures rising { NumbersRise self.now.lines self.now.end }
     {
         self.lines.as_slice()
+    }
+
+    /// The numbers of the lines whose total bears the word COUPLED, in order.
+    pub fn coupled(&self) -> &[u16]
+        ensures { result.now ≡ self.now.coupled }
+    {
+        self.coupled.as_slice()
     }
 
     /// The number of the line END.

@@ -4,3 +4,4 @@ pub mod Exclusions
 pub mod Headline
 pub mod OneFault
 pub mod Untold
+pub mod Versions

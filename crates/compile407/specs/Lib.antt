@@ -4,3 +4,4 @@ pub mod Runnable
 pub mod ChartFaults
 pub mod RunFaults
 pub mod Outcomes
+pub mod Versions

@@ -4,6 +4,7 @@ ghost use Rattle.compile407.specs.Headline.{ReadSetupsPrintAlike};
 ghost use Rattle.compile407.specs.Headline.{WiredSetupsBeginReports, WiredSetupsPrintReports, WrittenSetupsPrintReports};
 ghost use Rattle.compile407.specs.Runnable.{BlankDecksAreRunnable};
 ghost use Rattle.compile407.specs.Outcomes.{ChartsHaveOneFault, CompiledTextsHaveNoFault, DecksHaveOneFault, RunnableDecksHaveNoFault};
+ghost use Rattle.compile407.specs.Versions.{VersionsCompileAlike, VersionsReportAlike, VersionsRunAlike};
 
 /// The headline: for every chart that breaks no rule, whose line numbers rise and whose literals can be printed, as in every chart that
 /// is read, every setup that is wired for it by a plan of it, and every deck of at most 999,999 valid cards whose totals fit, the pages
@@ -54,4 +55,12 @@ pub fn charts_have_one_fault()
 /// A deck has at most one of the faults of a deck for any chart: what `run` tells is one, but for want of memory.
 pub fn decks_have_one_fault()
     ensures { DecksHaveOneFault }
+{}
+
+/// A chart of version 1, and the chart of version 2 of the same lines that bears the word COUPLED exactly where a total needs more
+/// than 8 positions, say the same: they have the same plans and setups, the same decks can be run, and the reports are the same.
+pub fn versions_say_the_same()
+    ensures compiled { VersionsCompileAlike }
+    ensures decks { VersionsRunAlike }
+    ensures reports { VersionsReportAlike }
 {}

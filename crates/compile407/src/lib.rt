@@ -19,7 +19,8 @@ pub use faults::{ChartFault, RunFault};
 pub use laws::{
     blank_decks_are_runnable, charts_have_one_fault, compiled_texts_have_no_fault,
     decks_have_one_fault, read_setups_print_alike, runnable_decks_have_no_fault,
-    wired_setups_begin_reports, wired_setups_print_reports, written_setups_print_reports,
+    versions_say_the_same, wired_setups_begin_reports, wired_setups_print_reports,
+    written_setups_print_reports,
 };
 pub use misfits::Misfit;
 pub use running::{first_misfit, run};

@@ -15,10 +15,10 @@ pub enum ChartFault {
     /// The text has more than 500 lines, or a line of more than 200 bytes.
     #[error("the chart is too large")]
     TooLarge,
-    /// The first line is not `CHART407 1`.
-    #[error("the chart does not begin with CHART407 1")]
+    /// The first line is neither `CHART407 1` nor `CHART407 2`.
+    #[error("the chart begins neither with CHART407 1 nor with CHART407 2")]
     NoFirstLine,
-    /// A line is no form of a chart, or stands after END. It is the lowest such line.
+    /// A line is no form of a chart of its version, or stands after END. It is the lowest such line.
     #[error("line {line} is no line of a chart")]
     NotALine {
         /// Its number, from 2.

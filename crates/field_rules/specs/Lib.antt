@@ -3,6 +3,7 @@ pub mod Names
 pub mod Columns
 pub mod Repeats
 pub mod Control
+pub mod Coupled
 pub mod Digits
 pub mod Shrink
 pub mod HelperIndex

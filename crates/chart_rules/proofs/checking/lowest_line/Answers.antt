@@ -22,13 +22,13 @@ pub returns-then-breaks-clause-lowest : goal.returns-then-breaks-clause-lowest
 returns-then-breaks-clause-lowest c =
     let at = slice_get_read c.lines-lines.result.now (length c.lines-lines.result.now) c.loop-place.place c.index-lines-place.result refl c.loop-place-test.true c.index-lines-place.is in
     lowest-at c.args.rule c.args.raw.now c.loop-place.place c.index-lines-place.result c.lines-lines.ensures.rising
-    (rw c.lines-lines.ensures.value at c.loop-place.invariant) (rw c.lines-lines.ensures.value at at)
+    c.loop-place.invariant (rw c.lines-lines.ensures.value at at)
 
 pub loop-place-preserved : goal.loop-place-preserved
 loop-place-preserved c =
-    PassesBefore-more c.args.rule c.lines-lines.result.now c.loop-place.place c.index-lines-place.result c.loop-place.invariant
-    (slice_get_read c.lines-lines.result.now (length c.lines-lines.result.now) c.loop-place.place c.index-lines-place.result refl c.loop-place-test.true c.index-lines-place.is)
-    (sym c.if-breaks.ensures)
+    let at = slice_get_read c.lines-lines.result.now (length c.lines-lines.result.now) c.loop-place.place c.index-lines-place.result refl c.loop-place-test.true c.index-lines-place.is in
+    PassesBefore-more c.args.rule c.args.raw.now c.loop-place.place c.index-lines-place.result c.loop-place.invariant
+    (rw c.lines-lines.ensures.value at at) (rw c.lines-lines.ensures.value at (sym c.if-breaks.ensures))
 
 pub returns-then-lacks-clause-some : goal.returns-then-lacks-clause-some
 returns-then-lacks-clause-some c = rw c.end.ensures (by_end (rw c.lines-lines.ensures.value at (sym c.if-lacks.ensures)))
@@ -36,10 +36,10 @@ returns-then-lacks-clause-some c = rw c.end.ensures (by_end (rw c.lines-lines.en
 pub returns-then-lacks-clause-lowest : goal.returns-then-lacks-clause-lowest
 returns-then-lacks-clause-lowest c =
     rw c.end.ensures
-    (lowest-end c.args.rule c.args.raw.now c.loop-place.place (rw c.lines-lines.ensures.value at c.loop-place.invariant)
+    (lowest-end c.args.rule c.args.raw.now c.loop-place.place c.loop-place.invariant
     (rw c.lines-lines.ensures.value at c.loop-place-test.false))
 
 pub returns-else-lacks-clause-none : goal.returns-else-lacks-clause-none
 returns-else-lacks-clause-none c =
-    IsKept-passes c.args.rule c.args.raw.now c.loop-place.place (rw c.lines-lines.ensures.value at c.loop-place.invariant)
+    IsKept-passes c.args.rule c.args.raw.now c.loop-place.place c.loop-place.invariant
     (rw c.lines-lines.ensures.value at c.loop-place-test.false) (rw c.lines-lines.ensures.value at (sym c.if-lacks.ensures))
