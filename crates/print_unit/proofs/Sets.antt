@@ -1,17 +1,14 @@
 -- Sets of rows as numbers: how they are gathered from the words of the wheels, and the characters that they print.
-use Rattle.std.proofs.Common.{◌≡◌, ◌≢◌, ◌∙◌, refl, sym, ap, ℕ, ◌+◌, ◌*◌, ◌%◌, ◌^◌, ◌-◌, ◌<◌, ◌==◌, ◌&&◌, ◌||◌, not, ◌⊎◌, inl, inr, nat_lt, Bool, true, false, List, map, length, replicate, slice_index_or, slice_set, bit_and, bit_or, if◌then◌else◌, arith}
+use Rattle.std.proofs.Common.{◌≡◌, ◌≢◌, ◌∙◌, refl, sym, ap, ℕ, ◌+◌, ◌*◌, ◌%◌, ◌^◌, ◌-◌, ◌<◌, ◌≤◌, ◌==◌, ◌&&◌, ◌||◌, not, ◌⊎◌, inl, inr, nat_lt, Bool, true, false, List, length, replicate, slice_index_or, slice_set, bit_and, bit_or, arith}
 use Rattle.std.proofs.lemmas.Bool.Decides.{eqb_tells, nat_tests}
 use Rattle.std.proofs.lemmas.List.{get_or-set_same, get_or-set_other, get_or-map, get_or-replicate, length-set, length-map}
 use Rattle.std.proofs.lemmas.Nat.{and_le_l}
 use Rattle.std.proofs.lemmas.Nat.Bits.{bit_at-trailing_zeros}
 use Rattle.std.specs.Int.{bit_not, w128, trailing_zeros}
-use Rattle.std.specs.List.{range_with_len}
-use Rattle.card_code.specs.CardCode.{code, deck_character, print_character}
 use Rattle.net.specs.HubSets.{is_bit}
 use Rattle.print_unit.specs.RowSets.{rows_in, HasRowsOf, PutsRows, Receives, TakesRow, TakesLeft}
 use Rattle.print_unit.specs.WheelWords.{received_at, rows_at}
-use Rattle.print_unit.specs.ZeroControl.{character_of}
-use Rattle.print_unit.proofs.Bits.{is_bit-zero, is_bit-and, is_bit-not, is_bit-or, is_bit-joined, is_bit-cleared, is_bit-ones}
+use Rattle.print_unit.proofs.Bits.{is_bit-zero, is_bit-and, is_bit-or, is_bit-joined, is_bit-cleared, is_bit-ones}
 use Rattle.print_unit.proofs.Ranges.{list-made, map-same}
 
 -- the place of the lowest bit of a word that has one

@@ -42,8 +42,8 @@ impl Emitters {
 fn emit_each(emitter: u8, sets: &mut RowSets)
     ensures { GainsRows (emits_row (Some emitter)) sets.old sets.new }
 {
-    for row in ROWS {
-        sets.insert(Hub::EM(emitter, row.number()), row.place());
+    for place in 0..12 {
+        sets.insert(Hub::EM(emitter, ROWS[place].number()), place);
     }
 }
 

@@ -1,8 +1,9 @@
 //! The line: the characters of the wheels, by the sets of the rows that they received.
 
-ghost use Rattle.std.specs.Prelude.{◌≡◌, ℕ, ◌<◌, ◌≤◌, ◌==◌, ◌&&◌, ◌||◌, not, length, nat_lt, slice_index_or};
+ghost use Rattle.std.specs.Prelude.{◌≡◌, ℕ, ◌<◌, ◌≤◌, ◌==◌, ◌&&◌, ◌||◌, not, length, nat_lt, slice_index_or, if◌then◌else◌};
 ghost use Rattle.net.specs.HubSets.{is_bit};
-ghost use Rattle.print_unit.specs.RowSets.{PutsRows, Receives, TakesRow};
+ghost use Rattle.print_unit.specs.RowSets.{rows_in, PutsRows, Receives, TakesRow};
+ghost use Rattle.print_unit.specs.ZeroControl.{character_of};
 ghost use Rattle.print_unit.specs.WheelWords.{printed_at, received_at, rows_at};
 
 use crate::characters::Characters;
@@ -12,22 +13,20 @@ use crate::wheel_words::{WHEELS, has_bit, with_bit};
 pub const BITS: usize = 128;
 
 /// Prints each wheel's character on the line, and a blank where the wheel is hidden.
-pub fn print(
-    characters: &Characters,
-    sets: &[u16; BITS],
-    hidden: u128,
-    line: &mut [u8; WHEELS],
-)
+pub fn print(characters: &Characters, sets: &[u16; BITS], hidden: u128, line: &mut [u8; WHEELS])
     ensures characters { (k : ℕ) → k < 120 → slice_index_or line.new k 0 ≡ printed_at sets.now hidden k }
     ensures wheels { length line.new ≡ 120 }
 {
     for k in 0..WHEELS {
-        line[k] = if has_bit(hidden, k) {
-            b' '
-        } else {
-            characters.of(sets[k])
-        };
+        line[k] = printed(characters, sets[k], has_bit(hidden, k));
     }
+}
+
+// The character of a set of rows, and a blank where its wheel is hidden.
+fn printed(characters: &Characters, set: u16, is_hidden: bool) -> u8
+    ensures { result ≡ (if is_hidden then 32 else character_of (rows_in set)) }
+{
+    if is_hidden { b' ' } else { characters.of(set) }
 }
 
 /// The words of the rows: which wheels received each.
