@@ -1,25 +1,21 @@
 -- What the points of a cycle leave as it was, and what a cycle does to cards, program unit and carriage.
-use Rattle.std.proofs.Common.{◌≡◌, ℕ, zero, suc, ◌≤◌, Bool, true, false, if◌then◌else◌, refl, ap, ◌∙◌, arith}
+use Rattle.std.proofs.Common.{◌≡◌, ℕ, zero, suc, Bool, true, false, if◌then◌else◌, List, [], ◌∷◌, refl, ap, ◌∙◌, arith}
 use Rattle.carriage.specs.Asked.{asked_by}
 use Rattle.carriage.specs.Carriage.{CarriageState, carriage_sensed, carriage_ended}
 use Rattle.setups.specs.Wiring.{Wiring}
 use Rattle.hubs.specs.declared.hub.Hub.{Hub}
 use Rattle.hubs.specs.declared.hub.Hub.TheVariants.{SP}
+use Rattle.net.specs.WholeCycles.{after_points}
 use Rattle.net.specs.declared.cycle.Cycle.{Cycle}
 use Rattle.net.specs.declared.cycle.Cycle.TheVariants.{RunIn, Card, Prog, Head}
 use Rattle.net.specs.declared.cycle.Point.{Point}
 use Rattle.net.specs.declared.cycle.Point.TheVariants.{C, Row, K}
 use Rattle.program_unit.specs.Program.{ProgramState, program_sensed, stage_ended}
 use Rattle.program_unit.specs.declared.stage.Stage.{Stage}
-use Rattle.machine.specs.Ends.{is_card, EndsCycle}
+use Rattle.machine.specs.Ends.{EndsCycle}
+use Rattle.machine.specs.Keeps.{AsksLines, Keeps, KeepsCarriage, KeepsProgram}
 use Rattle.machine.specs.Machine.{MachineState, sensed, ended}
 use Rattle.machine.specs.Cycles.{Reached, CycleRun, point_at}
-
--- What a point leaves of the program unit.
-pub record KeepsProgram (cycle : Cycle) (old now : ProgramState) : Type 0 where
-  pub printing : now.printing ≡ old.printing
-  pub stage : now.stage ≡ old.stage
-  pub highest : is_card cycle ≡ false → now.highest ≡ old.highest
 
 pub program_sensed-keeps : (program : ProgramState) (cycle : Cycle) (point : Point) (picture : Hub → Bool)
     → KeepsProgram cycle program (program_sensed program cycle point picture)
@@ -31,11 +27,6 @@ program_sensed-keeps program (Prog level ordinal) point picture =
     record { printing = refl; stage = refl; highest = λ is. refl }
 program_sensed-keeps program (Head heading) point picture = record { printing = refl; stage = refl; highest = λ is. refl }
 
--- from one to three lines are asked for
-pub record AsksLines (lines : ℕ) : Type 0 where
-  pub from : 1 ≤ lines
-  pub to : lines ≤ 3
-
 pub asked_by-lines : (picture : Hub → Bool) → AsksLines (asked_by picture).lines
 asked_by-lines picture = by (picture (SP 3)) (picture (SP 2))
   where
@@ -43,13 +34,6 @@ asked_by-lines picture = by (picture (SP 3)) (picture (SP 2))
     by true two = record { from = omega arith; to = omega arith }
     by false true = record { from = omega arith; to = omega arith }
     by false false = record { from = omega arith; to = omega arith }
-
--- What a point leaves of the carriage.
-pub record KeepsCarriage (old now : CarriageState) : Type 0 where
-  pub form : now.form ≡ old.form
-  pub printing : now.printing ≡ old.printing
-  pub spot : now.spot ≡ old.spot
-  pub lines : AsksLines old.asked.lines → AsksLines now.asked.lines
 
 pub carriage_sensed-keeps : (carriage : CarriageState) (cycle : Cycle) (point : Point) (picture : Hub → Bool)
     → KeepsCarriage carriage (carriage_sensed carriage cycle point picture)
@@ -59,12 +43,6 @@ carriage_sensed-keeps carriage cycle (Row row) picture =
     record { form = refl; printing = refl; spot = refl; lines = λ asks. asks }
 carriage_sensed-keeps carriage cycle K picture =
     record { form = refl; printing = refl; spot = refl; lines = λ asks. asks }
-
--- What points leave of a machine.
-pub record Keeps (cycle : Cycle) (old now : MachineState) : Type 0 where
-  pub stations : now.stations ≡ old.stations
-  pub program : KeepsProgram cycle old.program now.program
-  pub carriage : KeepsCarriage old.carriage now.carriage
 
 pub Keeps-none : (cycle : Cycle) (old now : MachineState) → now ≡ old → Keeps cycle old now
 Keeps-none cycle old now same = record {
@@ -145,3 +123,12 @@ CycleRun-ends wiring cycle old new run =
       kept = kept.carriage;
       carriage = ap (λ (m : MachineState). m.carriage) run.is_new;
     }
+
+-- what the points of some rows leave
+pub rows-keep : (cycle : Cycle) (pictures : Point → Hub → Bool) (list : List Point) (old : MachineState)
+    → Keeps cycle old (after_points sensed cycle pictures list old)
+rows-keep cycle pictures [] old = Keeps-none cycle old old refl
+rows-keep cycle pictures (point ∷ others) old =
+    Keeps-both cycle old (sensed old cycle point (pictures point))
+    (after_points sensed cycle pictures others (sensed old cycle point (pictures point)))
+    (sensed-keeps old cycle point (pictures point)) (rows-keep cycle pictures others (sensed old cycle point (pictures point)))

@@ -1,5 +1,5 @@
 -- Feeds up to a cycle that is kept.
-use Rattle.std.proofs.Common.{◌≡◌, ◌∙◌, sym, subst, refl, ℕ, List, [], ◌∷◌, ◌++◌, Option, None}
+use Rattle.std.proofs.Common.{◌≡◌, subst, refl, ℕ, List, [], ◌++◌, Option, None}
 use Rattle.std.specs.Prelude.{All}
 use Rattle.std.proofs.lemmas.List.Elements.{All-append, All-nil}
 use Rattle.placed_lines.specs.declared.placed_line.PlacedLine.{PlacedLine}

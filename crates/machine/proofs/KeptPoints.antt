@@ -1,5 +1,5 @@
 -- Cycles whose points are kept, point by point.
-use Rattle.std.proofs.Common.{ℕ, ◌+◌, ◌<◌, ◌≡◌, sym, subst, arith, inl, inr, List, length, slice_set, get_or}
+use Rattle.std.proofs.Common.{ℕ, ◌+◌, ◌<◌, sym, subst, arith, inl, inr, List, length, slice_set, get_or}
 use Rattle.std.proofs.lemmas.Bool.{cases_eq}
 use Rattle.std.proofs.lemmas.List.{get_or_default, get_or-set_same, get_or-set_other}
 use Rattle.setups.specs.Wiring.{Wiring}

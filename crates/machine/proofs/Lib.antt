@@ -22,3 +22,4 @@ mod Points
 mod Rest
 mod Marks
 mod UnitOrder
+pub mod AllRows

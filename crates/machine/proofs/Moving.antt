@@ -15,7 +15,7 @@ use Rattle.net.specs.declared.cycle.Cycle.{Cycle}
 use Rattle.net.specs.declared.cycle.Cycle.TheVariants.{RunIn, Card, Prog, Head}
 use Rattle.net.specs.declared.cycle.Ordinal.TheVariants.{First, Second, Third}
 use Rattle.machine.specs.Cycles.{line_at}
-use Rattle.machine.proofs.Keeps.{AsksLines}
+use Rattle.machine.specs.Keeps.{AsksLines}
 
 -- A move: at most to the next page, never back, and to a line of the form.
 pub record Moves (form : CarriageTape) (old new : Spot) : Type 0 where

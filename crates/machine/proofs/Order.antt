@@ -20,7 +20,8 @@ use Rattle.machine.specs.Cycles.{CycleRun, line_of}
 use Rattle.machine.specs.Machine.{MachineState, machine_at_start}
 use Rattle.machine.specs.Runs.{InRun, MachineLines, RunsBy, cards_moved, cycle_due, has_more, made_ready, moved_on, run_at_start}
 use Rattle.machine.proofs.FewCycles.{runs-have-few}
-use Rattle.machine.proofs.Keeps.{AsksLines, KeepsCarriage, CycleRun-ends}
+use Rattle.machine.specs.Keeps.{AsksLines, KeepsCarriage}
+use Rattle.machine.proofs.Keeps.{CycleRun-ends}
 use Rattle.machine.proofs.Moving.{Ended, carriage_ended-ends}
 
 -- whether heading cycles run

@@ -12,7 +12,8 @@ use Rattle.machine.specs.Machine.{MachineState, sensed}
 use Rattle.machine.specs.Steady.{AreSteady}
 use Rattle.machine.specs.declared.closed.Closed.{Closed}
 use Rattle.machine.proofs.ClosedContacts.{AreSteady-sensed}
-use Rattle.machine.proofs.Keeps.{Keeps, Keeps-none, Keeps-both, sensed-keeps}
+use Rattle.machine.specs.Keeps.{Keeps}
+use Rattle.machine.proofs.Keeps.{Keeps-none, Keeps-both, sensed-keeps}
 
 -- before the first point the machine is as the cycle found it
 pub Reached-none : (wiring : Wiring) (cycle : Cycle) (machine : MachineState) → Reached wiring cycle 0 machine machine

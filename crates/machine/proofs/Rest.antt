@@ -1,8 +1,8 @@
 -- Counter groups that are under no control emit nothing, sense nothing but controls and carries, and end a cycle as they are.
-use Rattle.std.proofs.Common.{◌≡◌, ℕ, zero, suc, ◌+◌, ◌/◌, ◌^◌, ◌<◌, ◌≤◌, ◌-◌, Bool, true, false, not, ◌&&◌, ◌||◌, ◌==◌, nat_le, List, [], ◌∷◌, Option, Some, None, option_map, map, length, get_or, inl, inr, if◌then◌else◌, refl, sym, ap, ◌∙◌, arith, rules}
+use Rattle.std.proofs.Common.{◌≡◌, ℕ, zero, suc, ◌+◌, ◌/◌, ◌^◌, ◌<◌, ◌≤◌, ◌-◌, Bool, true, false, ◌&&◌, ◌||◌, nat_le, List, [], ◌∷◌, Option, Some, None, option_map, map, length, get_or, inl, inr, if◌then◌else◌, refl, sym, ap, ◌∙◌, arith, rules}
 use Rattle.std.proofs.lemmas.Bool.Decides.{nat_tests}
 use Rattle.std.specs.List.{list_any}
-use Rattle.std.proofs.lemmas.Bool.{and_right, cases_lt, false≢true}
+use Rattle.std.proofs.lemmas.Bool.{cases_lt, false≢true}
 use Rattle.card_code.specs.Rows.{row_number}
 use Rattle.counters.specs.Counters.{Counter, no_controls, controls_of, counter_emits, counter_number, counter_sensed, counter_ended, counter_at_start, digits_ended, all_taken, takes, top_is_nine, shows, wheels_in}
 use Rattle.counters.specs.Laws.{IsCounter}

@@ -11,3 +11,5 @@ pub mod Rest
 pub mod Marked
 pub mod Steady
 pub mod Gains
+pub mod Keeps
+pub mod AllRows

@@ -4,7 +4,7 @@ use crate::groups::{Busy, emit_groups, end_groups, groups, sense_groups};
 use crate::rows::{emit_all, end_all, sense_all};
 use carriage::Carriage;
 use counters::Group;
-use net::{Cycle, Picture, Point, Unit};
+use net::{Cycle, Picture, Point, RowSets, Unit};
 use print_unit::{Emitters, Wheels};
 use program_unit::Program;
 use selectors::{GROUPS, Indicate, Pilots, Splits};
@@ -51,6 +51,10 @@ impl Units {
     ghost use Rattle.std.specs.Prelude.{◌≡◌};
     ghost use Rattle.net.specs.HubSets.{GainsHubs, has_hub};
     ghost use Rattle.machine.specs.Machine.{machine_at_start, emits, sensed, ended};
+    ghost use Rattle.std.specs.Prelude.{true};
+    ghost use Rattle.net.specs.RowSets.{GainsRows, after_rows, pictures_of};
+    ghost use Rattle.net.specs.declared.cycle.Point.TheVariants.{Row as AtRow};
+    ghost use Rattle.machine.specs.AllRows.{AreRowsIdle};
 
     // The units of a setup as they start, with no card in the machine.
     pub(crate) fn new(setup: &Setup) -> Self
@@ -103,6 +107,32 @@ impl Units {
         self.program.sense(cycle, point, picture);
     }
 
+    // Whether the rows of this cycle are nothing to the counter groups and the storage units.
+    pub(crate) fn are_rows_idle(&self) -> bool
+        ensures { result ≡ true → AreRowsIdle self.now }
+    {
+        self.busy.controlled == 0 && are_untold(&self.storage)
+    }
+
+    // Adds to the sets of the exits the rows at whose points they emit, where the rows are nothing to groups and storage units.
+    pub(crate) fn emit_rows(&self, cycle: Cycle, sets: &mut RowSets)
+        requires { AreRowsIdle self.now }
+        ensures { GainsRows (λ row. emits self.now cycle (AtRow row)) sets.old sets.new }
+    {
+        self.stations.emit_rows(cycle, sets);
+        self.emitters.emit_rows(cycle, sets);
+    }
+
+    // Each unit senses the points of all rows at once, where they are nothing to groups and storage units.
+    pub(crate) fn sense_rows(&mut self, cycle: Cycle, pictures: &RowSets)
+        requires { AreRowsIdle self.old }
+        ensures { self.new ≡ after_rows sensed cycle (pictures_of pictures.now) self.old }
+    {
+        self.comparing.sense_rows(cycle, pictures);
+        self.pilots.sense_rows(cycle, pictures);
+        self.wheels.sense_rows(cycle, pictures);
+    }
+
     // Each unit ends the cycle.
     pub(crate) fn end_cycle(&mut self, cycle: Cycle)
         ensures { self.new ≡ ended self.old cycle }
@@ -117,4 +147,19 @@ impl Units {
         self.carriage.end_cycle(cycle);
         self.program.end_cycle(cycle);
     }
+}
+
+ghost use Rattle.std.specs.Prelude.{◌≡◌, true, All};
+ghost use Rattle.machine.specs.AllRows.{IsUntold};
+
+// Whether no storage unit reads in or out.
+fn are_untold(storage: &[Storage; STORAGE_UNITS]) -> bool
+    ensures { result ≡ true → All IsUntold storage.now }
+{
+    for unit in storage {
+        if !unit.is_idle() {
+            return false;
+        }
+    }
+    true
 }

@@ -8,3 +8,5 @@ pub mod Pictures
 pub mod Rows
 pub mod Sets
 pub mod LinkLemmas
+pub mod SetLemmas
+pub mod DirectWires

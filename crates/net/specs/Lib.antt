@@ -7,5 +7,6 @@ pub mod NetRows
 pub mod Nets
 pub mod Panel
 pub mod Printing
+pub mod RowSets
 pub mod WholeCycles
 pub mod Nothing

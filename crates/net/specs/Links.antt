@@ -1,10 +1,10 @@
 -- Links: wires one by one, from place to place. A set of rows for each place is a number: bit r tells of the row at place r among the
 -- points. Sets are spread along links.
-use Rattle.std.specs.Prelude.{◌≡◌, ℕ, ◌-◌, ◌<◌, ◌≤◌, ◌==◌, ◌&&◌, ◌||◌, All, Bool, false, List, Option, Some, None, slice_index_or}
+use Rattle.std.specs.Prelude.{◌≡◌, ℕ, ◌-◌, ◌<◌, ◌≤◌, ◌==◌, ◌&&◌, ◌||◌, All, Bool, true, false, List, Option, Some, None, slice_index_or}
 use Rattle.std.specs.List.{list_any}
 use Rattle.hubs.specs.Hubs.{number_of}
 use Rattle.hubs.specs.declared.hub.Hub.{Hub}
-use Rattle.bit_sets.specs.Bits.{is_bit}
+use Rattle.bit_sets.specs.Bits.{has_place, is_bit}
 use Rattle.bit_sets.specs.Contacts.{AreCommons}
 use Rattle.bit_sets.specs.Rows.{leads}
 use Rattle.bit_sets.specs.declared.contacts.Run.{Run}
@@ -55,8 +55,11 @@ has_at_number sets row None = false
 abbrev pub has_row_at : List ℕ → ℕ → Hub → Bool
 has_row_at sets row hub = has_at_number sets row (number_of hub)
 
--- The links lead on where the rows do, each in range, and the common places of the contacts are known.
-pub record IsNetInside (contacts : List Run) (common_places : List ℕ) (links : List Link) (rows : List (List ℕ)) : Type 0 where
+-- The links lead on where the rows do, each in range, and the common places of the contacts are known, as it is where no link leads
+-- to any of them.
+pub record IsNetInside (contacts : List Run) (common_places : List ℕ) (links : List Link) (is_direct : Bool) (rows : List (List ℕ)) :
+    Type 0 where
   pub commons : AreCommons contacts common_places
   pub in_range : All IsInRange links
   pub agree : (from to : ℕ) → is_linked links from to ≡ leads rows from to
+  pub direct : is_direct ≡ true → All (λ link. has_place common_places link.to ≡ false) links

@@ -8,6 +8,7 @@ mod links;
 mod net;
 mod picture;
 mod printing;
+mod row_sets;
 mod unit;
 
 pub use cycle::{Cycle, Ordinal, POINTS, Point, ProgramLevel};
@@ -18,4 +19,5 @@ pub use laws::{
 pub use net::Net;
 pub use picture::{Contacts, HUBS, Picture};
 pub use printing::Printing;
+pub use row_sets::RowSets;
 pub use unit::Unit;

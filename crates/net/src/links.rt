@@ -1,10 +1,12 @@
 //! The wires of a net one by one, and sets of rows that are spread along them.
 
-ghost use Rattle.std.specs.Prelude.{◌≡◌, ◌<◌, ℕ, All, OnOk};
+ghost use Rattle.std.specs.Prelude.{◌≡◌, ◌<◌, ℕ, All, OnOk, false};
+ghost use Rattle.bit_sets.specs.Bits.{has_place};
 ghost use Rattle.setups.specs.Wiring.{IsEntryNumber};
 ghost use Rattle.net.specs.Links.{AddsLinks, IsFollowed, IsInRange, Spreads};
 
 use crate::picture::HUBS;
+use bit_sets::WORDS;
 use std::alloc::AllocError;
 
 /// A wire from one place to another. The hub with the number h is the place h - 1.
@@ -33,6 +35,18 @@ pub(crate) fn add_links(
         })?;
     }
     Ok(())
+}
+
+// Whether a link leads to one of these places.
+pub(crate) fn leads_to_any(links: &[Link], places: &[u64; WORDS]) -> bool
+    ensures { result ≡ false → All (λ link. has_place places.now link.to ≡ false) links.now }
+{
+    for link in links {
+        if bit_sets::has(places, link.to as usize) {
+            return true;
+        }
+    }
+    false
 }
 
 // Spreads sets of rows, one for each place, along the links: the far end of each gains the rows of the near end. No link leads from

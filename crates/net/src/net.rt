@@ -5,8 +5,9 @@ ghost use Rattle.setups.specs.Wiring.{IsEntryNumber};
 ghost use Rattle.net.specs.NetRows.{AddsRow};
 
 use crate::contacts::CONTACTS;
-use crate::links::{Link, add_links, follow_all};
-use crate::picture::{Contacts, HUBS, Picture, cut_after_hubs};
+use crate::links::{Link, add_links, follow_all, leads_to_any};
+use crate::picture::{Contacts, Picture, cut_after_hubs};
+use crate::row_sets::RowSets;
 use bit_sets::{EXITS, Rows, WORDS, commons_of, reach};
 use hubs::Hub;
 use setups::Setup;
@@ -22,6 +23,8 @@ pub struct Net {
     commons: [u64; WORDS],
     // The wires one by one, as the rows have them.
     links: Vec<Link>,
+    // Whether no wire leads to a common hub.
+    is_direct: bool,
 }
 
 impl Model for Net {
@@ -34,7 +37,7 @@ impl Model for Net {
 
     ghost use Rattle.net.specs.Links.{IsNetInside};
 
-    ghost invariant = { λ net. IsNetInside CONTACTS net.commons net.links.items net.rows };
+    ghost invariant = { λ net. IsNetInside CONTACTS net.commons net.links.items net.is_direct net.rows };
 }
 
 impl Net {
@@ -47,6 +50,7 @@ impl Net {
     ghost use Rattle.hubs.specs.declared.hub.Hub.{Hub};
     ghost use Rattle.net.specs.Laws.{EmitsOrIsFed};
     ghost use Rattle.net.specs.Links.{has_row_at};
+    ghost use Rattle.net.specs.RowSets.{LeadsToNoContact};
 
     /// The net of a setup, with exactly its wires. Fails only where no memory is left.
     pub fn of(alloc: Global, setup: &Setup) -> Result<Net, AllocError>
@@ -63,10 +67,12 @@ impl Net {
         }
         rows.bundle(alloc)?;
         let commons = commons_of(&CONTACTS);
+        let is_direct = !leads_to_any(links.as_slice(), &commons);
         Ok(Net {
             rows,
             commons,
             links,
+            is_direct,
         })
     }
 
@@ -89,16 +95,22 @@ impl Net {
         cut_after_hubs(&mut out.words);
     }
 
-    /// Spreads rows along the wires, all rows at once: `sets` has a set of rows for each hub, that of the hub with the number h at place
-    /// h - 1, with bit r for the row at place r among the points. Each entry gains the rows of all exits that lead to it. Contacts pass
-    /// on nothing here.
-    pub fn spread(&self, sets: &mut [u16; HUBS])
+    /// Whether no wire leads to a hub from which contacts lead: then no impulse of an exit passes a contact.
+    pub fn is_direct(&self) -> bool
+        ensures { result ≡ true → (wiring : Wiring) → IsNetOf wiring self.now → LeadsToNoContact wiring }
+    {
+        self.is_direct
+    }
+
+    /// Spreads rows along the wires, all rows at once: each entry gains the rows of all exits that lead to it. Contacts pass on nothing
+    /// here.
+    pub fn spread(&self, sets: &mut RowSets)
         ensures { (wiring : Wiring)
             → IsNetOf wiring self.now
             → (row : ℕ) (hub : Hub)
             → (has_row_at sets.new row hub ≡ true) ↔ EmitsOrIsFed wiring (has_row_at sets.old row) hub }
     {
-        follow_all(self.links.as_slice(), sets);
+        follow_all(self.links.as_slice(), &mut sets.sets);
     }
 }
 

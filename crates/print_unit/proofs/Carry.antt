@@ -115,7 +115,7 @@ given-by_sum link figures =
 -- what the wheels are given is what the words of LINK and of the rows say
 pub given_by-word : (rows : List ℕ) (link figures given : ℕ) → IsGiven link figures given
     → ((k : ℕ) → k < 128 → is_bit figures k ≡ is_figure (rows_at rows k))
-    → (k : ℕ) → k < 120 → is_bit given k ≡ given_by rows link k
+    → (k : ℕ) → k < 120 → is_bit given k ≡ given_by (rows_at rows) link k
 given_by-word rows link figures given is_given are_figures zero below = is_given.first
 given_by-word rows link figures given is_given are_figures (suc k) below =
     let more : k + 1 ≡ suc k = omega arith in

@@ -7,3 +7,5 @@ pub mod Plugs
 pub mod Ranges
 pub mod Sets
 pub mod WheelRows
+pub mod HiddenWheels
+pub mod EmittedRows

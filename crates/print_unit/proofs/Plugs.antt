@@ -9,7 +9,7 @@ use Rattle.print_unit.specs.WheelWords.{ArePlugged, wheel_at}
 use Rattle.print_unit.specs.declared.wheel_words.WheelJack.TheVariants as kind
 use Rattle.print_unit.specs.declared.wheels.Wheels.TheInside as inside
 use Rattle.print_unit.proofs.Bits.{is_bit-zero}
-use Rattle.print_unit.proofs.WheelRows.{map-next}
+use Rattle.print_unit.proofs.WheelRows.{map-next, received-none}
 
 -- no wheel yet
 pub plugged-none : (is_there : ℕ → Bool) (j : ℕ) → is_bit 0 j ≡ (nat_lt j 0 && is_there j)
@@ -29,16 +29,16 @@ plugged-more is_there old new k gained before j below = gained j ∙ rw (before 
 
 -- a wheel of words as a setup has plugged them, before anything is received
 wheel_at-start : (wiring : Wiring) (words : inside.Inside) (k : ℕ) → k < 120
-    → words.rows ≡ replicate 12 0
+    → words.sets ≡ replicate 128 0
     → ArePlugged wiring kind.Link words.link → ArePlugged wiring kind.Suppress words.suppress
     → ArePlugged wiring kind.Symbol words.symbol
     → wheel_at words k ≡ wheel_at_start wiring (k + 1)
 wheel_at-start wiring words k below empty link suppress symbol =
-    rw (empty, is_bit-zero k, link k below, suppress k below, symbol k below) refl
+    rw (empty, received-none k (omega (arith, below)), link k below, suppress k below, symbol k below) refl
 
 -- the wheels at the start
 pub wheels_at-start : (wiring : Wiring) (words : inside.Inside) (count : ℕ) → count ≤ 120
-    → words.rows ≡ replicate 12 0
+    → words.sets ≡ replicate 128 0
     → ArePlugged wiring kind.Link words.link → ArePlugged wiring kind.Suppress words.suppress
     → ArePlugged wiring kind.Symbol words.symbol
     → map (wheel_at words) (range_with_len 0 count) ≡ map (wheel_at_start wiring) (range_with_len 1 count)

@@ -1,17 +1,14 @@
 -- Sets of rows as numbers: how they are gathered from the words of the wheels, and the characters that they print.
-use Rattle.std.proofs.Common.{◌≡◌, ◌≢◌, ◌∙◌, refl, sym, ap, ℕ, ◌+◌, ◌*◌, ◌%◌, ◌^◌, ◌-◌, ◌<◌, ◌==◌, ◌&&◌, ◌||◌, not, ◌⊎◌, inl, inr, nat_lt, Bool, true, false, List, map, length, replicate, slice_index_or, slice_set, bit_and, bit_or, if◌then◌else◌, arith}
+use Rattle.std.proofs.Common.{◌≡◌, ◌≢◌, ◌∙◌, refl, sym, ap, ℕ, ◌+◌, ◌*◌, ◌%◌, ◌^◌, ◌-◌, ◌<◌, ◌≤◌, ◌==◌, ◌&&◌, ◌||◌, not, ◌⊎◌, inl, inr, nat_lt, Bool, true, false, List, length, replicate, slice_index_or, slice_set, bit_and, bit_or, arith}
 use Rattle.std.proofs.lemmas.Bool.Decides.{eqb_tells, nat_tests}
 use Rattle.std.proofs.lemmas.List.{get_or-set_same, get_or-set_other, get_or-map, get_or-replicate, length-set, length-map}
 use Rattle.std.proofs.lemmas.Nat.{and_le_l}
 use Rattle.std.proofs.lemmas.Nat.Bits.{bit_at-trailing_zeros}
 use Rattle.std.specs.Int.{bit_not, w128, trailing_zeros}
-use Rattle.std.specs.List.{range_with_len}
-use Rattle.card_code.specs.CardCode.{code, deck_character, print_character}
 use Rattle.net.specs.HubSets.{is_bit}
-use Rattle.print_unit.specs.RowSets.{rows_in, TakesRow, TakesLeft, HasSets}
-use Rattle.print_unit.specs.WheelWords.{rows_at, printed_at}
-use Rattle.print_unit.specs.ZeroControl.{character_of}
-use Rattle.print_unit.proofs.Bits.{is_bit-zero, is_bit-and, is_bit-not, is_bit-joined, is_bit-cleared, is_bit-ones}
+use Rattle.print_unit.specs.RowSets.{rows_in, HasRowsOf, PutsRows, Receives, TakesRow, TakesLeft}
+use Rattle.print_unit.specs.WheelWords.{received_at, rows_at}
+use Rattle.print_unit.proofs.Bits.{is_bit-zero, is_bit-and, is_bit-or, is_bit-joined, is_bit-cleared, is_bit-ones}
 use Rattle.print_unit.proofs.Ranges.{list-made, map-same}
 
 -- the place of the lowest bit of a word that has one
@@ -77,54 +74,93 @@ takes-lowest word left place old now some small narrow takes =
     let k = trailing_zeros w128 left in
     takes-bit word left (bit_and left (bit_not w128 (1 * 2 ^ k % 2 ^ 128))) place k old now at.0 narrow at.1 (λ j wide. is_bit-cleared left k j at.0 wide) takes
 
--- no row yet
-pub HasSets-none : (rows : List ℕ) (hidden : ℕ) → HasSets rows hidden 0 (replicate 128 0)
-HasSets-none rows hidden k wide p = rw (get_or-replicate {A = ℕ} 128 k 0 0 wide, is_bit-zero p) (grind (arith, nat_tests))
-
--- a row more
-pub HasSets-more : (rows : List ℕ) (hidden place : ℕ) (old new : List ℕ) → hidden < 2 ^ 128
-    → TakesRow (bit_and (slice_index_or rows place 0) (bit_not w128 hidden)) place old new
-    → HasSets rows hidden place old → HasSets rows hidden (place + 1) new
-HasSets-more rows hidden place old new small takes before k wide p =
-    takes k wide p
-    ∙ rw (is_bit-and (slice_index_or rows place 0) (bit_not w128 hidden) k, is_bit-not hidden k small wide, before k wide p) (by (eqb_tells p place))
+-- no row is put
+pub puts-none : (set k : ℕ) (rows : List ℕ) → PutsRows 0 set k rows rows
+puts-none set k rows p low j = none (is_bit (slice_index_or rows p 0) j) (is_bit set p) (j == k)
   where
-    by : ((p == place) ≡ true) × (p ≡ place) ⊎ ((p == place) ≡ false) × (p ≢ place)
-        → ((nat_lt p place && (is_bit (slice_index_or rows p 0) k && not (is_bit hidden k)))
-        || (p == place) && (is_bit (slice_index_or rows place 0) k && not (is_bit hidden k)))
-        ≡ (nat_lt p (place + 1) && (is_bit (slice_index_or rows p 0) k && not (is_bit hidden k)))
-    by (inl same) = rw (same.0, same.1) (grind (arith, nat_tests))
+    none : (a b c : Bool) → a ≡ (a || (nat_lt p 0 && b) && c)
+    none a b c = grind (arith, nat_tests)
+
+-- an empty set puts no row
+pub puts-empty : (set k : ℕ) (rows : List ℕ) → set ≡ 0 → PutsRows 12 set k rows rows
+puts-empty set k rows empty p low j =
+    rw (empty, is_bit-zero p) (none (is_bit (slice_index_or rows p 0) j) (nat_lt p 12) (j == k))
+  where
+    none : (a b c : Bool) → a ≡ (a || (b && false) && c)
+    none a b c = grind (arith, nat_tests)
+
+-- a row more is put
+pub puts-more : (count set k word : ℕ) (old now : List ℕ) → length now ≡ 12 → count < 12
+    → ((j : ℕ) → is_bit word j ≡ (is_bit (slice_index_or now count 0) j || (is_bit set count && j == k)))
+    → PutsRows count set k old now → PutsRows (count + 1) set k old (slice_set now count word)
+puts-more count set k word old now long below joined before p low j = by (eqb_tells p count)
+  where
+    by : ((p == count) ≡ true) × (p ≡ count) ⊎ ((p == count) ≡ false) × (p ≢ count)
+        → is_bit (slice_index_or (slice_set now count word) p 0) j
+        ≡ (is_bit (slice_index_or old p 0) j || (nat_lt p (count + 1) && is_bit set p) && (j == k))
+    by (inl same) =
+        let was = before count below j in
+        let on = joined j in
+        rw (same.1, get_or-set_same now count word 0 (omega (arith, long, below))) (grind (arith, nat_tests, was, on))
+    by (inr other) =
+        let apart = other.1 in
+        let was = before p low j in
+        rw (get_or-set_other now count p word 0 apart, was) (grind (arith, nat_tests, apart))
+
+-- no wheel's rows yet
+pub rows_of-none : (sets : List ℕ) → HasRowsOf 0 sets (replicate 12 0)
+rows_of-none sets p low j = rw (get_or-replicate {A = ℕ} 12 p 0 0 low, is_bit-zero j) (grind (arith, nat_tests))
+
+-- the rows of a wheel more
+pub rows_of-more : (count : ℕ) (sets old new : List ℕ) → PutsRows 12 (slice_index_or sets count 0) count old new
+    → HasRowsOf count sets old → HasRowsOf (count + 1) sets new
+rows_of-more count sets old new puts before p low j = puts p low j ∙ rw (before p low j) (by (eqb_tells j count))
+  where
+    by : ((j == count) ≡ true) × (j ≡ count) ⊎ ((j == count) ≡ false) × (j ≢ count)
+        → ((nat_lt j count && is_bit (slice_index_or sets j 0) p)
+        || (nat_lt p 12 && is_bit (slice_index_or sets count 0) p) && (j == count))
+        ≡ (nat_lt j (count + 1) && is_bit (slice_index_or sets j 0) p)
+    by (inl same) = rw (same.0, same.1) (grind (arith, nat_tests, low))
     by (inr other) = let apart = other.1 in rw (other.0) (grind (arith, nat_tests, apart))
 
--- nothing received prints blank
-blank : character_of (map (λ place. false) (range_with_len 0 12)) ≡ 32
-unfolding print_character deck_character code
-blank = refl
-
--- the character of a wheel's set is what the wheel prints
-pub printed-by_set : (rows : List ℕ) (hidden : ℕ) (sets : List ℕ) (k : ℕ) → length rows ≡ 12 → k < 128
-    → HasSets rows hidden 12 sets → character_of (rows_in (slice_index_or sets k 0)) ≡ printed_at rows hidden k
-printed-by_set rows hidden sets k long wide has = by (is_bit hidden k) refl
+-- the words of the rows tell what each wheel received
+pub rows_of-all : (count : ℕ) (sets rows : List ℕ) → 120 ≤ count → length rows ≡ 12 → HasRowsOf count sets rows
+    → (k : ℕ) → k < 120 → rows_at rows k ≡ received_at sets k
+rows_of-all count sets rows end long has k below =
+    sym (list-made (λ place. is_bit (slice_index_or sets k 0) place) (rows_at rows k) false 12 (length-map rows (λ word. is_bit word k) ∙ long) at)
   where
-    by : (b : Bool) → is_bit hidden k ≡ b
-        → character_of (rows_in (slice_index_or sets k 0)) ≡ (if is_bit hidden k then 32 else character_of (rows_at rows k))
-    by true hides =
-        let none : rows_in (slice_index_or sets k 0) ≡ map (λ place. false) (range_with_len 0 12) =
-        map-same (λ place. is_bit (slice_index_or sets k 0) place) (λ place. false) 0 12
-        (λ p low high. has k wide p ∙ rw hides (grind (arith, nat_tests))) in
-        ap character_of none ∙ blank ∙ sym (ap (λ b. if b then 32 else character_of (rows_at rows k)) hides)
-    by false shows =
-        let all : rows_in (slice_index_or sets k 0) ≡ rows_at rows k =
-        map-same (λ place. is_bit (slice_index_or sets k 0) place) (λ place. is_bit (slice_index_or rows place 0) k) 0 12
-        (λ p low high. has k wide p ∙ rw shows (grind (arith, nat_tests, high)))
-        ∙ list-made (λ place. is_bit (slice_index_or rows place 0) k) (rows_at rows k) false 12 (length-map-rows) at in
-        ap character_of all ∙ sym (ap (λ b. if b then 32 else character_of (rows_at rows k)) shows)
+    at : (p : ℕ) → p < 12 → slice_index_or (rows_at rows k) p false ≡ is_bit (slice_index_or sets k 0) p
+    at p low =
+        get_or-map (λ word. is_bit word k) rows p 0 false (omega (arith, long, low))
+        ∙ has p low k ∙ inside (is_bit (slice_index_or sets k 0) p)
       where
-        length-map-rows : length (rows_at rows k) ≡ 12
-        length-map-rows = length-map rows (λ word. is_bit word k) ∙ long
+        inside : (b : Bool) → (nat_lt k count && b) ≡ b
+        inside b = grind (arith, nat_tests, below, end)
 
-        at : (p : ℕ) → p < 12 → slice_index_or (rows_at rows k) p false ≡ is_bit (slice_index_or rows p 0) k
-        at p below = get_or-map (λ word. is_bit word k) rows p 0 false (omega (arith, long, below))
+-- nothing is received yet
+pub receives-none : (received sets : List ℕ) → Receives 0 received sets sets
+receives-none received sets k below p = none (is_bit (slice_index_or sets k 0) p) (is_bit (slice_index_or received k 0) p)
+  where
+    none : (a b : Bool) → a ≡ (a || nat_lt k 0 && b)
+    none a b = grind (arith, nat_tests)
+
+-- a wheel more receives
+pub receives-more : (count : ℕ) (received old now : List ℕ) → length now ≡ 128 → count < 120 → Receives count received old now
+    → Receives (count + 1) received old (slice_set now count (bit_or (slice_index_or now count 0) (slice_index_or received count 0)))
+receives-more count received old now long inside before k below p = by (eqb_tells k count)
+  where
+    by : ((k == count) ≡ true) × (k ≡ count) ⊎ ((k == count) ≡ false) × (k ≢ count)
+        → is_bit (slice_index_or (slice_set now count (bit_or (slice_index_or now count 0) (slice_index_or received count 0))) k 0) p
+        ≡ (is_bit (slice_index_or old k 0) p || nat_lt k (count + 1) && is_bit (slice_index_or received k 0) p)
+    by (inl same) =
+        let was = before count inside p in
+        rw (same.1, get_or-set_same now count (bit_or (slice_index_or now count 0) (slice_index_or received count 0)) 0 (omega (arith, long, inside)), is_bit-or (slice_index_or now count 0) (slice_index_or received count 0) p, was)
+        (grind (arith, nat_tests))
+    by (inr other) =
+        let apart = other.1 in
+        let was = before k below p in
+        rw (get_or-set_other now count k (bit_or (slice_index_or now count 0) (slice_index_or received count 0)) 0 apart, was)
+        (grind (arith, nat_tests, apart))
 
 -- the lowest twelve bits of a set
 pub rows_in-low : (number : ℕ) → rows_in (bit_and number (2 ^ 12 - 1)) ≡ rows_in number

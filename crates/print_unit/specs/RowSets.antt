@@ -20,11 +20,23 @@ TakesRow word place old new =
     (k : ℕ) → k < 128 → (p : ℕ)
     → is_bit (slice_index_or new k 0) p ≡ (is_bit (slice_index_or old k 0) p || (p == place) && is_bit word k)
 
--- the sets of the rows that the wheels received, of so many rows; none where a wheel is hidden
-abbrev pub HasSets : List ℕ → ℕ → ℕ → List ℕ → Type 0
-HasSets rows hidden count sets =
-    (k : ℕ) → k < 128 → (p : ℕ)
-    → is_bit (slice_index_or sets k 0) p ≡ (nat_lt p count && (is_bit (slice_index_or rows p 0) k && not (is_bit hidden k)))
+-- the words of the rows have what old words have, and, of so many rows, those of a set at the bit of its wheel
+abbrev pub PutsRows : ℕ → ℕ → ℕ → List ℕ → List ℕ → Type 0
+PutsRows count set k old new =
+    (p : ℕ) → p < 12 → (j : ℕ)
+    → is_bit (slice_index_or new p 0) j ≡ (is_bit (slice_index_or old p 0) j || (nat_lt p count && is_bit set p) && (j == k))
+
+-- the words of the rows have those of the sets of so many wheels
+abbrev pub HasRowsOf : ℕ → List ℕ → List ℕ → Type 0
+HasRowsOf count sets rows =
+    (p : ℕ) → p < 12 → (j : ℕ) → is_bit (slice_index_or rows p 0) j ≡ (nat_lt j count && is_bit (slice_index_or sets j 0) p)
+
+-- of so many wheels each has what its old set has, and what it receives
+abbrev pub Receives : ℕ → List ℕ → List ℕ → List ℕ → Type 0
+Receives count received old new =
+    (k : ℕ) → k < 120 → (p : ℕ)
+    → is_bit (slice_index_or new k 0) p
+    ≡ (is_bit (slice_index_or old k 0) p || nat_lt k count && is_bit (slice_index_or received k 0) p)
 
 -- The wheels of a word that are no longer left have taken the row of a place.
 pub record TakesLeft (word left place : ℕ) (old new : List ℕ) : Type 0 where

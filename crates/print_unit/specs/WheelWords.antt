@@ -1,25 +1,30 @@
--- The words of the wheels: bit k of a word stands for wheel k + 1. There is a word for each row, in the order of the
--- points, and one for each kind of jack. What is said here is for proofs: the wheels' rules stand in Wheels and ZeroControl.
-use Rattle.std.specs.Prelude.{◌≡◌, ℕ, zero, suc, ◌+◌, ◌<◌, ◌&&◌, ◌||◌, not, Bool, false, List, map, if◌then◌else◌}
+-- The words of the wheels: bit k of a word stands for wheel k + 1, and each wheel has the set of the rows that it received. There is a
+-- word for each kind of jack, and one is made for each row. What is said here is for proofs: the wheels' rules stand in Wheels and ZeroControl.
+use Rattle.std.specs.Prelude.{◌≡◌, ℕ, zero, suc, ◌+◌, ◌<◌, ◌&&◌, ◌||◌, not, Bool, false, List, map, slice_index_or, if◌then◌else◌}
 use Rattle.std.specs.List.{range_with_len}
 use Rattle.setups.specs.Wiring.{Wiring, is_plugged}
 use Rattle.hubs.specs.declared.jack.Jack.{Jack}
 use Rattle.hubs.specs.declared.jack.Jack.TheVariants as jack
 use Rattle.net.specs.HubSets.{is_bit}
+use Rattle.print_unit.specs.RowSets.{rows_in}
 use Rattle.print_unit.specs.Wheels.{WheelsState}
 use Rattle.print_unit.specs.ZeroControl.{Wheel, is_zero, is_figure, character_of}
 use Rattle.print_unit.specs.declared.wheel_words.WheelJack.{WheelJack}
 use Rattle.print_unit.specs.declared.wheel_words.WheelJack.TheVariants.{Link, Suppress, Symbol}
 use Rattle.print_unit.specs.declared.wheels.Wheels.TheInside as inside
 
--- the rows that the wheel of a bit received
+-- the rows that the wheel of a bit received, by the words of the rows
 abbrev pub rows_at : List ℕ → ℕ → List Bool
 rows_at words k = map (λ word. is_bit word k) words
+
+-- the rows that the wheel of a bit received, by the sets of the wheels
+abbrev pub received_at : List ℕ → ℕ → List Bool
+received_at sets k = rows_in (slice_index_or sets k 0)
 
 -- the wheel of a bit
 abbrev pub wheel_at : inside.Inside → ℕ → Wheel
 wheel_at words k = record {
-  received = rows_at words.rows k;
+  received = received_at words.sets k;
   link = is_bit words.link k;
   suppress = is_bit words.suppress k;
   symbol = is_bit words.symbol k;
@@ -39,15 +44,15 @@ jack_of Symbol v = jack.Symbol v
 abbrev pub ArePlugged : Wiring → WheelJack → ℕ → Type 0
 ArePlugged wiring kind word = (k : ℕ) → k < 120 → is_bit word k ≡ is_plugged wiring (jack_of kind (k + 1))
 
--- whether the wheel of a bit is given significance by its left neighbour, by the words of LINK and of the rows
-abbrev pub given_by : List ℕ → ℕ → ℕ → Bool
-given_by rows link zero = false
-given_by rows link (suc k) = is_bit link k && given_by rows link k || is_figure (rows_at rows k)
+-- whether the wheel of a bit is given significance by its left neighbour, by the word of LINK and what the wheels received
+abbrev pub given_by : (ℕ → List Bool) → ℕ → ℕ → Bool
+given_by received link zero = false
+given_by received link (suc k) = is_bit link k && given_by received link k || is_figure (received k)
 
 -- whether zero control makes the wheel of a bit blank
-abbrev pub hides : List ℕ → ℕ → ℕ → ℕ → ℕ → Bool
-hides rows link suppress symbol k =
-    not (is_bit link k && given_by rows link k) && (is_bit symbol k || is_bit suppress k && is_zero (rows_at rows k))
+abbrev pub hides : (ℕ → List Bool) → ℕ → ℕ → ℕ → ℕ → Bool
+hides received link suppress symbol k =
+    not (is_bit link k && given_by received link k) && (is_bit symbol k || is_bit suppress k && is_zero (received k))
 
 -- The word has the wheels that are given significance: nothing is given to the first, and a wheel gives it to the next
 -- where it has it, or received a figure.
@@ -57,4 +62,4 @@ pub record IsGiven (link figures given : ℕ) : Type 0 where
 
 -- what the wheel of a bit prints
 abbrev pub printed_at : List ℕ → ℕ → ℕ → ℕ
-printed_at rows hidden k = if is_bit hidden k then 32 else character_of (rows_at rows k)
+printed_at sets hidden k = if is_bit hidden k then 32 else character_of (received_at sets k)

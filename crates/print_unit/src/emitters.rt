@@ -1,10 +1,12 @@
 //! The emitters, unit 42: exits that emit a row at its point in the cycles of their kind.
 
-ghost use Rattle.std.specs.Prelude.{◌≡◌};
-ghost use Rattle.print_unit.specs.Emitters.{emitter_of};
+ghost use Rattle.std.specs.Prelude.{◌≡◌, Some};
+ghost use Rattle.net.specs.RowSets.{GainsRows};
+ghost use Rattle.print_unit.specs.Emitters.{emitter_of, emits_row};
 
+use card_code::ROWS;
 use hubs::Hub;
-use net::{Cycle, Ordinal, Picture, Point, Unit};
+use net::{Cycle, Ordinal, Picture, Point, RowSets, Unit};
 
 /// The eight emitters: 1 to 3 for the heading cycles, 4 for card cycles, 5 to 8 for the third program cycles of the levels
 /// 1 to 4.
@@ -15,13 +17,33 @@ pub struct Emitters {}
 
 impl Emitters {
     ghost use Rattle.std.specs.Prelude.{◌≡◌};
-    ghost use Rattle.print_unit.specs.Emitters.{emitters_at_start};
+    ghost use Rattle.net.specs.RowSets.{GainsRows};
+    ghost use Rattle.net.specs.declared.cycle.Point.TheVariants.{Row as AtRow};
+    ghost use Rattle.print_unit.specs.Emitters.{emitters_at_start, emitters_emit};
 
     /// The emitters.
     pub fn new() -> Self
         ensures { result ≡ emitters_at_start }
     {
         Emitters {}
+    }
+
+    /// Adds to the sets of the exits the rows at whose points they emit.
+    pub fn emit_rows(&self, cycle: Cycle, sets: &mut RowSets)
+        ensures { GainsRows (λ row. emitters_emit self.now cycle (AtRow row)) sets.old sets.new }
+    {
+        if let Some(emitter) = emitter_of(cycle) {
+            emit_each(emitter, sets);
+        }
+    }
+}
+
+// Adds each row to the set of an emitter's exit for it.
+fn emit_each(emitter: u8, sets: &mut RowSets)
+    ensures { GainsRows (emits_row (Some emitter)) sets.old sets.new }
+{
+    for place in 0..12 {
+        sets.insert(Hub::EM(emitter, ROWS[place].number()), place);
     }
 }
 

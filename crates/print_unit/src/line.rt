@@ -1,40 +1,72 @@
-//! The line: the characters of the wheels, by the words of the rows that they received.
+//! The line: the characters of the wheels, by the sets of the rows that they received.
 
-ghost use Rattle.std.specs.Prelude.{◌≡◌, ℕ, ◌<◌, ◌==◌, ◌&&◌, ◌||◌, not, length, nat_lt, slice_index_or};
+ghost use Rattle.std.specs.Prelude.{◌≡◌, ℕ, ◌<◌, ◌≤◌, ◌==◌, ◌&&◌, ◌||◌, not, length, nat_lt, slice_index_or, if◌then◌else◌};
 ghost use Rattle.net.specs.HubSets.{is_bit};
-ghost use Rattle.print_unit.specs.RowSets.{HasSets, TakesRow};
-ghost use Rattle.print_unit.specs.WheelWords.{printed_at};
+ghost use Rattle.print_unit.specs.RowSets.{rows_in, PutsRows, Receives, TakesRow};
+ghost use Rattle.print_unit.specs.ZeroControl.{character_of};
+ghost use Rattle.print_unit.specs.WheelWords.{printed_at, received_at, rows_at};
 
 use crate::characters::Characters;
-use crate::wheel_words::WHEELS;
+use crate::wheel_words::{WHEELS, has_bit, with_bit};
 
-// A place for each bit of a word of wheels.
-const BITS: usize = 128;
+/// A place for each bit of a word of wheels.
+pub const BITS: usize = 128;
 
 /// Prints each wheel's character on the line, and a blank where the wheel is hidden.
-pub fn print(characters: &Characters, rows: &[u128; 12], hidden: u128, line: &mut [u8; WHEELS])
-    ensures characters { (k : ℕ) → k < 120 → slice_index_or line.new k 0 ≡ printed_at rows.now hidden k }
+pub fn print(characters: &Characters, sets: &[u16; BITS], hidden: u128, line: &mut [u8; WHEELS])
+    ensures characters { (k : ℕ) → k < 120 → slice_index_or line.new k 0 ≡ printed_at sets.now hidden k }
     ensures wheels { length line.new ≡ 120 }
 {
-    let sets = sets_of(rows, hidden);
     for k in 0..WHEELS {
-        line[k] = characters.of(sets[k]);
+        line[k] = printed(characters, sets[k], has_bit(hidden, k));
     }
 }
 
-// For each wheel the set of the rows that it received, by their places in the order of the points; none where it is hidden.
-fn sets_of(rows: &[u128; 12], hidden: u128) -> [u16; BITS]
-    ensures { HasSets rows.now hidden 12 result }
+// The character of a set of rows, and a blank where its wheel is hidden.
+fn printed(characters: &Characters, set: u16, is_hidden: bool) -> u8
+    ensures { result ≡ (if is_hidden then 32 else character_of (rows_in set)) }
 {
-    let mut sets = [0; BITS];
-    for place in 0..12 {
-        take_row(&mut sets, rows[place] & !hidden, place);
-    }
-    sets
+    if is_hidden { b' ' } else { characters.of(set) }
 }
 
-// Each wheel of a word takes the row of a place. Wheels that received nothing are not looked at.
-fn take_row(sets: &mut [u16; BITS], word: u128, place: usize)
+/// The words of the rows: which wheels received each.
+pub fn rows_of(sets: &[u16; BITS]) -> [u128; 12]
+    ensures { (k : ℕ) → k < 120 → rows_at result k ≡ received_at sets.now k }
+{
+    let mut rows = [0; 12];
+    for k in 0..WHEELS {
+        put_rows(&mut rows, sets[k], k);
+    }
+    rows
+}
+
+// Puts the bit of a wheel into the word of each row of its set.
+fn put_rows(rows: &mut [u128; 12], set: u16, k: usize)
+    requires { k < 128 }
+    ensures rows { PutsRows 12 set k rows.old rows.new }
+    ensures twelve { length rows.new ≡ 12 }
+{
+    if set == 0 {
+        return;
+    }
+    for place in 0..12 {
+        rows[place] = with_bit(rows[place], k, has_bit(u128::from(set), place));
+    }
+}
+
+/// Each wheel takes the rows that it receives.
+pub fn receive(sets: &mut [u16; BITS], received: &[u16])
+    requires { 120 ≤ length received.now }
+    ensures received { Receives 120 received.now sets.old sets.new }
+    ensures bits { length sets.new ≡ 128 }
+{
+    for k in 0..WHEELS {
+        sets[k] |= received[k];
+    }
+}
+
+/// Each wheel of a word takes the row of a place. Wheels that received nothing are not looked at.
+pub fn take_row(sets: &mut [u16; BITS], word: u128, place: usize)
     requires { place < 12 }
     ensures row { TakesRow word place sets.old sets.new }
     ensures bits { length sets.new ≡ 128 }

@@ -1,14 +1,16 @@
 //! The print wheels, unit 43: each prints the character of the rows that it received in a cycle.
 
-ghost use Rattle.std.specs.Prelude.{◌≡◌};
+ghost use Rattle.std.specs.Prelude.{◌≡◌, ℕ, ◌<◌, ◌&&◌};
+ghost use Rattle.net.specs.HubSets.{is_bit};
+ghost use Rattle.print_unit.specs.WheelWords.{hides, received_at};
 ghost use Rattle.print_unit.specs.ZeroControl.{has_zero_control};
 
 use crate::characters::Characters;
-use crate::line::print;
+use crate::line::{BITS, print, receive, rows_of, take_row};
 use crate::wheel_words::{WHEELS, WheelJack, plugged};
 use crate::zero_control::hidden;
 use hubs::Hub;
-use net::{Cycle, Picture, Point, Unit};
+use net::{Cycle, Picture, Point, RowSets, Unit};
 use setups::Setup;
 use std::marker::Model;
 
@@ -18,8 +20,8 @@ use std::marker::Model;
 /// They emit nothing and have no contacts.
 #[derive(Debug, Drop)]
 pub struct Wheels {
-    // For each row, in the order of the points, the wheels that received it in this cycle.
-    rows: [u128; 12],
+    // For each wheel the rows that it received in this cycle, by their places among the points.
+    sets: [u16; BITS],
     // The wheels whose jacks are plugged.
     link: u128,
     suppress: u128,
@@ -42,14 +44,15 @@ impl Model for Wheels {
 
 impl Wheels {
     ghost use Rattle.std.specs.Prelude.{◌≡◌};
-    ghost use Rattle.print_unit.specs.Wheels.{wheels_at_start};
+    ghost use Rattle.net.specs.RowSets.{after_rows, pictures_of};
+    ghost use Rattle.print_unit.specs.Wheels.{wheels_at_start, wheels_sensed};
 
     /// The wheels of a setup with nothing received, and a blank line.
     pub fn new(setup: &Setup) -> Self
         ensures { result ≡ wheels_at_start setup.now }
     {
         Wheels {
-            rows: [0; 12],
+            sets: [0; BITS],
             link: plugged(setup, WheelJack::Link),
             suppress: plugged(setup, WheelJack::Suppress),
             symbol: plugged(setup, WheelJack::Symbol),
@@ -63,6 +66,13 @@ impl Wheels {
         ensures { result.now ≡ self.now.line }
     {
         &self.line
+    }
+
+    /// Senses the points of all rows at once.
+    pub fn sense_rows(&mut self, _cycle: Cycle, pictures: &RowSets)
+        ensures { self.new ≡ after_rows wheels_sensed _cycle (pictures_of pictures.now) self.old }
+    {
+        receive(&mut self.sets, pictures.from(Hub::W(1)));
     }
 }
 
@@ -89,16 +99,32 @@ impl Unit for Wheels {
 
     fn sense(&mut self, _cycle: Cycle, point: Point, picture: &Picture) {
         if let Point::Row(row) = point {
-            self.rows[row.place()] |= picture.row(Hub::W(1));
+            take_row(&mut self.sets, picture.row(Hub::W(1)), row.place());
         }
     }
 
     fn end_cycle(&mut self, cycle: Cycle) {
-        let control = has_zero_control(cycle);
-        let hidden = hidden(control, &self.rows, self.link, self.suppress, self.symbol);
-        print(&self.characters, &self.rows, hidden, &mut self.line);
-        self.rows = [0; 12];
+        let hidden = hidden_by(
+            has_zero_control(cycle),
+            &self.sets,
+            self.link,
+            self.suppress,
+            self.symbol,
+        );
+        print(&self.characters, &self.sets, hidden, &mut self.line);
+        self.sets = [0; BITS];
     }
+}
+
+// The wheels that zero control makes blank, if it works in the cycle, by the rows that they received. Where no wheel has a jack for it
+// none is looked at.
+fn hidden_by(control: bool, sets: &[u16; BITS], link: u128, suppress: u128, symbol: u128) -> u128
+    ensures { (k : ℕ) → k < 120 → is_bit result k ≡ (control && hides (received_at sets.now) link suppress symbol k) }
+{
+    if suppress | symbol == 0 {
+        return 0;
+    }
+    hidden(control, &rows_of(sets), link, suppress, symbol)
 }
 
 // Zero control works in card and program cycles.

@@ -10,7 +10,7 @@ const ALL_WHEELS: u128 = (1 << 120) - 1;
 
 /// The wheels that are blank by zero control, if it works in the cycle, by the rows that they received and their jacks.
 pub fn hidden(control: bool, rows: &[u128; 12], link: u128, suppress: u128, symbol: u128) -> u128
-    ensures { (k : ℕ) → k < 120 → is_bit result k ≡ (control && hides rows.now link suppress symbol k) }
+    ensures { (k : ℕ) → k < 120 → is_bit result k ≡ (control && hides (rows_at rows.now) link suppress symbol k) }
 {
     if !control {
         return 0;

@@ -3,3 +3,4 @@ pub mod LawLemmas
 pub mod PickupLemmas
 pub mod RowLemmas
 pub mod SpreadLemmas
+pub mod RowPickups

@@ -1,13 +1,15 @@
 //! The pilots.
 
-ghost use Rattle.std.specs.Prelude.{◌≡◌, ◌<◌};
+ghost use Rattle.std.specs.Prelude.{◌≡◌, ◌-◌, ◌<◌, ◌≤◌, length};
+ghost use Rattle.net.specs.Links.{has_at};
+ghost use Rattle.selectors.specs.Numbered.{tests_to};
 ghost use Rattle.net.specs.HubSets.{has_hub, is_bit};
 ghost use Rattle.selectors.specs.Pilots.{moves_pilots, pickups};
 
 use crate::spread::spread;
 use card_code::Row;
 use hubs::Hub;
-use net::{Contacts, Cycle, Picture, Point, Unit};
+use net::{Contacts, Cycle, Picture, Point, RowSets, Unit};
 use std::marker::Model;
 
 /// How many pilots there are.
@@ -44,7 +46,8 @@ impl Pilots {
     ghost use Rattle.net.specs.HubSets.{GainsHubs};
     ghost use Rattle.net.specs.declared.cycle.Cycle.{Cycle};
     ghost use Rattle.net.specs.declared.cycle.Point.{Point};
-    ghost use Rattle.selectors.specs.Pilots.{pilots_at_start, is_transferred, pilots_closes};
+    ghost use Rattle.net.specs.RowSets.{after_rows, pictures_of};
+    ghost use Rattle.selectors.specs.Pilots.{pilots_at_start, is_transferred, pilots_closes, pilots_sensed};
 
     /// All pilots are normal.
     pub fn new() -> Self
@@ -71,6 +74,15 @@ impl Pilots {
         let transferred = spread(&self.transferred, 3);
         contacts.insert_row(Hub::PIN(1, 1), ALL_POSITIONS - transferred);
         contacts.insert_row(Hub::PIT(1, 1), transferred);
+    }
+
+    /// Senses the points of all rows at once.
+    pub fn sense_rows(&mut self, cycle: Cycle, pictures: &RowSets)
+        ensures { self.new ≡ after_rows pilots_sensed cycle (pictures_of pictures.now) self.old }
+    {
+        if moves_pilots(cycle) {
+            self.picked_up = pickups_in(pictures.from(Hub::PIX(1)));
+        }
     }
 }
 
@@ -129,6 +141,18 @@ fn pickups(picture: &Picture) -> [bool; PILOTS]
     let mut picked_up = [false; PILOTS];
     for index in 0..PILOTS {
         picked_up[index] = has_bit(bits, index);
+    }
+    picked_up
+}
+
+// The pilots whose pickups have row 11, by the sets of their rows: it stands at place 10 among the points.
+fn pickups_in(sets: &[u16]) -> [bool; PILOTS]
+    requires { 16 ≤ length sets.now }
+    ensures { result ≡ tests_to 16 (λ pilot. has_at sets.now (pilot - 1) 10) }
+{
+    let mut picked_up = [false; PILOTS];
+    for index in 0..PILOTS {
+        picked_up[index] = has_bit(u128::from(sets[index]), 10);
     }
     picked_up
 }

@@ -4,3 +4,5 @@ pub mod RowWords
 pub mod RowHubs
 pub mod RowSets
 mod FourRows
+pub mod ColumnSets
+pub mod CollectedSets

@@ -56,7 +56,7 @@ same_word a b same = same_from_bits a b (λ k. by_bits (bit_at a k) (bit_at b k)
     by_bits one other small low e = grind (arith, nat_tests, e)
 
 -- the bit of a power
-is_bit-power : (last k : ℕ) → is_bit (2 ^ last) k ≡ (k == last)
+pub is_bit-power : (last k : ℕ) → is_bit (2 ^ last) k ≡ (k == last)
 unfolding is_bit
 is_bit-power last k = elim (eqb_tells k last) [
   | inl same ↦ rw (same.1) (let on = bit_at-pow_same last in grind (arith, nat_tests, on))

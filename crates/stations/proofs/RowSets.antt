@@ -101,7 +101,7 @@ lowest set row lawful some is =
         absurd (omega (arith, bit, none))
 
 -- a row has the place of its number, and no other row has
-place_tells :
+pub place_tells :
     (row : Row) (n : ℕ) → n < 13 → n ≢ 10
     → ((row_number row ≡ n) × (passing_place row ≡ place_of n)) ⊎ ((row_number row ≢ n) × (passing_place row ≢ place_of n))
 place_tells Zero n low other = grind (arith, nat_tests)

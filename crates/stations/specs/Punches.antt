@@ -5,6 +5,7 @@ use Rattle.card_code.specs.Rows.{row_number, passing_place}
 use Rattle.card_code.specs.declared.row.Row.{Row}
 use Rattle.hub_table.specs.Ranges.{is_within}
 use Rattle.net.specs.HubSets.{is_bit}
+use Rattle.net.specs.Links.{has_at}
 
 -- whether the card has the row in the column, 1 to 80
 abbrev pub is_punched : List ℕ → Row → ℕ → Bool
@@ -21,3 +22,9 @@ pub record AreRowsAt (card : Option (List ℕ)) (words : List ℕ) : Type 0 wher
   pub twelve : length words ≡ 12
   pub punched :
       (row : Row) (bit : ℕ) → is_bit (slice_index words (passing_place row)) bit ≡ is_punched_at card row (bit + 1)
+
+-- Eighty sets of rows, one for each column: a set has the bit p exactly where the row at place p among the points is punched in its
+-- column, and there is no bit without a card.
+pub record AreColumnsAt (card : Option (List ℕ)) (columns : List ℕ) : Type 0 where
+  pub eighty : length columns ≡ 80
+  pub punched : (row : Row) (k : ℕ) → has_at columns k (passing_place row) ≡ is_punched_at card row (k + 1)

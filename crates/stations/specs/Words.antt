@@ -1,9 +1,11 @@
 -- Helper words for loops over the words of rows and positions.
-use Rattle.std.specs.Prelude.{◌≡◌, ℕ, ◌+◌, ◌-◌, ◌==◌, ◌&&◌, ◌||◌, not, nat_lt, Bool, List, slice_index, if◌then◌else◌}
+use Rattle.std.specs.Prelude.{◌≡◌, ℕ, ◌+◌, ◌-◌, ◌==◌, ◌&&◌, ◌||◌, not, nat_lt, Bool, List, bit_or, slice_index, if◌then◌else◌}
 use Rattle.card_code.specs.CardCode.{has_row}
 use Rattle.card_code.specs.Rows.{row_number, passing_place}
 use Rattle.card_code.specs.declared.row.Row.{Row}
 use Rattle.net.specs.HubSets.{is_bit}
+use Rattle.net.specs.Links.{has_at}
+use Rattle.stations.specs.Comparing.{positions}
 use Rattle.stations.specs.Punches.{is_punched}
 
 -- whether a bit of the word of a row is set
@@ -39,3 +41,15 @@ LosesBit row old new = (k : ℕ) → has_row new k ≡ (has_row old k && not (k 
 -- the place of a row among the points, by its number
 abbrev pub place_of : ℕ → ℕ
 place_of row = if nat_lt row 10 then 9 - row else row - 1
+
+-- the positions that were collected at a place, with those whose entries, thirty first ones and then thirty second ones, have the row
+abbrev pub gathered : List ℕ → ℕ → ℕ × ℕ → ℕ × ℕ
+gathered entries place pair = (
+  bit_or pair.0 (positions 30 (λ p. has_at entries (0 + (p - 1)) place)),
+  bit_or pair.1 (positions 30 (λ p. has_at entries (30 + (p - 1)) place)),
+)
+
+-- the set has the rows of a column by their places, but for those that are left
+abbrev pub HasRowsBut : ℕ → ℕ → ℕ → Type 0
+HasRowsBut left column set =
+    (row : Row) → (is_bit set (passing_place row) || has_row left (row_number row)) ≡ has_row column (row_number row)

@@ -1,15 +1,20 @@
 //! Comparing: thirty positions, each with two entries whose rows are compared over a card cycle.
 
-ghost use Rattle.std.specs.Prelude.{◌≡◌, ℕ, ◌+◌, ◌≤◌, ◌&&◌, bit_xor, map, nat_lt};
+ghost use Rattle.std.specs.Prelude.{◌≡◌, ℕ, ◌+◌, ◌-◌, ◌<◌, ◌≤◌, ◌&&◌, bit_xor, map, nat_lt, length, true, false, ◌^◌, if◌then◌else◌};
+ghost use Rattle.net.specs.Links.{has_at};
 ghost use Rattle.std.specs.List.{list_any, slice_range};
 ghost use Rattle.net.specs.HubSets.{is_bit, has_hub};
-ghost use Rattle.stations.specs.Comparing.{positions, is_in_one};
+ghost use Rattle.stations.specs.Comparing.{positions, is_in_one, sets_at};
+ghost use Rattle.stations.specs.Words.{gathered};
 ghost use Rattle.hubs.specs.declared.hub.Hub.TheVariants.{CA, CB};
 
 use hubs::Hub;
-use net::{Cycle, Picture, Point, Unit};
+use net::{Cycle, Picture, Point, RowSets, Unit};
 use std::marker::Model;
 use std::simd::prelude::*;
+
+// How many entries there are: two of each position.
+const ENTRIES: usize = 60;
 
 /// Comparing, unit 2.
 ///
@@ -32,7 +37,8 @@ impl Model for Comparing {
 
 impl Comparing {
     ghost use Rattle.std.specs.Prelude.{◌≡◌};
-    ghost use Rattle.stations.specs.Comparing.{comparing_at_start};
+    ghost use Rattle.net.specs.RowSets.{after_rows, pictures_of};
+    ghost use Rattle.stations.specs.Comparing.{comparing_at_start, comparing_sensed};
 
     /// Comparing with nothing collected.
     pub fn new() -> Self
@@ -47,6 +53,16 @@ impl Comparing {
         ensures { result.now ≡ self.now.sets }
     {
         &self.sets
+    }
+
+    /// Senses the points of all rows at once.
+    pub fn sense_rows(&mut self, cycle: Cycle, pictures: &RowSets)
+        ensures { self.new ≡ after_rows comparing_sensed cycle (pictures_of pictures.now) self.old }
+    {
+        if let Cycle::Card = cycle {
+            let entries = pictures.from(Hub::CA(1));
+            collect(&mut self.sets, entries);
+        }
     }
 }
 
@@ -90,6 +106,69 @@ impl Unit for Comparing {
     ghost emits_steadily = { λ compared cycle at other picture hub. Prim.search rules };
 
     ghost closes_steadily = { λ compared cycle at other picture hub. refl };
+}
+
+// Joins to the positions that were collected at each row those that are impulsed there, by the sets of the rows of all entries: the
+// thirty first ones, and then the thirty second ones.
+fn collect(collected: &mut [(u32, u32); 12], entries: &[u16])
+    requires { ENTRIES ≤ length entries.now }
+    ensures rows { (place : ℕ) → place < 12
+        → sets_at place collected.new ≡ gathered entries.now place (sets_at place collected.old) }
+    ensures before { length collected.old ≡ 12 }
+    ensures after { length collected.new ≡ 12 }
+{
+    if is_empty(entries) {
+        return;
+    }
+    for place in 0..12 {
+        let pair = collected[place];
+        collected[place] = (
+            pair.0 | positions_at(entries, 0, place),
+            pair.1 | positions_at(entries, 30, place),
+        );
+    }
+}
+
+// Whether none of the entries has a row.
+fn is_empty(entries: &[u16]) -> bool
+    requires { ENTRIES ≤ length entries.now }
+    ensures { result ≡ true → (k row : ℕ) → k < ENTRIES → has_at entries.now k row ≡ false }
+{
+    let mut rows = 0;
+    for k in 0..ENTRIES {
+        rows |= entries[k];
+    }
+    rows == 0
+}
+
+// Of thirty entries from one on, the positions of those that have the row at a place.
+fn positions_at(entries: &[u16], from: usize, place: usize) -> u32
+    requires entries { from + 30 ≤ length entries.now }
+    requires place { place < 12 }
+    ensures { result ≡ positions 30 (λ p. has_at entries.now (from + (p - 1)) place) }
+{
+    let mut word = 0;
+    for k in 0..30 {
+        word |= bit_where(has_bit(entries[from + k], place), k);
+    }
+    word
+}
+
+// Whether a bit of a set is there.
+#[tactic(auto, unfolding(net::specs::HubSets::is_bit))]
+fn has_bit(set: u16, bit: usize) -> bool
+    requires { bit < 16 }
+    ensures { result ≡ is_bit set bit }
+{
+    set >> bit & 1 == 1
+}
+
+// A word with a bit, where the test is true.
+fn bit_where(test: bool, bit: usize) -> u32
+    requires { bit < 32 }
+    ensures { result ≡ (if test then 2 ^ bit else 0) }
+{
+    if test { 1 << bit } else { 0 }
 }
 
 // The positions that are impulsed at CA, and those at CB: one row has both.

@@ -1,12 +1,15 @@
-//! Cards as the words of their twelve rows.
+//! Cards as the words of their twelve rows, and as the sets of rows of their eighty columns.
 
 ghost use Rattle.std.specs.Prelude.{◌≡◌, ◌≢◌, ℕ, ◌<◌, Some, true};
 ghost use Rattle.card_code.specs.CardCode.{has_row};
 ghost use Rattle.card_code.specs.Rows.{is_row_set};
-ghost use Rattle.stations.specs.Punches.{AreRowsAt};
+ghost use Rattle.card_code.specs.Rows.{passing_place, row_number};
+ghost use Rattle.card_code.specs.declared.row.Row.{Row as CardRow};
+ghost use Rattle.net.specs.HubSets.{is_bit};
+ghost use Rattle.stations.specs.Punches.{AreColumnsAt, AreRowsAt};
 ghost use Rattle.stations.specs.Words.{place_of, GainsColumn, GainsBit, LosesBit};
 
-use card_code::{Card, Column};
+use card_code::{CARD_COLUMNS, Card, Column};
 
 // The rows of the card at a station; all are 0 where there is none.
 pub(crate) fn rows_at(card: &Option<Card>) -> [u128; 12]
@@ -27,6 +30,41 @@ fn rows_of(card: &Card) -> [u128; 12]
         punch(card.column(bit + 1), bit, &mut rows);
     }
     rows
+}
+
+// The columns of the card at a station; all are 0 where there is none.
+pub(crate) fn columns_at(card: &Option<Card>) -> [u16; CARD_COLUMNS]
+    ensures { AreColumnsAt card.now result }
+{
+    match card {
+        None => [0; CARD_COLUMNS],
+        Some(card) => columns_of(card),
+    }
+}
+
+// The columns of a card.
+fn columns_of(card: &Card) -> [u16; CARD_COLUMNS]
+    ensures { AreColumnsAt (Some card.now) result }
+{
+    let mut columns = [0; CARD_COLUMNS];
+    for k in 0..CARD_COLUMNS {
+        columns[k] = set_of(card.column(k as u8 + 1));
+    }
+    columns
+}
+
+// The rows of a column by their places among the points.
+fn set_of(column: Column) -> u16
+    ensures { (row : CardRow) → is_bit result (passing_place row) ≡ has_row column (row_number row) }
+{
+    let mut set = 0;
+    let mut left = column.rows();
+    while left != 0 {
+        let row = left.trailing_zeros();
+        set |= 1 << place_of(row);
+        left = without(left, row);
+    }
+    set
 }
 
 // Sets a bit in the word of each row that the column has, one punch after the other.

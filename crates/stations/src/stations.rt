@@ -2,32 +2,34 @@
 
 ghost use Rattle.std.specs.Prelude.{◌≡◌, List, ℕ};
 
-use crate::punches::rows_at;
-use card_code::{Card, Row};
+use crate::punches::{columns_at, rows_at};
+use card_code::{CARD_COLUMNS, Card, Row};
 use hubs::Hub;
-use net::{Cycle, Picture, Point, Unit};
+use net::{Cycle, Picture, Point, RowSets, Unit};
 use std::marker::Model;
 
 /// The reading stations, unit 1.
 ///
 /// A card stands at first reading, and the card before it at second reading. Contracts see the two cards. Beside them
-/// each card is kept as the words of its twelve rows, so that a row is emitted as a whole.
+/// each card is kept as the words of its twelve rows, so that a row is emitted as a whole, and as the sets of rows of its columns, so
+/// that all rows are.
 #[derive(Debug, Drop)]
 pub struct Stations {
     first: Option<Card>,
     second: Option<Card>,
     rows: [[u128; 12]; 2],
+    columns: [[u16; CARD_COLUMNS]; 2],
 }
 
 impl Model for Stations {
-    ghost use Rattle.stations.specs.Stations.{StationCards, AreStationRows};
+    ghost use Rattle.stations.specs.Stations.{StationCards, AreStationCards};
 
     ghost Value = { StationCards };
 
     ghost view = { λ stations. record { first = stations.first; second = stations.second } };
 
-    ghost invariant = { λ stations. AreStationRows
-        (record { first = stations.first; second = stations.second }) stations.rows };
+    ghost invariant = { λ stations. AreStationCards
+        (record { first = stations.first; second = stations.second }) stations.rows stations.columns };
 }
 
 impl Stations {
@@ -42,6 +44,7 @@ impl Stations {
             first: None,
             second: None,
             rows: [[0; 12]; 2],
+            columns: [[0; CARD_COLUMNS]; 2],
         }
     }
 
@@ -50,9 +53,11 @@ impl Stations {
         ensures { self.new ≡ loaded next self.old }
     {
         let rows = rows_at(&next);
+        let columns = columns_at(&next);
         self.second = self.first;
         self.first = next;
         self.rows = [rows, self.rows[0]];
+        self.columns = [columns, self.columns[0]];
     }
 
     /// Whether a card stands at first reading.
@@ -108,7 +113,39 @@ impl Unit for Stations {
 
 impl Stations {
     ghost use Rattle.net.specs.HubSets.{GainsHubs};
-    ghost use Rattle.stations.specs.Stations.{first_emits, second_emits};
+    ghost use Rattle.net.specs.RowSets.{GainsRows};
+    ghost use Rattle.net.specs.declared.cycle.Point.TheVariants.{Row as AtRow};
+    ghost use Rattle.stations.specs.Stations.{first_emits, second_emits, stations_emits};
+
+    /// Adds to the sets of the exits the rows at whose points they emit.
+    pub fn emit_rows(&self, cycle: Cycle, sets: &mut RowSets)
+        ensures { GainsRows (λ row. stations_emits self.now cycle (AtRow row)) sets.old sets.new }
+    {
+        match cycle {
+            Cycle::RunIn => self.emit_first_rows(sets),
+            Cycle::Card => {
+                self.emit_first_rows(sets);
+                self.emit_second_rows(sets);
+            }
+            Cycle::Prog(_, _) | Cycle::Head(_) => {}
+        }
+    }
+
+    // Adds the exits of first reading, all rows at once.
+    fn emit_first_rows(&self, sets: &mut RowSets)
+        ensures { GainsRows (first_emits self.now.first) sets.old sets.new }
+    {
+        let columns = &self.columns[0];
+        sets.insert_sets(Hub::FR(1), columns);
+    }
+
+    // Adds the exits of second reading, all rows at once.
+    fn emit_second_rows(&self, sets: &mut RowSets)
+        ensures { GainsRows (second_emits self.now.second) sets.old sets.new }
+    {
+        let columns = &self.columns[1];
+        sets.insert_sets(Hub::SR(1), columns);
+    }
 
     // Adds the exits of first reading at the point of a row.
     fn emit_first(&self, row: Row, exits: &mut Picture)

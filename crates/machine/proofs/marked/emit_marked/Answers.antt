@@ -1,4 +1,4 @@
-use Rattle.std.proofs.Common.{◌≡◌, ◌∙◌, sym, ap, ◌||◌, true, arith}
+use Rattle.std.proofs.Common.{◌∙◌, sym, ap, ◌||◌, arith}
 use Rattle.std.proofs.Math.Bool.{or-false}
 use Rattle.bit_sets.proofs.BitLemmas.{lowest_bit, taken_lower}
 use Rattle.net.specs.HubSets.{has_hub}

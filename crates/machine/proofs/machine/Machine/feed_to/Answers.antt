@@ -1,4 +1,4 @@
-use Rattle.std.proofs.Common.{◌≡◌, ◌∙◌, sym, ap, subst, refl}
+use Rattle.std.proofs.Common.{sym, ap, subst, refl}
 use Rattle.net.specs.Nets.{IsNetOf}
 use Rattle.machine.specs.Kept.{FeedsPast, PlacedInFeed}
 use Rattle.machine.specs.Machine.{MachineState}

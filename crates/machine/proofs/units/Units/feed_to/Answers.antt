@@ -1,4 +1,4 @@
-use Rattle.std.proofs.Common.{◌≡◌, sym, ◌∙◌}
+use Rattle.std.proofs.Common.{sym, ◌∙◌}
 use Rattle.machine.specs.Feeds.{Fed, begun}
 use Rattle.machine.proofs.FeedSteps.{ends-falls}
 use Rattle.machine.proofs.KeptFeeds.{IsPast-start, IsPast-more, IsPast-all}

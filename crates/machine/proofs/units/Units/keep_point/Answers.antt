@@ -1,4 +1,4 @@
-use Rattle.std.proofs.Common.{Bool, List, ◌≡◌, ◌||◌, ◌∙◌, ap, subst}
+use Rattle.std.proofs.Common.{Bool, List, ◌||◌, ◌∙◌, ap, subst}
 use Rattle.net.specs.HubSets.{HubSet, has_hub}
 use Rattle.selectors.specs.Contacts.{carry_closes}
 use Rattle.machine.specs.Fields.{AreInUnitOrder}

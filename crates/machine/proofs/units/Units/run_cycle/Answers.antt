@@ -1,29 +1,34 @@
+use Rattle.machine.proofs.Keeps.{Keeps-both, Keeps-ends, Keeps-none}
+use Rattle.machine.proofs.Points.{AreSteady-more, Keeps-more, Reached-more, Reached-none}
 use Rattle.std.proofs.Common.{refl}
-use Rattle.net.specs.declared.cycle.Point.TheVariants.{C}
-use Rattle.machine.proofs.Keeps.{Keeps-none}
-use Rattle.machine.proofs.Points.{Reached-none, Reached-more, PointStep-at, Keeps-more, AreSteady-more}
+use Rattle.net.specs.declared.cycle.Point.TheVariants.{C, K}
 use Rattle.machine.proofs.units.Units.run_cycle.Goals as goal
 
-pub loop-point-init : goal.loop-point-init
-loop-point-init c =
-    let machine = c.args.self.now in
-    record {
-      reached = λ wiring is_net. Reached-none wiring c.args.cycle machine;
-      keeps = Keeps-none c.args.cycle machine machine refl;
-      steady = c.closed-closed.ensures;
-    }
+pub run_rows-requires : goal.run_rows-requires
+run_rows-requires c =
+    AreSteady-more c.args.cycle c.closed-closed.result C c.args.self.now c.step.new.self c.closed-closed.ensures c.step.ensures.senses
 
-pub loop-point-preserved : goal.loop-point-preserved
-loop-point-preserved c =
+pub step-requires-2 : goal.step-requires-2
+step-requires-2 c = c.run_rows.ensures.steady
+
+pub returns-clause-ran : goal.returns-clause-ran
+returns-clause-ran c wiring is_net =
     let cycle = c.args.cycle in
     let old = c.args.self.now in
-    let mid = c.loop-point.self in
-    let now = c.step.new.self in
-    let place = c.loop-point.point-index in
+    let control =
+    Reached-more wiring cycle old old c.step.new.self 0 (Reached-none wiring cycle old) (c.step.ensures.step wiring is_net) in
+    let rows = c.run_rows.ensures.ran wiring is_net old control in
     record {
-      reached = λ wiring is_net.
-          Reached-more wiring cycle old mid now place (c.loop-point.invariant.reached wiring is_net)
-          (PointStep-at wiring cycle mid now place C c.loop-point-test.true (c.step.ensures.step wiring is_net));
-      keeps = Keeps-more cycle _ old mid now c.loop-point.invariant.keeps c.step.ensures.senses;
-      steady = AreSteady-more cycle c.closed-closed.result _ mid now c.loop-point.invariant.steady c.step.ensures.senses;
+      at_end = c.step-2.new.self;
+      reached = Reached-more wiring cycle old c.run_rows.new.self c.step-2.new.self 13 rows (c.step-2.ensures.step wiring is_net);
+      is_new = c.end_cycle.ensures;
     }
+
+pub returns-clause-ends : goal.returns-clause-ends
+returns-clause-ends c =
+    let cycle = c.args.cycle in
+    let old = c.args.self.now in
+    let control = Keeps-more cycle C old old c.step.new.self (Keeps-none cycle old old refl) c.step.ensures.senses in
+    let rows = Keeps-both cycle old c.step.new.self c.run_rows.new.self control c.run_rows.ensures.keeps in
+    let closing = Keeps-more cycle K old c.run_rows.new.self c.step-2.new.self rows c.step-2.ensures.senses in
+    Keeps-ends cycle old c.step-2.new.self c.end_cycle.new.self closing c.end_cycle.ensures

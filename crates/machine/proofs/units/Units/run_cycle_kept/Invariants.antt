@@ -4,7 +4,7 @@ use Rattle.net.specs.Nets.{IsNetOf}
 use Rattle.machine.specs.Cycles.{Reached}
 use Rattle.machine.specs.Kept.{KeepsPoints}
 use Rattle.machine.specs.Steady.{AreSteady}
-use Rattle.machine.proofs.Keeps.{Keeps}
+use Rattle.machine.specs.Keeps.{Keeps}
 use Rattle.machine.proofs.units.Units.run_cycle_kept.Given as goal
 
 -- the points so far are run and kept

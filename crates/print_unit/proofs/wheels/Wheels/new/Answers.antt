@@ -6,7 +6,7 @@ use Rattle.print_unit.proofs.wheels.Wheels.new.Goals as goal
 pub returns : goal.returns
 returns c =
     let words : inside.Inside = record {
-      rows = replicate 12 0;
+      sets = replicate 128 0;
       link = c.plugged.result;
       suppress = c.plugged-2.result;
       symbol = c.plugged-3.result;

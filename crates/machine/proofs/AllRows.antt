@@ -1,0 +1,377 @@
+-- The points of the rows, all at once: what is emitted, what is sensed, and that this is what they do one by one.
+use Rattle.std.proofs.Common.{◌≡◌, ◌≢◌, ◌∙◌, ◌↔◌, refl, sym, ap, ℕ, zero, suc, ◌+◌, ◌<◌, ◌==◌, ◌&&◌, ◌||◌, Bool, true, false, List, [], ◌∷◌, map, length, get_or, Option, Some, None, All, arith, subst, slice_set, if◌then◌else◌}
+use Rattle.std.specs.List.{list_any}
+use Rattle.card_code.specs.Rows.{passing_place, row_number, rows}
+use Rattle.card_code.specs.declared.row.Row.{Row as CardRow}
+use Rattle.card_code.specs.declared.row.Row.TheVariants as row
+use Rattle.counters.specs.Counters.{Counter, all_taken, counter_emits, counter_sensed, no_controls, shows, takes}
+use Rattle.counters.specs.declared.controls.Controls.{Controls}
+use Rattle.std.proofs.lemmas.List.Elements.{All-head, All-tail}
+use Rattle.program_unit.specs.Program.{ProgramState, program_sensed}
+use Rattle.selectors.specs.Pilots.{pilots_sensed}
+use Rattle.print_unit.specs.Wheels.{wheels_sensed}
+use Rattle.setups.specs.Wiring.{Wiring}
+use Rattle.hubs.specs.declared.hub.Group.{Group}
+use Rattle.hubs.specs.declared.hub.Hub.{Hub}
+use Rattle.hubs.specs.declared.hub.Hub.TheVariants.{BAC, BAN, BAT, CI, CO, CSD, CSE, CSZ, EM, GE, GX, IE, IX, PIC, PIN, PIT, SX}
+use Rattle.net.proofs.ImpulsedLaws.{wires_make}
+use Rattle.net.proofs.Rows.{is_hub-same}
+use Rattle.net.specs.HubSets.{is_bit, is_hub}
+use Rattle.net.specs.Impulsed.{IsPicture}
+use Rattle.net.specs.Laws.{EmitsOrIsFed}
+use Rattle.net.specs.Links.{has_row_at}
+use Rattle.net.specs.Panel.{contact_of}
+use Rattle.net.specs.RowSets.{LeadsToNoContact, after_rows, pictures_of}
+use Rattle.net.specs.WholeCycles.{after_points}
+use Rattle.net.specs.declared.cycle.Cycle.{Cycle}
+use Rattle.net.specs.declared.cycle.Cycle.TheVariants.{RunIn, Card, Prog, Head}
+use Rattle.net.specs.declared.cycle.Point.{Point}
+use Rattle.net.specs.declared.cycle.Point.TheVariants.{Row}
+use Rattle.print_unit.specs.Emitters.{emits_row, emitter_of, emitters_emit}
+use Rattle.stations.specs.Comparing.{Compared, comparing_emits, comparing_sensed}
+use Rattle.stations.specs.Stations.{StationCards, first_emits, second_emits, stations_emits}
+use Rattle.storage_units.specs.Storage.{StorageState, columns_in, storage_emits, storage_sensed}
+use Rattle.machine.specs.AllRows.{AreRowsIdle, IsUntold, RunsRows}
+use Rattle.machine.specs.Cycles.{Reached, point_at}
+use Rattle.machine.specs.Machine.{MachineState, closes, emits, sensed}
+use Rattle.machine.specs.Rest.{HaveNoMore}
+use Rattle.machine.specs.Steady.{AreSteady}
+use Rattle.machine.specs.declared.closed.Closed.{Closed}
+use Rattle.machine.specs.declared.groups.Busy.{Busy}
+use Rattle.machine.proofs.ClosedContacts.{AreSteady-sensed, closes-steady}
+use Rattle.machine.proofs.Pictures.{IsPicture-same}
+
+-- comparing emits at no row
+comparing-row : (compared : Compared) (cycle : Cycle) (row : CardRow) (hub : Hub) → comparing_emits compared cycle (Row row) hub ≡ false
+comparing-row compared RunIn row hub = refl
+comparing-row compared Card row hub = refl
+comparing-row compared (Prog level ordinal) row hub = refl
+comparing-row compared (Head heading) row hub = refl
+
+-- what groups and storage units sense at a row changes nothing of what they emit at rows
+groups-steady : (groups : List Counter) (cycle : Cycle) (at other : CardRow) (picture : Hub → Bool) (hub : Hub)
+    → list_any (λ group. counter_emits group cycle (Row other) hub) (map (λ group. counter_sensed group cycle (Row at) picture) groups)
+    ≡ list_any (λ group. counter_emits group cycle (Row other) hub) groups
+groups-steady [] cycle at other picture hub = refl
+groups-steady (group ∷ groups) cycle at other picture hub =
+    let rest = groups-steady groups cycle at other picture hub in λ i. counter_emits group cycle (Row other) hub || rest i
+
+unit-steady : (storage : StorageState) (cycle : Cycle) (at other : CardRow) (picture : Hub → Bool) (hub : Hub)
+    → storage_emits (storage_sensed storage cycle (Row at) picture) cycle (Row other) hub ≡ storage_emits storage cycle (Row other) hub
+unit-steady storage cycle at other picture (SX unit column) = refl
+unit-steady storage cycle at other picture hub = refl
+
+storage-steady : (units : List StorageState) (cycle : Cycle) (at other : CardRow) (picture : Hub → Bool) (hub : Hub)
+    → list_any (λ storage. storage_emits storage cycle (Row other) hub) (map (λ storage. storage_sensed storage cycle (Row at) picture) units)
+    ≡ list_any (λ storage. storage_emits storage cycle (Row other) hub) units
+storage-steady [] cycle at other picture hub = refl
+storage-steady (unit ∷ units) cycle at other picture hub =
+    let here = unit-steady unit cycle at other picture hub in
+    let rest = storage-steady units cycle at other picture hub in λ i. here i || rest i
+
+-- what is emitted at a row hangs on no picture of another one
+emits-steady : (machine : MachineState) (cycle : Cycle) (at other : CardRow) (picture : Hub → Bool) (hub : Hub)
+    → emits (sensed machine cycle (Row at) picture) cycle (Row other) hub ≡ emits machine cycle (Row other) hub
+emits-steady machine cycle at other picture hub =
+    rw (
+      comparing-row (comparing_sensed machine.comparing cycle (Row at) picture) cycle other hub,
+      comparing-row machine.comparing cycle other hub,
+      groups-steady machine.groups cycle at other picture hub,
+      storage-steady machine.storage cycle at other picture hub,
+    )
+    refl
+
+-- a point of a cycle is reached, and all rows emit, and close contacts, as before the first of them
+record Along (wiring : Wiring) (cycle : Cycle) (start mid now : MachineState) (place : ℕ) : Type 0 where
+  reached : Reached wiring cycle place start now
+  emitted : (at : CardRow) (hub : Hub) → emits now cycle (Row at) hub ≡ emits mid cycle (Row at) hub
+  closed : (at : CardRow) (hub : Hub) → closes now cycle (Row at) hub ≡ closes mid cycle (Row at) hub
+
+along-more : (wiring : Wiring) (cycle : Cycle) (start mid now : MachineState) (place : ℕ) (at : CardRow) (picture : Hub → Bool)
+    → point_at place ≡ Row at → IsPicture wiring (emits mid cycle (Row at)) (closes mid cycle (Row at)) picture
+    → Along wiring cycle start mid now place → Along wiring cycle start mid (sensed now cycle (Row at) picture) (suc place)
+unfolding Reached
+along-more wiring cycle start mid now place at picture is is_picture along = record {
+  reached = (
+    now,
+    along.reached,
+    rw is (record {
+      picture = picture;
+      is_picture =
+          IsPicture-same wiring (emits mid cycle (Row at)) (emits now cycle (Row at)) (closes mid cycle (Row at)) (closes now cycle (Row at))
+          picture (λ hub. sym (along.emitted at hub)) (λ hub. sym (along.closed at hub)) is_picture;
+      is_new = refl;
+    }),
+  );
+  emitted = λ other hub. emits-steady now cycle at other picture hub ∙ along.emitted other hub;
+  closed = λ other hub. closes-steady now cycle (Row at) (Row other) picture hub refl ∙ along.closed other hub;
+}
+
+-- pictures of the rows that the machine after the control point has are those of the points one by one
+pub rows-reached : (wiring : Wiring) (cycle : Cycle) (mid : MachineState) (pictures : Point → Hub → Bool)
+    → ((at : CardRow) → IsPicture wiring (emits mid cycle (Row at)) (closes mid cycle (Row at)) (pictures (Row at)))
+    → RunsRows wiring cycle mid (after_rows sensed cycle pictures mid)
+rows-reached wiring cycle mid pictures are start reached =
+    let step : (now : MachineState) (place : ℕ) (at : CardRow) → point_at place ≡ Row at → Along wiring cycle start mid now place
+    → Along wiring cycle start mid (sensed now cycle (Row at) (pictures (Row at))) (suc place) =
+    λ now place at is along. along-more wiring cycle start mid now place at (pictures (Row at)) is (are at) along in
+    let a0 : Along wiring cycle start mid mid 1 =
+    record { reached = reached; emitted = λ at hub. refl; closed = λ at hub. refl } in
+    let a1 = step _ 1 row.Nine refl a0 in
+    let a2 = step _ 2 row.Eight refl a1 in
+    let a3 = step _ 3 row.Seven refl a2 in
+    let a4 = step _ 4 row.Six refl a3 in
+    let a5 = step _ 5 row.Five refl a4 in
+    let a6 = step _ 6 row.Four refl a5 in
+    let a7 = step _ 7 row.Three refl a6 in
+    let a8 = step _ 8 row.Two refl a7 in
+    let a9 = step _ 9 row.One refl a8 in
+    let a10 = step _ 10 row.Zero refl a9 in
+    let a11 = step _ 11 row.Eleven refl a10 in
+    let a12 = step _ 12 row.Twelve refl a11 in
+    a12.reached
+
+-- hubs that differ are not the same hub of the panel
+hub-apart : (one other : Hub) → one ≢ other → is_hub one other ≡ false
+hub-apart one other differ = by (is_hub one other) refl
+  where
+    by : (b : Bool) → is_hub one other ≡ b → is_hub one other ≡ false
+    by true is = absurd (differ (is_hub-same one other is))
+    by false is = is
+
+shows-apart : (name : Group) (given : ℕ) (digits : List ℕ) (hub : Hub) → ((position : ℕ) → GX name position ≢ hub)
+    → shows name given digits hub ≡ false
+shows-apart name given [] hub apart = refl
+shows-apart name given (digit ∷ below) hub apart =
+    let here = hub-apart (GX name (length below + 1)) hub (apart (length below + 1)) in
+    let rest = shows-apart name given below hub apart in
+    rw (here, rest) (no-and (digit == given))
+  where
+    no-and : (b : Bool) → ((b && false) || false) ≡ false
+    no-and true = refl
+    no-and false = refl
+
+-- what no unit emits
+record IsNoExit (hub : Hub) : Type 0 where
+  first : (card : Option (List ℕ)) (at : CardRow) → first_emits card at hub ≡ false
+  second : (card : Option (List ℕ)) (at : CardRow) → second_emits card at hub ≡ false
+  group : (name : Group) (position : ℕ) → GX name position ≢ hub
+  storage : (unit : StorageState) (cycle : Cycle) (at : CardRow) → storage_emits unit cycle (Row at) hub ≡ false
+  emitter : (emitter at : ℕ) → EM emitter at ≢ hub
+
+none-emitted : (machine : MachineState) (cycle : Cycle) (at : CardRow) (hub : Hub) → IsNoExit hub → emits machine cycle (Row at) hub ≡ false
+none-emitted machine cycle at hub not_exit =
+    rw (
+      stations machine.stations cycle,
+      comparing-row machine.comparing cycle at hub,
+      groups machine.groups,
+      storage machine.storage,
+      emitters (emitter_of cycle),
+    )
+    refl
+  where
+    stations : (cards : StationCards) (c : Cycle) → stations_emits cards c (Row at) hub ≡ false
+    stations cards RunIn = not_exit.first cards.first at
+    stations cards Card = let one = not_exit.first cards.first at in let other = not_exit.second cards.second at in λ i. one i || other i
+    stations cards (Prog level ordinal) = refl
+    stations cards (Head heading) = refl
+
+    groups : (list : List Counter) → list_any (λ group. counter_emits group cycle (Row at) hub) list ≡ false
+    groups [] = refl
+    groups (group ∷ others) =
+        let here = shows-apart group.name (row_number at) group.digits hub (not_exit.group group.name) in
+        rw (here, groups others) (no-and group.controls.read_out)
+      where
+        no-and : (b : Bool) → ((b && false) || false) ≡ false
+        no-and true = refl
+        no-and false = refl
+
+    storage : (list : List StorageState) → list_any (λ unit. storage_emits unit cycle (Row at) hub) list ≡ false
+    storage [] = refl
+    storage (unit ∷ others) = let here = not_exit.storage unit cycle at in let rest = storage others in λ i. here i || rest i
+
+    emitters : (emitter : Option ℕ) → emits_row emitter at hub ≡ false
+    emitters None = refl
+    emitters (Some emitter) = hub-apart (EM emitter (row_number at)) hub (not_exit.emitter emitter (row_number at))
+
+-- a hub from which contacts lead is emitted by no unit
+common-silent : (machine : MachineState) (cycle : Cycle) (at : CardRow) (common hub : Hub) → contact_of hub ≡ Some common
+    → emits machine cycle (Row at) common ≡ false
+common-silent machine cycle at common hub is = none-emitted machine cycle at common (by hub is)
+  where
+    carry : (group : Group) → IsNoExit (CI group)
+    carry group = record { first = λ card at. refl; second = λ card at. refl; group = λ name position e. cc; storage = λ unit cycle at. refl; emitter = λ emitter at e. cc }
+
+    balance : (group : Group) (position : ℕ) → IsNoExit (BAC group position)
+    balance group position = record { first = λ card at. refl; second = λ card at. refl; group = λ name position e. cc; storage = λ unit cycle at. refl; emitter = λ emitter at e. cc }
+
+    pilot : (number position : ℕ) → IsNoExit (PIC number position)
+    pilot number position = record { first = λ card at. refl; second = λ card at. refl; group = λ name position e. cc; storage = λ unit cycle at. refl; emitter = λ emitter at e. cc }
+
+    level : (number position : ℕ) → IsNoExit (IE number position)
+    level number position = record { first = λ card at. refl; second = λ card at. refl; group = λ name position e. cc; storage = λ unit cycle at. refl; emitter = λ emitter at e. cc }
+
+    split : (number : ℕ) → IsNoExit (CSE number)
+    split number = record { first = λ card at. refl; second = λ card at. refl; group = λ name position e. cc; storage = λ unit cycle at. refl; emitter = λ emitter at e. cc }
+
+    same : (one other : Hub) → IsNoExit one → ◌≡◌ {A = Option Hub} (Some one) (Some other) → IsNoExit other
+    same one other not_exit e = let is : one ≡ other = cc in subst IsNoExit is not_exit
+
+    by : (h : Hub) → contact_of h ≡ Some common → IsNoExit common
+    by (CO group) e = same (CI group) common (carry group) e
+    by (BAN group position) e = same (BAC group position) common (balance group position) e
+    by (BAT group position) e = same (BAC group position) common (balance group position) e
+    by (PIN number position) e = same (PIC number position) common (pilot number position) e
+    by (PIT number position) e = same (PIC number position) common (pilot number position) e
+    by (IX number position) e = same (IE number position) common (level number position) e
+    by (CSD number) e = same (CSE number) common (split number) e
+    by (CSZ number) e = same (CSE number) common (split number) e
+    by other e = cc
+
+-- where wires lead to no contact, what is spread along them of the rows that are emitted are the pictures of the rows
+pub rows-run : (wiring : Wiring) (cycle : Cycle) (mid new : MachineState) (exits final : List ℕ) → LeadsToNoContact wiring
+    → ((at : CardRow) (hub : Hub) → has_row_at exits (passing_place at) hub ≡ emits mid cycle (Row at) hub)
+    → ((r : ℕ) (hub : Hub) → (has_row_at final r hub ≡ true) ↔ EmitsOrIsFed wiring (has_row_at exits r) hub)
+    → new ≡ after_rows sensed cycle (pictures_of final) mid → RunsRows wiring cycle mid new
+rows-run wiring cycle mid new exits final direct emitted spread is =
+    subst (λ (m : MachineState). RunsRows wiring cycle mid m) (sym is) (rows-reached wiring cycle mid (pictures_of final) are)
+  where
+    are : (at : CardRow) → IsPicture wiring (emits mid cycle (Row at)) (closes mid cycle (Row at)) (pictures_of final (Row at))
+    are at =
+        IsPicture-same wiring (has_row_at exits (passing_place at)) (emits mid cycle (Row at)) (closes mid cycle (Row at))
+        (closes mid cycle (Row at)) (pictures_of final (Row at)) (emitted at) (λ hub. refl)
+        (wires_make wiring (has_row_at exits (passing_place at)) (closes mid cycle (Row at)) (pictures_of final (Row at)) direct.leads
+        (record {
+          silent = λ common hub contact. emitted at common ∙ common-silent mid cycle at common hub contact;
+          unwired = λ common hub exit contact wire. direct.unwired common hub exit contact wire;
+        })
+        (spread (passing_place at)))
+
+-- contacts stay as they are through the rows
+pub rows-steady : (cycle : Cycle) (closed : Closed) (pictures : Point → Hub → Bool) (list : List Point) (old : MachineState)
+    → AreSteady cycle closed old → AreSteady cycle closed (after_points sensed cycle pictures list old)
+rows-steady cycle closed pictures [] old steady = steady
+rows-steady cycle closed pictures (point ∷ others) old steady =
+    rows-steady cycle closed pictures others (sensed old cycle point (pictures point))
+    (AreSteady-sensed cycle closed old point (pictures point) steady)
+
+-- where no group may be under a control none is
+pub none-controlled : (busy : Busy) (k : ℕ) (groups : List Counter) → ((j : ℕ) → is_bit busy.controlled j ≡ false)
+    → HaveNoMore busy k groups → (j : ℕ) (d : Counter) → j < length groups → (get_or groups j d).controls ≡ no_controls
+none-controlled busy k [] none more j d inside = absurd (omega (arith, inside))
+none-controlled busy k (group ∷ groups) none more zero d inside = (more.0.rest (none k)).controls
+none-controlled busy k (group ∷ groups) none more (suc j) d inside =
+    none-controlled busy (suc k) groups none more.1 j d (omega (arith, inside))
+
+-- idle groups and storage units emit nothing
+idle-groups : (groups : List Counter) (cycle : Cycle) (at : CardRow) (hub : Hub) → All (λ group. group.controls ≡ no_controls) groups
+    → list_any (λ group. counter_emits group cycle (Row at) hub) groups ≡ false
+idle-groups [] cycle at hub idle = refl
+idle-groups (group ∷ groups) cycle at hub idle =
+    let here = All-head (λ (g : Counter). g.controls ≡ no_controls) group groups idle in
+    let rest = idle-groups groups cycle at hub (All-tail (λ (g : Counter). g.controls ≡ no_controls) group groups idle) in
+    ap (λ (controls : Controls). (controls.read_out && shows group.name (row_number at) group.digits hub) || list_any (λ g. counter_emits g cycle (Row at) hub) groups) here ∙ rest
+
+idle-unit : (storage : StorageState) (cycle : Cycle) (at : CardRow) (hub : Hub) → IsUntold storage
+    → storage_emits storage cycle (Row at) hub ≡ false
+idle-unit storage cycle at (SX unit column) untold = rw untold.reads_out refl
+idle-unit storage cycle at hub untold = refl
+
+idle-storage : (units : List StorageState) (cycle : Cycle) (at : CardRow) (hub : Hub) → All IsUntold units
+    → list_any (λ storage. storage_emits storage cycle (Row at) hub) units ≡ false
+idle-storage [] cycle at hub idle = refl
+idle-storage (unit ∷ units) cycle at hub idle =
+    let here = idle-unit unit cycle at hub (All-head IsUntold unit units idle) in
+    let rest = idle-storage units cycle at hub (All-tail IsUntold unit units idle) in λ i. here i || rest i
+
+pub idle-emits : (machine : MachineState) (cycle : Cycle) (at : CardRow) (hub : Hub) → AreRowsIdle machine
+    → (stations_emits machine.stations cycle (Row at) hub || emitters_emit machine.emitters cycle (Row at) hub)
+    ≡ emits machine cycle (Row at) hub
+idle-emits machine cycle at hub idle =
+    rw (
+      comparing-row machine.comparing cycle at hub,
+      idle-groups machine.groups cycle at hub idle.groups,
+      idle-storage machine.storage cycle at hub idle.storage,
+    )
+    (ends (stations_emits machine.stations cycle (Row at) hub) (emitters_emit machine.emitters cycle (Row at) hub))
+  where
+    ends : (a b : Bool) → (a || b) ≡ ((((((((((a || false) || false) || false) || false) || false) || false) || b) || false) || false) || false)
+    ends true b = refl
+    ends false true = refl
+    ends false false = refl
+
+-- and sense nothing
+idle-group : (cycle : Cycle) (at : CardRow) (picture : Hub → Bool) (group : Counter) → group.controls ≡ no_controls
+    → counter_sensed group cycle (Row at) picture ≡ group
+idle-group cycle at picture group idle =
+    ap (λ (controls : Controls). record group {
+      entered =
+          if takes controls (row_number at)
+          then all_taken (row_number at) (λ position. picture (GE group.name position)) group.entered
+          else group.entered;
+    })
+    idle
+
+idle-senses_row : (cycle : Cycle) (at : CardRow) (picture : Hub → Bool) (storage : StorageState) → IsUntold storage
+    → storage_sensed storage cycle (Row at) picture ≡ storage
+idle-senses_row cycle at picture storage idle =
+    ap (λ (reads_in : Bool). record storage {
+      received =
+          if reads_in
+          then slice_set storage.received (passing_place at) (columns_in picture storage.place)
+          else storage.received;
+    })
+    idle.reads_in
+
+-- things of a list that a change leaves as they are
+all-stay : {X : Type 0} (P : X → Type 0) (change : X → X) → ((x : X) → P x → change x ≡ x) → (xs : List X) → All P xs → map change xs ≡ xs
+all-stay P change stays [] all = refl
+all-stay {X} P change stays (x ∷ xs) all =
+    let here = stays x (All-head P x xs all) in
+    let rest = all-stay P change stays xs (All-tail P x xs all) in λ i. here i ∷ rest i
+
+lists-stay : {X : Type 0} (P : X → Type 0) (sense : X → Cycle → Point → (Hub → Bool) → X) (cycle : Cycle)
+    → ((at : CardRow) (picture : Hub → Bool) (x : X) → P x → sense x cycle (Row at) picture ≡ x)
+    → (list : List CardRow) (pictures : Point → Hub → Bool) (xs : List X) → All P xs
+    → after_points (λ (all : List X) (c : Cycle) (point : Point) (picture : Hub → Bool). map (λ x. sense x c point picture) all) cycle pictures
+    (map Row list) xs
+    ≡ xs
+lists-stay P sense cycle stays [] pictures xs all = refl
+lists-stay {X} P sense cycle stays (at ∷ others) pictures xs all =
+    ap (λ (now : List X). after_points (λ (every : List X) (c : Cycle) (point : Point) (picture : Hub → Bool). map (λ x. sense x c point picture) every)
+    cycle pictures (map Row others) now)
+    (all-stay P (λ x. sense x cycle (Row at) (pictures (Row at))) (stays at (pictures (Row at))) xs all)
+    ∙ lists-stay P sense cycle stays others pictures xs all
+
+-- the program unit senses no row
+program-rows : (cycle : Cycle) (pictures : Point → Hub → Bool) (program : ProgramState)
+    → program ≡ after_rows program_sensed cycle pictures program
+program-rows RunIn pictures program = refl
+program-rows Card pictures program = refl
+program-rows (Prog level ordinal) pictures program = refl
+program-rows (Head heading) pictures program = refl
+
+-- the machine after all rows, where they are nothing to groups and storage units
+pub idle-senses : (cycle : Cycle) (pictures : Point → Hub → Bool) (old new : MachineState) → AreRowsIdle old
+    → new.stations ≡ old.stations → new.comparing ≡ after_rows comparing_sensed cycle pictures old.comparing → new.groups ≡ old.groups
+    → new.storage ≡ old.storage → new.pilots ≡ after_rows pilots_sensed cycle pictures old.pilots → new.indicate ≡ old.indicate
+    → new.splits ≡ old.splits → new.emitters ≡ old.emitters → new.wheels ≡ after_rows wheels_sensed cycle pictures old.wheels
+    → new.carriage ≡ old.carriage → new.program ≡ old.program → new ≡ after_rows sensed cycle pictures old
+idle-senses cycle pictures old new idle stations comparing groups storage pilots indicate splits emitters wheels carriage program =
+    let groups_stay =
+    groups ∙ sym (lists-stay (λ (g : Counter). g.controls ≡ no_controls) counter_sensed cycle (idle-group cycle) rows pictures old.groups idle.groups) in
+    let storage_stays = storage ∙ sym (lists-stay IsUntold storage_sensed cycle (idle-senses_row cycle) rows pictures old.storage idle.storage) in
+    let program_stays = program ∙ program-rows cycle pictures old.program in
+    λ i. record {
+      stations = stations i;
+      comparing = comparing i;
+      groups = groups_stay i;
+      storage = storage_stays i;
+      pilots = pilots i;
+      indicate = indicate i;
+      splits = splits i;
+      emitters = emitters i;
+      wheels = wheels i;
+      carriage = carriage i;
+      program = program_stays i;
+    }

@@ -1,0 +1,96 @@
+//! Sets of rows, one for each hub: the pictures of all twelve rows at once.
+
+ghost use Rattle.std.specs.Prelude.{◌≡◌, ℕ, ◌<◌};
+
+use crate::picture::HUBS;
+use hubs::Hub;
+use std::marker::Model;
+
+/// For each hub the set of the rows at whose points it emits, or is impulsed: bit r of a set tells of the row at place r among the
+/// points, from row 9 at bit 0 to row 12 at bit 11.
+#[derive(Clone, Copy, Debug, PartialEq, Eq)]
+pub struct RowSets {
+    // The set of the hub with the number h stands at place h - 1.
+    pub(crate) sets: [u16; HUBS],
+}
+
+impl Model for RowSets {
+    ghost use Rattle.std.specs.Prelude.{◌≡◌, ℕ, List, length};
+
+    ghost Value = { List ℕ };
+
+    ghost view = { λ sets. sets.sets };
+
+    ghost inverse = { λ sets. record { sets = sets } };
+
+    ghost invariant = { λ sets. length sets.sets ≡ 1936 };
+}
+
+impl RowSets {
+    ghost use Rattle.std.specs.Prelude.{◌≡◌, ℕ, ◌-◌, ◌+◌, ◌==◌, ◌&&◌, ◌||◌, false, Some, drop, length};
+    ghost use Rattle.hubs.specs.Hubs.{number_of};
+    ghost use Rattle.hubs.specs.declared.hub.Hub.{Hub};
+    ghost use Rattle.net.specs.HubSets.{is_hub};
+    ghost use Rattle.net.specs.Links.{has_row_at};
+    ghost use Rattle.net.specs.RowSets.{is_in_sets};
+
+    /// Empty sets.
+    #[inline(always)]
+    pub fn new() -> Self
+        ensures { (row : ℕ) (hub : Hub) → has_row_at result row hub ≡ false }
+    {
+        RowSets { sets: [0; HUBS] }
+    }
+
+    /// Adds the row at a place to the set of a hub. A hub out of range changes nothing.
+    #[inline(always)]
+    pub fn insert(&mut self, hub: Hub, place: usize)
+        requires { place < 12 }
+        ensures { (row : ℕ) (other : Hub) → has_row_at self.new row other
+            ≡ (has_row_at self.old row other || ((row == place) && is_hub hub other)) }
+    {
+        if let Some(number) = hub.number() {
+            self.sets[number as usize - 1] |= 1 << place;
+        }
+    }
+
+    /// Adds sets to those of hubs that follow one another from the first one on. Sets after the last hub change nothing, and neither
+    /// do any from a hub out of range.
+    #[inline(always)]
+    pub fn insert_sets(&mut self, first: Hub, sets: &[u16])
+        ensures { (row : ℕ) (hub : Hub) → has_row_at self.new row hub
+            ≡ (has_row_at self.old row hub || is_in_sets first sets.now row hub) }
+    {
+        if let Some(number) = first.number() {
+            join(&mut self.sets, number as usize - 1, sets);
+        }
+    }
+
+    /// The sets of the hubs that follow one another from the first one to the last one of the panel; none from a hub out of range.
+    #[inline(always)]
+    pub fn from(&self, first: Hub) -> &[u16]
+        ensures sets { (number : ℕ) → number_of first ≡ Some number → result.now ≡ drop (number - 1) self.now }
+        ensures long { (number : ℕ) → number_of first ≡ Some number → length result.now + number ≡ 1937 }
+    {
+        match first.number() {
+            Some(number) => &self.sets[number as usize - 1..],
+            None => &[],
+        }
+    }
+}
+
+ghost use Rattle.net.specs.Links.{has_at};
+ghost use Rattle.std.specs.Prelude.{◌-◌, ◌&&◌, ◌||◌, nat_le, length};
+
+// Joins sets to those from a place on.
+fn join(all: &mut [u16; HUBS], first: usize, sets: &[u16])
+    requires { first < HUBS }
+    ensures joined { (place row : ℕ) → place < HUBS → has_at all.new place row
+        ≡ (has_at all.old place row || (nat_le first place && has_at sets.now (place - first) row)) }
+    ensures long { length all.new ≡ HUBS }
+{
+    let count = sets.len().min(HUBS - first);
+    for k in 0..count {
+        all[first + k] |= sets[k];
+    }
+}

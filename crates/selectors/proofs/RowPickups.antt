@@ -1,0 +1,58 @@
+-- The pilots, with all rows of a cycle at once.
+use Rattle.std.proofs.Common.{◌≡◌, ◌∙◌, refl, ap, ℕ, zero, suc, map, ◌+◌, ◌-◌, ◌≤◌, ◌<◌, Bool, true, false, List, drop, Some, arith}
+use Rattle.std.specs.List.{range_with_len}
+use Rattle.std.proofs.lemmas.Bool.Decides.{nat_tests}
+use Rattle.card_code.specs.declared.row.Row.TheVariants.{Eleven}
+use Rattle.hub_table.specs.Ranges.{is_within}
+use Rattle.hubs.specs.Hubs.{number_of}
+use Rattle.hubs.specs.declared.hub.Hub.{Hub}
+use Rattle.hubs.specs.declared.hub.Hub.TheVariants.{PIX}
+use Rattle.net.proofs.SetLemmas.{set-read}
+use Rattle.net.specs.Links.{has_at}
+use Rattle.net.specs.RowSets.{after_rows, pictures_of}
+use Rattle.net.specs.declared.cycle.Cycle.{Cycle}
+use Rattle.net.specs.declared.cycle.Cycle.TheVariants.{RunIn, Card, Prog, Head}
+use Rattle.net.specs.declared.cycle.Point.{Point}
+use Rattle.net.specs.declared.cycle.Point.TheVariants.{Row}
+use Rattle.selectors.specs.Numbered.{tests_to}
+use Rattle.selectors.specs.Pilots.{PilotStates, moves_pilots, pickups, pilots_sensed}
+
+-- tests that agree on the numbers 1 to 16
+tests-same : (one other : ℕ → Bool) → ((n : ℕ) → 1 ≤ n → n ≤ 16 → one n ≡ other n) → tests_to 16 one ≡ tests_to 16 other
+unfolding tests_to
+tests-same one other same = by 1 16 (λ n low high. same n low (omega (arith, high)))
+  where
+    by : (from count : ℕ) → ((n : ℕ) → from ≤ n → n < from + count → one n ≡ other n)
+        → map one (range_with_len from count) ≡ map other (range_with_len from count)
+    by from zero alike = refl
+    by from (suc count) alike =
+        rw (alike from (omega arith) (omega arith), by (from + 1) count (λ n low high. alike n (omega (arith, low)) (omega (arith, high)))) refl
+
+-- the pickups that are read are those of the point of row 11
+pub pickups-read : (sets read : List ℕ) → read ≡ drop 1604 sets
+    → tests_to 16 (λ pilot. has_at read (pilot - 1) 10) ≡ pickups (pictures_of sets (Row Eleven))
+pickups-read sets read is =
+    tests-same (λ pilot. has_at read (pilot - 1) 10) (λ pilot. pictures_of sets (Row Eleven) (PIX pilot))
+    (λ n low high.
+    ap (λ (rs : List ℕ). has_at rs (n - 1) 10) is ∙ set-read sets (PIX n) 1605 (n - 1) 10 (omega arith) (numbered n low high))
+  where
+    numbered : (n : ℕ) → 1 ≤ n → n ≤ 16 → number_of (PIX n) ≡ Some (1605 + (n - 1))
+    numbered n low high =
+        let within : is_within n 16 ≡ true = grind (arith, nat_tests, low, high) in
+        let number : 1604 + n ≡ 1605 + (n - 1) = omega (arith, low) in
+        rw within (ap (λ (m : ℕ). Some m) number)
+
+-- the pilots after the rows of a cycle that moves them, and of another one
+pub rows-moving : (cycle : Cycle) (pictures : Point → Hub → Bool) (pilots : PilotStates) → moves_pilots cycle ≡ true
+    → ◌≡◌ {A = PilotStates} (record pilots { picked_up = pickups (pictures (Row Eleven)) }) (after_rows pilots_sensed cycle pictures pilots)
+rows-moving RunIn pictures pilots moves = refl
+rows-moving Card pictures pilots moves = refl
+rows-moving (Prog level ordinal) pictures pilots moves = cc
+rows-moving (Head heading) pictures pilots moves = cc
+
+pub rows-resting : (cycle : Cycle) (pictures : Point → Hub → Bool) (pilots : PilotStates) → moves_pilots cycle ≡ false
+    → pilots ≡ after_rows pilots_sensed cycle pictures pilots
+rows-resting RunIn pictures pilots rests = cc
+rows-resting Card pictures pilots rests = cc
+rows-resting (Prog level ordinal) pictures pilots rests = refl
+rows-resting (Head heading) pictures pilots rests = refl

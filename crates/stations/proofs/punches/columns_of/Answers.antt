@@ -1,0 +1,13 @@
+use Rattle.stations.proofs.ColumnSets.{columns-done, columns-first, columns-next}
+use Rattle.stations.proofs.punches.columns_of.Goals as goal
+
+pub loop-k-init : goal.loop-k-init
+loop-k-init c = columns-first c.args.card.now
+
+pub loop-k-preserved : goal.loop-k-preserved
+loop-k-preserved c =
+    columns-next c.loop-k.k c.set_of.result c.column.result c.args.card.now c.loop-k.columns c.loop-k-test.true c.column.ensures.value
+    c.set_of.ensures c.loop-k.invariant
+
+pub returns : goal.returns
+returns c = columns-done c.loop-k.k c.args.card.now c.loop-k.columns c.loop-k-test.false c.loop-k.invariant

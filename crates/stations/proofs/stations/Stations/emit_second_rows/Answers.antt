@@ -1,0 +1,13 @@
+use Rattle.std.proofs.Common.{◌∙◌, ap, ◌||◌}
+use Rattle.card_code.specs.Rows.{passing_place}
+use Rattle.net.specs.Links.{has_row_at}
+use Rattle.stations.specs.Stations.{StationCards, second_emits}
+use Rattle.stations.proofs.ColumnSets.{second_columns}
+use Rattle.stations.proofs.stations.Stations.emit_second_rows.Goals as goal
+
+pub returns : goal.returns
+returns c row hub =
+    c.insert_sets.ensures (passing_place row) hub
+    ∙ ap (λ b. has_row_at c.args.sets.now (passing_place row) hub || b)
+    (second_columns c.self.inside.second _ _ row hub c.self.invariant.rows.second c.self.invariant.columns.second
+    ∙ ap (λ (cards : StationCards). second_emits cards.second row hub) c.self.view_is)
