@@ -1,9 +1,8 @@
 -- The cards of a deck, fed one after another, whose lines stand elsewhere than at a page and a line of it.
-use Rattle.std.proofs.Common.{◌≡◌, ◌∙◌, sym, ap, subst, refl, arith, ℕ, ◌+◌, ◌≤◌, ◌<◌, Bool, true, false, List, [], ◌∷◌, ◌++◌, Some, None, length, take, append_assoc, append-nil}
+use Rattle.std.proofs.Common.{◌≡◌, ◌∙◌, sym, ap, subst, refl, ℕ, ◌+◌, ◌≤◌, false, List, [], ◌∷◌, ◌++◌, Some, None, length, take, append_assoc, append-nil}
 use Rattle.std.specs.Prelude.{All, slice_get}
-use Rattle.std.proofs.lemmas.List.{take_more, take_all}
+use Rattle.std.proofs.lemmas.List.{take_all}
 use Rattle.std.proofs.lemmas.List.Elements.{All-append, All-nil}
-use Rattle.std.proofs.lemmas.Option.{slice_get_past}
 use Rattle.placed_lines.specs.declared.placed_line.PlacedLine.{PlacedLine}
 use Rattle.setups.specs.Wiring.{Wiring}
 use Rattle.net.specs.Nets.{IsNetOf}
@@ -11,11 +10,9 @@ use Rattle.machine.specs.Feeds.{FedLines, Feeds, LinesFrom}
 use Rattle.machine.specs.Kept.{FeedsPast, IsElsewhere, PlacedInFeed}
 use Rattle.machine.specs.Machine.{MachineState, machine_at_start}
 use Rattle.machine.specs.Running.{Running, IsStarted, fed}
-use Rattle.machine.specs.Runs.{MachineLines}
 use Rattle.machine.proofs.FeedsInRuns.{feeds-in-run}
 use Rattle.machine.specs.declared.kept.KeptCycle.{KeptCycle}
-use Rattle.explanations.specs.PlacedInRun.{IsFound, PlacedInRun, PrintsNoneAt}
-use Rattle.explanations.specs.declared.found.FoundLine.{FoundLine}
+use Rattle.explanations.specs.PlacedInRun.{IsFound, PrintsNoneAt}
 
 -- So many cards of a deck were fed, and the machine takes more.
 pub record HasFed (wiring : Wiring) (deck : List (List ℕ)) (page line : ℕ) (cards : ℕ) (running : Running) : Type 0 where

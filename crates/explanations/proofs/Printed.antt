@@ -1,5 +1,5 @@
 -- A line that a cycle of a run places is among the lines of the run.
-use Rattle.std.proofs.Common.{◌≡◌, ◌∙◌, sym, ap, subst, refl, arith, ℕ, ◌+◌, ◌≤◌, List, [], ◌∷◌, ◌++◌, Option, Some, None, ◌<◌, get_or, length, length-drop, take, drop, append_assoc}
+use Rattle.std.proofs.Common.{◌≡◌, ◌∙◌, sym, ap, subst, refl, arith, ℕ, List, [], ◌∷◌, ◌++◌, Option, Some, None, ◌<◌, get_or, length, length-drop, take, drop, append_assoc}
 use Rattle.std.specs.Prelude.{Contains, slice_get}
 use Rattle.std.proofs.lemmas.List.{take-append-drop, get_or-drop}
 use Rattle.std.proofs.lemmas.List.Elements.{Contains-append_left, Contains-append_right}
@@ -15,7 +15,7 @@ use Rattle.machine.specs.Machine.{MachineState, machine_at_start}
 use Rattle.machine.proofs.FeedsInRuns.{feeds-in-run}
 use Rattle.machine.proofs.OneOutcome.{FeedStep-one}
 use Rattle.machine.proofs.SomeOutcome.{LinesFrom-some}
-use Rattle.explanations.specs.PlacedInRun.{PlacedInRun, PlacedLinesArePrinted}
+use Rattle.explanations.specs.PlacedInRun.{PlacedLinesArePrinted}
 
 -- The rest of a feed's cycles, from one of them on.
 record Rest (wiring : Wiring) (now : Fed) (left : MachineState) (all : List PlacedLine) : Type 0 where

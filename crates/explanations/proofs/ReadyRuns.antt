@@ -1,11 +1,11 @@
 -- A machine is ready for each cycle of a run.
-use Rattle.std.proofs.Common.{◌≡◌, sym, subst, ℕ, Bool, true, false, List, [], ◌∷◌, Option, Some, if◌then◌else◌}
+use Rattle.std.proofs.Common.{sym, subst, ℕ, Bool, true, false, List, [], ◌∷◌, Option, Some, if◌then◌else◌}
 use Rattle.placed_lines.specs.declared.placed_line.PlacedLine.{PlacedLine}
 use Rattle.setups.specs.Wiring.{Wiring}
 use Rattle.net.specs.declared.cycle.Cycle.{Cycle}
 use Rattle.net.specs.declared.cycle.Cycle.TheVariants.{RunIn, Card, Prog, Head}
 use Rattle.program_unit.specs.CycleOrder.{is_fresh}
-use Rattle.machine.specs.Feeds.{Fed, FedLines, FeedStep, begun, taken}
+use Rattle.machine.specs.Feeds.{Fed, FedLines, begun, taken}
 use Rattle.machine.specs.Kept.{Steps}
 use Rattle.machine.specs.Kept.Steps.{none, more}
 use Rattle.machine.specs.Machine.{MachineState, machine_at_start}

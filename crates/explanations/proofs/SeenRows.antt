@@ -1,5 +1,5 @@
 -- What a cycle saw at its rows, point by point, and the line that it made.
-use Rattle.std.proofs.Common.{◌≡◌, ◌∙◌, sym, ap, subst, refl, arith, ℕ, zero, suc, ◌+◌, ◌<◌, Bool, true, ◌↔◌, List, [], ◌∷◌, map}
+use Rattle.std.proofs.Common.{◌≡◌, ◌∙◌, sym, ap, subst, refl, arith, ℕ, zero, suc, ◌<◌, Bool, ◌∷◌, map}
 use Rattle.std.specs.List.{range_with_len}
 use Rattle.card_code.specs.declared.row.Row.{Row as CardRow}
 use Rattle.card_code.specs.declared.row.Row.TheVariants.{Zero, One, Two, Three, Four, Five, Six, Seven, Eight, Nine, Eleven, Twelve}
@@ -8,14 +8,14 @@ use Rattle.hubs.specs.declared.hub.Hub.{Hub}
 use Rattle.net.specs.Impulsed.{IsPicture}
 use Rattle.net.specs.declared.cycle.Cycle.{Cycle}
 use Rattle.net.specs.declared.cycle.Point.{Point}
-use Rattle.net.specs.declared.cycle.Point.TheVariants.{C, Row, K}
+use Rattle.net.specs.declared.cycle.Point.TheVariants.{C, Row}
 use Rattle.print_unit.specs.ZeroControl.{has_zero_control, printed_line}
 use Rattle.machine.specs.Cycles.{CycleRun, PointStep, Reached, point_at}
 use Rattle.machine.specs.Machine.{MachineState, closes, emits, sensed}
 use Rattle.machine.proofs.OneOutcome.{same_picture}
 use Rattle.machine.proofs.Pictures.{IsPicture-same}
 use Rattle.whole_cycles.specs.Between.{IsReady}
-use Rattle.whole_cycles.specs.WholeCycles.{WholeCycle, control_emits, row_emits, wheel_received, wheels_after}
+use Rattle.whole_cycles.specs.WholeCycles.{WholeCycle, control_emits, row_emits, wheel_received}
 use Rattle.whole_cycles.proofs.Emitted.{closes-before, emits-control, emits-row}
 use Rattle.whole_cycles.proofs.Parts.{machine_after}
 use Rattle.whole_cycles.proofs.Walks.{rows_before}

@@ -1,8 +1,9 @@
 -- Significance goes from wheel to wheel, so it comes from a wheel that received a figure.
-use Rattle.std.proofs.Common.{◌≡◌, ◌∙◌, sym, ap, subst, refl, arith, ℕ, zero, suc, ◌+◌, ◌-◌, ◌<◌, ◌≤◌, Bool, true, false, not, ◌&&◌, ◌||◌, ◌⊎◌, inl, inr, List, [], ◌∷◌, Option, Some, None, map, length}
+use Rattle.std.proofs.Common.{◌≡◌, ◌∙◌, sym, ap, subst, refl, arith, ℕ, zero, suc, ◌+◌, ◌-◌, ◌<◌, ◌≤◌, Bool, true, false, ◌&&◌, ◌||◌, ◌⊎◌, inl, inr, List, [], ◌∷◌, Option, Some, None, map}
 use Rattle.std.specs.List.{range_with_len}
 use Rattle.std.specs.Prelude.{slice_index_or}
-use Rattle.std.proofs.lemmas.Bool.{false≢true}
+use Rattle.std.proofs.lemmas.Bool.{cases_lt, false≢true}
+use Rattle.std.proofs.lemmas.List.{get_or-map}
 use Rattle.std.proofs.lemmas.List.FromFn.{get_or-map-range_with_len, length-map-range_with_len}
 use Rattle.hubs.specs.declared.hub.Hub.{Hub}
 use Rattle.hubs.specs.declared.jack.Jack.TheVariants.{Link}
@@ -44,6 +45,13 @@ both_true true false false one (inl other) = other
 both_true true false false one (inr other) = other
 both_true false b c one other = one
 
+at_most : (a b : ℕ) → a ≤ b + 1 → (a ≤ b) ⊎ (a ≡ b + 1)
+at_most a b up = by (cases_lt b a)
+  where
+    by : (b < a) ⊎ (a ≤ b) → (a ≤ b) ⊎ (a ≡ b + 1)
+    by (inl more) = inr (omega (arith, up, more))
+    by (inr less) = inl less
+
 module _ (wiring : Wiring) (pictures : Point → Hub → Bool) (line : List ℕ)
     (is : IsZeroControlled (wheels_of wiring pictures) line) where
   -- what a wheel gives the next one
@@ -79,23 +87,22 @@ module _ (wiring : Wiring) (pictures : Point → Hub → Bool) (line : List ℕ)
               },
             )
         | inr figure ↦ (
-            place + 1,
-            record {
-              first = omega arith;
-              left = omega arith;
-              figure = figure;
-              linked = λ wheel past up. ap (λ (n : ℕ). is_plugged wiring (Link n)) (omega (arith, past, up)) ∙ linked;
-            },
-          )
+          place + 1,
+          record {
+            first = omega arith;
+            left = omega arith;
+            figure = figure;
+            linked = λ wheel past up.
+                let same : wheel ≡ place + 1 + 1 = omega (arith, past, up) in
+                ap (λ (n : ℕ). is_plugged wiring (Link n)) same ∙ linked;
+          },
+        )
       ])
     where
       last : (wheel : ℕ) → (wheel ≤ place + 1 → is_plugged wiring (Link wheel) ≡ true)
           → is_plugged wiring (Link (place + 1 + 1)) ≡ true → wheel ≤ place + 1 + 1 → is_plugged wiring (Link wheel) ≡ true
       last wheel before linked up = by (at_most wheel (place + 1) up)
         where
-          at_most : (a b : ℕ) → a ≤ b + 1 → (a ≤ b) ⊎ (a ≡ b + 1)
-          at_most a b up = grind (arith, up)
-
           by : (wheel ≤ place + 1) ⊎ (wheel ≡ place + 1 + 1) → is_plugged wiring (Link wheel) ≡ true
           by (inl early) = before early
           by (inr same) = ap (λ (n : ℕ). is_plugged wiring (Link n)) same ∙ linked
@@ -128,7 +135,7 @@ module _ (wiring : Wiring) (pictures : Point → Hub → Bool) (line : List ℕ)
   significance_is : (wheel : ℕ) → 1 ≤ wheel → wheel ≤ 120 → (cycle : Cycle) → has_zero_control cycle ≡ true
       → (told : Significance) → TellsSignificance wiring pictures cycle wheel told → is.has (wheel - 1) ≡ is_significant told
   significance_is wheel first range cycle control Uncontrolled tells = absurd (false≢true (sym tells ∙ control))
-  significance_is wheel first range cycle control (From from) tells = gives_has from wheel range tells.1.0
+  significance_is wheel first range cycle control (From from) tells = gives_has from wheel range tells.1
   significance_is wheel first range cycle control Absent tells = by (is.has (wheel - 1)) refl
     where
       by : (has : Bool) → is.has (wheel - 1) ≡ has → has ≡ false
@@ -173,7 +180,11 @@ line-shows wiring pictures cycle wheel first range told tells = by (has_zero_con
         mapped : (place : ℕ) → place < 120
             → slice_index_or (map (λ (w : Wheel). character_of w.received) (wheels_of wiring pictures)) place 0
             ≡ character_of (wheel_received wiring pictures (place + 1)).received
-        mapped place less = ?
+        mapped place less =
+            let many = length-map-range_with_len (wheel_received wiring pictures) 1 120 in
+            get_or-map (λ (w : Wheel). character_of w.received) (wheels_of wiring pictures) place no_wheel 0
+            (subst (λ (n : ℕ). place < n) (sym many) less)
+            ∙ ap (λ (w : Wheel). character_of w.received) (wheel-at wiring pictures place less)
 
 -- the text of a line that was placed
 pub placed-text : (printed : Option (ℕ × ℕ)) (text : List ℕ) (line : PlacedLine) → line_at printed text ≡ line ∷ [] → line.text ≡ text

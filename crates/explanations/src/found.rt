@@ -53,12 +53,7 @@ pub fn find_line(
 }
 
 // Feeds a machine that takes what is fed, up to the cycle that places a line at this page and this line of it.
-fn feed_to(
-    machine: &mut Machine,
-    next: Option<Card>,
-    page: u64,
-    line: u32,
-) -> Option<KeptCycle>
+fn feed_to(machine: &mut Machine, next: Option<Card>, page: u64, line: u32) -> Option<KeptCycle>
     requires { refusal machine.old next ≡ None }
     ensures found { (wiring : Wiring) → IsNetOf wiring machine.old.net → IfSome result (PlacedInFeed wiring machine.old.machine next) }
     ensures page { IfSome result (λ kept. kept.line.page ≡ page) }

@@ -1,6 +1,6 @@
 //! Which wheel to the left gives a wheel its significance.
 
-ghost use Rattle.std.specs.Prelude.{◌≡◌, ◌≤◌, ℕ, List, length};
+ghost use Rattle.std.specs.Prelude.{◌≡◌, ◌≤◌, ℕ, Bool, List, length};
 ghost use Rattle.hubs.specs.declared.hub.Hub.{Hub};
 ghost use Rattle.setups.specs.Wiring.{Wiring};
 ghost use Rattle.net.specs.declared.cycle.Point.{Point};
@@ -27,12 +27,7 @@ pub enum Significance {
 }
 
 // What is to be told of a wheel's significance in a cycle.
-pub(crate) fn significance_of(
-    setup: &Setup,
-    ways: &[Ways],
-    cycle: Cycle,
-    wheel: u8,
-) -> Significance
+pub(crate) fn significance_of(setup: &Setup, ways: &[Ways], cycle: Cycle, wheel: u8) -> Significance
     requires { 12 ≤ length ways.now }
     ensures { (points : List KeptPoint) (pictures : Point → Hub → Bool) → AreRowWays setup.now points 12 ways.now
         → ArePictures setup.now points pictures → TellsSignificance setup.now pictures cycle wheel result }
