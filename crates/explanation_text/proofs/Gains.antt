@@ -1,6 +1,6 @@
 -- What a text gains, piece by piece.
 use Rattle.std.proofs.Common.{◌≡◌, ◌∙◌, sym, ap, subst, refl, ℕ, ◌+◌, ◌<◌, List, [], ◌∷◌, ◌++◌, Option, Some, None, append_assoc, append-nil, codes, length, slice_index_or, flat_map, take, get_or, arith}
-use Rattle.std.specs.Prelude.{Vec}
+use Rattle.std.specs.Prelude.{OnOk, Result, Ok, Err, Vec}
 use Rattle.std.specs.declared.alloc.Global.{Global}
 use Rattle.std.proofs.lemmas.List.{take_more, flat_map_more}
 use Rattle.hubs.specs.declared.hub.Hub.{Hub}
@@ -78,3 +78,13 @@ text_whole told one two three text closing first second third last = record {
       ∙ ap (λ (l : List ℕ). l ++ closing)
       (third.gained ∙ ap (λ (l : List ℕ). l ++ third.lines) (second ∙ ap (λ (l : List ℕ). l ++ cycle_line told.cycle told.cards) first));
 }
+
+-- three pieces, one behind the other
+pub three_pieces : (old one two new a b c : List ℕ) → one ≡ old ++ a → two ≡ one ++ b → new ≡ two ++ c → new ≡ old ++ (a ++ b ++ c)
+three_pieces old one two new a b c first second third =
+    third ∙ ap (λ (l : List ℕ). l ++ c) (second ∙ ap (λ (l : List ℕ). l ++ b) first)
+    ∙ ap (λ (l : List ℕ). l ++ c) (append_assoc old a b) ∙ append_assoc old (a ++ b) c
+
+pub where_ok : {A E : Type 0} (P Q : Type 0) (result : Result A E) → (P → Q) → OnOk result P → OnOk result Q
+where_ok P Q (Ok x) then was = then was
+where_ok P Q (Err e) then was = was

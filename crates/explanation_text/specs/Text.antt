@@ -66,9 +66,17 @@ page_line told =
     ++ codes " prints " ++ character_text told.character ++ codes "\n"
 
 -- a program cycle of a level, behind a card, and a heading cycle before a card
+abbrev pub level_text : ℕ → List ℕ
+level_text level = codes "cycle Prog " ++ decimal level
+
+abbrev pub spaced_text : ℕ → List ℕ
+spaced_text number = codes " " ++ decimal number
+
+abbrev pub after_text : ℕ → List ℕ
+after_text cards = codes " after card " ++ decimal cards ++ codes "\n"
+
 abbrev pub program_line : ℕ → ℕ → ℕ → List ℕ
-program_line level ordinal cards =
-    codes "cycle Prog " ++ decimal level ++ codes " " ++ decimal ordinal ++ codes " after card " ++ decimal cards ++ codes "\n"
+program_line level ordinal cards = level_text level ++ spaced_text ordinal ++ after_text cards
 
 abbrev pub heading_line : ℕ → ℕ → List ℕ
 heading_line heading cards = codes "cycle Head " ++ decimal heading ++ codes " before card " ++ decimal cards ++ codes "\n"

@@ -2,7 +2,7 @@
 
 ghost use Rattle.std.specs.Prelude.{◌≡◌, ◌<◌, ◌++◌, codes, decimal, OnOk};
 ghost use Rattle.std.specs.String.{string_bytes};
-ghost use Rattle.explanation_text.specs.Text.{character_text, cycle_line, page_line, row_line};
+ghost use Rattle.explanation_text.specs.Text.{after_text, character_text, cycle_line, heading_line, level_text, page_line, program_line, row_line, spaced_text};
 
 use crate::names::{row_at, write_way};
 use explanations::Explanation;
@@ -47,15 +47,52 @@ pub(crate) fn write_cycle_line(
         Cycle::RunIn => text.push_str("cycle RunIn\n"),
         Cycle::Card => write!(text, "cycle Card {cards}\n"),
         Cycle::Prog(level, ordinal) => {
-            let level = level.number();
-            let ordinal = ordinal.number();
-            write!(text, "cycle Prog {level} {ordinal} after card {cards}\n")
+            write_program_line(text, level.number(), ordinal.number(), cards)
         }
-        Cycle::Head(heading) => {
-            let heading = heading.number();
-            write!(text, "cycle Head {heading} before card {cards}\n")
-        }
+        Cycle::Head(heading) => write_heading_line(text, heading.number(), cards),
     }
+}
+
+// The second line of a program cycle.
+fn write_program_line(
+    text: &mut String,
+    level: u8,
+    ordinal: u8,
+    cards: u32,
+) -> Result<(), AllocError>
+    ensures { OnOk result (string_bytes text.new ≡ string_bytes text.old ++ program_line level ordinal cards) }
+{
+    write_level(text, level)?;
+    write_spaced(text, ordinal)?;
+    write_after(text, cards)
+}
+
+// A level.
+fn write_level(text: &mut String, level: u8) -> Result<(), AllocError>
+    ensures { OnOk result (string_bytes text.new ≡ string_bytes text.old ++ level_text level) }
+{
+    write!(text, "cycle Prog {level}")
+}
+
+// A space and a number.
+fn write_spaced(text: &mut String, number: u8) -> Result<(), AllocError>
+    ensures { OnOk result (string_bytes text.new ≡ string_bytes text.old ++ spaced_text number) }
+{
+    write!(text, " {number}")
+}
+
+// The card behind which a cycle comes.
+fn write_after(text: &mut String, cards: u32) -> Result<(), AllocError>
+    ensures { OnOk result (string_bytes text.new ≡ string_bytes text.old ++ after_text cards) }
+{
+    write!(text, " after card {cards}\n")
+}
+
+// The second line of a heading cycle.
+fn write_heading_line(text: &mut String, heading: u8, cards: u32) -> Result<(), AllocError>
+    ensures { OnOk result (string_bytes text.new ≡ string_bytes text.old ++ heading_line heading cards) }
+{
+    write!(text, "cycle Head {heading} before card {cards}\n")
 }
 
 // The line of the row at a place in the order of the points.

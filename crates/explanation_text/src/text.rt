@@ -42,9 +42,9 @@ pub fn explain_text(
     let Some(found) = find_line(alloc, setup, cards, page, line)? else {
         return Err(Refusal::NoSuchLine);
     };
-    let line = LineWays::of(alloc, setup, found)?;
-    let told = line.wheel(alloc, setup, wheel)?;
-    Ok(wheel_text(alloc, setup, &line, &told)?)
+    let ways = LineWays::of(alloc, setup, found)?;
+    let told = ways.wheel(alloc, setup, wheel)?;
+    Ok(wheel_text(alloc, setup, &ways, &told)?)
 }
 
 #[tactic(auto, using(crate::proofs::Gains::text_whole))]
