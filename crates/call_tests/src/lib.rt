@@ -14,6 +14,8 @@ mod chart_lines;
 #[cfg(test)]
 mod closed_contacts;
 #[cfg(test)]
+mod explained_wheels;
+#[cfg(test)]
 mod feeds;
 #[cfg(test)]
 mod first_misfits;

@@ -1,13 +1,27 @@
--- Why a wheel of a printed line received what it did.
-use Rattle.std.specs.Prelude.{◌≡◌, ◌↔◌, ℕ, ◌+◌, ◌<◌, List, Option, None, IfSome, IsSome, Vec, length, slice_index_or}
+-- Why a wheel of a printed line printed its character.
+use Rattle.std.specs.Prelude.{◌≡◌, ◌↔◌, ℕ, ◌+◌, ◌-◌, ◌<◌, ◌≤◌, Bool, true, false, List, Option, None, IfSome, IsSome, is_some, Vec, map, length, slice_index_or}
 use Rattle.std.specs.declared.alloc.Global.{Global}
+use Rattle.placed_lines.specs.declared.placed_line.PlacedLine.{PlacedLine}
 use Rattle.hubs.specs.declared.hub.Hub.{Hub}
-use Rattle.setups.specs.Wiring.{Wiring}
+use Rattle.hubs.specs.declared.hub.Hub.TheVariants.{W}
+use Rattle.hubs.specs.declared.jack.Jack.TheVariants.{Link}
+use Rattle.setups.specs.Wiring.{Wiring, is_plugged}
 use Rattle.net.specs.HubSets.{has_hub}
-use Rattle.net.specs.Impulsed.{IsImpulsed}
+use Rattle.net.specs.Impulsed.{IsImpulsed, IsPicture}
+use Rattle.net.specs.declared.cycle.Cycle.{Cycle}
+use Rattle.net.specs.declared.cycle.Point.{Point}
+use Rattle.machine.specs.Cycles.{Reached, point_at}
 use Rattle.machine.specs.Kept.{kept_at}
+use Rattle.machine.specs.Machine.{MachineState, closes, emits}
 use Rattle.machine.specs.declared.kept.KeptPoint.{KeptPoint}
+use Rattle.print_unit.specs.Wheels.{wheel_at_start}
+use Rattle.print_unit.specs.ZeroControl.{has_zero_control, is_figure, shown}
 use Rattle.ways.specs.Ways.{IsWay}
+use Rattle.whole_cycles.specs.WholeCycles.{rows_received}
+use Rattle.explanations.specs.PlacedInRun.{PlacedInRun, machine_before}
+use Rattle.explanations.specs.declared.explanation.Explanation.{Explanation}
+use Rattle.explanations.specs.declared.significance.Significance.{Significance}
+use Rattle.explanations.specs.declared.significance.Significance.TheVariants.{Uncontrolled, From, Absent}
 
 -- What is told of a hub at a point: a way where it is impulsed, and only there.
 pub record IsTold (wiring : Wiring) (point : KeptPoint) (hub : Hub) (found : Option (Vec Hub Global)) : Type 0 where
@@ -19,3 +33,68 @@ pub record TellsRows (wiring : Wiring) (points : List KeptPoint) (count : ℕ) (
     Type 0 where
   pub long : length rows ≡ count
   pub told : (row : ℕ) → row < count → IsTold wiring (kept_at points (row + 1)) hub (slice_index_or rows row None)
+
+-- What is told of a hub at a row of a cycle, by the state of the machine just before that row: a way where the hub is impulsed, from
+-- an exit that emits then, by wires of the setup and contacts that are closed then, and only there.
+pub record TellsRow (wiring : Wiring) (cycle : Cycle) (old : MachineState) (hub : Hub) (row : ℕ) (found : Option (Vec Hub Global)) :
+    Type 0 where
+  pub now : MachineState
+  pub reached : Reached wiring cycle (row + 1) old now
+  pub way : IfSome found (λ way. IsWay wiring (emits now cycle (point_at (row + 1))) (closes now cycle (point_at (row + 1))) hub way.items)
+  pub exactly :
+      IsSome found ↔ IsImpulsed wiring (emits now cycle (point_at (row + 1))) (closes now cycle (point_at (row + 1))) hub
+
+-- What the machine saw at a row of a cycle: the picture of the impulsed hubs, by its state just before that row.
+pub record SeesRow (wiring : Wiring) (cycle : Cycle) (old : MachineState) (pictures : Point → Hub → Bool) (row : ℕ) : Type 0 where
+  pub now : MachineState
+  pub reached : Reached wiring cycle (row + 1) old now
+  pub picture :
+      IsPicture wiring (emits now cycle (point_at (row + 1))) (closes now cycle (point_at (row + 1))) (pictures (point_at (row + 1)))
+
+-- One wheel gives another its significance: it stands to the left and received a figure, and LINK is plugged on each wheel behind it,
+-- up to the other.
+pub record GivesSignificance (wiring : Wiring) (pictures : Point → Hub → Bool) (from to : ℕ) : Type 0 where
+  pub first : 1 ≤ from
+  pub left : from < to
+  pub figure : is_figure (rows_received pictures from) ≡ true
+  pub linked : (wheel : ℕ) → from < wheel → wheel ≤ to → is_plugged wiring (Link wheel) ≡ true
+
+-- What is told of a wheel's significance: that the cycle has no zero control; or the nearest wheel that gives it; or that none does.
+abbrev pub TellsSignificance : Wiring → (Point → Hub → Bool) → Cycle → ℕ → Significance → Type 0
+TellsSignificance wiring pictures cycle wheel Uncontrolled = has_zero_control cycle ≡ false
+TellsSignificance wiring pictures cycle wheel (From from) =
+    (has_zero_control cycle ≡ true)
+    × GivesSignificance wiring pictures from wheel
+    × ((nearer : ℕ) → from < nearer → GivesSignificance wiring pictures nearer wheel → ⊥)
+TellsSignificance wiring pictures cycle wheel Absent =
+    (has_zero_control cycle ≡ true) × ((from : ℕ) → GivesSignificance wiring pictures from wheel → ⊥)
+
+-- whether a wheel of which this is told has significance
+abbrev pub is_significant : Significance → Bool
+is_significant Uncontrolled = true
+is_significant (From from) = true
+is_significant Absent = false
+
+-- the character that stands on a wheel of a line
+abbrev pub character_on : PlacedLine → ℕ → ℕ
+character_on line wheel = slice_index_or line.text (wheel - 1) 0
+
+-- An explanation of a wheel of a printed line. In the machine's run over the deck its cycle placed the line at the page and the line
+-- of it. At each row a way is told exactly where the wheel was impulsed. The character is that of the line, and it is what the wheel
+-- shows that received exactly the rows that are told, has the jacks of the setup, and has significance as it is told.
+pub record IsExplanation (wiring : Wiring) (deck : List (List ℕ)) (page line wheel : ℕ) (told : Explanation) : Type 0 where
+  pub run : PlacedInRun wiring deck told.cards told.cycle told.line
+  pub at_page : told.line.page ≡ page
+  pub at_line : told.line.line ≡ line
+  pub at_wheel : told.wheel ≡ wheel
+  pub long : length told.rows.items ≡ 12
+  pub rows :
+      (row : ℕ) → row < 12
+      → TellsRow wiring told.cycle (machine_before run) (W wheel) row (slice_index_or told.rows.items row None)
+  pub pictures : Point → Hub → Bool
+  pub seen : (row : ℕ) → row < 12 → SeesRow wiring told.cycle (machine_before run) pictures row
+  pub significance : TellsSignificance wiring pictures told.cycle wheel told.significance
+  pub printed : told.character ≡ character_on told.line wheel
+  pub shows :
+      told.character
+      ≡ shown (is_significant told.significance) (record (wheel_at_start wiring wheel) { received = map is_some told.rows.items })

@@ -1,1 +1,4 @@
+pub mod PlacedInRun
 pub mod Explanations
+pub mod Refusals
+pub mod Rows

@@ -1,7 +1,18 @@
-//! Why a wheel of a printed line received what it did: at each row of the cycle that placed the line, one way by which an impulse
-//! reached the wheel.
+//! Why a wheel of a printed line printed its character.
+//!
+//! [`explain`] runs a deck up to the cycle that placed the line and tells of that cycle, for each row, one way by which an impulse
+//! reached the wheel, hub by hub from an exit that emitted, and which wheel to the left gave it significance. [`find_line`] and
+//! [`LineWays`] are its parts, for those who ask for more than one wheel of a line.
 #![tactic(auto)]
 
+mod explanation;
+mod found;
+pub mod laws;
+mod refusal;
 mod rows;
+mod significance;
 
-pub use rows::ways_to_wheel;
+pub use explanation::{Explanation, LineWays, explain};
+pub use found::{FoundLine, find_line};
+pub use refusal::Refusal;
+pub use significance::Significance;

@@ -1,0 +1,90 @@
+-- What a text gains, piece by piece.
+use Rattle.std.proofs.Common.{◌≡◌, ◌∙◌, sym, ap, subst, refl, ℕ, ◌+◌, ◌<◌, List, [], ◌∷◌, ◌++◌, Option, Some, None, append_assoc, append-nil, codes, length, slice_index_or, flat_map, take, get_or, arith}
+use Rattle.std.specs.Prelude.{OnOk, Result, Ok, Err, Vec}
+use Rattle.std.specs.declared.alloc.Global.{Global}
+use Rattle.std.proofs.lemmas.List.{take_more, flat_map_more}
+use Rattle.hubs.specs.declared.hub.Hub.{Hub}
+use Rattle.explanations.specs.declared.explanation.Explanation.{Explanation}
+use Rattle.explanation_text.specs.Text.{AreNotes, AreRowTexts, IsNote, IsRowText, IsTextOf, cycle_line, led_text, page_line, row_line}
+use Rattle.explanation_text.specs.Text.AreNotes.{none as no-notes, more as more-notes}
+use Rattle.explanation_text.specs.Text.AreRowTexts.{begun, more as more-rows}
+use Rattle.explanation_text.specs.Text.IsRowText.{silent, told as told-row}
+use Rattle.explanation_text.specs.Writing.{GainsNotes, GainsRow, GainsRows}
+
+notes_append : (first : List ℕ) {second : List ℕ} → AreNotes first → AreNotes second → AreNotes (first ++ second)
+notes_append first one no-notes = subst (λ (l : List ℕ). AreNotes l) (sym (append-nil first)) one
+notes_append first one (more-notes notes line are note) =
+    subst (λ (l : List ℕ). AreNotes l) (append_assoc first notes line) (more-notes (first ++ notes) line (notes_append first one are) note)
+
+pub notes_none : (old : List ℕ) → GainsNotes old old
+notes_none old = record { notes = []; are = no-notes; gained = sym (append-nil old) }
+
+pub notes_then : (old mid new : List ℕ) → GainsNotes old mid → GainsNotes mid new → GainsNotes old new
+notes_then old mid new first second = record {
+  notes = first.notes ++ second.notes;
+  are = notes_append first.notes first.are second.are;
+  gained =
+      second.gained ∙ ap (λ (l : List ℕ). l ++ second.notes) first.gained ∙ append_assoc old first.notes second.notes;
+}
+
+pub note_one : (old words new : List ℕ) → ((place : ℕ) → place < length words → slice_index_or words place 0 ≡ 10 → ⊥)
+    → new ≡ ((old ++ codes "  ") ++ words) ++ codes "\n" → GainsNotes old new
+note_one old words new plain is = record {
+  notes = codes "  " ++ words ++ codes "\n";
+  are = more-notes [] _ no-notes (record { words = words; plain = plain; spelled = refl });
+  gained =
+      is ∙ append_assoc (old ++ codes "  ") words (codes "\n") ∙ append_assoc old (codes "  ") (words ++ codes "\n");
+}
+
+pub row_none : (place : ℕ) (old : List ℕ) → GainsRow place None old old
+row_none place old = record { lines = []; is = silent place; gained = sym (append-nil old) }
+
+pub row_told : (place : ℕ) (way : Vec Hub Global) (old mid new : List ℕ) → mid ≡ old ++ row_line place way.items
+    → GainsNotes mid new → GainsRow place (Some way) old new
+row_told place way old mid new is notes = record {
+  lines = row_line place way.items ++ notes.notes;
+  is = told-row place way notes.notes notes.are;
+  gained = notes.gained ∙ ap (λ (l : List ℕ). l ++ notes.notes) is ∙ append_assoc old (row_line place way.items) notes.notes;
+}
+
+pub rows_none : (rows : List (Option (Vec Hub Global))) (old : List ℕ) → GainsRows rows 0 old old
+rows_none rows old = record { lines = []; are = begun; gained = sym (append-nil old) }
+
+pub rows_more : (rows : List (Option (Vec Hub Global))) (place : ℕ) (old mid new : List ℕ) → GainsRows rows place old mid
+    → GainsRow place (slice_index_or rows place None) mid new → GainsRows rows (place + 1) old new
+rows_more rows place old mid new first one = record {
+  lines = first.lines ++ one.lines;
+  are = more-rows place first.lines one.lines first.are one.is;
+  gained = one.gained ∙ ap (λ (l : List ℕ). l ++ one.lines) first.gained ∙ append_assoc old first.lines one.lines;
+}
+
+pub led_more : (old mid new : List ℕ) (hubs : List Hub) (place : ℕ) (hub : Hub) → place < length hubs
+    → get_or hubs place hub ≡ hub → mid ≡ old ++ flat_map led_text (take place hubs) → new ≡ mid ++ led_text hub
+    → new ≡ old ++ flat_map led_text (take (place + 1) hubs)
+led_more old mid new hubs place hub less item before one =
+    one ∙ ap (λ (l : List ℕ). l ++ led_text hub) before ∙ flat_map_more led_text old (take place hubs) hub
+    ∙ ap (λ (l : List Hub). old ++ flat_map led_text l)
+    (sym (take_more hubs place hub less ∙ ap (λ (h : Hub). take place hubs ++ h ∷ []) item))
+
+pub text_whole : (told : Explanation) (one two three text closing : List ℕ) → one ≡ page_line told
+    → two ≡ one ++ cycle_line told.cycle told.cards → GainsRows told.rows.items 12 two three → text ≡ three ++ closing
+    → IsTextOf told text
+text_whole told one two three text closing first second third last = record {
+  rows = third.lines;
+  closing = closing;
+  are_rows = third.are;
+  spelled =
+      last
+      ∙ ap (λ (l : List ℕ). l ++ closing)
+      (third.gained ∙ ap (λ (l : List ℕ). l ++ third.lines) (second ∙ ap (λ (l : List ℕ). l ++ cycle_line told.cycle told.cards) first));
+}
+
+-- three pieces, one behind the other
+pub three_pieces : (old one two new a b c : List ℕ) → one ≡ old ++ a → two ≡ one ++ b → new ≡ two ++ c → new ≡ old ++ (a ++ b ++ c)
+three_pieces old one two new a b c first second third =
+    third ∙ ap (λ (l : List ℕ). l ++ c) (second ∙ ap (λ (l : List ℕ). l ++ b) first)
+    ∙ ap (λ (l : List ℕ). l ++ c) (append_assoc old a b) ∙ append_assoc old (a ++ b) c
+
+pub where_ok : {A E : Type 0} (P Q : Type 0) (result : Result A E) → (P → Q) → OnOk result P → OnOk result Q
+where_ok P Q (Ok x) then was = then was
+where_ok P Q (Err e) then was = was

@@ -1,0 +1,2 @@
+mod Gains
+mod Places

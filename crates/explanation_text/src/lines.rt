@@ -1,0 +1,107 @@
+//! The lines that tell the place, the cycle and the ways.
+
+ghost use Rattle.std.specs.Prelude.{◌≡◌, ◌<◌, ◌++◌, codes, decimal, OnOk};
+ghost use Rattle.std.specs.String.{string_bytes};
+ghost use Rattle.explanation_text.specs.Text.{after_text, character_text, cycle_line, heading_line, level_text, page_line, program_line, row_line, spaced_text};
+
+use crate::names::{row_at, write_way};
+use explanations::Explanation;
+use hubs::Hub;
+use net::Cycle;
+use std::alloc::AllocError;
+
+// A character, a word for the blank.
+fn write_character(text: &mut String, character: u8) -> Result<(), AllocError>
+    ensures { OnOk result (string_bytes text.new ≡ string_bytes text.old ++ character_text character) }
+{
+    if character == b' ' {
+        text.push_str("blank")
+    } else if character < 128 {
+        text.push(char::from(character))
+    } else {
+        text.push_str("?")
+    }
+}
+
+// The first line.
+pub(crate) fn write_page_line(text: &mut String, told: &Explanation) -> Result<(), AllocError>
+    ensures { OnOk result (string_bytes text.new ≡ string_bytes text.old ++ page_line told.now) }
+{
+    let page = told.line.page;
+    let line = told.line.line;
+    let wheel = told.wheel;
+    write!(text, "page {page} line {line} wheel {wheel} prints ")?;
+    write_character(text, told.character)?;
+    text.push_str("\n")
+}
+
+// The second line.
+pub(crate) fn write_cycle_line(
+    text: &mut String,
+    cycle: Cycle,
+    cards: u32,
+) -> Result<(), AllocError>
+    ensures { OnOk result (string_bytes text.new ≡ string_bytes text.old ++ cycle_line cycle cards) }
+{
+    match cycle {
+        Cycle::RunIn => text.push_str("cycle RunIn\n"),
+        Cycle::Card => write!(text, "cycle Card {cards}\n"),
+        Cycle::Prog(level, ordinal) => {
+            write_program_line(text, level.number(), ordinal.number(), cards)
+        }
+        Cycle::Head(heading) => write_heading_line(text, heading.number(), cards),
+    }
+}
+
+// The second line of a program cycle.
+fn write_program_line(
+    text: &mut String,
+    level: u8,
+    ordinal: u8,
+    cards: u32,
+) -> Result<(), AllocError>
+    ensures { OnOk result (string_bytes text.new ≡ string_bytes text.old ++ program_line level ordinal cards) }
+{
+    write_level(text, level)?;
+    write_spaced(text, ordinal)?;
+    write_after(text, cards)
+}
+
+// A level.
+fn write_level(text: &mut String, level: u8) -> Result<(), AllocError>
+    ensures { OnOk result (string_bytes text.new ≡ string_bytes text.old ++ level_text level) }
+{
+    write!(text, "cycle Prog {level}")
+}
+
+// A space and a number.
+fn write_spaced(text: &mut String, number: u8) -> Result<(), AllocError>
+    ensures { OnOk result (string_bytes text.new ≡ string_bytes text.old ++ spaced_text number) }
+{
+    write!(text, " {number}")
+}
+
+// The card behind which a cycle comes.
+fn write_after(text: &mut String, cards: u32) -> Result<(), AllocError>
+    ensures { OnOk result (string_bytes text.new ≡ string_bytes text.old ++ after_text cards) }
+{
+    write!(text, " after card {cards}\n")
+}
+
+// The second line of a heading cycle.
+fn write_heading_line(text: &mut String, heading: u8, cards: u32) -> Result<(), AllocError>
+    ensures { OnOk result (string_bytes text.new ≡ string_bytes text.old ++ heading_line heading cards) }
+{
+    write!(text, "cycle Head {heading} before card {cards}\n")
+}
+
+// The line of the row at a place in the order of the points.
+pub(crate) fn write_row_line(text: &mut String, place: usize, way: &[Hub]) -> Result<(), AllocError>
+    requires { place < 12 }
+    ensures { OnOk result (string_bytes text.new ≡ string_bytes text.old ++ row_line place way.now) }
+{
+    let row = row_at(place);
+    write!(text, "row {row}:")?;
+    write_way(text, way)?;
+    text.push_str("\n")
+}
