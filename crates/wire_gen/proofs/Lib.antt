@@ -5,6 +5,7 @@ mod JoinAmount
 mod JoinDetail
 mod JoinLines
 mod JoinTotal
+mod OneLine
 mod KeptFields
 mod KeptLines
 mod KeptTotals
