@@ -106,7 +106,7 @@ fn the_first_card_of_a_deck_and_the_rest(rt: HostRuntime) -> Result<(), Fail> {
         Some(next) => {
             let (card, rest) = next;
             assert_eq!(rt; card.column(1).to_char(), Some('N'));
-            assert_eq!(rt; rest, b"BOLT");
+            assert_eq!(rt; rest, b"BOLT".as_slice());
         }
         None => assert!(rt; false),
     }

@@ -22,6 +22,8 @@ mod given;
 #[cfg(test)]
 mod hub_rows;
 #[cfg(test)]
+mod legends;
+#[cfg(test)]
 mod lines;
 #[cfg(test)]
 mod pictures;
