@@ -1,7 +1,7 @@
 mod ChartJacks
 mod KeptTape
 mod LineJacks
-mod OfLines
-mod TapeLines
+pub mod OfLines
+pub mod TapeLines
 pub mod Plugging
 mod TapeStops
