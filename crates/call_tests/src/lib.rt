@@ -24,6 +24,8 @@ mod given;
 #[cfg(test)]
 mod hub_rows;
 #[cfg(test)]
+mod legends;
+#[cfg(test)]
 mod lines;
 #[cfg(test)]
 mod pictures;

@@ -138,7 +138,7 @@ of-link : (lines : List Line) (wheel end : ℕ) (figure : Figure) (each : Jack) 
 of-link lines wheel end figure each has e (ranged v above under) =
     chart.link wheel figure v has (omega (arith, above)) (omega (arith, under, e))
 
-of-figure : (lines : List Line) (wheel : ℕ) (figure : Figure) (each : Jack) → HasFigure lines wheel figure → FigureJacks wheel figure each
+pub of-figure : (lines : List Line) (wheel : ℕ) (figure : Figure) (each : Jack) → HasFigure lines wheel figure → FigureJacks wheel figure each
     → ChartJack lines each
 of-figure lines wheel figure each has (links wires) = of-link lines wheel (wheel + figure_width figure) figure each has refl wires
 of-figure lines wheel figure each has (suppresses (ranged v above under)) = chart.suppress wheel figure v has above under

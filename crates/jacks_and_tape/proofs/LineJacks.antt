@@ -1,5 +1,5 @@
 -- The jacks of a line of the chart by its item.
-use Rattle.std.proofs.Common.{◌≡◌, ℕ, List, Some, None, sym, ap, ◌∙◌, subst}
+use Rattle.std.proofs.Common.{◌≡◌, ℕ, List, Some, sym, ap, ◌∙◌, subst}
 use Rattle.field_rules.specs.Fields.{fields_of}
 use Rattle.print_rules.specs.Items.{item_of}
 use Rattle.print_rules.specs.declared.items.Figure.{Figure}
@@ -8,7 +8,7 @@ use Rattle.charts.specs.declared.chart.Line.{Line}
 use Rattle.charts.specs.declared.statement.Statement.{Statement}
 use Rattle.setups.specs.Wiring.{Wiring}
 use Rattle.hubs.specs.declared.jack.Jack.{Jack}
-use Rattle.jacks_and_tape.proofs.Plugging.{plugs-as, plugs-none}
+use Rattle.jacks_and_tape.proofs.Plugging.{plugs-as}
 use Rattle.jacks_and_tape.specs.HelperJacks.{FigureJacks, FiguresAre, LineJacks, Plugs}
 
 -- the jacks of a line by its item

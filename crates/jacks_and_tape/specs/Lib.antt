@@ -1,1 +1,3 @@
 pub mod HelperJacks
+pub mod OfLine
+pub mod OfLines

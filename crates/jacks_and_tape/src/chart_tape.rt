@@ -43,7 +43,7 @@ fn stops_of(lines: &[Line], wanted: u8) -> &[u16]
 }
 
 // Punches the stops of a channel.
-fn punch_channel(tape: &mut Tape, channel: u8, stops: &[u16])
+pub(crate) fn punch_channel(tape: &mut Tape, channel: u8, stops: &[u16])
     requires channel { (2 ≤ channel) × (channel ≤ 11) }
     requires long { tape.old.lines ≤ 144 }
     requires stops { All (λ line. (1 ≤ line) × (line ≤ tape.old.lines)) stops.now }

@@ -108,7 +108,7 @@ fn plug_total(setup: &mut Setup, lines: &[Line], level: u8)
 }
 
 // Plugs HEAD for the heading lines from the first on and before another.
-fn plug_heads(setup: &mut Setup, end: u8)
+pub(crate) fn plug_heads(setup: &mut Setup, end: u8)
     requires { (1 ≤ end) × (end ≤ 4) }
     ensures { Plugs (Ranged jack.Head 1 end) setup.old setup.new }
 {
@@ -143,7 +143,7 @@ fn after_units(wheel: u8, digits: u8, decimals: u8) -> u8
 }
 
 // Plugs zero control on the wheels of the amount of a line, if it puts one on a line of the report.
-fn plug_line(setup: &mut Setup, chart: &Chart, statement: &Statement)
+pub(crate) fn plug_line(setup: &mut Setup, chart: &Chart, statement: &Statement)
     requires { FiguresAre chart.now.lines statement.now }
     ensures { Plugs (LineJacks chart.now.lines statement.now) setup.old setup.new }
 {

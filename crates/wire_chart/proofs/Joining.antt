@@ -1,5 +1,5 @@
 -- Wires that couple two counter groups, sought exit by exit and entry by entry.
-use Rattle.std.proofs.Common.{◌≡◌, ◌≢◌, ◌↔◌, inl, inr, ℕ, List, ◌+◌, ◌<◌, ◌≤◌, Bool, true, false, Some, None, Option, refl, sym, ap, ◌∙◌, subst, arith}
+use Rattle.std.proofs.Common.{◌≡◌, ◌≢◌, inl, inr, ℕ, List, ◌+◌, ◌<◌, ◌≤◌, Some, None, Option, sym, ap, ◌∙◌, subst, arith}
 use Rattle.std.proofs.lemmas.Option.{none-some, same_Some}
 use Rattle.hubs.specs.Hubs.{carry_into, carry_out_of, number_of}
 use Rattle.hubs.specs.declared.hub.Group.{Group}

@@ -4,6 +4,7 @@ mod JackGains
 mod Joining
 mod OneText
 mod Ordered
+mod PartsWritten
 mod ReadBack
 mod RowLemmas
 mod StopGains

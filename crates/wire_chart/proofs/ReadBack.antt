@@ -1,5 +1,5 @@
 -- What is written of a setup reads as that setup.
-use Rattle.std.proofs.Common.{arith, slice_index_or, ◌≡◌, ◌≢◌, ◌⊎◌, inl, inr, ℕ, List, [], ◌++◌, true, None, refl, sym, ap, ◌∙◌, subst, codes}
+use Rattle.std.proofs.Common.{arith, slice_index_or, ◌≡◌, ◌≢◌, ◌⊎◌, inl, inr, ℕ, List, [], ◌++◌, true, None, refl, sym, ap, ◌∙◌, subst}
 use Rattle.std.specs.Prelude.{map}
 use Rattle.std.specs.List.{All, AllPairs, Contains}
 use Rattle.std.proofs.lemmas.Option.{same_Some}

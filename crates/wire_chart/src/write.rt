@@ -129,8 +129,10 @@ fn title(version: Version) -> &'static str
     }
 }
 
-// The line of the form.
-fn write_form(text: &mut String, tape: &Tape) -> Result<(), AllocError>
+/// Adds the line of the form of a tape to a text: `FORM`, its lines, its first line and its overflow line.
+///
+/// Fails only where memory was refused; the text may then have gained a part of the line.
+pub fn write_form(text: &mut String, tape: &Tape) -> Result<(), AllocError>
     ensures { OnOk result (string_bytes text.new ≡ string_bytes text.old ++ ended (form_line tape.now)) }
 {
     text.push_str("FORM")?;
@@ -141,7 +143,7 @@ fn write_form(text: &mut String, tape: &Tape) -> Result<(), AllocError>
 }
 
 // The stops, by channel and then by line.
-fn write_stops(text: &mut String, tape: &Tape) -> Result<(), AllocError>
+pub(crate) fn write_stops(text: &mut String, tape: &Tape) -> Result<(), AllocError>
     requires form { IsCarriageTape tape.now }
     ensures { OnOk result (GainsStops (IsStopOf tape.now) (string_bytes text.old) (string_bytes text.new)) }
 {
@@ -184,7 +186,7 @@ fn write_stop_line(text: &mut String, channel: u8, line: u8) -> Result<(), Alloc
 }
 
 // The plugged jacks, in the order of the panel.
-fn write_jacks(text: &mut String, setup: &Setup) -> Result<(), AllocError>
+pub(crate) fn write_jacks(text: &mut String, setup: &Setup) -> Result<(), AllocError>
     ensures { OnOk result (GainsJacks (HasJack setup.now) (string_bytes text.old) (string_bytes text.new)) }
 {
     for place in 0..JACKS {
@@ -214,7 +216,11 @@ fn write_jack_line(text: &mut String, jack: Jack) -> Result<(), AllocError>
 }
 
 // The wires: rings, then those that couple groups, then all others.
-fn write_all_wires(text: &mut String, version: Version, setup: &Setup) -> Result<(), AllocError>
+pub(crate) fn write_all_wires(
+    text: &mut String,
+    version: Version,
+    setup: &Setup,
+) -> Result<(), AllocError>
     ensures { OnOk result (GainsAllWires version (IsWireOf setup.now) (string_bytes text.old) (string_bytes text.new)) }
 {
     write_wires(text, version, WireForm::Ring, setup)?;

@@ -275,3 +275,8 @@ pub good-lines : (chart : Chart) (plan : Lists) → IsLawful chart → NumbersRi
     → (place : ℕ) (line : Line) → slice_get chart.lines place ≡ Some line → IsGood chart.lines plan line.number line.statement
 good-lines chart plan lawful rise is_for place line at =
     good chart plan lawful rise is_for line (listed-at chart.lines place line at) line.statement refl
+
+-- the same of a line by its being listed
+pub good-line : (chart : Chart) (plan : Lists) → IsLawful chart → NumbersRise chart.lines chart.end → IsFor chart.lines plan
+    → (line : Line) → Contains chart.lines line → IsGood chart.lines plan line.number line.statement
+good-line chart plan lawful rise is_for line listed = good chart plan lawful rise is_for line listed line.statement refl

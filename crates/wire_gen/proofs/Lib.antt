@@ -6,6 +6,7 @@ mod JoinAmount
 mod JoinDetail
 mod JoinLines
 mod JoinTotal
+mod OneLine
 mod KeptFields
 mod KeptLines
 mod KeptTotals

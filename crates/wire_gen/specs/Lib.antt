@@ -1,2 +1,3 @@
 pub mod HelperKnown
 pub mod HelperLines
+pub mod OfLine

@@ -157,8 +157,13 @@ fn wire_statement(
     }
 }
 
-// Wires a line of the chart.
-fn wire_line(setup: &mut Setup, chart: &Chart, plan: &Plan, line: &Line) -> Result<(), AllocError>
+/// Wires a line of the chart.
+pub(crate) fn wire_line(
+    setup: &mut Setup,
+    chart: &Chart,
+    plan: &Plan,
+    line: &Line,
+) -> Result<(), AllocError>
     requires { IsGood chart.now.lines plan.now line.now.number line.now.statement }
     ensures { OnOk result (Adds
         (LineWire chart.now.lines plan.now line.now.number line.now.statement) setup.old setup.new) }

@@ -1,0 +1,32 @@
+//! The entry of a fault by its number.
+
+ghost use Rattle.std.specs.Prelude.{◌≡◌, ◌↔◌, true, IfSome, IsSome};
+ghost use Rattle.fault_guide.specs.Numbered.{ToldFaultsHaveEntries, is_numbered};
+
+use crate::table::{
+    FaultEntry, capacity_entry, card_entry, chart_text_entry, deck_text_entry, order_entry,
+    rule_entry, unfit_entry, wiring_text_entry,
+};
+
+/// The entry of the fault with a number; none where no fault has the number.
+pub fn fault_entry(number: u8) -> Option<FaultEntry>
+    ensures there { IsSome result ↔ (is_numbered number ≡ true) }
+    ensures its_own { IfSome result (λ entry. entry.number ≡ number) }
+{
+    match number {
+        1..=4 => Some(deck_text_entry(number)),
+        11..=14 => Some(chart_text_entry(number)),
+        21..=37 => Some(rule_entry(number)),
+        41..=43 => Some(card_entry(number)),
+        51..=54 => Some(unfit_entry(number)),
+        61..=67 => Some(capacity_entry(number)),
+        71..=76 => Some(wiring_text_entry(number)),
+        84 => Some(order_entry()),
+        _ => None,
+    }
+}
+
+/// Each number that a fault line can have is that of a fault with an entry. The function does nothing: its contract is the law.
+pub fn told_faults_have_entries()
+    ensures { ToldFaultsHaveEntries }
+{}

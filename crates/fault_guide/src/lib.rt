@@ -1,0 +1,10 @@
+//! The guide to faults: for each number that a fault line can have the fault's name, its cause, its cure and an example.
+//!
+//! [`fault_entry`] finds the entry of a number. The words are a table in the code, and docs/FAULTS.md is checked against it.
+#![tactic(auto)]
+
+mod entry;
+mod table;
+
+pub use entry::{fault_entry, told_faults_have_entries};
+pub use table::FaultEntry;

@@ -1,0 +1,416 @@
+//! The table of faults: what docs/FAULTS.md says of each, without its marks. `bench/faults-page` compares the two.
+
+ghost use Rattle.std.specs.Prelude.{◌≡◌, ◌≤◌};
+
+/// A fault that a fault line names by its number.
+#[derive(Clone, Copy, Debug, PartialEq, Eq)]
+pub struct FaultEntry {
+    /// The number, as the fault line has it.
+    pub number: u8,
+    /// Its name.
+    pub name: &'static str,
+    /// What was found.
+    pub cause: &'static str,
+    /// What helps.
+    pub cure: &'static str,
+    /// A small input that has the fault; empty where the page shows none.
+    pub example: &'static str,
+}
+
+/// The entry of a fault of the text of a deck, 1 to 4.
+pub(crate) fn deck_text_entry(number: u8) -> FaultEntry
+    requires from { 1 ≤ number }
+    requires to { number ≤ 4 }
+    ensures { result.number ≡ number }
+{
+    match number {
+        1 => FaultEntry {
+            number: 1,
+            name: "CardTooLong",
+            cause: "line K of the deck has more than 80 characters",
+            cure: "a card has 80 columns: shorten the line, or look for a missing line end",
+            example: "a line of 81 letters",
+        },
+        2 => FaultEntry {
+            number: 2,
+            name: "NoSuchCharacter",
+            cause: "the byte at column C of card K is no deck character",
+            cure: "decks have capital letters, digits, blanks and & - / . $ * , % # @ !; small letters, tabs and accents have no card code",
+            example: "bolt",
+        },
+        3 => FaultEntry {
+            number: 3,
+            name: "TooManyCards",
+            cause: "the deck has 1,000,000 lines or more",
+            cure: "divide the deck; 999,999 cards are the most",
+            example: "",
+        },
+        _ => FaultEntry {
+            number: 4,
+            name: "Read",
+            cause: "the deck could be opened, and the read that was to bring card K failed; the status is 4",
+            cure: "see that the deck is a file and not a folder, and that its disk or pipe works",
+            example: "run407 run my.chart .",
+        },
+    }
+}
+
+/// The entry of a fault of the text of a chart, 11 to 14.
+pub(crate) fn chart_text_entry(number: u8) -> FaultEntry
+    requires from { 11 ≤ number }
+    requires to { number ≤ 14 }
+    ensures { result.number ≡ number }
+{
+    match number {
+        11 => FaultEntry {
+            number: 11,
+            name: "TooLarge",
+            cause: "the chart has more than 500 lines, or a line of more than 200 bytes",
+            cure: "take out empty lines and spaces",
+            example: "",
+        },
+        12 => FaultEntry {
+            number: 12,
+            name: "NoFirstLine",
+            cause: "the first line is not CHART407 1",
+            cure: "put it there; not even an empty line may come before it",
+            example: "an empty file",
+        },
+        13 => FaultEntry {
+            number: 13,
+            name: "NotALine",
+            cause: "line K has none of the forms of a chart, or stands after END",
+            cure: "compare it with CHART.md: a misspelt or missing word, a number with a leading zero, a small letter, a level that there isn't",
+            example: "DETAIL 1",
+        },
+        _ => FaultEntry {
+            number: 14,
+            name: "NoEnd",
+            cause: "no line has END alone",
+            cure: "the last line is END",
+            example: "",
+        },
+    }
+}
+
+/// The entry of a fault of a chart that breaks a rule, 21 to 37.
+pub(crate) fn rule_entry(number: u8) -> FaultEntry
+    requires from { 21 ≤ number }
+    requires to { number ≤ 37 }
+    ensures { result.number ≡ number }
+{
+    match number {
+        21 => FaultEntry {
+            number: 21,
+            name: "NameTwice",
+            cause: "a second FIELD with the same name",
+            cure: "give it another name",
+            example: "FIELD A TEXT 1 2; FIELD A TEXT 3 4",
+        },
+        22 => FaultEntry {
+            number: 22,
+            name: "Columns",
+            cause: "columns that are not 1 to 80 or run backwards, or a sign column that is not 1 to 80",
+            cure: "a card has columns 1 to 80, first column first",
+            example: "FIELD A TEXT 5 3",
+        },
+        23 => FaultEntry {
+            number: 23,
+            name: "AmountSize",
+            cause: "an amount of more than 8 digits, more than 3 decimals, or more decimals than digits",
+            cure: "divide the field",
+            example: "FIELD A AMOUNT 1 9 0",
+        },
+        24 => FaultEntry {
+            number: 24,
+            name: "UnknownName",
+            cause: "a name without a FIELD line",
+            cure: "write the FIELD, or correct the name",
+            example: "DETAIL 1 NOSUCH",
+        },
+        25 => FaultEntry {
+            number: 25,
+            name: "WrongKind",
+            cause: "CONTROL, INDICATE or TOTAL without digits of an amount, or MARK or TOTAL with digits of a text",
+            cure: "a total needs its digits; only amounts have marks",
+            example: "FIELD A TEXT 1 2; DETAIL 1 A MARK CR",
+        },
+        26 => FaultEntry {
+            number: 26,
+            name: "LineTwice",
+            cause: "a second PRINT or FORM; a second SPACE or AFTER of one kind of line; a second TAPE of one channel; a CONTROL of the same level and name again; a name twice on the DETAIL lines or on the TOTAL lines of one level",
+            cure: "take one of them out",
+            example: "PRINT DETAIL; PRINT GROUP",
+        },
+        27 => FaultEntry {
+            number: 27,
+            name: "NoControl",
+            cause: "a TOTAL or INDICATE of a level 1 to 3 that has no CONTROL line",
+            cure: "name the level's control field",
+            example: "TOTAL 1 1 'SUM' without a CONTROL 1 line",
+        },
+        28 => FaultEntry {
+            number: 28,
+            name: "TotalTextNotControl",
+            cause: "a text on a total line that is no control field of that level or a higher one",
+            cure: "on a total line only what is the same on all cards of the group can stand",
+            example: "TOTAL 4 1 DEPT",
+        },
+        29 => FaultEntry {
+            number: 29,
+            name: "DigitsRange",
+            cause: "a total in fewer digits than its field has, in more than 8, or in more than 7 with a sign column",
+            cure: "choose the digits in that range",
+            example: "FIELD A AMOUNT 1 3 0; TOTAL 4 1 A 2",
+        },
+        30 => FaultEntry {
+            number: 30,
+            name: "DigitsShrink",
+            cause: "a total in fewer digits than the same amount has on a lower level",
+            cure: "a higher total needs at least as many",
+            example: "TOTAL 1 1 A 5; TOTAL 2 10 A 4, with CONTROL lines of both levels",
+        },
+        31 => FaultEntry {
+            number: 31,
+            name: "MarkMismatch",
+            cause: "a signed amount without MARK, or an unsigned one with it",
+            cure: "every signed amount is printed with a mark",
+            example: "FIELD A AMOUNT 1 3 0; DETAIL 1 A MARK -",
+        },
+        32 => FaultEntry {
+            number: 32,
+            name: "WheelRange",
+            cause: "an item that does not lie within wheels 1 to 120",
+            cure: "move it to the left; wheel 0 is none",
+            example: "DETAIL 0 NAME",
+        },
+        33 => FaultEntry {
+            number: 33,
+            name: "WheelOverlap",
+            cause: "an item that meets an earlier item of the same printed line",
+            cure: "move one of them",
+            example: "DETAIL 1 NAME; DETAIL 3 ITEM",
+        },
+        34 => FaultEntry {
+            number: 34,
+            name: "WheelClash",
+            cause: "an item meets an earlier item of another body line, one of the two an amount, and they are not two amounts with the same last wheel, decimals and mark",
+            cure: "the later of the two is told, though the earlier may be the one to move: look among the DETAIL and TOTAL lines above it. Zero control belongs to the wheels: let amounts end on the same wheel, or keep texts off their wheels",
+            example: "DETAIL 40 NAME; TOTAL 4 42 AMT 8",
+        },
+        35 => FaultEntry {
+            number: 35,
+            name: "PrintKind",
+            cause: "no PRINT line (told at END); PRINT DETAIL without a DETAIL item, PRINT GROUP without a TOTAL item; a DETAIL item under PRINT GROUP; SPACE or AFTER for a line without items",
+            cure: "add what is missing, or take the line out",
+            example: "PRINT DETAIL without a DETAIL line",
+        },
+        36 => FaultEntry {
+            number: 36,
+            name: "Form",
+            cause: "no FORM line (told at END); a first line of 0; headings that reach the overflow line, or, without headings, a first line that does; an overflow line less than 2 lines above the last; more than 144 lines",
+            cure: "see CHART.md, FORM",
+            example: "FORM 12 1 11; without HEAD lines FORM 12 9 9 too",
+        },
+        _ => FaultEntry {
+            number: 37,
+            name: "Tape",
+            cause: "a channel that is not 2 to 11; stops that do not rise or leave the form; AFTER with a SKIP to a channel without a TAPE line",
+            cure: "write the TAPE line, its stops in rising order",
+            example: "AFTER DETAIL SKIP 3 without a TAPE 3 line",
+        },
+    }
+}
+
+/// The entry of a fault of the cards of a deck for a chart, 41 to 43.
+pub(crate) fn card_entry(number: u8) -> FaultEntry
+    requires from { 41 ≤ number }
+    requires to { number ≤ 43 }
+    ensures { result.number ≡ number }
+{
+    match number {
+        41 => FaultEntry {
+            number: 41,
+            name: "NotText",
+            cause: "a text field of card K, the field that begins at column C, holds a column that is no printable character",
+            cure: "repunch the card, or let the field end before that column",
+            example: "10! where column 3 is a text field",
+        },
+        42 => FaultEntry {
+            number: 42,
+            name: "NotAmount",
+            cause: "an amount of card K, the field that begins at column C, is not blanks and then digits, has too few digits for its decimals, or has a row 11 or 12 punch where none belongs",
+            cure: "repunch the card; look through the whole field: a sign stands in the sign column alone, and a decimal point or a comma is never punched",
+            example: "1- in two columns",
+        },
+        _ => FaultEntry {
+            number: 43,
+            name: "DoesNotFit",
+            cause: "the total of amount N for the group of level L that ends with card K has more digits than its TOTAL line says, the first such total: by the last card of its group, then by level, the lowest first, then by the line of the chart",
+            cure: "give the total more digits (8 at most, 7 with a sign column), or divide the group; what the sum was on the way doesn't count",
+            example: "FIELD A AMOUNT 1 1 0; TOTAL 4 1 A 1 over two cards of 5",
+        },
+    }
+}
+
+/// The entry of a fault that a line of a wiring chart tells as its cause, 51 to 54.
+pub(crate) fn unfit_entry(number: u8) -> FaultEntry
+    requires from { 51 ≤ number }
+    requires to { number ≤ 54 }
+    ensures { result.number ≡ number }
+{
+    match number {
+        51 => FaultEntry {
+            number: 51,
+            name: "NotExit",
+            cause: "the first hub of a wire is no exit: it is an entry, or one of its numbers is out of range. Of RING, and of the first number of COUPLE: there is no such counter group",
+            cure: "write the exit first; a wire leads from an exit to an entry",
+            example: "WIRE W.1 SR.1; WIRE SR.81 W.1; in version 2 RING 5.1",
+        },
+        52 => FaultEntry {
+            number: 52,
+            name: "NotEntry",
+            cause: "the first hub is an exit and the second is no entry: it is an exit, or one of its numbers is out of range. Of the second number of COUPLE: there is no such counter group of 8 positions",
+            cure: "look up the range of its numbers in WIRING.md",
+            example: "WIRE SR.1 W.121; WIRE SR.1 SR.2; in version 2 COUPLE 1 9",
+        },
+        53 => FaultEntry {
+            number: 53,
+            name: "CarryRing",
+            cause: "a wire from a carry exit leads to no carry entry, or one to a carry entry comes from no carry exit; its two counter groups are different ones and not both of 8 positions; or it and a wire that is there leave one carry exit, enter one carry entry, or join three groups",
+            cure: "wire CO to CI of the same group, or CO of one group of 8 positions to CI of another, with the wire back for a ring, and nothing else to either",
+            example: "WIRE CO.4.1 CI.4.2; WIRE CO.4.1 W.1; WIRE CO.8.1 CI.8.3 after WIRE CO.8.1 CI.8.2; in version 2 RING 8.1 after COUPLE 1 2",
+        },
+        _ => FaultEntry {
+            number: 54,
+            name: "TapeFault",
+            cause: "the form has not 3 to 144 lines, or its first or overflow line is not one of them (told at line 2); a stop at a line that the form doesn't have",
+            cure: "correct the form, or move the stop",
+            example: "STOP 3 13 on a form of 12 lines; FORM 2 1 1 on line 2",
+        },
+    }
+}
+
+/// The entry of a fault of a chart for which the machine has too little, 61 to 67.
+pub(crate) fn capacity_entry(number: u8) -> FaultEntry
+    requires from { 61 ≤ number }
+    requires to { number ≤ 67 }
+    ensures { result.number ≡ number }
+{
+    match number {
+        61 => FaultEntry {
+            number: 61,
+            name: "Counters",
+            cause: "A totals need counter groups of W positions or more, and the machine has B. The widths are asked from 8 down to 3",
+            cure: "print a total in fewer digits, so that a narrower group does (a signed total needs one position more than its digits), or drop a total",
+            example: "",
+        },
+        62 => FaultEntry {
+            number: 62,
+            name: "Pilots",
+            cause: "more than 16 amounts with a sign rule stand on DETAIL or TOTAL lines",
+            cure: "drop the sign rule of amounts that are never negative, or leave amounts out; one amount counts once, on however many lines it stands",
+            example: "",
+        },
+        63 => FaultEntry {
+            number: 63,
+            name: "Comparing",
+            cause: "the control fields have more than 30 columns together",
+            cure: "shorten a control field to the columns that tell its groups apart, or drop a level",
+            example: "",
+        },
+        64 => FaultEntry {
+            number: 64,
+            name: "StorageWidth",
+            cause: "the text on total line K has more than 16 columns",
+            cure: "print a shorter field there; describe the columns once more as a shorter FIELD, and make that the control field",
+            example: "",
+        },
+        65 => FaultEntry {
+            number: 65,
+            name: "StorageUnits",
+            cause: "more than 4 texts stand on TOTAL lines",
+            cure: "drop texts from the higher totals, or print them on the detail line with INDICATE",
+            example: "",
+        },
+        66 => FaultEntry {
+            number: 66,
+            name: "Splits",
+            cause: "more than 16 DETAIL amounts have their sign over one of their own columns. On the machine as it is, fault 62 comes first, since each of them wants a pilot too",
+            cure: "as 62",
+            example: "",
+        },
+        _ => FaultEntry {
+            number: 67,
+            name: "Indicate",
+            cause: "the INDICATE items of level L have more than 30 columns together",
+            cure: "print some of them on every card, or shorten them",
+            example: "",
+        },
+    }
+}
+
+/// The entry of a fault of the text of a wiring chart, 71 to 76.
+pub(crate) fn wiring_text_entry(number: u8) -> FaultEntry
+    requires from { 71 ≤ number }
+    requires to { number ≤ 76 }
+    ensures { result.number ≡ number }
+{
+    match number {
+        71 => FaultEntry {
+            number: 71,
+            name: "TooLarge",
+            cause: "the wiring chart has more than 1,000,000 lines, or a line of more than 60 bytes",
+            cure: "take out empty lines and spaces; no setup needs as many",
+            example: "",
+        },
+        72 => FaultEntry {
+            number: 72,
+            name: "NoFirstLine",
+            cause: "line 1 is neither WIRING407 1 nor WIRING407 2, or line 2 is not FORM with three numbers",
+            cure: "put them there; not even an empty line may come before or between them",
+            example: "FORM 12 1 on line 2",
+        },
+        73 => FaultEntry {
+            number: 73,
+            name: "NotALine",
+            cause: "line K is no STOP, JACK or WIRE, in version 2 no RING or COUPLE either, or stands after END without being empty; also a second FORM, a channel that is not 2 to 11, a jack that the panel doesn't have, and a hub with letters that there aren't or with too many or too few numbers; in version 2 a WIRE with a CO or a CI, whatever its numbers, and a COUPLE of a group with itself",
+            cure: "compare it with WIRING.md: a misspelt or missing word, a number with a leading zero, a tab, a small letter",
+            example: "WIRE CC.1 W.1; JACK TOTAL 5; STOP 12 3; in version 2 COUPLE 1 1",
+        },
+        74 => FaultEntry {
+            number: 74,
+            name: "LineTwice",
+            cause: "a line above said the same stop, jack or wire, in version 2 also the same ring or couple",
+            cure: "take one of them out, or correct the one that was to be another",
+            example: "JACK LIST; JACK LIST",
+        },
+        75 => FaultEntry {
+            number: 75,
+            name: "Unfit",
+            cause: "line K is well written, and the panel can't have what it says; N is 51, 52, 53 or 54",
+            cure: "see the cause",
+            example: "WIRE W.1 SR.1",
+        },
+        _ => FaultEntry {
+            number: 76,
+            name: "NoEnd",
+            cause: "no line has END alone",
+            cure: "the last line is END",
+            example: "",
+        },
+    }
+}
+
+/// The entry of the fault of an order of the units, 84.
+pub(crate) fn order_entry() -> FaultEntry
+    ensures { result.number ≡ 84 }
+{
+    FaultEntry {
+        number: 84,
+        name: "NotAnOrder",
+        cause: "there is no list, or a list doesn't have 45 numbers with each unit, 1 to 45, among them",
+        cure: "name each unit once in each list",
+        example: "",
+    }
+}

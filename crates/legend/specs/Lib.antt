@@ -1,0 +1,4 @@
+pub mod Helper
+pub mod Laws
+pub mod Legend
+pub mod Rows

@@ -1,0 +1,14 @@
+//! The legend of a panel: what a visitor holds beside it.
+//!
+//! [`legend`] goes through the lines of a chart. Under each it puts a sentence, that of the line's [`Row`] of the wiring table, and the
+//! stops, the jacks and the wires that this line asks for, as a wiring chart spells them. What several lines ask for stands under each
+//! of them. [`lines_make_the_setup`] tells that nothing of the chart's setup is left out, and that nothing else is named.
+#![tactic(auto)]
+
+mod laws;
+mod row;
+mod writing;
+
+pub use laws::lines_make_the_setup;
+pub use row::Row;
+pub use writing::legend;
