@@ -11,8 +11,8 @@ use Rattle.commands.specs.Refusals.{Refuses, RefusesReplay}
 use Rattle.faults.specs.Told.{wiring_told}
 use Rattle.commands.specs.Served.{IsDone, IsRefused, PrintsReplay}
 use Rattle.faults.specs.Status.{status_of}
-use Rattle.commands.specs.declared.command.Command.{Command}
-use Rattle.commands.specs.declared.command.Command.TheVariants as command
+use Rattle.program_io.specs.declared.command.Command.{Command}
+use Rattle.program_io.specs.declared.command.Command.TheVariants as command
 use Rattle.faults.specs.declared.fault.Fault.{Fault}
 use Rattle.faults.specs.declared.fault.Fault.TheVariants as fault
 

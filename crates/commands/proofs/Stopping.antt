@@ -4,8 +4,8 @@ use Rattle.std.specs.Prelude.{IfErr}
 use Rattle.card_code.specs.declared.deck.DeckFault.{DeckFault}
 use Rattle.commands.specs.Refusals.{Refuses, RefusesChart, RefusesDeck, RefusesReplay, RefusesRun, cards, chart, punches, wires}
 use Rattle.commands.specs.Served.{Stops, deck_unread, memory_wanting, output_unwritten, texts_refused}
-use Rattle.commands.specs.declared.command.Command.{Command}
-use Rattle.commands.specs.declared.command.Command.TheVariants as command
+use Rattle.program_io.specs.declared.command.Command.{Command}
+use Rattle.program_io.specs.declared.command.Command.TheVariants as command
 use Rattle.faults.proofs.Statuses.{chart_status, deck_status, memory_or_not, run_status, wiring_status}
 use Rattle.faults.specs.Lines.{IsTold}
 use Rattle.faults.specs.Status.{status_of}

@@ -14,8 +14,8 @@ use Rattle.wiring_text.specs.WiringText.{ReadsAs}
 use Rattle.wiring_text.specs.declared.fault.WiringFault.{WiringFault}
 use Rattle.commands.specs.Answers.{CompilesAs}
 use Rattle.faults.specs.Told.{chart_told, deck_told, run_told, wiring_told}
-use Rattle.commands.specs.declared.command.Command.{Command}
-use Rattle.commands.specs.declared.command.Command.TheVariants as command
+use Rattle.program_io.specs.declared.command.Command.{Command}
+use Rattle.program_io.specs.declared.command.Command.TheVariants as command
 use Rattle.faults.specs.declared.fault.Fault.{Fault}
 
 -- the fault of a chart's text is told

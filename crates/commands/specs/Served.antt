@@ -4,7 +4,7 @@ use Rattle.std.specs.Prelude.{◌≡◌, ℕ, ◌≤◌, List, Option, IfSome, l
 use Rattle.std.specs.Io.KnownBytes.{Appends}
 use Rattle.commands.specs.Answers.{Answers, AreReplayedPages}
 use Rattle.commands.specs.Refusals.{Refuses}
-use Rattle.commands.specs.declared.command.Command.{Command}
+use Rattle.program_io.specs.declared.command.Command.{Command}
 use Rattle.faults.specs.Status.{status_of}
 use Rattle.faults.specs.declared.fault.Fault.{Fault}
 use Rattle.faults.specs.declared.fault.Fault.TheVariants as fault

@@ -7,9 +7,9 @@ ghost use Rattle.commands.specs.Served.{PrintsFront, PrintsReplay, Stops};
 ghost use Rattle.faults.specs.Status.{status_of};
 ghost use Rattle.replays.specs.Replays.{GainsFront, GainsPages};
 
-use crate::lent::Lent;
 use card_code::check_deck;
 use faults::Fault;
+use program_io::Lent;
 use replays::{ReplayCause, Replayed, replay};
 use setups::Setup;
 use std::alloc::Global;

@@ -2,7 +2,7 @@
 use Rattle.std.proofs.Common.{◌≡◌, ◌≢◌, ℕ, ◌+◌, ◌<◌, List, [], ◌∷◌, ◌++◌, length, take, drop, get_or, ap, sym, ◌∙◌, arith, suc, subst, take-append-drop, append_assoc}
 use Rattle.std.proofs.Math.Seq.{drop-cons, take-add}
 use Rattle.std.proofs.lemmas.List.{get_or-take, drop-drop, length-take-le}
-use Rattle.commands.specs.Input.{HasNoLineFeed, IsEndPiece, IsDivided, unended, end_line, other_line}
+use Rattle.program_io.specs.Input.{HasNoLineFeed, IsEndPiece, IsDivided, unended, end_line, other_line}
 
 -- as the text after these bytes is divided, so is the whole
 abbrev pub DividesAfter : List ℕ → ℕ → Type 0

@@ -1,6 +1,6 @@
 use Rattle.std.proofs.Common.{◌≤◌, ◌-◌, length}
-use Rattle.commands.proofs.Division.{DividesAfter}
-use Rattle.commands.proofs.input.chart_and_deck.Given as goal
+use Rattle.program_io.proofs.Division.{DividesAfter}
+use Rattle.program_io.proofs.input.chart_and_deck.Given as goal
 
 abbrev pub invariant-loop-length : goal.invariant-loop-length
 invariant-loop-length l = (l.taken ≤ length l.text) × DividesAfter l.text l.taken

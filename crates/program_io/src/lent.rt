@@ -6,18 +6,18 @@ use devices::{DeviceFailed, Sink};
 use faults::{Fault, unprinted};
 use std::io::Write;
 
-// A writer that is lent. It has failed where the writer did, an interrupted call among that, or took none of some bytes, and asks it no
-// more from then on. What is then told of it is kept: want of memory is told as that.
+/// A writer that is lent. It has failed where the writer did, an interrupted call among that, or took none of some bytes, and asks it no
+/// more from then on. What is then told of it is kept: want of memory is told as that.
 #[derive(Drop)]
-pub(crate) struct Lent<'a, W: Write> {
+pub struct Lent<'a, W: Write> {
     writer: &'a mut W,
     has_failed: bool,
     wants_memory: bool,
 }
 
 impl<'a, W: Write> Lent<'a, W> {
-    // The writer, which has not failed yet.
-    pub(crate) fn new(writer: &'a mut W) -> Lent<'a, W>
+    /// The writer, which has not failed yet.
+    pub fn new(writer: &'a mut W) -> Lent<'a, W>
         ensures writer { result.writer ≡ writer.entry }
         ensures well { result.has_failed ≡ false }
     {
@@ -28,8 +28,8 @@ impl<'a, W: Write> Lent<'a, W> {
         }
     }
 
-    // What is told where it has failed.
-    pub(crate) fn told<'b>(&self) -> Fault<'b>
+    /// What is told where it has failed.
+    pub fn told<'b>(&self) -> Fault<'b>
         ensures { (result ≡ Fault.Memory) ⊎ (result ≡ Fault.Write) }
     {
         if self.wants_memory {
@@ -39,8 +39,8 @@ impl<'a, W: Write> Lent<'a, W> {
         }
     }
 
-    // The writer, as it stands.
-    pub(crate) fn into_writer(self) -> &'a mut W
+    /// The writer, as it stands.
+    pub fn into_writer(self) -> &'a mut W
         ensures { result ≡ self.entry.writer }
     {
         let Lent { writer, .. } = self;

@@ -1,7 +1,7 @@
 -- The words of the commands. A word is a command's by its bytes alone, and any other word is no command.
 use Rattle.std.specs.Prelude.{◌≢◌, ℕ, List, codes}
-use Rattle.commands.specs.declared.command.Command.{Command}
-use Rattle.commands.specs.declared.command.Command.TheVariants as command
+use Rattle.program_io.specs.declared.command.Command.{Command}
+use Rattle.program_io.specs.declared.command.Command.TheVariants as command
 
 -- the word of a command
 abbrev pub word_of : Command → List ℕ

@@ -15,8 +15,12 @@ fn write_through<W: Write>(out: &mut W, bytes: &[u8]) -> io::Result<()>
     out.flush()
 }
 
-/// Prints bytes.
-pub(crate) fn put<'a, W: Write>(out: &mut W, bytes: &[u8]) -> Result<(), Fault<'a>>
+/// Prints bytes, and all that the writer still holds back.
+///
+/// # Errors
+///
+/// `Memory` or `Write` where the writer fails. A part of the bytes may then have been taken.
+pub fn put<'a, W: Write>(out: &mut W, bytes: &[u8]) -> Result<(), Fault<'a>>
     ensures written { OnOk result (Appends (W.contents out.old) (W.contents out.new) bytes.now) }
     ensures told { IfErr result (λ told. (told ≡ Fault.Memory) ⊎ (told ≡ Fault.Write)) }
 {

@@ -2,9 +2,9 @@ use Rattle.std.proofs.Common.{◌≡◌, ◌∙◌, sym, ap, subst, ℕ, List, �
 use Rattle.std.proofs.lemmas.Bool.{false≢true}
 use Rattle.std.proofs.Math.Seq.{take-length, drop-length}
 use Rattle.std.proofs.lemmas.List.{take_rest}
-use Rattle.commands.specs.Input.{IsDivided, IsEndPiece, HasNoLineFeed}
-use Rattle.commands.proofs.Division.{chart_ends, chart_goes_on, all_chart}
-use Rattle.commands.proofs.input.chart_and_deck.Goals as goal
+use Rattle.program_io.specs.Input.{IsDivided, IsEndPiece, HasNoLineFeed}
+use Rattle.program_io.proofs.Division.{chart_ends, chart_goes_on, all_chart}
+use Rattle.program_io.proofs.input.chart_and_deck.Goals as goal
 
 -- the line as it was cut out of the text
 piece_is : (text : List ℕ) (taken size : ℕ)

@@ -2,7 +2,7 @@
 
 ghost use Rattle.std.specs.Prelude.{◌≡◌, ◌≢◌, ◌<◌, ◌↔◌, ◌⊎◌, ℕ, length, slice_index, IfOk, IfErr, IfSome, IfNone, IsTrue};
 ghost use Rattle.card_code.specs.Lines.{without_cr};
-ghost use Rattle.commands.specs.Input.{IsDivided, HasNoLineFeed, IsEndPiece};
+ghost use Rattle.program_io.specs.Input.{IsDivided, HasNoLineFeed, IsEndPiece};
 
 use faults::Fault;
 use std::alloc::Global;

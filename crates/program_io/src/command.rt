@@ -17,7 +17,7 @@ pub enum Command {
 
 impl Command {
     ghost use Rattle.std.specs.Prelude.{◌≡◌, IfSome, IfNone};
-    ghost use Rattle.commands.specs.Commands.{word_of, IsNoCommand};
+    ghost use Rattle.program_io.specs.Commands.{word_of, IsNoCommand};
 
     /// The command of a word, none where the word is no command.
     pub fn named(word: &str) -> Option<Command>
