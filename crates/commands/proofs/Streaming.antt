@@ -5,7 +5,8 @@ use Rattle.std.specs.Prelude.{IfErr, IfOk, OnOk}
 use Rattle.std.specs.Io.KnownBytes.{Appends, Keeps}
 use Rattle.card_lines.specs.declared.fault.ReadFault.{ReadFault}
 use Rattle.card_lines.specs.declared.fault.ReadFault.TheVariants as read
-use Rattle.commands.proofs.Stopping.{chart_refusal, named_status, told_of_device, told_of_memory}
+use Rattle.commands.proofs.Stopping.{chart_refusal}
+use Rattle.program_io.proofs.Stopping.{named_status, told_of_device, told_of_memory}
 use Rattle.commands.specs.Answers.{CompilesAs}
 use Rattle.program_io.specs.Commands.{word_of}
 use Rattle.commands.specs.Refusals.{RefusesChart}

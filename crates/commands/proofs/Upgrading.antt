@@ -13,7 +13,7 @@ use Rattle.wiring_text.specs.declared.statement.FormNumbers.{FormNumbers}
 use Rattle.wiring_text.specs.declared.statement.Statement.{Statement}
 use Rattle.wiring_text.specs.declared.statement.Version.TheVariants.{Second}
 use Rattle.commands.specs.Answers.{AreReplayedPages, IsUpgradeOf, PrintAlike}
-use Rattle.commands.specs.Refusals.{RefusesWiring}
+use Rattle.program_io.specs.Refusals.{RefusesWiring}
 use Rattle.faults.specs.Told.{wiring_told}
 use Rattle.faults.specs.declared.fault.Fault.{Fault}
 use Rattle.faults.specs.declared.fault.Fault.TheVariants as fault

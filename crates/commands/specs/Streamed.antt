@@ -6,7 +6,8 @@ use Rattle.card_lines.specs.declared.fault.ReadFault.{ReadFault}
 use Rattle.card_lines.specs.declared.fault.ReadFault.TheVariants as read
 use Rattle.commands.specs.Answers.{CompilesAs}
 use Rattle.commands.specs.Refusals.{RefusesChart}
-use Rattle.commands.specs.Served.{IsDone, IsRefused, Stops}
+use Rattle.commands.specs.Served.{IsDone, IsRefused}
+use Rattle.program_io.specs.Stops.{Stops}
 use Rattle.program_io.specs.declared.command.Command.{Command}
 use Rattle.program_io.specs.declared.command.Command.TheVariants as command
 use Rattle.compile407.specs.Compilation.{Compilation}

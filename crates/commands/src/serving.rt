@@ -2,7 +2,8 @@
 
 ghost use Rattle.std.specs.Prelude.{◌≡◌, ◌≢◌, ◌≤◌, ◌⊎◌, ℕ, List, Option, IfErr, OnOk};
 ghost use Rattle.program_io.specs.Commands.{IsNoCommand, word_of};
-ghost use Rattle.commands.specs.Served.{IsDone, IsRefused, Stops};
+ghost use Rattle.commands.specs.Served.{IsDone, IsRefused};
+ghost use Rattle.program_io.specs.Stops.{Stops};
 ghost use Rattle.commands.specs.Streamed.{HasFailed, HasRefused, HasServed};
 ghost use Rattle.faults.specs.Lines.{IsTold};
 ghost use Rattle.faults.specs.Status.{status_of};
