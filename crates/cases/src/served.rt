@@ -1,7 +1,7 @@
 //! What the program's commands give, over texts that are all in memory.
 
 use anyhow::Result;
-use commands::serve;
+use commands::{replay_by_orders, serve};
 use std::alloc::Global;
 use std::io::{Read, Write};
 
@@ -22,6 +22,31 @@ impl Served {
             alloc,
             command,
             text,
+            "my.deck",
+            deck,
+            &mut output,
+            &mut told,
+        );
+        Served {
+            output,
+            told,
+            status,
+        }
+    }
+
+    /// What a replay by orders gives.
+    pub fn by_orders<R: Read + Drop>(
+        alloc: Global,
+        wiring: &[u8],
+        orders: &[u8],
+        deck: R,
+    ) -> Served {
+        let mut output = Vec::new(alloc);
+        let mut told = Vec::new(alloc);
+        let status = replay_by_orders(
+            alloc,
+            wiring,
+            orders,
             "my.deck",
             deck,
             &mut output,

@@ -32,7 +32,9 @@ fn orders_words<'a>(alloc: Global) -> Arg<'a> {
     Arg::new(alloc, "ORDERS")
         .long("orders")
         .value_name("FILE")
-        .help("the orders that serve the units, a file; the rounds and the hubs that were seen are told")
+        .help(
+            "the orders that serve the units, a file; the rounds and the hubs that were seen are told",
+        )
 }
 
 // The command that runs a deck through a wiring chart.

@@ -14,13 +14,23 @@ use std::io::ErrorKind as IoErrorKind;
 #[derive(Clone, Copy, Debug, PartialEq, Eq)]
 pub enum Wanted<'a> {
     /// The pages of a deck by a planning chart.
-    Run { chart: &'a str, deck: &'a str },
+    Run {
+        chart: &'a str,
+        deck: &'a str,
+    },
     /// Whether a planning chart compiles.
-    Check { chart: &'a str },
+    Check {
+        chart: &'a str,
+    },
     /// The wiring chart of a planning chart.
-    Wire { chart: &'a str },
+    Wire {
+        chart: &'a str,
+    },
     /// The pages of a deck by a wiring chart.
-    Replay { wiring: &'a str, deck: &'a str },
+    Replay {
+        wiring: &'a str,
+        deck: &'a str,
+    },
     /// The pages of a deck by a wiring chart whose units are served by orders, and what is counted.
     ReplayByOrders {
         wiring: &'a str,
@@ -28,7 +38,9 @@ pub enum Wanted<'a> {
         deck: &'a str,
     },
     /// A wiring chart in version 2 of its language.
-    Upgrade { wiring: &'a str },
+    Upgrade {
+        wiring: &'a str,
+    },
     /// No command: a planning chart and then its deck stand on standard input.
     StandardInput,
 }

@@ -1,5 +1,5 @@
 -- What the parts of a command answer, gathered.
-use Rattle.std.proofs.Common.{◌≡◌, ◌≢◌, ◌∙◌, ap, sym, subst, arith, refl, ℕ, List, [], Option, None, Some, Result, Ok, Err, unwrap_or, IfSome}
+use Rattle.std.proofs.Common.{◌≡◌, ◌≢◌, ◌∙◌, ap, sym, subst, refl, ℕ, List, [], Option, Result, Ok, Err, unwrap_or, IfSome}
 use Rattle.std.specs.Prelude.{IfErr, OnOk, codes}
 use Rattle.std.specs.Io.KnownBytes.{Appends}
 use Rattle.wiring_text.specs.WiringFaults as wiring_faults

@@ -1,9 +1,7 @@
 -- A fault of a text as it is told.
 use Rattle.std.proofs.Common.{◌≡◌, ◌≢◌, ◌∙◌, ap, List, ℕ, Result, Ok, Err, IfOk}
 use Rattle.std.specs.Prelude.{IfErr}
-use Rattle.card_code.specs.Deck.{Deck, HasDeckFault}
-use Rattle.card_code.specs.declared.deck.DeckFault.{DeckFault}
-use Rattle.card_code.specs.declared.deck.DeckFault.TheVariants as deck
+use Rattle.card_code.specs.Deck.{Deck}
 use Rattle.compile407.specs.ChartFaults.{HasChartFault}
 use Rattle.compile407.specs.Compilation.{Compilation}
 use Rattle.compile407.specs.RunFaults.{HasRunFault}
@@ -19,7 +17,7 @@ use Rattle.wiring_text.specs.WiringText.{ReadsAs}
 use Rattle.commands.specs.Answers.{ArePagesOf, ArePagesOn, AreReplayedPages, CompilesAs}
 use Rattle.commands.specs.Refusals.{RefusesChart, RefusesReplay, RefusesRun, cards, punches, wires}
 use Rattle.program_io.specs.Refusals.{RefusesDeck}
-use Rattle.faults.specs.Told.{chart_told, deck_told, run_told, wiring_told}
+use Rattle.faults.specs.Told.{chart_told, run_told, wiring_told}
 use Rattle.faults.specs.declared.fault.Fault.{Fault}
 use Rattle.faults.specs.declared.fault.Fault.TheVariants as fault
 

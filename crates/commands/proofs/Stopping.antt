@@ -1,19 +1,15 @@
 -- Why commands stop, and which status each cause has.
-use Rattle.std.proofs.Common.{◌≡◌, ◌≢◌, ◌⊎◌, inl, inr, ap, ◌∙◌, sym, subst, arith, ℕ, Bool, List, Option, Result, Ok, Err}
-use Rattle.std.specs.Prelude.{IfErr}
-use Rattle.card_code.specs.declared.deck.DeckFault.{DeckFault}
+use Rattle.std.proofs.Common.{◌≡◌, ◌≢◌, ap, ◌∙◌, ℕ, List}
 use Rattle.commands.specs.Refusals.{Refuses, RefusesChart, RefusesReplay, RefusesRun, cards, chart, punches, wires}
 use Rattle.program_io.proofs.Stopping.{deck_refusal, named_status, stops_by_status}
 use Rattle.program_io.specs.Stops.{Stops}
 use Rattle.program_io.specs.declared.command.Command.{Command}
 use Rattle.program_io.specs.declared.command.Command.TheVariants as command
-use Rattle.faults.proofs.Statuses.{chart_status, deck_status, memory_or_not, run_status, wiring_status}
-use Rattle.faults.specs.Lines.{IsTold}
+use Rattle.faults.proofs.Statuses.{chart_status, run_status, wiring_status}
 use Rattle.faults.specs.Status.{status_of}
-use Rattle.faults.specs.Told.{chart_told, deck_told, run_told, wiring_told}
+use Rattle.faults.specs.Told.{chart_told, run_told, wiring_told}
 use Rattle.faults.specs.declared.fault.Fault.{Fault}
 use Rattle.faults.specs.declared.fault.Fault.TheVariants as fault
-use Rattle.wiring_text.specs.declared.fault.WiringFault.{WiringFault}
 
 pub chart_refusal : (text : List ℕ) (told : Fault) → RefusesChart text told → told ≢ fault.Memory → status_of told ≡ 3
 chart_refusal text told refuses = named_status chart_told chart_status refuses.cause told refuses.named

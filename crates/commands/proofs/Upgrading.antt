@@ -1,6 +1,6 @@
 -- A wiring chart in another version has the same pages.
-use Rattle.std.proofs.Common.{◌≡◌, ◌≢◌, ◌∙◌, ◌↔◌, ap, sym, ℕ, Bool, true, false, List, Result, Ok, Err, IfOk}
-use Rattle.std.specs.Prelude.{IfErr, string_bytes}
+use Rattle.std.proofs.Common.{◌≡◌, ◌≢◌, ◌∙◌, ◌↔◌, ap, sym, ℕ, Bool, true, List, Result, Ok, Err, IfOk}
+use Rattle.std.specs.Prelude.{IfErr}
 use Rattle.setups.specs.Tapes.{has_stop}
 use Rattle.setups.specs.Wiring.{Wiring, is_plugged}
 use Rattle.wire_chart.specs.WrittenText.{IsWrittenIn}

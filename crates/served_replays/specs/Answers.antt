@@ -11,6 +11,13 @@ use Rattle.served_runs.specs.declared.counts.Counts.{Counts}
 use Rattle.setups.specs.Wiring.{Wiring}
 use Rattle.wiring_text.specs.WiringText.{ReadsAs}
 
+-- the wiring chart reads, and the lines of the text say orders
+pub record HasOrders (text orders : List ℕ) : Type 0 where
+  pub wiring : Wiring
+  pub reads : ReadsAs text wiring
+  pub service : List (List ℕ)
+  pub says : SayOrders (lines_of orders) service
+
 -- On a panel that is wired so: the pages are those of the lines that the machine prints of the deck, in which all units act at once; and
 -- the run in which the units are served by these orders places these lines too, and so much is counted in it.
 pub record IsServedOn (wiring : Wiring) (service : List (List ℕ)) (deck pages : List ℕ) (counts : Counts) : Type 0 where

@@ -1,10 +1,11 @@
 //! A replay by orders, over any reader and writers.
 
-ghost use Rattle.std.specs.Prelude.{◌≡◌, ◌≢◌, ◌≤◌, ◌⊎◌, ℕ, IfErr, IfOk, List};
+ghost use Rattle.std.specs.Prelude.{OnOk, ◌≡◌, ◌≢◌, ◌≤◌, ◌⊎◌, ℕ, IfErr, IfOk, List};
 ghost use Rattle.std.specs.Io.KnownBytes.{Appends};
 ghost use Rattle.faults.specs.Lines.{IsTold};
 ghost use Rattle.faults.specs.Status.{status_of};
 ghost use Rattle.program_io.specs.Stops.{Stops};
+ghost use Rattle.served_replays.specs.Answers.{HasOrders};
 ghost use Rattle.served_replays.specs.Counted.{EndsCounted, counts_line};
 ghost use Rattle.served_replays.specs.Refusals.{RefusesByOrders};
 ghost use Rattle.served_replays.specs.Served.{IsRefusedByOrders, PrintsByOrders, PrintsServed};
@@ -36,8 +37,9 @@ fn print_pages<'a, W: Write>(
     Ok(counts)
 }
 
-// Why there is no service: the fault of the wiring chart, else of the orders.
+// Whether there are a panel and orders for it: else the fault of the wiring chart, or that of the orders.
 fn check_orders<'a>(alloc: Global, wiring: &[u8], orders: &[u8]) -> Result<(), Fault<'a>>
+    ensures good { OnOk result (HasOrders wiring.now orders.now) }
     ensures refused { IfErr result (λ told. told ≢ Fault.Memory → (deck : List ℕ) → RefusesByOrders wiring.now orders.now deck told) }
 {
     read_setup(alloc, wiring)?;
@@ -65,6 +67,7 @@ pub fn print_replay_by_orders<'a, R: Read + Drop, W: Write>(
         PrintsByOrders wiring.now orders.now (R.remaining deck) counts (W.contents out.old) (W.contents out.new)) }
     ensures refused { IfErr result (λ told. status_of told ≡ 3
         → IsRefusedByOrders wiring.now orders.now (R.remaining deck) told × (out.new ≡ out.old)) }
+    ensures unread { IfErr result (λ told. told ≡ Fault.File path.entry → HasOrders wiring.now orders.now) }
     ensures stopped { IfErr result (λ told. Stops told (Fault.File path.entry) (out.new ≡ out.old)) }
 {
     match read_whole(alloc, deck, path) {
@@ -98,7 +101,8 @@ pub fn replay_by_orders_to_end<R: Read + Drop, W: Write, V: Write>(
         × IsRefusedByOrders wiring.now orders.now (R.remaining deck) told × (out.new ≡ out.old)
         × IsTold told result.is_told (V.contents faults.old) (V.contents faults.new) }
     ensures device { result.status ≡ 4
-        → ((out.new ≡ out.old) × IsTold (Fault.File path.entry) result.is_told (V.contents faults.old) (V.contents faults.new))
+        → ((out.new ≡ out.old) × HasOrders wiring.now orders.now
+        × IsTold (Fault.File path.entry) result.is_told (V.contents faults.old) (V.contents faults.new))
         ⊎ IsTold Fault.Write result.is_told (V.contents faults.old) (V.contents faults.new) }
     ensures memory { result.status ≡ 5 → IsTold Fault.Memory result.is_told (V.contents faults.old) (V.contents faults.new) }
     ensures statuses { (result.status ≡ 0) ⊎ (3 ≤ result.status × result.status ≤ 5) }
