@@ -7,7 +7,7 @@
 //! A command `replay --orders` has its orders behind it, given as a text is.
 //! Of a million cards the number of bytes printed stands in place of these.
 
-use crate::served::Served;
+use crate::answered::Served;
 use allocate::CapacityFault;
 use anyhow::Result;
 use commands::{Fault, chart_and_deck, serve, tell};

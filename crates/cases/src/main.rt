@@ -4,12 +4,12 @@
 //! this repository or worked out by hand, never by the program.
 #![tactic(auto)]
 
+mod answered;
 mod chart_cases;
 mod command_cases;
 mod hostile_cases;
 mod panel_cases;
 mod report_cases;
-mod served;
 mod served_cases;
 mod stream_cases;
 mod upgrade_cases;
