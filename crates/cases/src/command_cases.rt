@@ -4,9 +4,10 @@
 //! place of each line feed, or in a file whose name is given between parentheses. Between parentheses stand too: `(standard input)`
 //! and `(divide)` in place of a command, a text that has a chart and its deck, which are run, or of which the lengths are told;
 //! `(10000000 letters)` in one line, and `(1000001 empty lines)`, in place of a text or deck; `(unreadable)` and `(1000000 blank cards)` in place of a deck; and last of all `(unwritable)`, where the output can't be written.
+//! A command `replay --orders` has its orders behind it, given as a text is.
 //! Of a million cards the number of bytes printed stands in place of these.
 
-use crate::served::Served;
+use crate::answered::Served;
 use allocate::CapacityFault;
 use anyhow::Result;
 use commands::{Fault, chart_and_deck, serve, tell};
@@ -90,6 +91,16 @@ fn serve_unwritable(alloc: Global, command: &str, text: &[u8], deck: &[u8]) -> S
     }
 }
 
+// What a replay by orders gives on a wiring chart and the deck of a row.
+fn replay_deck(rt: &HostRuntime, wiring: &[u8], orders: &[u8], deck: &str) -> Result<Served> {
+    let alloc = rt.alloc();
+    if deck == "(unreadable)" {
+        return Ok(Served::by_orders(alloc, wiring, orders, Broken));
+    }
+    let cards = bytes_of(rt, deck)?;
+    Ok(Served::by_orders(alloc, wiring, orders, cards.as_slice()))
+}
+
 fn write_served<W: Write>(out: &mut W, served: &Served) -> Result<()> {
     served.write(out)?;
     writeln!(out, "status {}", served.status)?;
@@ -114,6 +125,11 @@ fn write_row<W: Write>(
     if command == "(standard input)" {
         let (chart, cards) = chart_and_deck(text.as_slice());
         return write_served(out, &Served::of(alloc, "run", chart, cards));
+    }
+    if let Some(orders) = command.strip_prefix("replay --orders ") {
+        let orders = bytes_of(rt, orders)?;
+        let served = replay_deck(rt, text.as_slice(), orders.as_slice(), deck)?;
+        return write_served(out, &served);
     }
     if let Some((deck, "(unwritable)")) = deck.split_once('|') {
         let cards = bytes_of(rt, deck)?;

@@ -3,7 +3,7 @@
 //!
 //! Before each answer stands the number of bytes, or the byte, from which on it is told; `done` is told of a text that is not refused.
 
-use crate::served::Served;
+use crate::answered::Served;
 use anyhow::Result;
 use std::alloc::Global;
 use std::fs;

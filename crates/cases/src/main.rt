@@ -1,15 +1,16 @@
-//! Runs all cases whose answers are known: charts, wiring charts, wired panels with decks, wiring charts in both versions, charts with decks, decks with a fault, commands, and hostile texts.
+//! Runs all cases whose answers are known: charts, wiring charts, wired panels with decks, and with orders too, wiring charts in both versions, charts with decks, decks with a fault, commands, and hostile texts.
 //!
 //! Each kind has a folder of `data`, and its file here says what is told of its cases. What this program must print was made outside of
 //! this repository or worked out by hand, never by the program.
 #![tactic(auto)]
 
+mod answered;
 mod chart_cases;
 mod command_cases;
 mod hostile_cases;
 mod panel_cases;
 mod report_cases;
-mod served;
+mod served_cases;
 mod stream_cases;
 mod upgrade_cases;
 mod wiring_cases;
@@ -29,6 +30,7 @@ fn main(rt: HostRuntime) -> Result<()> {
     chart_cases::write_all(&rt, &mut out)?;
     wiring_cases::write_all(&rt, &mut out)?;
     panel_cases::write_all(&rt, &mut out)?;
+    served_cases::write_all(&rt, &mut out)?;
     upgrade_cases::write_all(&rt, &mut out)?;
     report_cases::write_all(&rt, &mut out)?;
     stream_cases::write_all(&rt, &mut out)?;

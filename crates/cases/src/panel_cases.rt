@@ -2,8 +2,8 @@
 //!
 //! The file `index` names the panels, one a line: a wiring chart and a deck each.
 
+use crate::answered::Served;
 use crate::read_case;
-use crate::served::Served;
 use anyhow::Result;
 use std::fs;
 use std::io::Write;

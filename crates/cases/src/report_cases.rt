@@ -5,8 +5,8 @@
 //! `docs/GALLERY.md`, where their pages and faults are worked out by hand. The machine wired as the written wiring chart says must
 //! print the same pages; where it doesn't, the program ends with a fault.
 
+use crate::answered::Served;
 use crate::read_case;
-use crate::served::Served;
 use anyhow::{Result, bail};
 use std::alloc::Global;
 use std::fs;

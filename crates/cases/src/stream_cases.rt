@@ -3,8 +3,8 @@
 //! The file `index` names the charts, one a line, each with its deck. Where a card or a total stops the run, what was printed before
 //! stands before the line of the fault.
 
+use crate::answered::Served;
 use crate::read_case;
-use crate::served::Served;
 use anyhow::Result;
 use std::fs;
 use std::io::Write;

@@ -3,8 +3,8 @@
 //! The file `index` names the wiring charts, one a line. Those that are refused have no deck, and the line of their fault stands in
 //! place of the text.
 
+use crate::answered::Served;
 use crate::read_case;
-use crate::served::Served;
 use anyhow::Result;
 use std::fs;
 use std::io::Write;

@@ -27,10 +27,21 @@ fn wiring_word<'a>(alloc: Global) -> Arg<'a> {
         .required(true)
 }
 
+// The words for the orders that serve the units, a file.
+fn orders_words<'a>(alloc: Global) -> Arg<'a> {
+    Arg::new(alloc, "ORDERS")
+        .long("orders")
+        .value_name("FILE")
+        .help(
+            "the orders that serve the units, a file; the rounds and the hubs that were seen are told",
+        )
+}
+
 // The command that runs a deck through a wiring chart.
 fn replay_command<'a>(alloc: Global) -> Result<Command<'a>, Error> {
     let replay = Command::new(alloc, "replay")
         .about("Prints the pages of a deck on a wired panel")
+        .arg(orders_words(alloc))?
         .arg(wiring_word(alloc))?
         .arg(deck_word(alloc))?;
     Ok(replay)

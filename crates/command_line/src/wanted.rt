@@ -14,15 +14,33 @@ use std::io::ErrorKind as IoErrorKind;
 #[derive(Clone, Copy, Debug, PartialEq, Eq)]
 pub enum Wanted<'a> {
     /// The pages of a deck by a planning chart.
-    Run { chart: &'a str, deck: &'a str },
+    Run {
+        chart: &'a str,
+        deck: &'a str,
+    },
     /// Whether a planning chart compiles.
-    Check { chart: &'a str },
+    Check {
+        chart: &'a str,
+    },
     /// The wiring chart of a planning chart.
-    Wire { chart: &'a str },
+    Wire {
+        chart: &'a str,
+    },
     /// The pages of a deck by a wiring chart.
-    Replay { wiring: &'a str, deck: &'a str },
+    Replay {
+        wiring: &'a str,
+        deck: &'a str,
+    },
+    /// The pages of a deck by a wiring chart whose units are served by orders, and what is counted.
+    ReplayByOrders {
+        wiring: &'a str,
+        orders: &'a str,
+        deck: &'a str,
+    },
     /// A wiring chart in version 2 of its language.
-    Upgrade { wiring: &'a str },
+    Upgrade {
+        wiring: &'a str,
+    },
     /// No command: a planning chart and then its deck stand on standard input.
     StandardInput,
 }
@@ -68,6 +86,20 @@ fn file_of<'a>(given: &ArgMatches<'a>, word: &str) -> &'a str {
     given.get_str(word).unwrap_or("")
 }
 
+// What is asked for by the words of a replay, with orders or without.
+fn replay_wanted<'a>(given: &ArgMatches<'a>) -> Wanted<'a> {
+    let wiring = file_of(given, "WIRING");
+    let deck = file_of(given, "DECK");
+    match given.get_str("ORDERS") {
+        Some(orders) => Wanted::ReplayByOrders {
+            wiring,
+            orders,
+            deck,
+        },
+        None => Wanted::Replay { wiring, deck },
+    }
+}
+
 // What is asked for by words that match.
 fn wanted_by<'a>(matches: &ArgMatches<'a>) -> Wanted<'a> {
     match matches.subcommand() {
@@ -75,10 +107,7 @@ fn wanted_by<'a>(matches: &ArgMatches<'a>) -> Wanted<'a> {
             chart: file_of(given, "CHART"),
             deck: file_of(given, "DECK"),
         },
-        Some(("replay", given)) => Wanted::Replay {
-            wiring: file_of(given, "WIRING"),
-            deck: file_of(given, "DECK"),
-        },
+        Some(("replay", given)) => replay_wanted(given),
         Some(("wire", given)) => Wanted::Wire {
             chart: file_of(given, "CHART"),
         },

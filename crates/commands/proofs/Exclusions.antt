@@ -9,7 +9,7 @@ use Rattle.wiring_reader.proofs.Answered.{no_fault}
 use Rattle.commands.specs.Answers.{ArePagesOf, AreReplayedPages, Compiles}
 use Rattle.commands.specs.Laws.{AnsweredTextsAreNotRefused}
 use Rattle.commands.specs.Refusals.{RefusesChart, RefusesReplay, RefusesRun, cards, chart, punches, wires}
-use Rattle.commands.specs.declared.command.Command.TheVariants as command
+use Rattle.program_io.specs.declared.command.Command.TheVariants as command
 use Rattle.faults.specs.declared.fault.Fault.{Fault}
 
 no_chart_fault : (text : List ℕ) (told : Fault) → Compiles text → RefusesChart text told → ⊥

@@ -1,4 +1,3 @@
-mod Division
 mod Exclusions
 mod Outcomes
 mod PrintedPages

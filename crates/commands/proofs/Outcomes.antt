@@ -1,35 +1,21 @@
 -- What the parts of a command answer, gathered.
-use Rattle.std.proofs.Common.{◌≡◌, ◌≢◌, ◌∙◌, ap, sym, subst, arith, refl, ℕ, List, [], Option, None, Some, Result, Ok, Err, unwrap_or, IfSome}
+use Rattle.std.proofs.Common.{◌≡◌, ◌≢◌, ◌∙◌, ap, sym, subst, refl, ℕ, List, [], Option, Result, Ok, Err, unwrap_or, IfSome}
 use Rattle.std.specs.Prelude.{IfErr, OnOk, codes}
 use Rattle.std.specs.Io.KnownBytes.{Appends}
 use Rattle.wiring_text.specs.WiringFaults as wiring_faults
 use Rattle.wiring_text.specs.declared.fault.WiringFault.{WiringFault}
 use Rattle.wiring_text.specs.declared.fault.WiringFault.TheVariants as wiring
 use Rattle.commands.proofs.Refusing.{wiring_refused}
+use Rattle.program_io.proofs.Refusing.{is_known, read_is_known, refusal_is_not_memory}
 use Rattle.commands.specs.Answers.{Answers, Compiles, IsUpgradeOf, IsWiringChartOf, PrintAlike}
 use Rattle.commands.specs.Refusals.{Refuses, RefusesReplay}
 use Rattle.faults.specs.Told.{wiring_told}
 use Rattle.commands.specs.Served.{IsDone, IsRefused, PrintsReplay}
 use Rattle.faults.specs.Status.{status_of}
-use Rattle.commands.specs.declared.command.Command.{Command}
-use Rattle.commands.specs.declared.command.Command.TheVariants as command
+use Rattle.program_io.specs.declared.command.Command.{Command}
+use Rattle.program_io.specs.declared.command.Command.TheVariants as command
 use Rattle.faults.specs.declared.fault.Fault.{Fault}
 use Rattle.faults.specs.declared.fault.Fault.TheVariants as fault
-
-pub refusal_is_not_memory : (told : Fault) → status_of told ≡ 3 → told ≢ fault.Memory
-refusal_is_not_memory told three is =
-    let five : status_of told ≡ 5 = ap status_of is in
-    omega (arith, three, five)
-
--- where no deck is read, the known one, or none, stands for it
-is_known : (deck : Option (List ℕ)) → IfSome deck (λ known. unwrap_or deck [] ≡ known)
-is_known None = tt
-is_known (Some known) = refl
-
--- what was read is what stands in memory
-read_is_known : (deck : Option (List ℕ)) (read items : List ℕ) → read ≡ items → IfSome deck (λ known. items ≡ known)
-    → IfSome deck (λ known. read ≡ known)
-read_is_known deck read items same is = subst (λ (bytes : List ℕ). IfSome deck (λ known. bytes ≡ known)) (sym same) is
 
 -- the answer on the deck in memory is written
 pub done : {X E : Type 0} (result : Result X E) (command : Command) (text read items answer bytes : List ℕ) (deck old new : Option (List ℕ))

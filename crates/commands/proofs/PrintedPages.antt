@@ -1,5 +1,5 @@
 -- What a replay writes, by the texts of its setup and its deck.
-use Rattle.std.proofs.Common.{◌≡◌, ◌⊎◌, inl, inr, refl, List, ℕ, Option, Result, Ok, Err}
+use Rattle.std.proofs.Common.{◌⊎◌, inr, refl, List, ℕ, Option, Result, Ok, Err}
 use Rattle.std.specs.Prelude.{OnErr, OnOk}
 use Rattle.card_code.specs.Deck.{Deck}
 use Rattle.commands.specs.Answers.{AreReplayedPages}

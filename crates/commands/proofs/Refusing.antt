@@ -1,9 +1,7 @@
 -- A fault of a text as it is told.
 use Rattle.std.proofs.Common.{◌≡◌, ◌≢◌, ◌∙◌, ap, List, ℕ, Result, Ok, Err, IfOk}
 use Rattle.std.specs.Prelude.{IfErr}
-use Rattle.card_code.specs.Deck.{Deck, HasDeckFault}
-use Rattle.card_code.specs.declared.deck.DeckFault.{DeckFault}
-use Rattle.card_code.specs.declared.deck.DeckFault.TheVariants as deck
+use Rattle.card_code.specs.Deck.{Deck}
 use Rattle.compile407.specs.ChartFaults.{HasChartFault}
 use Rattle.compile407.specs.Compilation.{Compilation}
 use Rattle.compile407.specs.RunFaults.{HasRunFault}
@@ -17,8 +15,9 @@ use Rattle.wiring_text.specs.declared.fault.WiringFault.TheVariants as wiring
 use Rattle.setups.specs.Wiring.{Wiring}
 use Rattle.wiring_text.specs.WiringText.{ReadsAs}
 use Rattle.commands.specs.Answers.{ArePagesOf, ArePagesOn, AreReplayedPages, CompilesAs}
-use Rattle.commands.specs.Refusals.{RefusesChart, RefusesDeck, RefusesReplay, RefusesRun, cards, punches, wires}
-use Rattle.faults.specs.Told.{chart_told, deck_told, run_told, wiring_told}
+use Rattle.commands.specs.Refusals.{RefusesChart, RefusesReplay, RefusesRun, cards, punches, wires}
+use Rattle.program_io.specs.Refusals.{RefusesDeck}
+use Rattle.faults.specs.Told.{chart_told, run_told, wiring_told}
 use Rattle.faults.specs.declared.fault.Fault.{Fault}
 use Rattle.faults.specs.declared.fault.Fault.TheVariants as fault
 
@@ -26,11 +25,6 @@ pub chart_refused : (text : List ℕ) (cause : ChartFault) (told : Fault) → (c
     → told ≡ chart_told cause → told ≢ fault.Memory → RefusesChart text told
 chart_refused text cause told has named not_memory =
     record { cause = cause; at_fault = has (λ is. not_memory (named ∙ ap chart_told is)); named = named }
-
-pub deck_refused : (text : List ℕ) (cause : DeckFault) (told : Fault) → (cause ≢ deck.Memory → HasDeckFault text cause)
-    → told ≡ deck_told cause → told ≢ fault.Memory → RefusesDeck text told
-deck_refused text cause told has named not_memory =
-    record { cause = cause; at_fault = has (λ is. not_memory (named ∙ ap deck_told is)); named = named }
 
 pub cards_refused : (text punched : List ℕ) (compiled : Compilation) (read : List (List ℕ)) (cause : RunFault) (told : Fault)
     → CompilesAs text compiled → Deck punched read → (cause ≢ run.Memory → HasRunFault compiled.chart read cause)

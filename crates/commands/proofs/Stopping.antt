@@ -1,29 +1,18 @@
 -- Why commands stop, and which status each cause has.
-use Rattle.std.proofs.Common.{◌≡◌, ◌≢◌, ◌⊎◌, inl, inr, ap, ◌∙◌, sym, subst, arith, ℕ, Bool, List, Option, Result, Ok, Err}
-use Rattle.std.specs.Prelude.{IfErr}
-use Rattle.card_code.specs.declared.deck.DeckFault.{DeckFault}
-use Rattle.commands.specs.Refusals.{Refuses, RefusesChart, RefusesDeck, RefusesReplay, RefusesRun, cards, chart, punches, wires}
-use Rattle.commands.specs.Served.{Stops, deck_unread, memory_wanting, output_unwritten, texts_refused}
-use Rattle.commands.specs.declared.command.Command.{Command}
-use Rattle.commands.specs.declared.command.Command.TheVariants as command
-use Rattle.faults.proofs.Statuses.{chart_status, deck_status, memory_or_not, run_status, wiring_status}
-use Rattle.faults.specs.Lines.{IsTold}
+use Rattle.std.proofs.Common.{◌≡◌, ◌≢◌, ap, ◌∙◌, ℕ, List}
+use Rattle.commands.specs.Refusals.{Refuses, RefusesChart, RefusesReplay, RefusesRun, cards, chart, punches, wires}
+use Rattle.program_io.proofs.Stopping.{deck_refusal, named_status, stops_by_status}
+use Rattle.program_io.specs.Stops.{Stops}
+use Rattle.program_io.specs.declared.command.Command.{Command}
+use Rattle.program_io.specs.declared.command.Command.TheVariants as command
+use Rattle.faults.proofs.Statuses.{chart_status, run_status, wiring_status}
 use Rattle.faults.specs.Status.{status_of}
-use Rattle.faults.specs.Told.{chart_told, deck_told, run_told, wiring_told}
+use Rattle.faults.specs.Told.{chart_told, run_told, wiring_told}
 use Rattle.faults.specs.declared.fault.Fault.{Fault}
 use Rattle.faults.specs.declared.fault.Fault.TheVariants as fault
-use Rattle.wiring_text.specs.declared.fault.WiringFault.{WiringFault}
-
--- what is told of a cause has its status
-pub named_status : {X : Type 0} (tell : X → Fault) → ((cause : X) → tell cause ≢ fault.Memory → status_of (tell cause) ≡ 3) → (cause : X)
-    (told : Fault) → told ≡ tell cause → told ≢ fault.Memory → status_of told ≡ 3
-named_status tell status cause told named not_memory = ap status_of named ∙ status cause (λ is. not_memory (named ∙ is))
 
 pub chart_refusal : (text : List ℕ) (told : Fault) → RefusesChart text told → told ≢ fault.Memory → status_of told ≡ 3
 chart_refusal text told refuses = named_status chart_told chart_status refuses.cause told refuses.named
-
-deck_refusal : (deck : List ℕ) (told : Fault) → RefusesDeck deck told → told ≢ fault.Memory → status_of told ≡ 3
-deck_refusal deck told refuses = named_status deck_told deck_status refuses.cause told refuses.named
 
 run_refusal : (text deck : List ℕ) (told : Fault) → RefusesRun text deck told → told ≢ fault.Memory → status_of told ≡ 3
 run_refusal text deck told (chart refuses) not_memory = chart_refusal text told refuses not_memory
@@ -45,71 +34,9 @@ refusal_status command.Upgrade text deck told = λ refuses.
     named_status wiring_told wiring_status refuses.cause told refuses.named
 
 module _ (told unreadable : Fault) (Unprinted : Type 0) where
-  -- texts are refused, or memory is wanting
-  stops_by_status : (told ≢ fault.Memory → status_of told ≡ 3) → Unprinted → Stops told unreadable Unprinted
-  stops_by_status three unprinted = by (memory_or_not told)
-    where
-      by : (told ≡ fault.Memory) ⊎ (told ≢ fault.Memory) → Stops told unreadable Unprinted
-      by (inl is) = memory_wanting is
-      by (inr not_memory) = texts_refused (three not_memory) unprinted
-
   pub texts_stop : (command : Command) (text deck : List ℕ) (met : Fault) → (met ≢ fault.Memory → Refuses command text deck met)
       → told ≡ met → Unprinted → Stops told unreadable Unprinted
   texts_stop command text deck met refuses same =
-      stops_by_status (λ not_memory.
+      stops_by_status told unreadable Unprinted (λ not_memory.
       let met_not_memory : met ≢ fault.Memory = λ is. not_memory (same ∙ is) in
       ap status_of same ∙ refusal_status command text deck met (refuses met_not_memory) met_not_memory)
-
-  pub wiring_stops : (cause : WiringFault) → told ≡ wiring_told cause → Unprinted → Stops told unreadable Unprinted
-  wiring_stops cause named = stops_by_status (named_status wiring_told wiring_status cause told named)
-
-  pub unread_stops : (met : Fault) → (met ≡ fault.Memory) ⊎ (met ≡ unreadable) → told ≡ met → Unprinted → Stops told unreadable Unprinted
-  unread_stops met (inl is) same unprinted = memory_wanting (same ∙ is)
-  unread_stops met (inr is) same unprinted = deck_unread (same ∙ is) unprinted
-
-  unwritten_stops : (told ≡ fault.Memory) ⊎ (told ≡ fault.Write) → Stops told unreadable Unprinted
-  unwritten_stops (inl is) = memory_wanting is
-  unwritten_stops (inr is) = output_unwritten is
-
--- what is told of the output
-pub output_stops : {X : Type 0} (result : Result X Fault) (unreadable : Fault) (Unprinted : Type 0)
-    → IfErr result (λ told. (told ≡ fault.Memory) ⊎ (told ≡ fault.Write)) → IfErr result (λ told. Stops told unreadable Unprinted)
-output_stops (Ok _) unreadable Unprinted told = tt
-output_stops (Err fault) unreadable Unprinted told = unwritten_stops fault unreadable Unprinted told
-
-pub output_stops_any : {X : Type 0} (result : Result X Fault) (Unprinted : Type 0)
-    → IfErr result (λ told. (told ≡ fault.Memory) ⊎ (told ≡ fault.Write))
-    → IfErr result (λ told. (unreadable : Fault) → Stops told unreadable Unprinted)
-output_stops_any (Ok _) Unprinted told = tt
-output_stops_any (Err fault) Unprinted told = λ unreadable. unwritten_stops fault unreadable Unprinted told
-
--- what stops a command for any deck stops it for this one
-pub stops_for_deck : {X : Type 0} (result : Result X Fault) (unreadable : Fault) (Unprinted : Type 0)
-    → IfErr result (λ told. (any : Fault) → Stops told any Unprinted) → IfErr result (λ told. Stops told unreadable Unprinted)
-stops_for_deck (Ok _) unreadable Unprinted stops = tt
-stops_for_deck (Err _) unreadable Unprinted stops = stops unreadable
-
--- which line is told by the status of what stopped a command
-module _ (told unreadable : Fault) (Unprinted : Type 0) (status : ℕ) (is_told : Bool) (old new : Option (List ℕ))
-    (stops : Stops told unreadable Unprinted) (is_status : status ≡ status_of told) (line : IsTold told is_told old new) where
-  line_of_cause : (cause : Fault) → told ≡ cause → IsTold cause is_told old new
-  line_of_cause cause is = subst (λ (of : Fault). IsTold of is_told old new) is line
-
-  pub told_of_device : status_of unreadable ≡ 4 → status ≡ 4
-      → (Unprinted × IsTold unreadable is_told old new) ⊎ IsTold fault.Write is_told old new
-  told_of_device path four = by stops
-    where
-      by : Stops told unreadable Unprinted → (Unprinted × IsTold unreadable is_told old new) ⊎ IsTold fault.Write is_told old new
-      by (texts_refused three unprinted) = absurd (omega (arith, is_status, three, four))
-      by (deck_unread is unprinted) = inl (unprinted, line_of_cause unreadable is)
-      by (output_unwritten is) = inr (line_of_cause fault.Write is)
-      by (memory_wanting is) = absurd (omega (arith, is_status, ap status_of is, four))
-
-  pub told_of_memory : status_of unreadable ≡ 4 → status ≡ 5 → IsTold fault.Memory is_told old new
-  told_of_memory path five = by stops
-    where
-      by : Stops told unreadable Unprinted → IsTold fault.Memory is_told old new
-      by (texts_refused three unprinted) = absurd (omega (arith, is_status, three, five))
-      by (deck_unread is unprinted) = absurd (omega (arith, is_status, ap status_of is, path, five))
-      by (output_unwritten is) = absurd (omega (arith, is_status, ap status_of is, five))
-      by (memory_wanting is) = line_of_cause fault.Memory is

@@ -5,13 +5,14 @@ use Rattle.std.specs.Prelude.{IfErr, IfOk, OnOk}
 use Rattle.std.specs.Io.KnownBytes.{Appends, Keeps}
 use Rattle.card_lines.specs.declared.fault.ReadFault.{ReadFault}
 use Rattle.card_lines.specs.declared.fault.ReadFault.TheVariants as read
-use Rattle.commands.proofs.Stopping.{chart_refusal, named_status, told_of_device, told_of_memory}
+use Rattle.commands.proofs.Stopping.{chart_refusal}
+use Rattle.program_io.proofs.Stopping.{named_status, told_of_device, told_of_memory}
 use Rattle.commands.specs.Answers.{CompilesAs}
-use Rattle.commands.specs.Commands.{word_of}
+use Rattle.program_io.specs.Commands.{word_of}
 use Rattle.commands.specs.Refusals.{RefusesChart}
 use Rattle.commands.specs.Streamed.{EndsRun, HasFailed, HasRefused, HasRunWhole, HasServed, IsToldOf, StopsInRun, chart_refused, chart_unread, read_told, run_stopped}
-use Rattle.commands.specs.declared.command.Command.{Command}
-use Rattle.commands.specs.declared.command.Command.TheVariants as command
+use Rattle.program_io.specs.declared.command.Command.{Command}
+use Rattle.program_io.specs.declared.command.Command.TheVariants as command
 use Rattle.compile407.specs.Compilation.{Compilation}
 use Rattle.compile407.specs.RunFaults.{of_card}
 use Rattle.faults.proofs.Statuses.{deck_status, memory_or_not, run_status}

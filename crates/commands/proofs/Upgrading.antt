@@ -1,6 +1,6 @@
 -- A wiring chart in another version has the same pages.
-use Rattle.std.proofs.Common.{◌≡◌, ◌≢◌, ◌∙◌, ◌↔◌, ap, sym, ℕ, Bool, true, false, List, Result, Ok, Err, IfOk}
-use Rattle.std.specs.Prelude.{IfErr, string_bytes}
+use Rattle.std.proofs.Common.{◌≡◌, ◌≢◌, ◌∙◌, ◌↔◌, ap, sym, ℕ, Bool, true, List, Result, Ok, Err, IfOk}
+use Rattle.std.specs.Prelude.{IfErr}
 use Rattle.setups.specs.Tapes.{has_stop}
 use Rattle.setups.specs.Wiring.{Wiring, is_plugged}
 use Rattle.wire_chart.specs.WrittenText.{IsWrittenIn}
@@ -13,7 +13,7 @@ use Rattle.wiring_text.specs.declared.statement.FormNumbers.{FormNumbers}
 use Rattle.wiring_text.specs.declared.statement.Statement.{Statement}
 use Rattle.wiring_text.specs.declared.statement.Version.TheVariants.{Second}
 use Rattle.commands.specs.Answers.{AreReplayedPages, IsUpgradeOf, PrintAlike}
-use Rattle.commands.specs.Refusals.{RefusesWiring}
+use Rattle.program_io.specs.Refusals.{RefusesWiring}
 use Rattle.faults.specs.Told.{wiring_told}
 use Rattle.faults.specs.declared.fault.Fault.{Fault}
 use Rattle.faults.specs.declared.fault.Fault.TheVariants as fault

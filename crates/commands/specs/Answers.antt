@@ -12,8 +12,8 @@ use Rattle.setups.specs.Wiring.{Wiring}
 use Rattle.wire_chart.specs.WrittenText.{IsWritten, IsWrittenIn}
 use Rattle.wiring_text.specs.WiringText.{ReadsAs}
 use Rattle.wiring_text.specs.declared.statement.Version.TheVariants.{Second}
-use Rattle.commands.specs.declared.command.Command.{Command}
-use Rattle.commands.specs.declared.command.Command.TheVariants as command
+use Rattle.program_io.specs.declared.command.Command.{Command}
+use Rattle.program_io.specs.declared.command.Command.TheVariants as command
 
 -- the text reads as the chart of this compilation
 pub record CompilesAs (text : List ℕ) (compiled : Compilation) : Type 0 where

@@ -2,7 +2,7 @@
 use Rattle.std.specs.Prelude.{ℕ, List}
 use Rattle.commands.specs.Answers.{Answers}
 use Rattle.commands.specs.Refusals.{Refuses}
-use Rattle.commands.specs.declared.command.Command.{Command}
+use Rattle.program_io.specs.declared.command.Command.{Command}
 use Rattle.faults.specs.declared.fault.Fault.{Fault}
 
 -- What a command answers it doesn't refuse.

@@ -1,8 +1,7 @@
 -- Which fault is told where a command refuses its texts. The faults stand in the order in which a command meets them: a later one is
 -- told only where no earlier one is there.
 use Rattle.std.specs.Prelude.{◌≡◌, ℕ, List}
-use Rattle.card_code.specs.Deck.{Deck, HasDeckFault}
-use Rattle.card_code.specs.declared.deck.DeckFault.{DeckFault}
+use Rattle.card_code.specs.Deck.{Deck}
 use Rattle.compile407.specs.ChartFaults.{HasChartFault}
 use Rattle.compile407.specs.Compilation.{Compilation}
 use Rattle.compile407.specs.RunFaults.{HasRunFault}
@@ -13,10 +12,11 @@ use Rattle.wiring_text.specs.WiringFaults as wiring_faults
 use Rattle.wiring_text.specs.WiringText.{ReadsAs}
 use Rattle.wiring_text.specs.declared.fault.WiringFault.{WiringFault}
 use Rattle.commands.specs.Answers.{CompilesAs}
-use Rattle.faults.specs.Told.{chart_told, deck_told, run_told, wiring_told}
-use Rattle.commands.specs.declared.command.Command.{Command}
-use Rattle.commands.specs.declared.command.Command.TheVariants as command
+use Rattle.faults.specs.Told.{chart_told, run_told, wiring_told}
+use Rattle.program_io.specs.declared.command.Command.{Command}
+use Rattle.program_io.specs.declared.command.Command.TheVariants as command
 use Rattle.faults.specs.declared.fault.Fault.{Fault}
+use Rattle.program_io.specs.Refusals.{RefusesDeck, RefusesWiring}
 
 -- the fault of a chart's text is told
 pub record RefusesChart (text : List ℕ) (told : Fault) : Type 0 where
@@ -24,24 +24,12 @@ pub record RefusesChart (text : List ℕ) (told : Fault) : Type 0 where
   pub at_fault : HasChartFault text cause
   pub named : told ≡ chart_told cause
 
--- the fault of a deck's text is told
-pub record RefusesDeck (deck : List ℕ) (told : Fault) : Type 0 where
-  pub cause : DeckFault
-  pub at_fault : HasDeckFault deck cause
-  pub named : told ≡ deck_told cause
-
 -- of a chart and a deck: the fault of the chart, else that of the deck's text, else that of its cards for this chart
 pub data RefusesRun (text deck : List ℕ) (told : Fault) : Type 0 where
   chart : RefusesChart text told → RefusesRun text deck told
   punches : (compiled : Compilation) → CompilesAs text compiled → RefusesDeck deck told → RefusesRun text deck told
   cards : (compiled : Compilation) → CompilesAs text compiled → (cards : List (List ℕ)) → Deck deck cards → (cause : RunFault)
       → HasRunFault compiled.chart cards cause → told ≡ run_told cause → RefusesRun text deck told
-
--- the fault of a wiring chart is told
-pub record RefusesWiring (text : List ℕ) (told : Fault) : Type 0 where
-  pub cause : WiringFault
-  pub at_fault : wiring_faults.HasWiringFault text cause
-  pub named : told ≡ wiring_told cause
 
 -- of a wiring chart and a deck: the fault of the wiring chart, else that of the deck's text
 pub data RefusesReplay (text deck : List ℕ) (told : Fault) : Type 0 where

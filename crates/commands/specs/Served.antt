@@ -4,10 +4,8 @@ use Rattle.std.specs.Prelude.{◌≡◌, ℕ, ◌≤◌, List, Option, IfSome, l
 use Rattle.std.specs.Io.KnownBytes.{Appends}
 use Rattle.commands.specs.Answers.{Answers, AreReplayedPages}
 use Rattle.commands.specs.Refusals.{Refuses}
-use Rattle.commands.specs.declared.command.Command.{Command}
-use Rattle.faults.specs.Status.{status_of}
+use Rattle.program_io.specs.declared.command.Command.{Command}
 use Rattle.faults.specs.declared.fault.Fault.{Fault}
-use Rattle.faults.specs.declared.fault.Fault.TheVariants as fault
 
 -- what the command answers on the text and the deck that was read is written after what was there
 pub record IsDone (command : Command) (text : List ℕ) (deck old new : Option (List ℕ)) : Type 0 where
@@ -22,14 +20,6 @@ pub record IsRefused (command : Command) (text : List ℕ) (deck : Option (List 
   pub read : List ℕ
   pub is_deck : IfSome deck (λ known. read ≡ known)
   pub refuses : Refuses command text read told
-
--- Why a command was not carried out: its texts are refused, or the deck can't be read, and nothing was printed; or the output can't be
--- written, or memory ran out, and a part of the answer may have been printed.
-pub data Stops (told unreadable : Fault) (Unprinted : Type 0) : Type 0 where
-  texts_refused : status_of told ≡ 3 → Unprinted → Stops told unreadable Unprinted
-  deck_unread : told ≡ unreadable → Unprinted → Stops told unreadable Unprinted
-  output_unwritten : told ≡ fault.Write → Stops told unreadable Unprinted
-  memory_wanting : told ≡ fault.Memory → Stops told unreadable Unprinted
 
 -- The pages of a wiring chart and a deck were printed after what was there.
 pub record PrintsReplay (text deck : List ℕ) (old new : Option (List ℕ)) : Type 0 where

@@ -6,9 +6,10 @@ use Rattle.card_lines.specs.declared.fault.ReadFault.{ReadFault}
 use Rattle.card_lines.specs.declared.fault.ReadFault.TheVariants as read
 use Rattle.commands.specs.Answers.{CompilesAs}
 use Rattle.commands.specs.Refusals.{RefusesChart}
-use Rattle.commands.specs.Served.{IsDone, IsRefused, Stops}
-use Rattle.commands.specs.declared.command.Command.{Command}
-use Rattle.commands.specs.declared.command.Command.TheVariants as command
+use Rattle.commands.specs.Served.{IsDone, IsRefused}
+use Rattle.program_io.specs.Stops.{Stops}
+use Rattle.program_io.specs.declared.command.Command.{Command}
+use Rattle.program_io.specs.declared.command.Command.TheVariants as command
 use Rattle.compile407.specs.Compilation.{Compilation}
 use Rattle.compile407.specs.RunFaults.{of_card}
 use Rattle.faults.specs.Told.{deck_told, run_told}

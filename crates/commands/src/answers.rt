@@ -5,7 +5,8 @@ ghost use Rattle.wire_chart.specs.WrittenText.{IsWritten, IsWrittenIn};
 ghost use Rattle.wiring_text.specs.WiringText.{ReadsAs};
 ghost use Rattle.wiring_text.specs.declared.statement.Version.TheVariants.{Second};
 ghost use Rattle.commands.specs.Answers.{ArePagesOf, ArePagesOn, AreReplayedPages, Compiles, CompilesAs, IsUpgradeOf, IsWiringChartOf, PrintAlike};
-ghost use Rattle.commands.specs.Refusals.{RefusesChart, RefusesDeck, RefusesReplay, RefusesRun, RefusesWiring};
+ghost use Rattle.commands.specs.Refusals.{RefusesChart, RefusesReplay, RefusesRun};
+ghost use Rattle.program_io.specs.Refusals.{RefusesDeck, RefusesWiring};
 
 use card_code::read_deck;
 use compile407::{Compiled, compile, run};

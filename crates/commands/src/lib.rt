@@ -2,27 +2,24 @@
 //!
 //! [`serve`] does one command: it checks a planning chart, wires it or runs a deck through it, replays a deck through a wiring chart, or
 //! prints a wiring chart in the second version of its language.
+//! [`replay_by_orders`] replays a deck with the units served by orders, and tells what was counted.
 //! [`chart_and_deck`] divides a text that has both, as standard input does. Why a command was not carried out is a [`Fault`] of the
 //! crate `faults`, whose [`tell`] writes it on one line; its status is the program's. [`serve_to_end`] answers beside the status whether
 //! that line was written whole, so its contract says which line that is. The crate stands on the compiler's calls, the machine
-//! and wiring charts, and on `tokens` for what a line END is. The program above it reads the words and opens the files.
+//! and wiring charts, and on `program_io` for what is read and written. The program above it reads the words and opens the files.
 #![tactic(auto)]
 
 mod answers;
-mod command;
-mod input;
 mod laws;
-mod lent;
-mod output;
 mod replaying;
 mod running;
 mod serving;
 
 pub use answers::{check, pages, replayed, upgraded, wiring_chart};
-pub use command::Command;
 pub use faults::{Ending, Fault, tell, unprinted, write_line};
-pub use input::{chart_and_deck, read_whole};
 pub use laws::answered_texts_are_not_refused;
+pub use program_io::{Command, chart_and_deck, read_whole};
 pub use replaying::print_replay;
 pub use running::print_run;
+pub use served_replays::{replay_by_orders, replay_by_orders_to_end};
 pub use serving::{serve, serve_to_end};

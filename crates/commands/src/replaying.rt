@@ -3,13 +3,14 @@
 ghost use Rattle.std.specs.Prelude.{◌≡◌, ◌⊎◌, ℕ, IfErr, OnErr, OnOk};
 ghost use Rattle.card_code.specs.Deck.{IsDeckText};
 ghost use Rattle.commands.specs.Refusals.{RefusesReplay};
-ghost use Rattle.commands.specs.Served.{PrintsFront, PrintsReplay, Stops};
+ghost use Rattle.commands.specs.Served.{PrintsFront, PrintsReplay};
+ghost use Rattle.program_io.specs.Stops.{Stops};
 ghost use Rattle.faults.specs.Status.{status_of};
 ghost use Rattle.replays.specs.Replays.{GainsFront, GainsPages};
 
-use crate::lent::Lent;
 use card_code::check_deck;
 use faults::Fault;
+use program_io::Lent;
 use replays::{ReplayCause, Replayed, replay};
 use setups::Setup;
 use std::alloc::Global;

@@ -7,12 +7,12 @@ ghost use Rattle.compile407.specs.RunFaults.{of_card};
 ghost use Rattle.faults.specs.Told.{run_told};
 
 use crate::answers::compilation;
-use crate::lent::Lent;
 use card_lines::ReadFault;
 use chart_rules::CardFault;
 use compile407::{Compiled, RunFault, StreamCause, Streamed, stream_deck};
 use devices::{FromRead, Sink};
 use faults::Fault;
+use program_io::Lent;
 use std::alloc::Global;
 use std::io::{Read, Write};
 

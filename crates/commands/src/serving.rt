@@ -1,19 +1,18 @@
 //! One command, over any reader and writers.
 
 ghost use Rattle.std.specs.Prelude.{◌≡◌, ◌≢◌, ◌≤◌, ◌⊎◌, ℕ, List, Option, IfErr, OnOk};
-ghost use Rattle.commands.specs.Commands.{IsNoCommand, word_of};
-ghost use Rattle.commands.specs.Served.{IsDone, IsRefused, Stops};
+ghost use Rattle.program_io.specs.Commands.{IsNoCommand, word_of};
+ghost use Rattle.commands.specs.Served.{IsDone, IsRefused};
+ghost use Rattle.program_io.specs.Stops.{Stops};
 ghost use Rattle.commands.specs.Streamed.{HasFailed, HasRefused, HasServed};
 ghost use Rattle.faults.specs.Lines.{IsTold};
 ghost use Rattle.faults.specs.Status.{status_of};
 
 use crate::answers::{check, upgraded, wiring_chart};
-use crate::command::Command;
-use crate::input::read_whole;
-use crate::output::put;
 use crate::replaying::print_replay;
 use crate::running::print_run;
 use faults::{Ending, Fault, tell};
+use program_io::{Command, put, read_whole};
 use std::alloc::Global;
 use std::io::{Read, Write};
 use wire_chart::read_setup;

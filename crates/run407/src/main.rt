@@ -1,10 +1,10 @@
-//! The program `run407`: has what the words of the command line ask for done by `commands`, whose `serve` it offers too, on the files
+//! The program `run407`: has what the words of the command line ask for done by `commands`, whose `serve` and `replay_by_orders` it offers too, on the files
 //! that they name. `command_line` reads the words.
 #![tactic(auto)]
 
 mod performing;
 
-pub use commands::serve;
+pub use commands::{replay_by_orders, serve};
 use std::process::ExitCode;
 
 fn main(rt: HostRuntime) -> ExitCode {

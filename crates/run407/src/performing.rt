@@ -4,7 +4,7 @@ ghost use Rattle.std.specs.Prelude.{◌≡◌, ◌≢◌};
 ghost use Rattle.std.specs.IoError.{error_kind};
 
 use command_line::{Refused, Wanted, read_words};
-use commands::{Fault, chart_and_deck, read_whole, serve, tell, unprinted};
+use commands::{Fault, chart_and_deck, read_whole, replay_by_orders, serve, tell, unprinted};
 use std::io::{ErrorKind as IoErrorKind, Write};
 use std::{fs, io};
 
@@ -53,6 +53,33 @@ fn serve_deck(rt: &HostRuntime, command: &str, chart: &str, deck: &str) -> u8 {
     )
 }
 
+// Replays a deck through a wiring chart by orders. Both are read whole and the deck is opened before a fault of any of them is told.
+fn serve_orders(rt: &HostRuntime, wiring: &str, orders: &str, deck: &str) -> u8 {
+    let mut faults = rt.stderr();
+    let text = match read_file(rt, wiring) {
+        Ok(text) => text,
+        Err(fault) => return tell(&fault, &mut faults).status,
+    };
+    let lists = match read_file(rt, orders) {
+        Ok(lists) => lists,
+        Err(fault) => return tell(&fault, &mut faults).status,
+    };
+    let cards = match fs::open(rt, deck) {
+        Ok(cards) => cards,
+        Err(error) => return tell(&unopened(&error, deck), &mut faults).status,
+    };
+    let mut out = rt.stdout();
+    replay_by_orders(
+        rt.alloc(),
+        text.as_slice(),
+        lists.as_slice(),
+        deck,
+        cards,
+        &mut out,
+        &mut faults,
+    )
+}
+
 // Does a command that reads a chart alone, or a wiring chart.
 fn serve_chart(rt: &HostRuntime, command: &str, chart: &str) -> u8 {
     let mut faults = rt.stderr();
@@ -90,6 +117,11 @@ fn obey(rt: &HostRuntime, wanted: Wanted) -> u8 {
         Wanted::Check { chart } => serve_chart(rt, "check", chart),
         Wanted::Wire { chart } => serve_chart(rt, "wire", chart),
         Wanted::Replay { wiring, deck } => serve_deck(rt, "replay", wiring, deck),
+        Wanted::ReplayByOrders {
+            wiring,
+            orders,
+            deck,
+        } => serve_orders(rt, wiring, orders, deck),
         Wanted::Upgrade { wiring } => serve_chart(rt, "upgrade", wiring),
         Wanted::StandardInput => run_standard_input(rt),
     }

@@ -2,7 +2,7 @@ use Rattle.std.proofs.Common.{subst, sym, ◌∙◌, ap}
 use Rattle.std.proofs.lemmas.Result.{err_from_is_err_and}
 use Rattle.card_code.specs.Deck.{Deck}
 use Rattle.page_text.specs.Pages.{Pages}
-use Rattle.commands.proofs.Refusing.{deck_refused}
+use Rattle.program_io.proofs.Refusing.{deck_refused}
 use Rattle.commands.proofs.answers.printed.Goals as goal
 
 pub returns-in_err-cards-clause-refused : goal.returns-in_err-cards-clause-refused

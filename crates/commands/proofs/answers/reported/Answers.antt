@@ -2,7 +2,8 @@ use Rattle.std.proofs.Common.{subst, sym}
 use Rattle.std.proofs.lemmas.Result.{err_from_is_err_and}
 use Rattle.card_code.specs.Deck.{Deck}
 use Rattle.commands.specs.Refusals.{punches}
-use Rattle.commands.proofs.Refusing.{cards_refused, deck_refused}
+use Rattle.commands.proofs.Refusing.{cards_refused}
+use Rattle.program_io.proofs.Refusing.{deck_refused}
 use Rattle.commands.proofs.answers.reported.Goals as goal
 
 pub returns-in_err-cards-clause-refused : goal.returns-in_err-cards-clause-refused

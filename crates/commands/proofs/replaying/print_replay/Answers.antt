@@ -1,8 +1,8 @@
 use Rattle.std.proofs.Common.{refl}
 use Rattle.std.proofs.lemmas.Result.{err_from_is_err_and}
-use Rattle.commands.proofs.Outcomes.{refusal_is_not_memory}
+use Rattle.program_io.proofs.Refusing.{deck_refused, refusal_is_not_memory}
 use Rattle.commands.proofs.PrintedPages.{printed_front, printed_whole}
-use Rattle.commands.proofs.Refusing.{deck_refused, wiring_refused}
+use Rattle.commands.proofs.Refusing.{wiring_refused}
 use Rattle.commands.specs.Refusals.{punches}
 use Rattle.commands.proofs.replaying.print_replay.Goals as goal
 

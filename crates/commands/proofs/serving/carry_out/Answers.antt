@@ -1,7 +1,7 @@
 use Rattle.std.proofs.Common.{refl}
-use Rattle.commands.specs.declared.command.Command.TheVariants as command
+use Rattle.program_io.specs.declared.command.Command.TheVariants as command
 use Rattle.commands.proofs.Outcomes.{done_for_deck, refused_for_deck}
-use Rattle.commands.proofs.Stopping.{stops_for_deck}
+use Rattle.program_io.proofs.Stopping.{stops_for_deck}
 use Rattle.commands.proofs.Streaming.{failed_by, refused_by, run_refused, served_by}
 use Rattle.commands.proofs.serving.carry_out.Goals as goal
 

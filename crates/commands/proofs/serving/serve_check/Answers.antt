@@ -1,8 +1,9 @@
 use Rattle.std.proofs.Common.{refl, []}
 use Rattle.std.proofs.lemmas.Result.{err_from_is_err_and}
-use Rattle.commands.specs.declared.command.Command.TheVariants as command
+use Rattle.program_io.specs.declared.command.Command.TheVariants as command
 use Rattle.commands.proofs.Outcomes.{check_done, refused_for_any}
-use Rattle.commands.proofs.Stopping.{output_stops_any, texts_stop}
+use Rattle.commands.proofs.Stopping.{texts_stop}
+use Rattle.program_io.proofs.Stopping.{output_stops_any}
 use Rattle.commands.proofs.serving.serve_check.Goals as goal
 
 pub returns-in_err-check-clause-refused : goal.returns-in_err-check-clause-refused

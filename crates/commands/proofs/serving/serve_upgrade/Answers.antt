@@ -1,9 +1,10 @@
 use Rattle.std.proofs.Common.{refl, []}
 use Rattle.std.proofs.lemmas.Result.{err_from_is_err_and}
 use Rattle.std.specs.Prelude.{string_bytes}
-use Rattle.commands.specs.declared.command.Command.TheVariants as command
+use Rattle.program_io.specs.declared.command.Command.TheVariants as command
 use Rattle.commands.proofs.Outcomes.{refused_for_any, upgrade_done}
-use Rattle.commands.proofs.Stopping.{output_stops_any, texts_stop}
+use Rattle.commands.proofs.Stopping.{texts_stop}
+use Rattle.program_io.proofs.Stopping.{output_stops_any}
 use Rattle.commands.proofs.serving.serve_upgrade.Goals as goal
 
 pub returns-in_err-rewritten-clause-refused : goal.returns-in_err-rewritten-clause-refused

@@ -1,0 +1,68 @@
+//! What the program's commands give, over texts that are all in memory.
+
+use anyhow::Result;
+use commands::{replay_by_orders, serve};
+use std::alloc::Global;
+use std::io::{Read, Write};
+
+/// What a command printed, what it told, and its status.
+#[derive(Drop)]
+pub struct Served {
+    pub output: Vec<u8>,
+    pub told: Vec<u8>,
+    pub status: u8,
+}
+
+impl Served {
+    /// What a command gives on a text and a deck.
+    pub fn of<R: Read + Drop>(alloc: Global, command: &str, text: &[u8], deck: R) -> Served {
+        let mut output = Vec::new(alloc);
+        let mut told = Vec::new(alloc);
+        let status = serve(
+            alloc,
+            command,
+            text,
+            "my.deck",
+            deck,
+            &mut output,
+            &mut told,
+        );
+        Served {
+            output,
+            told,
+            status,
+        }
+    }
+
+    /// What a replay by orders gives.
+    pub fn by_orders<R: Read + Drop>(
+        alloc: Global,
+        wiring: &[u8],
+        orders: &[u8],
+        deck: R,
+    ) -> Served {
+        let mut output = Vec::new(alloc);
+        let mut told = Vec::new(alloc);
+        let status = replay_by_orders(
+            alloc,
+            wiring,
+            orders,
+            "my.deck",
+            deck,
+            &mut output,
+            &mut told,
+        );
+        Served {
+            output,
+            told,
+            status,
+        }
+    }
+
+    /// Writes what was printed and told.
+    pub fn write<W: Write>(&self, out: &mut W) -> Result<()> {
+        out.write_all(self.output.as_slice())?;
+        out.write_all(self.told.as_slice())?;
+        Ok(())
+    }
+}

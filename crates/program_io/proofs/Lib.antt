@@ -1,0 +1,3 @@
+mod Division
+pub mod Refusing
+pub mod Stopping

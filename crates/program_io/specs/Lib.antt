@@ -1,0 +1,4 @@
+pub mod Commands
+pub mod Input
+pub mod Refusals
+pub mod Stops
