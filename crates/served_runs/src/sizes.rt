@@ -4,7 +4,6 @@ ghost use Rattle.std.specs.Prelude.{◌≤◌};
 ghost use Rattle.net.specs.HubSets.{has_hub};
 ghost use Rattle.served_runs.specs.Seen.{HasSize, IsIn, hub_count};
 
-use hubs::Hub;
 use net::{HUBS, Picture};
 
 // How many hubs a picture has.
@@ -27,8 +26,5 @@ fn is_in(picture: &Picture, number: u32) -> bool
     requires to { number ≤ hub_count }
     ensures { IsIn (has_hub picture.now) number result }
 {
-    match Hub::of_number(number) {
-        Some(hub) => picture.has(hub),
-        None => false,
-    }
+    bit_sets::has(picture.words(), number as usize - 1)
 }
