@@ -18,8 +18,15 @@ const INDICATED: &[u8] =
     b"FIELD A TEXT 1 1\nCONTROL 1 A\nPRINT DETAIL\nDETAIL 1 A INDICATE 1\nFORM 12 1 9\n";
 
 /// A text on a total line, which a storage unit keeps.
-const STORED: &[u8] =
-    b"FIELD A TEXT 1 1\nCONTROL 1 A\nPRINT GROUP\nTOTAL 1 1 A\nFORM 12 1 9\n";
+const STORED: &[u8] = b"FIELD A TEXT 1 1\nCONTROL 1 A\nPRINT GROUP\nTOTAL 1 1 A\nFORM 12 1 9\n";
+
+/// Totals by department, with a point.
+const DEPARTMENTS: &[u8] =
+    b"FIELD DEPT TEXT 1 2\nFIELD QTY AMOUNT 13 15 0\nFIELD SALES AMOUNT 17 22 2\nCONTROL 1 DEPT\n\
+    PRINT GROUP\nTOTAL 1 2 DEPT\nTOTAL 1 7 QTY 4\nTOTAL 1 13 SALES 7\nFORM 18 2 16\n";
+
+const SALES: &[u8] =
+    b"10 ADAMS      3   4795\n10 BAKER     12  21540\n10 ADAMS      1    899\n20 CLARK      5  12500\n";
 
 /// Explains a wheel of a line of page 1.
 fn explained(
@@ -32,14 +39,7 @@ fn explained(
     let text = text_of(alloc, chart, b"")?;
     let compiled = compile(alloc, text.as_slice())?;
     let cards = read_deck(alloc, deck)?;
-    Ok(explain_text(
-        alloc,
-        compiled.setup(),
-        cards.as_slice(),
-        1,
-        line,
-        wheel,
-    ))
+    Ok(explain_text(alloc, compiled.setup(), cards.as_slice(), 1, line, wheel))
 }
 
 /// Looks a row of a table up: what is explained of a wheel is this text.
@@ -120,6 +120,31 @@ fn a_text_comes_out_of_storage(rt: HostRuntime) -> Result<(), Fail> {
         SX.1.1: storage 1 holds an 11 in column 1, and is read out\n\
         rows 2 and 11 are K\n";
     explains(&rt, rt.alloc(), STORED, b"K\n", (2, 1), text)
+}
+
+#[test]
+fn a_digit_comes_out_of_a_counter(rt: HostRuntime) -> Result<(), Fail> {
+    let text = "page 1 line 2 wheel 15 prints 2\n\
+        cycle Prog 1 3 after card 3\n\
+        row 2: GX.8.1.5 -> W.15\n  \
+        GX.8.1.5: group 8.1 held 00027234, and is read out\n\
+        row 2 is 2\n\
+        zero control: a SUPPRESS wheel that received no zero: it prints\n";
+    explains(&rt, rt.alloc(), DEPARTMENTS, SALES, (2, 15), text)
+}
+
+#[test]
+fn a_point_is_three_rows(rt: HostRuntime) -> Result<(), Fail> {
+    let text = "page 1 line 2 wheel 18 prints .\n\
+        cycle Prog 1 3 after card 3\n\
+        row 8: EM.5.8 -> W.18\n  \
+        EM.5.8: emitter 5 sends row 8 in the third cycle of level 1\n\
+        row 3: EM.5.3 -> W.18\n  \
+        EM.5.3: emitter 5 sends row 3 in the third cycle of level 1\n\
+        row 12: EM.5.12 -> W.18\n  \
+        EM.5.12: emitter 5 sends row 12 in the third cycle of level 1\n\
+        rows 8, 3 and 12 are .\n";
+    explains(&rt, rt.alloc(), DEPARTMENTS, SALES, (2, 18), text)
 }
 
 #[test]
