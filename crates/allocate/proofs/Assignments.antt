@@ -1,6 +1,6 @@
 -- Where the counter groups are enough at each width, each total can have a counter of its own, and where they are not, not
 -- all can.
-use Rattle.std.proofs.Common.{◌≡◌, ◌≢◌, refl, sym, ap, ◌∙◌, ⊎_elim, ℕ, ◌+◌, ◌<◌, ◌≤◌, leb, ltb, eqb, cond, arith}
+use Rattle.std.proofs.Common.{◌≡◌, refl, sym, ap, ◌∙◌, ⊎_elim, ℕ, ◌+◌, ◌<◌, ◌≤◌, eqb, cond, arith}
 use Rattle.std.proofs.Common.{Bool, true, false, ◌&&◌, List, [], ◌∷◌, length, get_or, map, ◌⊎◌, inl, inr, Some}
 use Rattle.std.specs.List.{count_by, slice_get, range_with_len}
 use Rattle.std.proofs.lemmas.Bool.Decides.{nat_tests}
@@ -15,7 +15,7 @@ use Rattle.allocate.specs.HelperCounters.{HasGroupsFor}
 use Rattle.charts.specs.declared.level.Level.TheVariants as level
 use Rattle.allocate.specs.Groups.{total_at, counter_at, takes_before}
 use Rattle.plans.specs.Assignments.{IsAssignment}
-use Rattle.plans.specs.Counters.{HasCounter, IsEnoughFor, IsGroupOf, SharesGroup}
+use Rattle.plans.specs.Counters.{HasCounter, IsEnoughFor, IsGroupOf}
 use Rattle.plans.specs.declared.counter.TotalCounter.{TotalCounter}
 use Rattle.plans.specs.declared.counter.TotalCounter.TheVariants as of
 use Rattle.plans.proofs.CounterGroups.{width-cases}
@@ -23,7 +23,7 @@ use Rattle.wanted.specs.declared.total.Total.{Total}
 use Rattle.allocate.proofs.Counting.{count_below, count-mono, count-strict, count-apart, count_by-below}
 use Rattle.allocate.proofs.Held.{lower_group, upper_group, has-lower, has-upper, shares, shared-of, group-of-same, of_class, two_groups}
 use Rattle.allocate.proofs.Orders.{takes_before-trans, takes_before-total, takes_before-self, takes_before-need}
-use Rattle.allocate.proofs.GroupPlaces.{place_of, group_of, wider, IsAt, place_of-below, place_of-injective, group_of-at}
+use Rattle.allocate.proofs.GroupPlaces.{place_of, group_of, wider, place_of-below, place_of-injective, group_of-at}
 use Rattle.allocate.proofs.GroupPlaces.{le-class_of, class_of-mono, class_of-cases, class_of-two}
 
 -- the counter groups are enough, from the four widths one by one

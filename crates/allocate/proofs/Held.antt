@@ -8,7 +8,7 @@ use Rattle.plans.specs.declared.counter.TotalCounter.{TotalCounter}
 use Rattle.plans.specs.declared.counter.TotalCounter.TheVariants as of
 use Rattle.plans.proofs.CounterGroups.{width-cases}
 use Rattle.wanted.specs.Totals.{class_of}
-use Rattle.allocate.specs.Groups.{IsLowestFree, AreLowestTwo, Takes, is_before, is_lower}
+use Rattle.allocate.specs.Groups.{IsLowestFree, Takes, is_before}
 use Rattle.allocate.proofs.GroupPlaces.{class_of-le, class_of-most}
 use Rattle.allocate.proofs.Orders.{same_or_lower}
 

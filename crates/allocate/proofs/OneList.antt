@@ -7,7 +7,7 @@ use Rattle.allocate.specs.Groups.{total_at, counter_at, TakesBefore, IsByRule, I
 use Rattle.plans.specs.declared.counter.TotalCounter.{TotalCounter}
 use Rattle.plans.specs.declared.counter.TotalCounter.TheVariants as of
 use Rattle.wanted.specs.declared.total.Total.{Total}
-use Rattle.allocate.proofs.Assignments.{own, rank, rank-before}
+use Rattle.allocate.proofs.Assignments.{rank, rank-before}
 use Rattle.allocate.proofs.Held.{takes-same, takes-single}
 
 -- where the totals before one have the same counters in both lists, the same groups are taken before it

@@ -4,19 +4,18 @@ use Rattle.std.proofs.Common.{Bool, true, false, ◌&&◌, List, replicate, [], 
 use Rattle.std.proofs.Common.{MatchOption, below_more, unwrap_or, cond}
 use Rattle.std.specs.Option.{is_some}
 use Rattle.std.specs.List.{slice_get, sum_by}
-use Rattle.std.proofs.lemmas.Bool.{false≢true, false_from_ne_true, eqb-true, eq-eqb, ltb-true, lt-ltb}
+use Rattle.std.proofs.lemmas.Bool.{false≢true, false_from_ne_true, eqb-true, eq-eqb, lt-ltb}
 use Rattle.std.proofs.lemmas.Option.{get_or_from_slice_get, slice_get_within}
-use Rattle.std.proofs.lemmas.List.Sums.{sum_by-set}
 use Rattle.std.proofs.lemmas.Bool.Decides.{eqb_tells}
 use Rattle.std.proofs.lemmas.List.{get_or-set_same, get_or-set_other, length-set, length-map, get_or-map}
-use Rattle.capacity.specs.Capacities.{Capacities, groups_at_least, HasGroup}
+use Rattle.capacity.specs.Capacities.{Capacities, groups_at_least}
 use Rattle.capacity.specs.declared.group.CounterGroup.{CounterGroup}
 use Rattle.allocate.specs.Groups.{total_at, counter_at, takes_before, TakesBefore, IsByRule, IsTakenBefore, Takes}
 use Rattle.plans.specs.Assignments.{IsAssignment}
 use Rattle.plans.specs.Counters.{IsGroupOf}
 use Rattle.plans.specs.declared.counter.TotalCounter.{TotalCounter}
 use Rattle.plans.specs.declared.counter.TotalCounter.TheVariants as of
-use Rattle.wanted.specs.Totals.{NeedsFit, class_of, wanted_at}
+use Rattle.wanted.specs.Totals.{NeedsFit, class_of}
 use Rattle.allocate.specs.HelperCounters.{HasGroupsFor}
 use Rattle.allocate.specs.HelperTaking.{taken_at, IsHeld, IsTaken, IsUsed, NoneWaitsBelow, IsNext, goes_first, AreAllTaken, AreTooFew}
 use Rattle.wanted.specs.declared.total.Total.{Total}

@@ -5,7 +5,7 @@ use allocate::{CapacityFault, allocate};
 use capacity::{CounterGroup, Profile};
 use chart_rules::Chart;
 use charts::ControlLevel;
-use plans::Plan;
+use plans::{Plan, TotalCounter};
 use std::alloc::Global;
 use std::test::Fail;
 use wanted::Position;
@@ -45,6 +45,29 @@ static NINTH: &[u8] = b"FIELD Q9 AMOUNT 65 72 0\nTOTAL 4 65 Q9 8\n";
 /// Totals of 2 digits, 24 of them.
 #[rattlefmt::skip]
 static TWOS: &[u8] = b"FIELD P1 AMOUNT 80 80 0\nTOTAL 4 65 P1 2\nFIELD P2 AMOUNT 80 80 0\nTOTAL 4 67 P2 2\nFIELD P3 AMOUNT 80 80 0\nTOTAL 4 69 P3 2\nFIELD P4 AMOUNT 80 80 0\nTOTAL 4 71 P4 2\nFIELD P5 AMOUNT 80 80 0\nTOTAL 4 73 P5 2\nFIELD P6 AMOUNT 80 80 0\nTOTAL 4 75 P6 2\nFIELD P7 AMOUNT 80 80 0\nTOTAL 4 77 P7 2\nFIELD P8 AMOUNT 80 80 0\nTOTAL 4 79 P8 2\nFIELD P9 AMOUNT 80 80 0\nTOTAL 4 81 P9 2\nFIELD P10 AMOUNT 80 80 0\nTOTAL 4 83 P10 2\nFIELD P11 AMOUNT 80 80 0\nTOTAL 4 85 P11 2\nFIELD P12 AMOUNT 80 80 0\nTOTAL 4 87 P12 2\nFIELD P13 AMOUNT 80 80 0\nTOTAL 4 89 P13 2\nFIELD P14 AMOUNT 80 80 0\nTOTAL 4 91 P14 2\nFIELD P15 AMOUNT 80 80 0\nTOTAL 4 93 P15 2\nFIELD P16 AMOUNT 80 80 0\nTOTAL 4 95 P16 2\nFIELD P17 AMOUNT 80 80 0\nTOTAL 4 97 P17 2\nFIELD P18 AMOUNT 80 80 0\nTOTAL 4 99 P18 2\nFIELD P19 AMOUNT 80 80 0\nTOTAL 4 101 P19 2\nFIELD P20 AMOUNT 80 80 0\nTOTAL 4 103 P20 2\nFIELD P21 AMOUNT 80 80 0\nTOTAL 4 105 P21 2\nFIELD P22 AMOUNT 80 80 0\nTOTAL 4 107 P22 2\nFIELD P23 AMOUNT 80 80 0\nTOTAL 4 109 P23 2\nFIELD P24 AMOUNT 80 80 0\nTOTAL 4 111 P24 2\n";
+
+/// Four totals of 9 digits, and what makes them five.
+#[rattlefmt::skip]
+const NINES: &[u8] = b"PRINT GROUP\nFORM 12 1 9\nFIELD Q1 AMOUNT 1 8 0\nTOTAL 4 1 Q1 9\nFIELD Q2 AMOUNT 9 16 0\nTOTAL 4 10 Q2 9\nFIELD Q3 AMOUNT 17 24 0\nTOTAL 4 19 Q3 9\nFIELD Q4 AMOUNT 25 32 0\nTOTAL 4 28 Q4 9\n";
+
+static FIFTH: &[u8] = b"FIELD Q5 AMOUNT 33 40 0\nTOTAL 4 37 Q5 9\n";
+
+/// A signed total of 8 digits and one of 8 without a sign at the level of MIN, and totals of 3 and 16 digits at the final level.
+#[rattlefmt::skip]
+const PAIRS: &[u8] = b"FIELD MIN TEXT 80 80\nFIELD A AMOUNT 1 2 0 X 3\nCONTROL 1 MIN\nPRINT GROUP\nTOTAL 1 1 A 8 MARK CR\nFIELD B AMOUNT 1 2 0\nTOTAL 1 21 B 8\nFIELD C AMOUNT 1 2 0\nTOTAL 4 41 C 3\nFIELD D AMOUNT 1 2 0\nTOTAL 4 61 D 16\nFORM 12 1 9\n";
+
+/// A total of 9 digits and one of 3.
+#[rattlefmt::skip]
+const PAIR_AND_THREE: &[u8] = b"PRINT GROUP\nFORM 12 1 9\nFIELD Q1 AMOUNT 1 8 0\nTOTAL 4 1 Q1 9\nFIELD Q2 AMOUNT 1 3 0\nTOTAL 4 11 Q2 3\n";
+
+/// Charts on machines with these counter groups, and the lower and the upper group of each of their totals, the same one where a
+/// total takes one.
+#[rattlefmt::skip]
+static COUPLED: [(&[u8], [u8; 4], &[((u8, u8), (u8, u8))]); 3] = [
+    (NINES, [8, 8, 8, 8], &[((8, 1), (8, 2)), ((8, 3), (8, 4)), ((8, 5), (8, 6)), ((8, 7), (8, 8))]),
+    (PAIRS, [8, 8, 8, 8], &[((8, 3), (8, 4)), ((8, 5), (8, 5)), ((3, 1), (3, 1)), ((8, 1), (8, 2))]),
+    (PAIR_AND_THREE, [0, 0, 0, 3], &[((8, 1), (8, 2)), ((8, 3), (8, 3))]),
+];
 
 /// Two unsigned totals of 3 digits, and what makes them three.
 #[rattlefmt::skip]
@@ -142,6 +165,34 @@ fn take_groups(
     )
 }
 
+/// A counter group.
+fn group((width, number): (u8, u8)) -> CounterGroup {
+    CounterGroup { width, number }
+}
+
+/// Whether the totals of some lines take these counters of a machine, each a lower and an upper group, the same where it is one.
+fn take_counters(
+    alloc: Global,
+    lines: &[u8],
+    profile: &Profile,
+    wanted: &[((u8, u8), (u8, u8))],
+) -> Result<bool, Fail> {
+    let chart = chart_of(alloc, lines, b"")?;
+    let plan = allocate(alloc, &chart, profile)?;
+    let counters = plan.counters();
+    Ok(
+        counters.len() == wanted.len()
+            && counters.iter().zip(wanted).all(|(counter, (lower, upper))| {
+                let (lower, upper) = (group(*lower), group(*upper));
+                if lower == upper {
+                    counter.single_group() == Some(lower)
+                } else {
+                    *counter == TotalCounter::Coupled { lower, upper }
+                }
+            }),
+    )
+}
+
 /// Whether the plan of some lines is one for the chart of others.
 fn is_for(alloc: Global, lines: &[u8], others: &[u8]) -> Result<bool, Fail> {
     let plan = plan_of(alloc, &chart_of(alloc, lines, b"")?)?;
@@ -234,6 +285,44 @@ fn totals_take_their_groups(rt: HostRuntime) -> Result<(), Fail> {
         let machine = machine_of_groups(groups);
         assert!(rt; take_groups(rt.alloc(), lines, &machine, wanted)?);
     }
+    Ok(())
+}
+
+#[test]
+fn totals_take_pairs(rt: HostRuntime) -> Result<(), Fail> {
+    for (lines, groups, wanted) in COUPLED {
+        let machine = machine_of_groups(groups);
+        assert!(rt; take_counters(rt.alloc(), lines, &machine, wanted)?);
+    }
+    Ok(())
+}
+
+#[test]
+fn five_pairs_of_eight(rt: HostRuntime) -> Result<(), Fail> {
+    let wanted = CapacityFault::Counters {
+        width: 8,
+        wanted: 10,
+        there: 8,
+    };
+    let fault = fault_of(rt.alloc(), NINES, FIFTH, &Profile::standard())?;
+    assert_eq!(rt; fault, Some(wanted));
+    Ok(())
+}
+
+#[test]
+fn a_pair_is_two_at_each_width(rt: HostRuntime) -> Result<(), Fail> {
+    let wanted = CapacityFault::Counters {
+        width: 3,
+        wanted: 3,
+        there: 2,
+    };
+    let fault = fault_of(
+        rt.alloc(),
+        PAIR_AND_THREE,
+        b"",
+        &machine_of_groups([0, 0, 0, 2]),
+    )?;
+    assert_eq!(rt; fault, Some(wanted));
     Ok(())
 }
 

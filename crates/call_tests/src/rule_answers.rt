@@ -9,7 +9,7 @@ use std::test::Fail;
 
 /// Charts without their first line and END, with the number of the rule that each breaks and its line, or 0 and 0.
 #[rattlefmt::skip]
-static CHARTS: [(&[u8], u8, u16); 13] = [
+static CHARTS: [(&[u8], u8, u16); 17] = [
     // The bolts listing, with a wheel out of range, a doubled PRINT, and without FORM.
     (b"FIELD NAME TEXT 1 6\nFIELD ITEM TEXT 8 10\nPRINT DETAIL\nDETAIL 1 NAME\nDETAIL 9 ITEM\nFORM 12 1 9\n", 0, 0),
     (b"FIELD NAME TEXT 1 6\nFIELD ITEM TEXT 8 10\nPRINT DETAIL\nDETAIL 0 NAME\nDETAIL 9 ITEM\nFORM 12 1 9\n", 32, 5),
@@ -17,16 +17,20 @@ static CHARTS: [(&[u8], u8, u16); 13] = [
     (b"FIELD NAME TEXT 1 6\nFIELD ITEM TEXT 8 10\nPRINT DETAIL\nDETAIL 1 NAME\nDETAIL 9 ITEM\n", 36, 7),
     // Wheel clash.
     (b"FIELD NAME TEXT 1 5\nFIELD AMT AMOUNT 6 12 0\nPRINT DETAIL\nDETAIL 40 NAME\nTOTAL 4 42 AMT 8\nFORM 12 1 9\n", 34, 6),
-    // Coupled total.
-    (b"FIELD A AMOUNT 1 8 0 X 9\nPRINT GROUP\nTOTAL 4 1 A 12 MARK CR\nFORM 12 1 9\n", 29, 4),
+    // Totals of two counter groups: up to 16 digits, and up to 15 with a sign column.
+    (b"FIELD A AMOUNT 1 8 0 X 9\nPRINT GROUP\nTOTAL 4 1 A 12 MARK CR\nFORM 12 1 9\n", 0, 0),
+    (b"FIELD A AMOUNT 1 8 0 X 9\nPRINT GROUP\nTOTAL 4 1 A 15 MARK CR\nFORM 12 1 9\n", 0, 0),
+    (b"FIELD A AMOUNT 1 8 0 X 9\nPRINT GROUP\nTOTAL 4 1 A 16 MARK CR\nFORM 12 1 9\n", 29, 4),
+    (b"FIELD A AMOUNT 1 8 0\nPRINT GROUP\nTOTAL 4 1 A 16\nFORM 12 1 9\n", 0, 0),
+    (b"FIELD A AMOUNT 1 8 0\nPRINT GROUP\nTOTAL 4 1 A 17\nFORM 12 1 9\n", 29, 4),
     // The lowest rule is told, and its lowest line.
     (b"FIELD A TEXT 1 1\nDETAIL 1 B\nFIELD A TEXT 2 2\nFIELD A TEXT 3 3\n", 21, 4),
     (b"DETAIL 1 B\nFIELD A AMOUNT 1 8 4\nFIELD C TEXT 80 81\n", 22, 4),
     (b"DETAIL 1 B\nFIELD A AMOUNT 1 8 4\n", 23, 3),
     (b"CONTROL 1 A\nCONTROL 1 B\nFIELD A AMOUNT 1 8 0\n", 24, 3),
     (b"PRINT DETAIL\nPRINT DETAIL\nCONTROL 1 A\nFIELD A AMOUNT 1 8 0\n", 25, 4),
-    (b"FIELD A AMOUNT 1 2 0\nTOTAL 4 1 A 9\nTOTAL 1 1 'A'\n", 27, 4),
-    (b"FIELD T TEXT 1 1\nFIELD A AMOUNT 2 3 0\nCONTROL 1 T\nTOTAL 4 1 A 9\nTOTAL 4 20 T\n", 28, 6),
+    (b"FIELD A AMOUNT 1 2 0\nTOTAL 4 1 A 17\nTOTAL 1 1 'A'\n", 27, 4),
+    (b"FIELD T TEXT 1 1\nFIELD A AMOUNT 2 3 0\nCONTROL 1 T\nTOTAL 4 1 A 17\nTOTAL 4 20 T\n", 28, 6),
 ];
 
 /// The number of the rule that a chart breaks and its line, or 0 and 0.

@@ -95,7 +95,7 @@ total-digits chart place line its wheel name digits mark field lawful at says_it
     let kept = kept-at rule.DigitsRange chart place line lawful at in
     let e : is_out_of_digits (field_named chart.lines name) digits ≡ false
     = sym (ap (λ s. breaks rule.DigitsRange chart.lines chart.lines s) says_it) ∙ kept in
-    let f : nat_lt digits (columns_of field) ≡ false = first (nat_lt digits (columns_of field)) (nat_lt 8 digits) (is_some (sign_column field.kind) && nat_lt 7 digits) (sym (ap (λ o. is_out_of_digits o digits) named) ∙ e) in
+    let f : nat_lt digits (columns_of field) ≡ false = first (nat_lt digits (columns_of field)) (nat_lt 16 digits) (is_some (sign_column field.kind) && nat_lt 15 digits) (sym (ap (λ o. is_out_of_digits o digits) named) ∙ e) in
     let good = (good-field chart lawful name field named).decimals in
     grind (arith, nat_tests, f, good)
   where
