@@ -45,14 +45,19 @@ static NO_FORMS: [&str; 52] = [
 
 /// Whole texts with the number of the fault and its line, or zeros.
 #[rattlefmt::skip]
-static TEXTS: [(&str, u8, u16); 27] = [
-    ("", 12, 0), ("\r", 12, 0), ("\n", 12, 0), ("\nCHART407 1\nEND\n", 12, 0), ("CHART407 01\nEND\n", 12, 0), ("CHART407 2\nEND\n", 12, 0),
+static TEXTS: [(&str, u8, u16); 37] = [
+    ("", 12, 0), ("\r", 12, 0), ("\n", 12, 0), ("\nCHART407 1\nEND\n", 12, 0), ("CHART407 01\nEND\n", 12, 0), ("CHART407 3\nEND\n", 12, 0),
     ("CHART407 1 1\nEND\n", 12, 0), ("CHART407\t1\nEND\n", 12, 0), ("CHART407 '1'\nEND\n", 12, 0), ("CHART407 1\nEND\n", 0, 0), ("  CHART407   1 \n  END  ", 0, 0),
     ("CHART407 1\r\nFORM 12 1 9\r\nEND\r\n \r\n\r\n", 0, 0), ("CHART407 1\n\n   \nFORM 12 1 9\nEND", 0, 0),
     ("CHART407 1", 14, 0), ("CHART407 1\nFORM 12 1 9\n", 14, 0), ("CHART407 1\nFORM 30 1 2", 14, 0), ("CHART407 1\nEND\r\r\n", 13, 2),
     ("CHART407 1\n\n\n\n\nEND\nHEAD 1 1 'A'\n", 13, 7), ("CHART407 1\nEND\nEND\n", 13, 3), ("CHART407 1\nEND\n\n \nEND\n", 13, 5), ("CHART407 1\nBAD\nEND\n", 13, 2),
     ("CHART407 1\nFORM 12 1 9\nBAD\nBAD\n", 13, 3), ("CHART407 1\nEND\nBAD", 13, 3), ("CHART407 1\n'\nEND\n", 13, 2), ("CHART407 1\nEND\n'\n", 13, 3),
     ("CHART407 1\nTAPE 3 5\nFIELD A TEXT 1 1\nDETAIL 1 A\nPRINT DETAIL\nFORM 12 1 9\nAFTER DETAIL SKIP 3\nEND\n", 0, 0), ("END\n", 12, 0),
+    ("CHART407 2\nEND\n", 0, 0), (" CHART407  2 \nTOTAL 4 1 N 9 COUPLED\nEND\n", 0, 0), ("CHART407 2\nTOTAL 4 1 N 9 COUPLED MARK CR\nEND\n", 0, 0),
+    ("CHART407 1\nTOTAL 4 1 N 9 COUPLED\nEND\n", 13, 2), ("CHART407 2\nTOTAL 4 1 N 9 MARK CR COUPLED\nEND\n", 13, 2),
+    ("CHART407 2\nTOTAL 4 1 N COUPLED\nEND\n", 13, 2), ("CHART407 2\nTOTAL 4 1 'A' COUPLED\nEND\n", 13, 2),
+    ("CHART407 2\nTOTAL 4 1 N 9 COUPLED COUPLED\nEND\n", 13, 2), ("CHART407 2\nDETAIL 1 N COUPLED\nEND\n", 13, 2),
+    ("CHART407 2\nTOTAL 4 1 COUPLED 9 COUPLED\nEND\n", 0, 0),
 ];
 
 /// A chart with one line between its first line and END.
