@@ -5,6 +5,7 @@
 //! that is, for every setup of the panel and every deck, is told in `specs/`.
 #![tactic(auto)]
 
+mod by_cycles;
 mod closed;
 mod cycle;
 mod fault;
@@ -18,6 +19,7 @@ mod rows;
 mod run;
 mod units;
 
+pub use by_cycles::MachineByCycles;
 pub use fault::FeedFault;
 pub use kept::{KeptCycle, KeptPoint};
 pub use machine::Machine;
