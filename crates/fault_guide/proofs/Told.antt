@@ -50,6 +50,7 @@ of-rule rule.WheelClash = refl
 of-rule rule.PrintKind = refl
 of-rule rule.Form = refl
 of-rule rule.Tape = refl
+of-rule rule.CoupledMark = refl
 
 of-capacity : (fault : CapacityFault) → HasEntries (capacity_told fault)
 of-capacity (capacity.Counters width wanted there) = refl

@@ -16,7 +16,7 @@ pub fn fault_entry(number: u8) -> Option<FaultEntry>
     match number {
         1..=4 => Some(deck_text_entry(number)),
         11..=14 => Some(chart_text_entry(number)),
-        21..=37 => Some(rule_entry(number)),
+        21..=38 => Some(rule_entry(number)),
         41..=43 => Some(card_entry(number)),
         51..=54 => Some(unfit_entry(number)),
         61..=67 => Some(capacity_entry(number)),

@@ -72,15 +72,15 @@ pub(crate) fn chart_text_entry(number: u8) -> FaultEntry
         12 => FaultEntry {
             number: 12,
             name: "NoFirstLine",
-            cause: "the first line is not CHART407 1",
-            cure: "put it there; not even an empty line may come before it",
+            cause: "the first line is neither CHART407 1 nor CHART407 2",
+            cure: "put one of them there; not even an empty line may come before it",
             example: "an empty file",
         },
         13 => FaultEntry {
             number: 13,
             name: "NotALine",
             cause: "line K has none of the forms of a chart, or stands after END",
-            cure: "compare it with CHART.md: a misspelt or missing word, a number with a leading zero, a small letter, a level that there isn't",
+            cure: "compare it with CHART.md: a misspelt or missing word, a number with a leading zero, a small letter, a level that there isn't, in version 1 the word COUPLED",
             example: "DETAIL 1",
         },
         _ => FaultEntry {
@@ -93,10 +93,10 @@ pub(crate) fn chart_text_entry(number: u8) -> FaultEntry
     }
 }
 
-/// The entry of a fault of a chart that breaks a rule, 21 to 37.
+/// The entry of a fault of a chart that breaks a rule, 21 to 38.
 pub(crate) fn rule_entry(number: u8) -> FaultEntry
     requires from { 21 ≤ number }
-    requires to { number ≤ 37 }
+    requires to { number ≤ 38 }
     ensures { result.number ≡ number }
 {
     match number {
@@ -159,7 +159,7 @@ pub(crate) fn rule_entry(number: u8) -> FaultEntry
         29 => FaultEntry {
             number: 29,
             name: "DigitsRange",
-            cause: "a total in fewer digits than its field has, in more than 8, or in more than 7 with a sign column",
+            cause: "a total in fewer digits than its field has, in more than 16, or in more than 15 with a sign column",
             cure: "choose the digits in that range",
             example: "FIELD A AMOUNT 1 3 0; TOTAL 4 1 A 2",
         },
@@ -212,12 +212,19 @@ pub(crate) fn rule_entry(number: u8) -> FaultEntry
             cure: "see CHART.md, FORM",
             example: "FORM 12 1 11; without HEAD lines FORM 12 9 9 too",
         },
-        _ => FaultEntry {
+        37 => FaultEntry {
             number: 37,
             name: "Tape",
             cause: "a channel that is not 2 to 11; stops that do not rise or leave the form; AFTER with a SKIP to a channel without a TAPE line",
             cure: "write the TAPE line, its stops in rising order",
             example: "AFTER DETAIL SKIP 3 without a TAPE 3 line",
+        },
+        _ => FaultEntry {
+            number: 38,
+            name: "CoupledMark",
+            cause: "in version 2, a total with the word COUPLED that needs 8 positions or fewer, or without it that needs more; it needs one for each digit, and one more if its amount has a sign column. In version 1 no line breaks this rule",
+            cure: "write the word where two counter groups are meant, or change the digits",
+            example: "TOTAL 4 1 A 8 COUPLED; TOTAL 4 1 A 9",
         },
     }
 }
@@ -301,8 +308,8 @@ pub(crate) fn capacity_entry(number: u8) -> FaultEntry
         61 => FaultEntry {
             number: 61,
             name: "Counters",
-            cause: "A totals need counter groups of W positions or more, and the machine has B. The widths are asked from 8 down to 3",
-            cure: "print a total in fewer digits, so that a narrower group does (a signed total needs one position more than its digits), or drop a total",
+            cause: "totals want A counter groups of W positions or more, and the machine has B. A total that needs more than 8 positions wants two groups of 8, and so counts as two at each width. The widths are asked from 8 down to 3",
+            cure: "print a total in fewer digits, so that one group does, or a narrower one (a signed total needs one position more than its digits), or drop a total",
             example: "",
         },
         62 => FaultEntry {
@@ -409,8 +416,8 @@ pub(crate) fn order_entry() -> FaultEntry
     FaultEntry {
         number: 84,
         name: "NotAnOrder",
-        cause: "there is no list, or a list doesn't have 45 numbers with each unit, 1 to 45, among them",
-        cure: "name each unit once in each list",
-        example: "",
+        cause: "line K doesn't have the numbers of the 45 units, 1 to 45, each once, divided by spaces",
+        cure: "name each unit once, without leading zeros and without empty lines between",
+        example: "1 2 3",
     }
 }
