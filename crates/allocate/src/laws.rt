@@ -12,8 +12,8 @@ ghost use Rattle.allocate.specs.Laws.{ChartsWithinHaveAnAssignment, ChartsOverHa
 ghost use Rattle.wanted.specs.declared.total.Total.{Total};
 
 /// For every chart that breaks no rule: no total needs more positions than two of the widest counter groups have; where the
-/// counter groups are exceeded at no width, each total can have a counter of its own, one group or two of 8; where they are
-/// exceeded at one, not all can.
+/// counter groups are exceeded at no width, each total can have a counter of its own, one group or two of 8; where they are exceeded at one, not
+/// all can.
 pub fn totals_fit_exactly_where_no_width_is_over()
     ensures needs { (chart : Chart) → IsLawful chart → NeedsFit (totals_of chart.lines) }
     ensures fit { ChartsWithinHaveAnAssignment }

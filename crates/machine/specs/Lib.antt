@@ -1,4 +1,3 @@
-pub mod ByCycles
 pub mod Machine
 pub mod Cycles
 pub mod Runs

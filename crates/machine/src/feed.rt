@@ -71,13 +71,7 @@ impl Units {
     }
 
     // Runs the cycle that is due, and answers whether something still waits.
-    pub(crate) fn run_due(
-        &mut self,
-        net: &Net,
-        cycle: Cycle,
-        waits: bool,
-        next: &Option<Card>,
-    ) -> bool
+    fn run_due(&mut self, net: &Net, cycle: Cycle, waits: bool, next: &Option<Card>) -> bool
         requires { due_in (record { machine = self.old; waits = waits; next = next.now }) ≡ Some cycle }
         ensures step { (wiring : Wiring)
             → IsNetOf wiring net.now

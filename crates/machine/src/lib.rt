@@ -5,7 +5,6 @@
 //! that is, for every setup of the panel and every deck, is told in `specs/`.
 #![tactic(auto)]
 
-mod by_cycles;
 mod closed;
 mod cycle;
 mod fault;
@@ -19,7 +18,6 @@ mod rows;
 mod run;
 mod units;
 
-pub use by_cycles::MachineByCycles;
 pub use fault::FeedFault;
 pub use kept::{KeptCycle, KeptPoint};
 pub use machine::Machine;
