@@ -75,11 +75,11 @@ def worked_inputs():
 
 NUMBER, NAME, LITERAL = "(0|[1-9][0-9]{0,2})", "[A-Z][A-Z0-9]{0,7}", r"'[A-Z0-9 &\-/.$*,%#@]{1,120}'"
 KIND, MARK = "(DETAIL|TOTAL [1-4])", "( MARK (CR|-))?"
-CHART_LINE = re.compile("|".join([
+CHART_LINE = {f"CHART407 {version}": re.compile("|".join([
     f"FIELD {NAME} (TEXT {NUMBER} {NUMBER}|AMOUNT {NUMBER} {NUMBER} {NUMBER}( N?X {NUMBER})?)", f"CONTROL [1-3] {NAME}",
     "PRINT (DETAIL|GROUP)", f"HEAD [1-3] {NUMBER} {LITERAL}", f"DETAIL {NUMBER} ({LITERAL}|{NAME}( INDICATE [1-3]|{MARK}))",
-    f"TOTAL [1-4] {NUMBER} ({LITERAL}|{NAME}( {NUMBER}{MARK})?)", f"SPACE {KIND} [1-3]", f"AFTER {KIND} (PAGE|SKIP {NUMBER})",
-    f"FORM {NUMBER} {NUMBER} {NUMBER}", f"TAPE {NUMBER}( {NUMBER}){{1,10}}"]))
+    f"TOTAL [1-4] {NUMBER} ({LITERAL}|{NAME}( {NUMBER}{coupled}{MARK})?)", f"SPACE {KIND} [1-3]", f"AFTER {KIND} (PAGE|SKIP {NUMBER})",
+    f"FORM {NUMBER} {NUMBER} {NUMBER}", f"TAPE {NUMBER}( {NUMBER}){{1,10}}"])) for version, coupled in [(1, ""), (2, "( COUPLED)?")]}
 HUB = "(" + "|".join([
     "CC|RS", rf"(FR|SR|CX|CSD|CSZ|HX|CA|CB|PIX|SI|SO|CSE|W|ST|SP|SK)\.{NUMBER}",
     rf"(CO|PIN|PIT|SX|IX|EM|PX|PL|MI|RO|BT|CI|PIC|SE|IE)(\.{NUMBER}){{2}}", rf"(GX|BAN|BAT|GE|BAC)(\.{NUMBER}){{3}}"]) + ")"
@@ -118,9 +118,8 @@ def chart_fault(chart):
     lines = lines_of(chart)
     if len(lines) > 500 or any(len(line) > 200 for line in lines):
         return "11"
-    if not lines or words_of(lines[0]) != "CHART407 1":
-        return "12"
-    return fault_of_lines(lines[1:], 2, CHART_LINE, "13", "14")
+    form = CHART_LINE.get(words_of(lines[0])) if lines else None
+    return fault_of_lines(lines[1:], 2, form, "13", "14") if form else "12"
 
 
 def wiring_fault(wiring):
