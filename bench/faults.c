@@ -1,7 +1,8 @@
 /* A library that is loaded before a program's own (LD_PRELOAD) and lets calls of it fail. `bench/faults` builds and drives it.
  *
- * FAULT="KIND FIRST LAST ERROR"  of the program's calls of KIND (growth, open, read, write), those numbered FIRST to LAST fail with
- *                                the error number ERROR; with 0 a write takes nothing instead. Writes are those to standard output.
+ * FAULT="KIND FIRST LAST ERROR"  of the program's calls of KIND (growth, open, read, write, tell), those numbered FIRST to LAST fail
+ *                                with the error number ERROR; with 0 a write takes nothing instead. Writes are those to standard
+ *                                output, and tells those to standard error.
  * SHORT="READ WRITE"             a read brings at most READ bytes, and a write, to standard error too, takes at most WRITE of them
  * ROOM="BYTES"                   the program has an address space of BYTES
  * TOLD="DESCRIPTOR"              as the program ends, a line of figures is written there: see `tell`
@@ -20,8 +21,8 @@
 
 void *__libc_malloc(size_t), *__libc_calloc(size_t, size_t), *__libc_realloc(void *, size_t);
 
-enum kind { GROWTH, OPEN, READ, WRITE, KINDS };
-static const char *const names[KINDS] = { "growth", "open", "read", "write" };
+enum kind { GROWTH, OPEN, READ, WRITE, TELL, KINDS };
+static const char *const names[KINDS] = { "growth", "open", "read", "write", "tell" };
 static long calls[KINDS];
 static long failing = -1, first, last, error;  /* no kind of call fails before the program begins */
 static long failed, brought;                   /* how many calls failed; the bytes read since a file was last opened */
@@ -59,7 +60,7 @@ ssize_t read(int from, void *bytes, size_t count) {
 }
 
 ssize_t write(int to, const void *bytes, size_t count) {
-  if (to == STDOUT_FILENO && fails(WRITE)) return error ? -1 : 0;
+  if (to == STDOUT_FILENO && fails(WRITE) || to == STDERR_FILENO && fails(TELL)) return error ? -1 : 0;
   return syscall(SYS_write, to, bytes, least(count, longest_write));
 }
 
@@ -88,7 +89,7 @@ static long peak(void) {
 
 __attribute__((destructor)) static void tell(void) {
   char line[200];
-  int length = snprintf(line, sizeof line, "%ld %ld %ld %ld %ld %ld %ld %ld\n", failed, calls[GROWTH], calls[OPEN], calls[READ],
-                        calls[WRITE], brought, peak(), (long)(clock() * (1000.0 / CLOCKS_PER_SEC)));
+  int length = snprintf(line, sizeof line, "%ld %ld %ld %ld %ld %ld %ld %ld %ld\n", failed, calls[GROWTH], calls[OPEN], calls[READ],
+                        calls[WRITE], calls[TELL], brought, peak(), (long)(clock() * (1000.0 / CLOCKS_PER_SEC)));
   if (*given("TOLD")) syscall(SYS_write, atoi(given("TOLD")), line, length);
 }

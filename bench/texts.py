@@ -1,9 +1,9 @@
 """Texts for the built program, with what it answers on them: worked inputs, and hostile texts with their answers by rule.
 
-An input is a dict: its texts, `chart`, `wiring`, `deck`, and `both`, a chart and its deck on standard input; what commands print of
-them, `ok`, `wiring`, `pages`, `upgraded`, as far as that is known; and `refused`, of a text that is refused the fault lines that are right. A
-text is bytes, or pieces of bytes, or the path of a device. `room` is the address space that the program has, in bytes;
-`about`, that only commands on this text are meant.
+An input is a dict: its texts, `chart`, `wiring`, `orders`, `deck`, and `both`, a chart and its deck on standard input; what commands
+print of them, `ok`, `wiring`, `pages`, `upgraded`, as far as that is known; `counted`, what a replay by the orders tells of rounds and
+hubs; and `refused`, of a text that is refused the fault lines that are right. A text is bytes, or pieces of bytes, or the path of a
+device. `room` is the address space that the program has, in bytes; `about`, that only commands on this text are meant.
 """
 import os
 import re
@@ -38,6 +38,10 @@ LEVELS_DECK = text(f"{CASES}/reports/three-levels-and-a-grand-total.deck")
 LEVELS_PAGES = pages(30, {2: b"A 10", 3: b"   2", 4: b"  12   MIN", 5: b"  12   INT", 6: b"  12   MAJ", 7: b"B  7", 8: b"   7   MIN",
                           9: b"   7   INT", 10: b"   7   MAJ", 11: b"  19   ALL"})
 ONE_TOTAL, ONE_TOTAL_DECK = text(f"{CASES}/panels/one_total.wiring"), b"005\n"
+ONE_TOTAL_PAGES = pages(12, {2: b"   5"})
+UP, DOWN = (b" ".join(b"%d" % unit for unit in units) + b"\n" for units in (range(1, 46), range(45, 0, -1)))
+# What is counted on the panel of one total, made outside of this repository; by one order many times it is what it is by that order once.
+ONE_TOTAL_COUNTS = {(UP,): b"rounds 34 seen 937\n", (DOWN,): b"rounds 51 seen 4981\n", (UP, DOWN): b"rounds 35 seen 5107\n"}
 PILOT_LOOP = text(f"{CASES}/panels/hand_wiring_with_a_pilot_loop.wiring")
 PILOT_LOOP_DECK = text(f"{CASES}/panels/hand_wiring_with_a_pilot_loop.deck")
 CLASH = b"CHART407 1\nFIELD NAME TEXT 1 5\nFIELD AMT AMOUNT 6 12 0\nPRINT DETAIL\nDETAIL 40 NAME\nTOTAL 4 42 AMT 8\nFORM 12 1 9\nEND\n"
@@ -46,6 +50,23 @@ CLASH = b"CHART407 1\nFIELD NAME TEXT 1 5\nFIELD AMT AMOUNT 6 12 0\nPRINT DETAIL
 def with_deck(chart, deck, report, *refused):
     """A chart and a deck, also on standard input, with the report, or the faults of the deck."""
     return {"chart": chart, "deck": deck, "both": chart + deck, "pages": report, "refused": {"deck": refused, "both": refused}}
+
+
+def by_orders(orders):
+    """The panel of one total, its card and orders."""
+    lines = tuple(b" ".join(filter(None, line.split(b" "))) + b"\n" for line in lines_of(orders))
+    known = {"wiring": ONE_TOTAL, "orders": orders, "deck": ONE_TOTAL_DECK, "pages": ONE_TOTAL_PAGES, "about": "orders",
+             "refused": {"orders": told(orders_fault(orders))}}
+    counted = ONE_TOTAL_COUNTS.get(lines[:1] if len(set(lines)) == 1 else lines)
+    return {**known, "counted": counted} if counted else known
+
+
+def served_case(name):
+    """A panel with orders and a deck; its pages and what is counted were made outside of this repository."""
+    answers = text(f"{TOP}/crates/cases/stdout").split(b"== served\n")[1]
+    printed, counted = re.search(rb"(?:^|\n)%s\n(.*?)(rounds \d+ seen \d+\n)" % name.encode(), answers, re.DOTALL).groups()
+    return {**{each: text(f"{CASES}/served/{name}.{each}") for each in ("wiring", "orders", "deck")}, "pages": printed, "counted": counted,
+            "about": "orders", "refused": {}}
 
 
 def in_version_2(wiring):
@@ -64,10 +85,16 @@ def worked_inputs():
     yield with_deck(text(signed + ".chart"), text(signed + ".deck"), pages(20, {2: b" 100", 3: b" 250CR", 4: b"  30", 5: b" 120CR"}))
     yield with_deck(LEVELS, LEVELS_DECK, LEVELS_PAGES)
     yield with_deck(BOLTS, bolt * 40, listing([bolt] * 40))
-    # and texts that are refused: two items that meet, a wire that begins at an entry, a card with small letters, a total without room
+    yield by_orders(UP)
+    yield by_orders(UP + DOWN)
+    yield served_case("013")
+    # and texts that are refused: two items that meet, a wire that begins at an entry, orders whose second line is none, a card with
+    # small letters, a total without room
     yield {"chart": CLASH, "deck": bolt, "both": CLASH + bolt, "refused": dict.fromkeys(["chart", "both"], ["34 line 6"])}
-    yield {"wiring": ONE_TOTAL.replace(b"SR.1 GE.4.1.3", b"W.1 SR.1"), "deck": ONE_TOTAL_DECK, "refused": {"wiring": ["75 line 10 cause 51"]}}
-    yield {**with_deck(BOLTS, bolt * 29 + b"bolt\n", listing([bolt] * 29), "2 card 30 column 1"), "wiring": BOLTS_WIRING}
+    yield {"wiring": ONE_TOTAL.replace(b"SR.1 GE.4.1.3", b"W.1 SR.1"), "orders": b"1 2 3\n", "deck": ONE_TOTAL_DECK,
+           "refused": {"wiring": ["75 line 10 cause 51"], "orders": ["84 line 1"]}}
+    yield {**by_orders(UP + b"1 2 3\n" + DOWN), "deck": b"x\n", "refused": {"orders": ["84 line 2"], "deck": ["2 card 1 column 1"]}}
+    yield {**with_deck(BOLTS, bolt * 29 + b"bolt\n", listing([bolt] * 29), "2 card 30 column 1"), "wiring": BOLTS_WIRING, "orders": DOWN}
     yield with_deck(text(past + ".chart"), text(past + ".deck"), b"", "43 level 4 name AMT card 2")
 
 
@@ -132,6 +159,15 @@ def wiring_fault(wiring):
     return fault_of_lines(lines[2:], 3, WIRING_LINE, "73", "76")
 
 
+def orders_fault(orders):
+    """The lowest line that doesn't have the numbers 1 to 45, each once, divided by spaces; or that there is no line."""
+    lines = lines_of(orders)
+    for number, line in enumerate(lines, 1):
+        if sorted(filter(None, line.split(b" "))) != sorted(UP.split()):
+            return f"84 line {number}"
+    return None if lines else "84"
+
+
 def deck_fault(cards):
     for number, card in enumerate(cards, 1):
         if len(card) > 80:
@@ -161,15 +197,15 @@ def as_chart(chart, deck=b"", report=b""):
     return {"chart": chart, "deck": deck, "pages": report, "refused": {"chart": told(chart_fault(chart))}}
 
 
-def as_wiring(wiring, deck=ONE_TOTAL_DECK, report=pages(12, {2: b"   5"})):
-    return {"wiring": wiring, "deck": deck, "pages": report, "refused": {"wiring": told(wiring_fault(wiring))}}
+def as_wiring(wiring, deck=ONE_TOTAL_DECK, report=ONE_TOTAL_PAGES):
+    return {"wiring": wiring, "orders": DOWN, "deck": deck, "pages": report, "refused": {"wiring": told(wiring_fault(wiring))}}
 
 
 def as_deck(deck):
     """A deck for the bolts listing, and for a panel that is wired for it, where `!` prints as a blank."""
     cards = lines_of(deck)
     yield {**with_deck(BOLTS, deck, listing(cards), *told(deck_fault(cards) or bolts_fault(cards))), "about": "deck"}
-    yield {"wiring": BOLTS_WIRING, "deck": deck, "pages": listing([card.replace(b"!", b" ") for card in cards]),
+    yield {"wiring": BOLTS_WIRING, "orders": DOWN, "deck": deck, "pages": listing([card.replace(b"!", b" ") for card in cards]),
            "refused": {"deck": told(deck_fault(cards))}}
 
 
@@ -188,6 +224,11 @@ def cut_wirings():
         yield as_wiring(ONE_TOTAL[:length])
 
 
+def cut_orders():
+    whole = UP + DOWN
+    return (by_orders(whole[:length]) for length in range(len(whole) + 1))
+
+
 def cut_decks():
     deck = b"BOLT   A01\nNUT    B22\nWASHER C30\n" * 4
     return chain.from_iterable(as_deck(deck[:length]) for length in range(len(deck) + 1))
@@ -202,6 +243,7 @@ def each_byte_somewhere():
         for wiring in (ONE_TOTAL.replace(b"407 ", b"407" + byte), ONE_TOTAL.replace(b"JACK TOTAL", byte + b"\nJACK TOTAL"),
                        ONE_TOTAL.replace(b"SR.1 GE", b"SR.1" + byte + b"GE"), ONE_TOTAL + byte):
             yield as_wiring(wiring)
+        yield from map(by_orders, (byte + UP, UP.replace(b" ", byte, 1), UP.replace(b"45", b"4" + byte), UP + byte, UP[:-1] + byte, UP + byte + DOWN))
         yield from as_deck(byte + b"\n")
 
 
@@ -211,6 +253,7 @@ def some_bytes_everywhere():
         return (whole[:place] + byte + whole[place:] for byte in (b"\0", b"\t", b"\r", b"\xff") for place in range(len(whole) + 1))
     yield from (as_chart(chart, BOLTS_DECK, BOLTS_PAGES) for chart in put(BOLTS))
     yield from map(as_wiring, put(ONE_TOTAL))
+    yield from map(by_orders, put(UP))
     yield from chain.from_iterable(map(as_deck, put(BOLTS_DECK)))
 
 
@@ -223,6 +266,8 @@ def sizes():
             yield as_chart(b"x" * (200 + more) + end)
             yield as_wiring(ONE_TOTAL.replace(b"END\n", b"END".ljust(60 + more) + end))
             yield as_wiring(ONE_TOTAL + end * (999_981 + more))
+            yield by_orders(UP + end * more)
+            yield by_orders(UP[:-1] + end)
             yield from as_deck(b"A" * (80 + more) + end)
             yield from as_deck(b"BOLT   A01" + end + b"A" * 79 + b"\xc8" + b"A" * more + end)
 
@@ -232,13 +277,16 @@ def in_one_line():
     line = b"A" * 10_000_000
     yield from map(as_chart, (line, BOLTS + line))
     yield from map(as_wiring, (line, ONE_TOTAL + line))
+    yield from map(by_orders, (line, UP + line, b" " * 10_000_000 + UP, UP[:-1] + b" 1" * 5_000_000, b"4" * 10_000_000))
     yield {**with_deck(BOLTS, line, b"", "1 card 1"), "about": "deck"}
-    yield {"wiring": BOLTS_WIRING, "deck": line, "refused": {"deck": ["1 card 1"]}}
+    yield {"wiring": BOLTS_WIRING, "orders": DOWN, "deck": line, "refused": {"deck": ["1 card 1"]}}
 
 
 def a_million_and_one_lines():
     yield as_chart(b"\n" * 1_000_001)
     yield as_wiring(b"\n" * 1_000_001)
+    yield by_orders(b"\n" * 1_000_001)
+    yield by_orders(UP + b"\n" * 1_000_000)
 
 
 def a_million_cards():
@@ -246,22 +294,32 @@ def a_million_cards():
     for count in 1_000_000, 1_000_001:
         blank = pages(12, {}) * 125_000
         yield {**with_deck(BOLTS, b"\n" * count, blank, "3"), "about": "deck"}
-        yield {"wiring": BOLTS_WIRING, "deck": b"\n" * count, "pages": blank, "refused": {"deck": ["3"]}}
+        yield {"wiring": BOLTS_WIRING, "orders": DOWN, "deck": b"\n" * count, "pages": blank, "refused": {"deck": ["3"]}}
 
 
 def without_end():
     """A device that never ends. A deck that is read card by card is refused by its first; any other text takes all memory."""
     room = 64 * 1024 * 1024
     yield {"chart": "/dev/zero", "deck": b"", "refused": {"chart": ["memory"]}, "room": room}
-    yield {"wiring": "/dev/zero", "deck": b"", "refused": {"wiring": ["memory"]}, "room": room}
+    yield {"wiring": "/dev/zero", "orders": DOWN, "deck": b"", "refused": {"wiring": ["memory"]}, "room": room}
+    yield {"wiring": BOLTS_WIRING, "orders": "/dev/zero", "deck": b"", "refused": {"orders": ["memory"]}, "room": room, "about": "orders"}
     yield {"both": "/dev/zero", "refused": {"both": ["memory"]}, "room": room}
-    yield {"chart": BOLTS, "wiring": BOLTS_WIRING, "deck": "/dev/zero", "refused": {"deck": ["memory", "1 card 1"]}, "room": room, "about": "deck"}
+    yield {"chart": BOLTS, "wiring": BOLTS_WIRING, "orders": DOWN, "deck": "/dev/zero", "refused": {"deck": ["memory", "1 card 1"]}, "room": room, "about": "deck"}
+
+
+def orders_of_other_numbers():
+    """A unit twice, left out, or written otherwise; too many numbers and too few; a hundred thousand orders, the last one good or not."""
+    for number in b"0", b"1", b"2", b"46", b"045", b"+45", b"45.0", b"4 5", b"4\t5", b"4_5", b"1" * 100, b"":
+        yield by_orders(UP.replace(b"45", number))
+        yield by_orders(DOWN + UP.replace(b"45", number) + b"x\n")
+    yield from map(by_orders, (UP[:-1] + b" 45\n", UP[:-1] + b" 46\n", UP.replace(b"45", b"45\n"), UP.replace(b" ", b"  "), b" " + UP))
+    yield from map(by_orders, (UP * 100_000, DOWN * 99_999 + UP[2:]))
 
 
 def changed_wirings():
     """The wiring chart of one total with a line changed, and what is told or printed."""
     def changed(old, new, *refused, line=2):
-        return {"wiring": ONE_TOTAL.replace(old, new), "deck": ONE_TOTAL_DECK, "pages": pages(12, {line: b"   5"}), "refused": {"wiring": refused}}
+        return {"wiring": ONE_TOTAL.replace(old, new), "orders": UP, "deck": ONE_TOTAL_DECK, "pages": pages(12, {line: b"   5"}), "refused": {"wiring": refused}}
     yield changed(b"JACK TOTAL 4", b"STOP 3 13", "75 line 3 cause 54")
     yield changed(b"FORM 12 1 9", b"FORM 12 9 1", line=10)
     yield changed(b"FORM 12 1 9", b"FORM 2 1 1", "75 line 2 cause 54")
@@ -277,7 +335,7 @@ def contacts_in_a_ring():
     balances = list(zip(hubs("BAC", GROUPS, to(4)), hubs("BAN", GROUPS, to(4))))
     for ring in pilots[::3], pilots, pilots + balances:
         wires = [("SR.1", ring[0][0]), (ring[-1][1], "W.1"), *((one[1], other[0]) for one, other in zip(ring, ring[1:] + ring[:1]))]
-        yield {"wiring": wiring_chart(["LIST"], wires), "deck": b"A\nB\n", "pages": pages(12, {2: b"A", 3: b"B"})}
+        yield {"wiring": wiring_chart(["LIST"], wires), "orders": DOWN, "deck": b"A\nB\n", "pages": pages(12, {2: b"A", 3: b"B"})}
 
 
 GROUPS = [f"{width}.{number}" for width in (3, 4, 6, 8) for number in range(1, 9)]
@@ -316,13 +374,14 @@ def fullest():
              *(f"{jack} {wheel}" for jack in ("LINK", "SUPPRESS", "SYMBOL") for wheel in to(120))]
     assert len(exits) * len(entries) + len(GROUPS) == 870_944
     wires = chain(product(exits, entries), ((f"CO.{group}", f"CI.{group}") for group in GROUPS))
-    yield {"wiring": wiring_chart(jacks, wires), "deck": ONE_TOTAL_DECK, "pages": pages(12, {}, {}, {}, {}, {})}
+    yield {"wiring": wiring_chart(jacks, wires), "orders": UP + DOWN, "deck": ONE_TOTAL_DECK, "pages": pages(12, {}, {}, {}, {}, {})}
 
 
 # Each row of hostile texts: its name, the inputs, and the seconds that the program may take for one of them.
 HOSTILE = [
     ("a chart cut after each byte", cut_charts, 2),
     ("a wiring chart cut after each byte", cut_wirings, 2),
+    ("orders cut after each byte", cut_orders, 2),
     ("a deck cut after each byte", cut_decks, 2),
     ("each of 256 bytes in each text", each_byte_somewhere, 2),
     ("NUL, TAB, CR, byte 255 at each place of each text", some_bytes_everywhere, 2),
@@ -331,6 +390,7 @@ HOSTILE = [
     ("a million and one lines", a_million_and_one_lines, 2),
     ("a million cards, and one more", a_million_cards, 10),  # a deck that is run as it is read is run up to its fault
     ("texts that never end", without_end, 2),
+    ("orders of other numbers, many orders", orders_of_other_numbers, 2),
     ("wiring charts with one line changed", changed_wirings, 2),
     ("rings through all pilots", contacts_in_a_ring, 2),
     ("the fullest wiring chart", fullest, 2),

@@ -1,0 +1,36 @@
+-- The pages of served runs of a setup that is wired for a chart are the chart's reports.
+use Rattle.std.specs.Prelude.{◌≡◌, ℕ, List}
+use Rattle.charts.specs.Chart.{Chart}
+use Rattle.compile407.specs.Headline.{IsSound}
+use Rattle.page_text.specs.Pages.{Pages}
+use Rattle.placed_lines.specs.declared.placed_line.PlacedLine.{PlacedLine}
+use Rattle.plans.specs.Plans.{Lists, IsFor}
+use Rattle.promises.specs.Promises.{IsDeck, PrintsReport}
+use Rattle.report.specs.ChartForm.{form_of}
+use Rattle.report.specs.Report.{Report}
+use Rattle.report.specs.Totals.{Fits}
+use Rattle.served_runs.specs.Runs.{IsServedRun}
+use Rattle.served_runs.specs.declared.counts.Counts.{Counts}
+use Rattle.served_units.specs.Runs.{ServedLines}
+use Rattle.setups.specs.Wiring.{Wiring}
+use Rattle.wiring_table.specs.WiredFor.{WiredFor}
+
+-- Where the units run ahead of one another: for every deck that can be run and whose totals fit there is a run by schedules, and the pages
+-- of the lines that any such run places are the report, byte by byte; so are those of any run that is served by the orders of a service.
+pub record PrintsReportServed (chart : Chart) (wiring : Wiring) : Type 0 where
+  pub runs : (cards : List (List ℕ)) → IsDeck chart cards → Fits chart.lines cards →
+      (lines : List PlacedLine) × ServedLines wiring cards lines
+  pub by_schedules : (cards : List (List ℕ)) (lines : List PlacedLine) → IsDeck chart cards → Fits chart.lines cards →
+      ServedLines wiring cards lines → Pages lines (form_of chart.lines).lines ≡ Report chart cards
+  pub by_orders : (cards service : List (List ℕ)) (lines : List PlacedLine) (counts : Counts) → IsDeck chart cards → Fits chart.lines cards →
+      IsServedRun wiring service cards lines counts → Pages lines (form_of chart.lines).lines ≡ Report chart cards
+
+-- A setup that prints a chart's reports where all units act at once prints them where the units run ahead of one another.
+abbrev pub ServedSetupsPrintTheirReports : Type 0
+ServedSetupsPrintTheirReports = (chart : Chart) (wiring : Wiring) → PrintsReport chart wiring → PrintsReportServed chart wiring
+
+-- Every setup that is wired for a sound chart by a plan of it prints the chart's reports where the units run ahead of one another.
+abbrev pub WiredSetupsPrintReportsServed : Type 0
+WiredSetupsPrintReportsServed =
+    (chart : Chart) (plan : Lists) (wiring : Wiring) → IsSound chart → IsFor chart.lines plan →
+    WiredFor chart.lines plan wiring → PrintsReportServed chart wiring
