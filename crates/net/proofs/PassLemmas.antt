@@ -10,7 +10,7 @@ use Rattle.std.proofs.lemmas.Grind.{common_steps, take_at_read}
 use Rattle.std.proofs.lemmas.List.{take_all}
 use Rattle.std.proofs.lemmas.List.Elements.{All-head, All-tail}
 use Rattle.std.proofs.lemmas.List.Folds.{list_any-append}
-use Rattle.bit_sets.proofs.BitLemmas.{is_bit-above, is_bit-and, is_bit-or}
+use Rattle.bit_sets.proofs.BitLemmas.{is_bit-above, is_bit-and, is_bit-or, is_bit-zero}
 use Rattle.bit_sets.specs.Bits.{has_place, is_bit}
 use Rattle.bit_sets.specs.Contacts.{is_any_contact, is_contact}
 use Rattle.bit_sets.specs.declared.contacts.Run.{Run}
@@ -272,3 +272,15 @@ linked-led (link ∷ links) from to linked =
 pub not-true : (test : Bool) → not test ≡ true → test ≡ false
 not-true true is = cc
 not-true false is = refl
+
+-- a contact whose near end has no row passes none on
+pub nothing-passed : (digits zones sets : List ℕ) (contact : Link) (place row : ℕ) → slice_index_or sets contact.from 0 ≡ 0
+    → has_at sets place row ≡ (has_at sets place row || is_passed_by digits zones sets place row contact)
+nothing-passed digits zones sets contact place row none =
+    sym
+    (ap (λ b. has_at sets place row || ((contact.to == place) && (b && is_closed_at digits zones row contact.to)))
+    (ap (λ (w : ℕ). is_bit w row) none ∙ is_bit-zero row)
+    ∙ nothing (has_at sets place row) (contact.to == place))
+  where
+    nothing : (a b : Bool) → (a || (b && false)) ≡ a
+    nothing a b = grind (arith, nat_tests)

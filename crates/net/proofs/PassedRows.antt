@@ -106,7 +106,7 @@ module _ (wiring : Wiring) (digits zones : HubSet) (row : CardRow) (first : List
       by : (common hub : Hub) → contact_of hub ≡ Some common → closed hub ≡ true → has_row_at spread (passing_place row) common ≡ true
           → EmitsOrIsFed wiring exits common → has_row_at passed (passing_place row) hub ≡ true
       by common hub contact shut on (inl emits) =
-          absurd (false≢true (sym (silent common hub contact (passing_place row)) ∙ emits.1))
+          absurd (false≢true (sym (silent common hub contact row) ∙ emits.1))
       by common hub contact shut on (inr fed) =
           passes.passed row fed.exit hub (record { common = common; contact = contact; closed = shut; on = on }) fed.wire
 
@@ -136,7 +136,7 @@ module _ (wiring : Wiring) (digits zones : HubSet) (row : CardRow) (first : List
           → has_row_at spread_on (passing_place row) common ≡ true → EmitsOrIsFed wiring exits common
           → has_row_at passed_on (passing_place row) hub ≡ true
       before common hub contact shut on (inl emits) =
-          absurd (false≢true (sym (silent common hub contact (passing_place row)) ∙ emits.1))
+          absurd (false≢true (sym (silent common hub contact row) ∙ emits.1))
       before common hub contact shut on (inr fed) = wired fed.exit common hub contact shut on fed.wire
 
       by : (common hub : Hub) → contact_of hub ≡ Some common → closed hub ≡ true

@@ -77,4 +77,5 @@ pub record PassesOn (wiring : Wiring) (digits zones : HubSet) (old new : List �
 
 -- no hub from which contacts lead has a row
 abbrev pub AreCommonsSilent : List ℕ → Type 0
-AreCommonsSilent sets = (common hub : Hub) → contact_of hub ≡ Some common → (row : ℕ) → has_row_at sets row common ≡ false
+AreCommonsSilent sets =
+    (common hub : Hub) → contact_of hub ≡ Some common → (row : CardRow) → has_row_at sets (passing_place row) common ≡ false

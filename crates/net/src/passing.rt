@@ -87,6 +87,9 @@ fn pass(contact: Link, digits: &[u64; WORDS], zones: &[u64; WORDS], sets: &mut [
     ensures same { result ≡ false → SameSets sets.old sets.new }
 {
     let near = sets[contact.from as usize];
+    if near == 0 {
+        return false;
+    }
     let far = sets[contact.to as usize];
     let joined = far | near & closed_rows(digits, zones, contact.to as usize);
     sets[contact.to as usize] = joined;
