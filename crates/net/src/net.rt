@@ -5,7 +5,7 @@ ghost use Rattle.setups.specs.Wiring.{IsEntryNumber};
 ghost use Rattle.net.specs.NetRows.{AddsRow};
 
 use crate::contacts::CONTACTS;
-use crate::links::{Link, add_links, follow_all, leads_to_any};
+use crate::links::{Link, add_links, follow_all, leads_to_any, skips_of};
 use crate::passing::{add_contacts, pass_all};
 use crate::picture::{Contacts, Picture, cut_after_hubs};
 use crate::row_sets::RowSets;
@@ -24,6 +24,8 @@ pub struct Net {
     commons: [u64; WORDS],
     // The wires one by one, as the rows have them.
     links: Vec<Link>,
+    // For each of the links where those after it end that lead from the same place.
+    skips: Vec<usize>,
     // The contacts that a wire leads to, one by one.
     contacts: Vec<Link>,
     // Whether no wire leads to a common hub.
@@ -40,7 +42,7 @@ impl Model for Net {
 
     ghost use Rattle.net.specs.Links.{IsNetInside};
 
-    ghost invariant = { λ net. IsNetInside CONTACTS net.commons net.links.items net.contacts.items net.is_direct net.rows };
+    ghost invariant = { λ net. IsNetInside CONTACTS net.commons net.links.items net.contacts.items net.skips.items net.is_direct net.rows };
 }
 
 impl Net {
@@ -73,6 +75,7 @@ impl Net {
             }
         }
         rows.bundle(alloc)?;
+        let skips = skips_of(alloc, links.as_slice())?;
         let mut contacts = Vec::new(alloc);
         add_contacts(&CONTACTS, links.as_slice(), &mut contacts)?;
         let commons = commons_of(&CONTACTS);
@@ -81,6 +84,7 @@ impl Net {
             rows,
             commons,
             links,
+            skips,
             contacts,
             is_direct,
         })
@@ -120,7 +124,7 @@ impl Net {
             → (row : ℕ) (hub : Hub)
             → (has_row_at sets.new row hub ≡ true) ↔ EmitsOrIsFed wiring (has_row_at sets.old row) hub }
     {
-        follow_all(self.links.as_slice(), &mut sets.sets);
+        follow_all(self.links.as_slice(), self.skips.as_slice(), &mut sets.sets);
     }
 
     /// Spreads rows along the wires and the closed contacts, all rows at once: each hub gains the rows at which it is impulsed. The
