@@ -24,11 +24,11 @@ use Rattle.counters.proofs.ListedDigits.{all_taken-listed, listed-same, zeros-li
 use Rattle.counters.proofs.Staying.{counters-stay}
 
 -- the positions whose entries are impulsed at a row
-abbrev impulsed_at : Group → (Point → Hub → Bool) → CardRow → ℕ → Bool
+abbrev pub impulsed_at : Group → (Point → Hub → Bool) → CardRow → ℕ → Bool
 impulsed_at name pictures row position = pictures (Row row) (GE name position)
 
 -- what is entered after some rows
-abbrev rows_taken : Controls → Group → (Point → Hub → Bool) → List CardRow → List ℕ → List ℕ
+abbrev pub rows_taken : Controls → Group → (Point → Hub → Bool) → List CardRow → List ℕ → List ℕ
 rows_taken controls name pictures [] entered = entered
 rows_taken controls name pictures (row ∷ others) entered =
     rows_taken controls name pictures others
@@ -46,11 +46,11 @@ after_rows cycle pictures (first ∷ others) counter =
     after_rows cycle pictures others (counter_sensed counter cycle (Row first) (pictures (Row first)))
 
 -- whether a row is one of 9 to 1
-abbrev is_digit_row : CardRow → Bool
+abbrev pub is_digit_row : CardRow → Bool
 is_digit_row row = nat_le 1 (row_number row) && nat_le (row_number row) 9
 
 -- what a position has entered after some rows, where digits are entered or not
-abbrev digit_after : Bool → (CardRow → Bool) → List CardRow → ℕ → ℕ
+abbrev pub digit_after : Bool → (CardRow → Bool) → List CardRow → ℕ → ℕ
 digit_after on impulsed [] digit = digit
 digit_after on impulsed (row ∷ others) digit =
     digit_after on impulsed others (if on && is_digit_row row then taken (row_number row) (impulsed row) digit else digit)
@@ -62,7 +62,7 @@ row_taken-listed : (on : Bool) (row : ℕ) (impulsed : ℕ → Bool) (digit : �
 row_taken-listed true row impulsed digit count = all_taken-listed row impulsed digit count
 row_taken-listed false row impulsed digit count = refl
 
-rows_taken-listed : (controls : Controls) (name : Group) (pictures : Point → Hub → Bool) (some : List CardRow) (digit : ℕ → ℕ) (count : ℕ)
+pub rows_taken-listed : (controls : Controls) (name : Group) (pictures : Point → Hub → Bool) (some : List CardRow) (digit : ℕ → ℕ) (count : ℕ)
     → rows_taken controls name pictures some (listed digit count)
     ≡ listed
     (λ position. digit_after (controls.plus || controls.minus) (λ row. impulsed_at name pictures row position) some (digit position))
@@ -76,7 +76,7 @@ rows_taken-listed controls name pictures (row ∷ others) digit count =
     else digit position) count
 
 -- a digit that is entered stays
-digit_after-kept : (impulsed : CardRow → Bool) (some : List CardRow) (digit : ℕ) → (digit == 0) ≡ false
+pub digit_after-kept : (impulsed : CardRow → Bool) (some : List CardRow) (digit : ℕ) → (digit == 0) ≡ false
     → digit_after true impulsed some digit ≡ digit
 digit_after-kept impulsed [] digit entered = refl
 digit_after-kept impulsed (row ∷ others) digit entered =
@@ -108,7 +108,7 @@ digit_after-first impulsed (row ∷ some) others all none =
     by false below = below
 
 -- what a position has entered after all rows
-digit_after-rows : (on : Bool) (impulsed : CardRow → Bool)
+pub digit_after-rows : (on : Bool) (impulsed : CardRow → Bool)
     → digit_after on impulsed rows 0 ≡ (if on then first_digit impulsed digit_rows else 0)
 digit_after-rows true impulsed = digit_after-first impulsed digit_rows (Zero ∷ Eleven ∷ Twelve ∷ []) refl refl
 digit_after-rows false impulsed = refl

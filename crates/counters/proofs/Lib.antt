@@ -10,6 +10,8 @@ pub mod TakenRows
 pub mod OwnHubs
 pub mod Pairs
 pub mod Rings
+pub mod SetDigits
+pub mod RowsSensed
 pub mod ShownRows
 pub mod Starts
 pub mod Steps

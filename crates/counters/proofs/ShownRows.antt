@@ -15,6 +15,8 @@ use Rattle.hubs.specs.declared.hub.Hub.{Hub}
 use Rattle.hubs.specs.declared.hub.Hub.TheVariants.{GX}
 use Rattle.net.proofs.KindRows.{GX_numbered, numbered_in}
 use Rattle.net.specs.HubSets.{is_bit, is_bit_from, is_hub, is_in_row, is_same_number}
+use Rattle.net.specs.Links.{has_at}
+use Rattle.net.specs.RowSets.{is_in_sets, is_set_from}
 use Rattle.counters.specs.Counters.{shows}
 use Rattle.counters.specs.Shown.{shows_at}
 
@@ -25,7 +27,7 @@ unfolding is_bit
 no_bits given digits bit = let e = bit_at-zero bit in grind (arith, nat_tests, e)
 
 -- the bits of two words together
-is_bit-or : (a b j : ℕ) → is_bit (bit_or a b) j ≡ (is_bit a j || is_bit b j)
+pub is_bit-or : (a b j : ℕ) → is_bit (bit_or a b) j ≡ (is_bit a j || is_bit b j)
 unfolding is_bit
 is_bit-or a b j =
     let x = bit_at-lt a j in let y = bit_at-lt b j in let z = bit_at_or a b j in
@@ -47,12 +49,12 @@ one_bit_more given digits k bit bits one test is so_far here = is_bit-or bits on
 ]
 
 -- no bit of 0 is set
-is_bit-zero : (j : ℕ) → is_bit 0 j ≡ false
+pub is_bit-zero : (j : ℕ) → is_bit 0 j ≡ false
 unfolding is_bit
 is_bit-zero j = ap (λ n. n == 1) (bit_at-zero j)
 
 -- the bits of a power
-is_bit-pow : (k j : ℕ) → is_bit (2 ^ k) j ≡ (j == k)
+pub is_bit-pow : (k j : ℕ) → is_bit (2 ^ k) j ≡ (j == k)
 unfolding is_bit
 is_bit-pow k j = elim (eqb_tells j k) [
   | inl same ↦
@@ -152,4 +154,36 @@ shows-row name given digits bits hub wide named long bit = by (number_of hub) re
         ap (λ m. is_bit_from m bits (number_of hub)) (numbered 1 (omega arith) some)
         ∙ ap (is_bit_from (Some (start + 1)) bits) is
         ∙ ap (λ b. nat_le (start + 1) h && b) (bit (h - (start + 1)))
+        ∙ sym (shows-number name given start digits hub h numbered is)
+
+-- the sets of the exits have each row where the position's digit is that of the row
+pub shows-sets :
+    (name : Group) (given place : ℕ) (digits : List ℕ) (sets : List ℕ) (hub : Hub)
+    → is_width name.width ≡ true → is_within name.number 8 ≡ true → length digits ≡ name.width
+    → ((k : ℕ) → has_at sets k place ≡ shows_at given digits k)
+    → is_in_sets (GX name 1) sets place hub ≡ shows name given digits hub
+shows-sets name given place digits sets hub wide named long at = by (number_of hub) refl
+  where
+    start : ℕ
+    start = 190 + positions_before name.width + (name.number - 1) * name.width
+
+    numbered : (n : ℕ) → 1 ≤ n → n ≤ length digits → number_of (GX name n) ≡ Some (start + n)
+    numbered n from to =
+        GX_numbered name wide named n ∙ numbered_in start name.width n from (omega (arith, to, long))
+
+    some : 1 ≤ length digits
+    some = let e : 1 ≤ name.width = grind (arith, nat_tests, wide) in omega (arith, e, long)
+
+    no_set_from : (m : Option ℕ) → is_set_from m sets place None ≡ false
+    no_set_from None = refl
+    no_set_from (Some m) = refl
+
+    by : (m : Option ℕ) → number_of hub ≡ m → is_in_sets (GX name 1) sets place hub ≡ shows name given digits hub
+    by None none =
+        ap (is_set_from (number_of (GX name 1)) sets place) none ∙ no_set_from (number_of (GX name 1))
+        ∙ sym (shows-none name given digits hub none)
+    by (Some h) is =
+        ap (λ m. is_set_from m sets place (number_of hub)) (numbered 1 (omega arith) some)
+        ∙ ap (is_set_from (Some (start + 1)) sets place) is
+        ∙ ap (λ b. nat_le (start + 1) h && b) (at (h - (start + 1)))
         ∙ sym (shows-number name given start digits hub h numbered is)

@@ -1,3 +1,4 @@
+pub mod AllRows
 pub mod Counters
 pub mod Fields
 pub mod Laws

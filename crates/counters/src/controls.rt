@@ -29,6 +29,13 @@ impl Controls {
         }
     }
 
+    // Whether digits are entered under them.
+    pub(crate) fn takes_digits(self) -> bool
+        ensures { result ≡ (self.plus || self.minus) }
+    {
+        self.plus || self.minus
+    }
+
     // Whether no wheel turns under them: nothing is entered and nothing read out.
     pub(crate) fn rest(self) -> bool
         ensures { result ≡ not (self.plus || (self.minus || self.read_out)) }

@@ -2,12 +2,13 @@
 
 ghost use Rattle.std.specs.Prelude.{◌≡◌, ◌≤◌};
 
+use crate::all_rows::{enter, rows_shown};
 use crate::controls::Controls;
 use crate::digits::{Digits, from_units, number_of};
 use crate::sensing::{controls_of, show, take_row, takes};
 use crate::turn::{all_nines, carry_of, latch_after, turn_wheels};
 use hubs::Hub;
-use net::{Cycle, Picture, Point, Unit};
+use net::{Cycle, Picture, Point, RowSets, Unit};
 use std::marker::Model;
 
 /// The most positions that a group has.
@@ -188,4 +189,32 @@ impl Unit for Group {
     ghost emits_steadily = { λ counter cycle at other picture hub. refl };
 
     ghost closes_steadily = { λ counter cycle at other picture hub. refl };
+}
+
+impl Group {
+    ghost use Rattle.net.specs.RowSets.{GainsRows, after_rows, pictures_of};
+    ghost use Rattle.net.specs.declared.cycle.Point.TheVariants.{Row as AtRow};
+    ghost use Rattle.counters.specs.Counters.{counter_emits, counter_sensed};
+
+    /// Adds to the sets of the exits the rows at whose points they emit.
+    pub fn emit_rows(&self, _cycle: Cycle, sets: &mut RowSets)
+        ensures { GainsRows (λ row. counter_emits self.now _cycle (AtRow row)) sets.old sets.new }
+    {
+        if self.controls.read_out {
+            let width = self.name.width as usize;
+            let shown = rows_shown(&self.digits[..width]);
+            sets.insert_sets(Hub::GX(self.name, 1), &shown);
+        }
+    }
+
+    /// Senses the points of all rows at once.
+    pub fn sense_rows(&mut self, _cycle: Cycle, pictures: &RowSets)
+        ensures { self.new ≡ after_rows counter_sensed _cycle (pictures_of pictures.now) self.old }
+    {
+        if self.controls.takes_digits() {
+            let read = pictures.from(Hub::GE(self.name, 1));
+            let width = self.name.width as usize;
+            enter(&mut self.entered[..width], read);
+        }
+    }
 }

@@ -1,6 +1,7 @@
 //! Counter groups: they add and subtract what is entered, and read out what they hold.
 #![tactic(auto)]
 
+mod all_rows;
 mod controls;
 mod digits;
 mod group;

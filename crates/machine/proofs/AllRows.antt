@@ -1,27 +1,24 @@
 -- The points of the rows, all at once: what is emitted, what is sensed, and that this is what they do one by one.
-use Rattle.std.proofs.Common.{◌≡◌, ◌≢◌, ◌∙◌, ◌↔◌, refl, sym, ap, ℕ, zero, suc, ◌+◌, ◌<◌, ◌==◌, ◌&&◌, ◌||◌, Bool, true, false, List, [], ◌∷◌, map, length, get_or, Option, Some, None, All, arith, subst, slice_set, if◌then◌else◌}
+use Rattle.std.proofs.Common.{◌≡◌, ◌≢◌, ◌∙◌, refl, sym, ℕ, suc, ◌+◌, ◌==◌, ◌&&◌, ◌||◌, Bool, true, false, List, [], ◌∷◌, map, length, Option, Some, None, subst}
 use Rattle.std.specs.List.{list_any}
 use Rattle.card_code.specs.Rows.{passing_place, row_number, rows}
 use Rattle.card_code.specs.declared.row.Row.{Row as CardRow}
 use Rattle.card_code.specs.declared.row.Row.TheVariants as row
-use Rattle.counters.specs.Counters.{Counter, all_taken, counter_emits, counter_sensed, no_controls, shows, takes}
-use Rattle.counters.specs.declared.controls.Controls.{Controls}
-use Rattle.std.proofs.lemmas.List.Elements.{All-head, All-tail}
+use Rattle.counters.specs.Counters.{Counter, counter_emits, counter_sensed, shows}
 use Rattle.program_unit.specs.Program.{ProgramState, program_sensed}
 use Rattle.selectors.specs.Pilots.{pilots_sensed}
 use Rattle.print_unit.specs.Wheels.{wheels_sensed}
 use Rattle.setups.specs.Wiring.{Wiring}
 use Rattle.hubs.specs.declared.hub.Group.{Group}
 use Rattle.hubs.specs.declared.hub.Hub.{Hub}
-use Rattle.hubs.specs.declared.hub.Hub.TheVariants.{BAC, BAN, BAT, CI, CO, CSD, CSE, CSZ, EM, GE, GX, IE, IX, PIC, PIN, PIT, SX}
-use Rattle.net.proofs.ImpulsedLaws.{wires_make}
+use Rattle.hubs.specs.declared.hub.Hub.TheVariants.{BAC, BAN, BAT, CI, CO, CSD, CSE, CSZ, EM, GX, IE, IX, PIC, PIN, PIT, SX}
 use Rattle.net.proofs.Rows.{is_hub-same}
-use Rattle.net.specs.HubSets.{is_bit, is_hub}
+use Rattle.net.specs.HubSets.{has_hub, is_hub}
 use Rattle.net.specs.Impulsed.{IsPicture}
-use Rattle.net.specs.Laws.{EmitsOrIsFed}
 use Rattle.net.specs.Links.{has_row_at}
 use Rattle.net.specs.Panel.{contact_of}
-use Rattle.net.specs.RowSets.{LeadsToNoContact, after_rows, pictures_of}
+use Rattle.net.specs.Passing.{AreCommonsSilent, closes_at_row}
+use Rattle.net.specs.RowSets.{after_rows, pictures_of}
 use Rattle.net.specs.WholeCycles.{after_points}
 use Rattle.net.specs.declared.cycle.Cycle.{Cycle}
 use Rattle.net.specs.declared.cycle.Cycle.TheVariants.{RunIn, Card, Prog, Head}
@@ -30,15 +27,15 @@ use Rattle.net.specs.declared.cycle.Point.TheVariants.{Row}
 use Rattle.print_unit.specs.Emitters.{emits_row, emitter_of, emitters_emit}
 use Rattle.stations.specs.Comparing.{Compared, comparing_emits, comparing_sensed}
 use Rattle.stations.specs.Stations.{StationCards, first_emits, second_emits, stations_emits}
-use Rattle.storage_units.specs.Storage.{StorageState, columns_in, storage_emits, storage_sensed}
-use Rattle.machine.specs.AllRows.{AreRowsIdle, IsUntold, RunsRows}
+use Rattle.storage_units.specs.Storage.{StorageState, storage_emits, storage_sensed}
+use Rattle.machine.specs.AllRows.{RunsRows}
 use Rattle.machine.specs.Cycles.{Reached, point_at}
 use Rattle.machine.specs.Machine.{MachineState, closes, emits, sensed}
-use Rattle.machine.specs.Rest.{HaveNoMore}
-use Rattle.machine.specs.Steady.{AreSteady}
+use Rattle.machine.specs.Fields.{AreInUnitOrder}
+use Rattle.machine.specs.Steady.{AreSteady, closed_at}
 use Rattle.machine.specs.declared.closed.Closed.{Closed}
-use Rattle.machine.specs.declared.groups.Busy.{Busy}
-use Rattle.machine.proofs.ClosedContacts.{AreSteady-sensed, closes-steady}
+use Rattle.machine.proofs.ClosedContacts.{AreSteady-sensed, closes-others, closes-steady}
+use Rattle.machine.proofs.RestingRows.{each-after}
 use Rattle.machine.proofs.Pictures.{IsPicture-same}
 
 -- comparing emits at no row
@@ -228,24 +225,43 @@ common-silent machine cycle at common hub is = none-emitted machine cycle at com
     by (CSZ number) e = same (CSE number) common (split number) e
     by other e = cc
 
--- where wires lead to no contact, what is spread along them of the rows that are emitted are the pictures of the rows
-pub rows-run : (wiring : Wiring) (cycle : Cycle) (mid new : MachineState) (exits final : List ℕ) → LeadsToNoContact wiring
+-- the contacts that are closed at a row are those of the machine
+closed-rows : (cycle : Cycle) (closed : Closed) (machine : MachineState) (at : CardRow) (hub : Hub) → AreInUnitOrder machine.groups
+    → AreSteady cycle closed machine → closes_at_row closed.digits closed.zones at hub ≡ closes machine cycle (Row at) hub
+closed-rows cycle closed machine at hub ordered steady = as_well at ∙ closes-others cycle closed machine (Row at) hub ordered steady refl where
+  as_well : (at : CardRow) → closes_at_row closed.digits closed.zones at hub ≡ has_hub (closed_at closed (Row at)) hub
+  as_well row.Nine = refl
+  as_well row.Eight = refl
+  as_well row.Seven = refl
+  as_well row.Six = refl
+  as_well row.Five = refl
+  as_well row.Four = refl
+  as_well row.Three = refl
+  as_well row.Two = refl
+  as_well row.One = refl
+  as_well row.Zero = refl
+  as_well row.Eleven = refl
+  as_well row.Twelve = refl
+
+-- hubs from which contacts lead have no row, where the rows are what a machine emits
+pub commons-silent : (machine : MachineState) (cycle : Cycle) (sets : List ℕ)
+    → ((at : CardRow) (hub : Hub) → has_row_at sets (passing_place at) hub ≡ emits machine cycle (Row at) hub) → AreCommonsSilent sets
+commons-silent machine cycle sets emitted common hub contact at = emitted at common ∙ common-silent machine cycle at common hub contact
+
+-- what is spread of the rows that are emitted are the pictures of the rows
+pub rows-run : (wiring : Wiring) (cycle : Cycle) (closed : Closed) (mid new : MachineState) (exits final : List ℕ)
+    → AreInUnitOrder mid.groups → AreSteady cycle closed mid
     → ((at : CardRow) (hub : Hub) → has_row_at exits (passing_place at) hub ≡ emits mid cycle (Row at) hub)
-    → ((r : ℕ) (hub : Hub) → (has_row_at final r hub ≡ true) ↔ EmitsOrIsFed wiring (has_row_at exits r) hub)
+    → ((at : CardRow) → IsPicture wiring (pictures_of exits (Row at)) (closes_at_row closed.digits closed.zones at) (pictures_of final (Row at)))
     → new ≡ after_rows sensed cycle (pictures_of final) mid → RunsRows wiring cycle mid new
-rows-run wiring cycle mid new exits final direct emitted spread is =
+rows-run wiring cycle closed mid new exits final ordered steady emitted spread is =
     subst (λ (m : MachineState). RunsRows wiring cycle mid m) (sym is) (rows-reached wiring cycle mid (pictures_of final) are)
   where
     are : (at : CardRow) → IsPicture wiring (emits mid cycle (Row at)) (closes mid cycle (Row at)) (pictures_of final (Row at))
     are at =
-        IsPicture-same wiring (has_row_at exits (passing_place at)) (emits mid cycle (Row at)) (closes mid cycle (Row at))
-        (closes mid cycle (Row at)) (pictures_of final (Row at)) (emitted at) (λ hub. refl)
-        (wires_make wiring (has_row_at exits (passing_place at)) (closes mid cycle (Row at)) (pictures_of final (Row at)) direct.leads
-        (record {
-          silent = λ common hub contact. emitted at common ∙ common-silent mid cycle at common hub contact;
-          unwired = λ common hub exit contact wire. direct.unwired common hub exit contact wire;
-        })
-        (spread (passing_place at)))
+        IsPicture-same wiring (pictures_of exits (Row at)) (emits mid cycle (Row at)) (closes_at_row closed.digits closed.zones at)
+        (closes mid cycle (Row at)) (pictures_of final (Row at)) (emitted at)
+        (λ hub. closed-rows cycle closed mid at hub ordered steady) (spread at)
 
 -- contacts stay as they are through the rows
 pub rows-steady : (cycle : Cycle) (closed : Closed) (pictures : Point → Hub → Bool) (list : List Point) (old : MachineState)
@@ -255,94 +271,6 @@ rows-steady cycle closed pictures (point ∷ others) old steady =
     rows-steady cycle closed pictures others (sensed old cycle point (pictures point))
     (AreSteady-sensed cycle closed old point (pictures point) steady)
 
--- where no group may be under a control none is
-pub none-controlled : (busy : Busy) (k : ℕ) (groups : List Counter) → ((j : ℕ) → is_bit busy.controlled j ≡ false)
-    → HaveNoMore busy k groups → (j : ℕ) (d : Counter) → j < length groups → (get_or groups j d).controls ≡ no_controls
-none-controlled busy k [] none more j d inside = absurd (omega (arith, inside))
-none-controlled busy k (group ∷ groups) none more zero d inside = (more.0.rest (none k)).controls
-none-controlled busy k (group ∷ groups) none more (suc j) d inside =
-    none-controlled busy (suc k) groups none more.1 j d (omega (arith, inside))
-
--- idle groups and storage units emit nothing
-idle-groups : (groups : List Counter) (cycle : Cycle) (at : CardRow) (hub : Hub) → All (λ group. group.controls ≡ no_controls) groups
-    → list_any (λ group. counter_emits group cycle (Row at) hub) groups ≡ false
-idle-groups [] cycle at hub idle = refl
-idle-groups (group ∷ groups) cycle at hub idle =
-    let here = All-head (λ (g : Counter). g.controls ≡ no_controls) group groups idle in
-    let rest = idle-groups groups cycle at hub (All-tail (λ (g : Counter). g.controls ≡ no_controls) group groups idle) in
-    ap (λ (controls : Controls). (controls.read_out && shows group.name (row_number at) group.digits hub) || list_any (λ g. counter_emits g cycle (Row at) hub) groups) here ∙ rest
-
-idle-unit : (storage : StorageState) (cycle : Cycle) (at : CardRow) (hub : Hub) → IsUntold storage
-    → storage_emits storage cycle (Row at) hub ≡ false
-idle-unit storage cycle at (SX unit column) untold = rw untold.reads_out refl
-idle-unit storage cycle at hub untold = refl
-
-idle-storage : (units : List StorageState) (cycle : Cycle) (at : CardRow) (hub : Hub) → All IsUntold units
-    → list_any (λ storage. storage_emits storage cycle (Row at) hub) units ≡ false
-idle-storage [] cycle at hub idle = refl
-idle-storage (unit ∷ units) cycle at hub idle =
-    let here = idle-unit unit cycle at hub (All-head IsUntold unit units idle) in
-    let rest = idle-storage units cycle at hub (All-tail IsUntold unit units idle) in λ i. here i || rest i
-
-pub idle-emits : (machine : MachineState) (cycle : Cycle) (at : CardRow) (hub : Hub) → AreRowsIdle machine
-    → (stations_emits machine.stations cycle (Row at) hub || emitters_emit machine.emitters cycle (Row at) hub)
-    ≡ emits machine cycle (Row at) hub
-idle-emits machine cycle at hub idle =
-    rw (
-      comparing-row machine.comparing cycle at hub,
-      idle-groups machine.groups cycle at hub idle.groups,
-      idle-storage machine.storage cycle at hub idle.storage,
-    )
-    (ends (stations_emits machine.stations cycle (Row at) hub) (emitters_emit machine.emitters cycle (Row at) hub))
-  where
-    ends : (a b : Bool) → (a || b) ≡ ((((((((((a || false) || false) || false) || false) || false) || false) || b) || false) || false) || false)
-    ends true b = refl
-    ends false true = refl
-    ends false false = refl
-
--- and sense nothing
-idle-group : (cycle : Cycle) (at : CardRow) (picture : Hub → Bool) (group : Counter) → group.controls ≡ no_controls
-    → counter_sensed group cycle (Row at) picture ≡ group
-idle-group cycle at picture group idle =
-    ap (λ (controls : Controls). record group {
-      entered =
-          if takes controls (row_number at)
-          then all_taken (row_number at) (λ position. picture (GE group.name position)) group.entered
-          else group.entered;
-    })
-    idle
-
-idle-senses_row : (cycle : Cycle) (at : CardRow) (picture : Hub → Bool) (storage : StorageState) → IsUntold storage
-    → storage_sensed storage cycle (Row at) picture ≡ storage
-idle-senses_row cycle at picture storage idle =
-    ap (λ (reads_in : Bool). record storage {
-      received =
-          if reads_in
-          then slice_set storage.received (passing_place at) (columns_in picture storage.place)
-          else storage.received;
-    })
-    idle.reads_in
-
--- things of a list that a change leaves as they are
-all-stay : {X : Type 0} (P : X → Type 0) (change : X → X) → ((x : X) → P x → change x ≡ x) → (xs : List X) → All P xs → map change xs ≡ xs
-all-stay P change stays [] all = refl
-all-stay {X} P change stays (x ∷ xs) all =
-    let here = stays x (All-head P x xs all) in
-    let rest = all-stay P change stays xs (All-tail P x xs all) in λ i. here i ∷ rest i
-
-lists-stay : {X : Type 0} (P : X → Type 0) (sense : X → Cycle → Point → (Hub → Bool) → X) (cycle : Cycle)
-    → ((at : CardRow) (picture : Hub → Bool) (x : X) → P x → sense x cycle (Row at) picture ≡ x)
-    → (list : List CardRow) (pictures : Point → Hub → Bool) (xs : List X) → All P xs
-    → after_points (λ (all : List X) (c : Cycle) (point : Point) (picture : Hub → Bool). map (λ x. sense x c point picture) all) cycle pictures
-    (map Row list) xs
-    ≡ xs
-lists-stay P sense cycle stays [] pictures xs all = refl
-lists-stay {X} P sense cycle stays (at ∷ others) pictures xs all =
-    ap (λ (now : List X). after_points (λ (every : List X) (c : Cycle) (point : Point) (picture : Hub → Bool). map (λ x. sense x c point picture) every)
-    cycle pictures (map Row others) now)
-    (all-stay P (λ x. sense x cycle (Row at) (pictures (Row at))) (stays at (pictures (Row at))) xs all)
-    ∙ lists-stay P sense cycle stays others pictures xs all
-
 -- the program unit senses no row
 program-rows : (cycle : Cycle) (pictures : Point → Hub → Bool) (program : ProgramState)
     → program ≡ after_rows program_sensed cycle pictures program
@@ -351,22 +279,42 @@ program-rows Card pictures program = refl
 program-rows (Prog level ordinal) pictures program = refl
 program-rows (Head heading) pictures program = refl
 
--- the machine after all rows, where they are nothing to groups and storage units
-pub idle-senses : (cycle : Cycle) (pictures : Point → Hub → Bool) (old new : MachineState) → AreRowsIdle old
-    → new.stations ≡ old.stations → new.comparing ≡ after_rows comparing_sensed cycle pictures old.comparing → new.groups ≡ old.groups
-    → new.storage ≡ old.storage → new.pilots ≡ after_rows pilots_sensed cycle pictures old.pilots → new.indicate ≡ old.indicate
+-- what all units emit at a row
+pub units-emit : (machine : MachineState) (cycle : Cycle) (at : CardRow) (hub : Hub)
+    → (((stations_emits machine.stations cycle (Row at) hub || list_any (λ group. counter_emits group cycle (Row at) hub) machine.groups)
+    || list_any (λ storage. storage_emits storage cycle (Row at) hub) machine.storage)
+    || emitters_emit machine.emitters cycle (Row at) hub)
+    ≡ emits machine cycle (Row at) hub
+units-emit machine cycle at hub =
+    rw (comparing-row machine.comparing cycle at hub)
+    (ends (stations_emits machine.stations cycle (Row at) hub) (list_any (λ group. counter_emits group cycle (Row at) hub) machine.groups)
+    (list_any (λ storage. storage_emits storage cycle (Row at) hub) machine.storage) (emitters_emit machine.emitters cycle (Row at) hub))
+  where
+    ends : (a b c d : Bool)
+        → (((a || b) || c) || d) ≡ ((((((((((a || false) || b) || c) || false) || false) || false) || d) || false) || false) || false)
+    ends true b c d = refl
+    ends false true c d = refl
+    ends false false true d = refl
+    ends false false false true = refl
+    ends false false false false = refl
+
+-- the machine after all rows
+pub units-sensed : (cycle : Cycle) (pictures : Point → Hub → Bool) (old new : MachineState)
+    → new.stations ≡ old.stations → new.comparing ≡ after_rows comparing_sensed cycle pictures old.comparing
+    → new.groups ≡ map (λ group. after_rows counter_sensed cycle pictures group) old.groups
+    → new.storage ≡ map (λ unit. after_rows storage_sensed cycle pictures unit) old.storage
+    → new.pilots ≡ after_rows pilots_sensed cycle pictures old.pilots → new.indicate ≡ old.indicate
     → new.splits ≡ old.splits → new.emitters ≡ old.emitters → new.wheels ≡ after_rows wheels_sensed cycle pictures old.wheels
     → new.carriage ≡ old.carriage → new.program ≡ old.program → new ≡ after_rows sensed cycle pictures old
-idle-senses cycle pictures old new idle stations comparing groups storage pilots indicate splits emitters wheels carriage program =
-    let groups_stay =
-    groups ∙ sym (lists-stay (λ (g : Counter). g.controls ≡ no_controls) counter_sensed cycle (idle-group cycle) rows pictures old.groups idle.groups) in
-    let storage_stays = storage ∙ sym (lists-stay IsUntold storage_sensed cycle (idle-senses_row cycle) rows pictures old.storage idle.storage) in
+units-sensed cycle pictures old new stations comparing groups storage pilots indicate splits emitters wheels carriage program =
+    let all_groups = groups ∙ each-after counter_sensed cycle pictures (map Row rows) old.groups in
+    let all_storage = storage ∙ each-after storage_sensed cycle pictures (map Row rows) old.storage in
     let program_stays = program ∙ program-rows cycle pictures old.program in
     λ i. record {
       stations = stations i;
       comparing = comparing i;
-      groups = groups_stay i;
-      storage = storage_stays i;
+      groups = all_groups i;
+      storage = all_storage i;
       pilots = pilots i;
       indicate = indicate i;
       splits = splits i;

@@ -23,3 +23,4 @@ mod Rest
 mod Marks
 mod UnitOrder
 pub mod AllRows
+pub mod RestingRows

@@ -8,7 +8,7 @@ use Rattle.net.specs.declared.cycle.Point.TheVariants.{C, Row, K}
 use Rattle.machine.specs.Fields.{AreInUnitOrder}
 
 -- what keeps each number keeps them all
-numbers-kept : (change : Counter → Counter) → ((group : Counter) → counter_number (change group) ≡ counter_number group)
+pub numbers-kept : (change : Counter → Counter) → ((group : Counter) → counter_number (change group) ≡ counter_number group)
     → (groups : List Counter) → map counter_number (map change groups) ≡ map counter_number groups
 numbers-kept change keeps [] = refl
 numbers-kept change keeps (group ∷ groups) =

@@ -22,10 +22,9 @@ impl Units {
     ghost use Rattle.machine.specs.Machine.{closes};
     ghost use Rattle.machine.specs.Steady.{AreSteady};
     ghost use Rattle.machine.specs.Keeps.{Keeps};
-    ghost use Rattle.machine.specs.AllRows.{AreRowsIdle, RunsRows, SensesRows};
-    ghost use Rattle.net.specs.RowSets.{LeadsToNoContact};
+    ghost use Rattle.machine.specs.AllRows.{RunsRows};
 
-    // A cycle: its points, and then its end. The points of the rows are taken all at once where that is easy.
+    // A cycle: its points, and then its end. The points of the rows are taken all at once where that is right.
     pub(crate) fn run_cycle(&mut self, net: &Net, cycle: Cycle)
         ensures ran { (wiring : Wiring) → IsNetOf wiring net.now → CycleRun wiring cycle self.old self.new }
         ensures ends { EndsCycle cycle self.old self.new }
@@ -37,16 +36,17 @@ impl Units {
         self.end_cycle(cycle);
     }
 
-    // The points of the rows. They are taken all at once where no impulse can pass a contact, and where the rows are nothing to the
-    // counter groups and the storage units, else one by one.
+    // The points of the rows. They are taken all at once where no impulse passes one contact behind another, else one by one.
     fn run_rows(&mut self, net: &Net, closed: &Closed, cycle: Cycle)
         requires { AreSteady cycle closed.now self.old }
         ensures ran { (wiring : Wiring) → IsNetOf wiring net.now → RunsRows wiring cycle self.old self.new }
         ensures keeps { Keeps cycle self.old self.new }
         ensures steady { AreSteady cycle closed.now self.new }
     {
-        if net.is_direct() && self.are_rows_idle() {
-            self.take_rows(net, cycle);
+        let mut sets = RowSets::new();
+        self.emit_rows(cycle, &mut sets);
+        if net.spread_through(&closed.digits, &closed.zones, &mut sets) {
+            self.sense_rows(cycle, &sets);
         } else {
             self.step_rows(net, closed, cycle);
         }
@@ -62,18 +62,6 @@ impl Units {
         for place in 1..13 {
             self.step(net, closed, cycle, POINTS[place]);
         }
-    }
-
-    // The points of the rows, all at once.
-    fn take_rows(&mut self, net: &Net, cycle: Cycle)
-        requires { AreRowsIdle self.old }
-        ensures ran { (wiring : Wiring) → IsNetOf wiring net.now → LeadsToNoContact wiring → RunsRows wiring cycle self.old self.new }
-        ensures senses { SensesRows cycle self.old self.new }
-    {
-        let mut sets = RowSets::new();
-        self.emit_rows(cycle, &mut sets);
-        net.spread(&mut sets);
-        self.sense_rows(cycle, &sets);
     }
 
     // The closed contacts of a cycle but for those of the carries.

@@ -9,6 +9,7 @@ mod closed;
 mod cycle;
 mod fault;
 mod feed;
+mod group_rows;
 mod groups;
 mod kept;
 pub mod laws;
@@ -16,6 +17,7 @@ mod machine;
 mod marked;
 mod rows;
 mod run;
+mod storage_rows;
 mod units;
 
 pub use fault::FeedFault;

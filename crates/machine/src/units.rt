@@ -1,7 +1,9 @@
 //! The units of a machine.
 
+use crate::group_rows::{emit_group_rows, sense_group_rows};
 use crate::groups::{Busy, emit_groups, end_groups, groups, sense_groups};
 use crate::rows::{emit_all, end_all, sense_all};
+use crate::storage_rows::{emit_storage_rows, sense_storage_rows};
 use carriage::Carriage;
 use counters::Group;
 use net::{Cycle, Picture, Point, RowSets, Unit};
@@ -50,11 +52,10 @@ impl Model for Units {
 impl Units {
     ghost use Rattle.std.specs.Prelude.{◌≡◌};
     ghost use Rattle.net.specs.HubSets.{GainsHubs, has_hub};
+    ghost use Rattle.machine.specs.Fields.{AreInUnitOrder};
     ghost use Rattle.machine.specs.Machine.{machine_at_start, emits, sensed, ended};
-    ghost use Rattle.std.specs.Prelude.{true};
     ghost use Rattle.net.specs.RowSets.{GainsRows, after_rows, pictures_of};
     ghost use Rattle.net.specs.declared.cycle.Point.TheVariants.{Row as AtRow};
-    ghost use Rattle.machine.specs.AllRows.{AreRowsIdle};
 
     // The units of a setup as they start, with no card in the machine.
     pub(crate) fn new(setup: &Setup) -> Self
@@ -107,28 +108,24 @@ impl Units {
         self.program.sense(cycle, point, picture);
     }
 
-    // Whether the rows of this cycle are nothing to the counter groups and the storage units.
-    pub(crate) fn are_rows_idle(&self) -> bool
-        ensures { result ≡ true → AreRowsIdle self.now }
-    {
-        self.busy.controlled == 0 && are_untold(&self.storage)
-    }
-
-    // Adds to the sets of the exits the rows at whose points they emit, where the rows are nothing to groups and storage units.
+    // Adds to the sets of the exits the rows at whose points they emit.
     pub(crate) fn emit_rows(&self, cycle: Cycle, sets: &mut RowSets)
-        requires { AreRowsIdle self.now }
-        ensures { GainsRows (λ row. emits self.now cycle (AtRow row)) sets.old sets.new }
+        ensures rows { GainsRows (λ row. emits self.now cycle (AtRow row)) sets.old sets.new }
+        ensures ordered { AreInUnitOrder self.now.groups }
     {
         self.stations.emit_rows(cycle, sets);
+        emit_group_rows(&self.groups, self.busy, cycle, sets);
+        emit_storage_rows(&self.storage, cycle, sets);
         self.emitters.emit_rows(cycle, sets);
     }
 
-    // Each unit senses the points of all rows at once, where they are nothing to groups and storage units.
+    // Each unit senses the points of all rows at once.
     pub(crate) fn sense_rows(&mut self, cycle: Cycle, pictures: &RowSets)
-        requires { AreRowsIdle self.old }
         ensures { self.new ≡ after_rows sensed cycle (pictures_of pictures.now) self.old }
     {
         self.comparing.sense_rows(cycle, pictures);
+        sense_group_rows(&mut self.groups, self.busy, cycle, pictures);
+        sense_storage_rows(&mut self.storage, cycle, pictures);
         self.pilots.sense_rows(cycle, pictures);
         self.wheels.sense_rows(cycle, pictures);
     }
@@ -147,19 +144,4 @@ impl Units {
         self.carriage.end_cycle(cycle);
         self.program.end_cycle(cycle);
     }
-}
-
-ghost use Rattle.std.specs.Prelude.{◌≡◌, true, All};
-ghost use Rattle.machine.specs.AllRows.{IsUntold};
-
-// Whether no storage unit reads in or out.
-fn are_untold(storage: &[Storage; STORAGE_UNITS]) -> bool
-    ensures { result ≡ true → All IsUntold storage.now }
-{
-    for unit in storage {
-        if !unit.is_idle() {
-            return false;
-        }
-    }
-    true
 }

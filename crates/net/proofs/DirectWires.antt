@@ -9,7 +9,7 @@ use Rattle.hubs.proofs.HubLemmas.{is_entry-number, is_exit-number}
 use Rattle.hubs.specs.Hubs.{number_of}
 use Rattle.hubs.specs.declared.hub.Hub.{Hub}
 use Rattle.hubs.specs.declared.hub.Hub.TheVariants.{CO, BAN, BAT, PIN, PIT, IX, CSD, CSZ, CI, BAC, PIC, IE, CSE}
-use Rattle.setups.specs.Wiring.{HasWire, Wiring}
+use Rattle.setups.specs.Wiring.{HasWire, LeadsToEntries, Wiring}
 use Rattle.bit_sets.specs.Bits.{has_place}
 use Rattle.bit_sets.specs.Contacts.{AreCommons}
 use Rattle.bit_sets.specs.Rows.{leads}
@@ -28,7 +28,7 @@ alike before other (Some p) n positive is = let more : before + p ≡ before + p
 alike before other None n positive is = cc
 
 -- where the common hub of a contact has a number its exit has one
-exit_numbered : (hub common : Hub) (n : ℕ) → contact_of hub ≡ Some common → number_of common ≡ Some n
+pub exit_numbered : (hub common : Hub) (n : ℕ) → contact_of hub ≡ Some common → number_of common ≡ Some n
     → (h : ℕ) × (number_of hub ≡ Some (h + 1))
 exit_numbered (CO group) common n is numbered =
     let same : CI group ≡ common = same_Some _ _ is in alike 358 1396 _ n (omega arith) (ap number_of same ∙ numbered)
@@ -84,15 +84,30 @@ linked-elsewhere (link ∷ links) places from to apart linked =
             equal : (m n : ℕ) → (m == n) ≡ true → m ≡ n
             equal m n e = grind (arith, nat_tests, e)
 
+-- all wires lead from exits to entries
+pub wires-lead : (wiring : Wiring) (net : NetRows) (links : List Link) → IsNetOf wiring net → All IsInRange links
+    → ((from to : ℕ) → is_linked links from to ≡ leads net.rows from to) → LeadsToEntries wiring
+wires-lead wiring net links is_net range agree exit entry wire =
+    let linked : is_linked links (wire.number - 1) (wire.to - 1) ≡ true =
+    agree (wire.number - 1) (wire.to - 1)
+    ∙ sym (ap (λ n. leads_by net.rows n (number_of entry)) wire.numbered ∙ ap (leads_by net.rows (Some wire.number)) wire.entry_numbered)
+    ∙ (is_net exit entry).1 wire in
+    let is = linked-range links (wire.number - 1) (wire.to - 1) range linked in (
+      (is_exit-number exit wire.number wire.numbered).1 (lower wire.number is.0),
+      (is_entry-number entry wire.to wire.entry_numbered).1 (upper wire.to is.1),
+    )
+  where
+    lower : (n : ℕ) → n - 1 < 1040 → n ≤ 1040
+    lower n less = omega (arith, less)
+
+    upper : (n : ℕ) → 1040 ≤ n - 1 → 1041 ≤ n
+    upper n less = omega (arith, less)
+
 pub direct-wires : (wiring : Wiring) (net : NetRows) (commons : List ℕ) (links : List Link) → IsNetOf wiring net → All IsInRange links
     → ((from to : ℕ) → is_linked links from to ≡ leads net.rows from to) → AreCommons CONTACTS commons
     → All (λ link. has_place commons link.to ≡ false) links → LeadsToNoContact wiring
 direct-wires wiring net commons links is_net range agree are_commons apart = record {
-  leads = λ exit entry wire.
-      let is = linked-range links (wire.number - 1) (wire.to - 1) range (linked exit entry wire) in (
-        (is_exit-number exit wire.number wire.numbered).1 (lower wire.number is.0),
-        (is_entry-number entry wire.to wire.entry_numbered).1 (upper wire.to is.1),
-      );
+  leads = wires-lead wiring net links is_net range agree;
   unwired = λ common hub exit contact wire.
       let at = exit_numbered hub common wire.to contact wire.entry_numbered in
       let found = contact_numbered common hub at.0 contact at.1 in
@@ -110,12 +125,6 @@ direct-wires wiring net commons links is_net range agree are_commons apart = rec
         agree (wire.number - 1) (wire.to - 1)
         ∙ sym (ap (λ n. leads_by net.rows n (number_of entry)) wire.numbered ∙ ap (leads_by net.rows (Some wire.number)) wire.entry_numbered)
         ∙ (is_net exit entry).1 wire
-
-    lower : (n : ℕ) → n - 1 < 1040 → n ≤ 1040
-    lower n less = omega (arith, less)
-
-    upper : (n : ℕ) → 1040 ≤ n - 1 → 1041 ≤ n
-    upper n less = omega (arith, less)
 
     index : (n g : ℕ) → n ≡ g + 1 → n - 1 ≡ g
     index n g e = omega (arith, e)

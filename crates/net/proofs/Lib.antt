@@ -10,3 +10,6 @@ pub mod Sets
 pub mod LinkLemmas
 pub mod SetLemmas
 pub mod DirectWires
+pub mod PassLemmas
+pub mod PassedRows
+pub mod PassedHubs

@@ -1,5 +1,5 @@
 -- Sets of rows spread along links: one link after another, and what comes of all of them by the wires of a setup.
-use Rattle.std.proofs.Common.{⊎_elim, ◌≡◌, ◌≢◌, ℕ, ◌+◌, ◌-◌, ◌<◌, ◌≤◌, ◌&&◌, ◌||◌, Bool, true, false, List, [], ◌∷◌, ◌++◌, Option, Some, None, All, ◌↔◌, inl, inr, sym, ap, ◌∙◌, refl, subst, arith, length, take, slice_index_or, slice_set}
+use Rattle.std.proofs.Common.{⊎_elim, ◌≡◌, ◌≢◌, ℕ, zero, suc, ◌+◌, ◌-◌, ◌<◌, ◌≤◌, ◌&&◌, ◌||◌, Bool, true, false, List, [], ◌∷◌, ◌++◌, Option, Some, None, All, ◌↔◌, inl, inr, sym, ap, ◌∙◌, refl, subst, arith, length, take, slice_index_or, slice_set}
 use Rattle.std.specs.Prelude.{◌==◌, is_some}
 use Rattle.std.specs.Int.Bits.{bit_or}
 use Rattle.std.proofs.Math.Bool.{or-false}
@@ -13,11 +13,11 @@ use Rattle.hubs.proofs.HubLemmas.{hub_numbered, in_range}
 use Rattle.hubs.specs.Hubs.{number_of}
 use Rattle.hubs.specs.declared.hub.Hub.{Hub}
 use Rattle.setups.specs.Wiring.{Wiring, HasWire}
-use Rattle.bit_sets.proofs.BitLemmas.{is_bit-or}
+use Rattle.bit_sets.proofs.BitLemmas.{is_bit-or, is_bit-zero}
 use Rattle.bit_sets.specs.Bits.{is_bit}
 use Rattle.bit_sets.specs.Rows.{leads}
 use Rattle.net.specs.Laws.{EmitsOrIsFed}
-use Rattle.net.specs.Links.{IsFollowed, IsInRange, Spreads, has_at, has_at_number, has_row_at, is_fed_at, is_linked}
+use Rattle.net.specs.Links.{IsFollowed, IsInRange, IsSkip, Spreads, has_at, has_at_number, has_row_at, is_fed_at, is_linked}
 use Rattle.net.specs.Nets.{IsNetOf, NetRows, leads_by}
 use Rattle.net.specs.declared.links.Link.{Link}
 
@@ -190,3 +190,33 @@ spread-fed wiring net links old new is_net range agree spreads row hub = by (num
     no_way : EmitsOrIsFed wiring (has_row_at old row) hub → ⊥
     no_way (inl emits) = false≢true (sym (ap is_some is) ∙ emits.0)
     no_way (inr fed) = let n = fed.wire.entry_numbered in cc
+
+-- a link whose near end has no row is followed by nothing
+not-followed : (link : Link) (sets : List ℕ) → slice_index_or sets link.from 0 ≡ 0 → IsFollowed link sets sets
+not-followed link sets none place row =
+    sym
+    (ap (λ b. has_at sets place row || ((link.to == place) && b)) (ap (λ (w : ℕ). is_bit w row) none ∙ is_bit-zero row)
+    ∙ nothing (has_at sets place row) (link.to == place))
+  where
+    nothing : (a b : Bool) → (a || (b && false)) ≡ a
+    nothing a b = grind (arith, nat_tests)
+
+-- links from a place that has no row are passed over
+pub Spreads-past : (links : List Link) (place end : ℕ) (d : Link) (first now : List ℕ) → All IsInRange links → IsSkip links place end
+    → slice_index_or now (slice_index_or links place d).from 0 ≡ 0
+    → ((p row : ℕ) → p < 1040 → has_at now p row ≡ has_at first p row)
+    → Spreads (take place links) first now → Spreads (take end links) first now
+Spreads-past links place end d first now range skip none exits before =
+    subst (λ (e : ℕ). Spreads (take e links) first now) (let less = skip.on in omega (arith, less)) (by (end - place) (omega arith))
+  where
+    by : (count : ℕ) → place + count ≤ end → Spreads (take (place + count) links) first now
+    by zero low = subst (λ (e : ℕ). Spreads (take e links) first now) (let sum : place ≡ place + 0 = omega arith in sum) before
+    by (suc count) low =
+        let inside : place + count < length links = let within = skip.within in omega (arith, low, within) in
+        let link = slice_index_or links (place + count) d in
+        let silent : slice_index_or now link.from 0 ≡ 0 =
+        ap (λ (f : ℕ). slice_index_or now f 0) (skip.alike (place + count) d (omega arith) (omega (arith, low))) ∙ none in
+        let sum : place + count + 1 ≡ place + suc count = omega arith in
+        subst (λ (e : ℕ). Spreads (take e links) first now) sum
+        (Spreads-more links (place + count) d link first now now inside refl (range (place + count) d inside) exits
+        (by count (omega (arith, low))) (not-followed link now silent))

@@ -6,6 +6,7 @@ pub mod Links
 pub mod NetRows
 pub mod Nets
 pub mod Panel
+pub mod Passing
 pub mod Printing
 pub mod RowSets
 pub mod WholeCycles

@@ -1,11 +1,11 @@
 -- Links: wires one by one, from place to place. A set of rows for each place is a number: bit r tells of the row at place r among the
 -- points. Sets are spread along links.
-use Rattle.std.specs.Prelude.{◌≡◌, ℕ, ◌-◌, ◌<◌, ◌≤◌, ◌==◌, ◌&&◌, ◌||◌, All, Bool, true, false, List, Option, Some, None, slice_index_or}
+use Rattle.std.specs.Prelude.{◌≡◌, ℕ, ◌-◌, ◌<◌, ◌≤◌, ◌==◌, ◌&&◌, ◌||◌, All, Bool, true, false, List, Option, Some, None, length, slice_index_or}
 use Rattle.std.specs.List.{list_any}
 use Rattle.hubs.specs.Hubs.{number_of}
 use Rattle.hubs.specs.declared.hub.Hub.{Hub}
 use Rattle.bit_sets.specs.Bits.{has_place, is_bit}
-use Rattle.bit_sets.specs.Contacts.{AreCommons}
+use Rattle.bit_sets.specs.Contacts.{AreCommons, is_any_contact}
 use Rattle.bit_sets.specs.Rows.{leads}
 use Rattle.bit_sets.specs.declared.contacts.Run.{Run}
 use Rattle.net.specs.NetRows.{Adds}
@@ -25,9 +25,31 @@ is_link from to link = (from == link.from) && (to == link.to)
 abbrev pub is_linked : List Link → ℕ → ℕ → Bool
 is_linked links from to = list_any (is_link from to) links
 
+-- the links from one place of their list on lead from the same place of the panel up to where they end
+pub record IsSkip (links : List Link) (first end : ℕ) : Type 0 where
+  pub on : first < end
+  pub within : end ≤ length links
+  pub alike :
+      (k : ℕ) (d : Link) → first ≤ k → k < end → (slice_index_or links k d).from ≡ (slice_index_or links first d).from
+
+-- so it is with each link
+pub record AreSkips (links : List Link) (skips : List ℕ) : Type 0 where
+  pub as_many : length skips ≡ length links
+  pub each : (place : ℕ) → place < length links → IsSkip links place (slice_index_or skips place 0)
+
 -- new leads where old does, and from a place to those whose numbers are listed
 abbrev pub AddsLinks : List Link → List Link → ℕ → List ℕ → Type 0
 AddsLinks old new place entries = Adds (is_linked old) (is_linked new) place entries
+
+-- A contact as a link leads from an entry of the panel to an exit.
+pub record IsPassing (contact : Link) : Type 0 where
+  pub from : 1040 ≤ contact.from
+  pub high : contact.from < 1936
+  pub to : contact.to < 1040
+
+-- whether one of the links leads to a place
+abbrev pub is_led_to : List Link → ℕ → Bool
+is_led_to links place = list_any (λ link. link.to == place) links
 
 -- whether the set of a place has a row
 abbrev pub has_at : List ℕ → ℕ → ℕ → Bool
@@ -56,10 +78,13 @@ abbrev pub has_row_at : List ℕ → ℕ → Hub → Bool
 has_row_at sets row hub = has_at_number sets row (number_of hub)
 
 -- The links lead on where the rows do, each in range, and the common places of the contacts are known, as it is where no link leads
--- to any of them.
-pub record IsNetInside (contacts : List Run) (common_places : List ℕ) (links : List Link) (is_direct : Bool) (rows : List (List ℕ)) :
-    Type 0 where
+-- to any of them. The contacts that a link leads to stand one by one.
+pub record IsNetInside (contacts : List Run) (common_places : List ℕ) (links wired_contacts : List Link) (skips : List ℕ) (is_direct : Bool)
+    (rows : List (List ℕ)) : Type 0 where
   pub commons : AreCommons contacts common_places
   pub in_range : All IsInRange links
   pub agree : (from to : ℕ) → is_linked links from to ≡ leads rows from to
+  pub passing : All IsPassing wired_contacts
+  pub wired : (from to : ℕ) → is_linked wired_contacts from to ≡ (is_any_contact contacts from to && is_led_to links from)
+  pub skipped : AreSkips links skips
   pub direct : is_direct ≡ true → All (λ link. has_place common_places link.to ≡ false) links

@@ -6,6 +6,7 @@ mod cycle;
 mod laws;
 mod links;
 mod net;
+mod passing;
 mod picture;
 mod printing;
 mod row_sets;

@@ -1,13 +1,13 @@
 //! The wires of a net one by one, and sets of rows that are spread along them.
 
-ghost use Rattle.std.specs.Prelude.{◌≡◌, ◌<◌, ℕ, All, OnOk, false};
+ghost use Rattle.std.specs.Prelude.{◌≡◌, ◌<◌, ℕ, All, IfOk, OnOk, false, length};
 ghost use Rattle.bit_sets.specs.Bits.{has_place};
 ghost use Rattle.setups.specs.Wiring.{IsEntryNumber};
-ghost use Rattle.net.specs.Links.{AddsLinks, IsFollowed, IsInRange, Spreads};
+ghost use Rattle.net.specs.Links.{AddsLinks, AreSkips, IsFollowed, IsInRange, IsSkip, Spreads};
 
 use crate::picture::HUBS;
 use bit_sets::WORDS;
-use std::alloc::AllocError;
+use std::alloc::{AllocError, Global};
 
 /// A wire from one place to another. The hub with the number h is the place h - 1.
 #[derive(Clone, Copy)]
@@ -49,14 +49,49 @@ pub(crate) fn leads_to_any(links: &[Link], places: &[u64; WORDS]) -> bool
     false
 }
 
+// For each link where the links after it end that lead from the same place.
+pub(crate) fn skips_of(alloc: Global, links: &[Link]) -> Result<Vec<usize>, AllocError>
+    ensures { IfOk result (λ skips. AreSkips links.now skips.items) }
+{
+    let mut skips = Vec::new(alloc);
+    let mut end = 0;
+    for place in 0..links.len() {
+        if end <= place {
+            end = run_end(links, place);
+        }
+        skips.push(end)?;
+    }
+    Ok(skips)
+}
+
+// Where the links end that lead from the place that the one at `first` leads from, from that one on.
+fn run_end(links: &[Link], first: usize) -> usize
+    requires { first < length links.now }
+    ensures { IsSkip links.now first result }
+{
+    let mut end = first + 1;
+    while end < links.len() && links[end].from == links[first].from {
+        end += 1;
+    }
+    end
+}
+
 // Spreads sets of rows, one for each place, along the links: the far end of each gains the rows of the near end. No link leads from
-// where another one leads to.
-pub(crate) fn follow_all(links: &[Link], sets: &mut [u16; HUBS])
-    requires { All IsInRange links.now }
+// where another one leads to. Links from a place that has no row are passed over.
+pub(crate) fn follow_all(links: &[Link], skips: &[usize], sets: &mut [u16; HUBS])
+    requires range { All IsInRange links.now }
+    requires skips { AreSkips links.now skips.now }
     ensures { Spreads links.now sets.old sets.new }
 {
-    for link in links {
-        follow(*link, sets);
+    let mut place = 0;
+    while place < links.len() {
+        let link = links[place];
+        if sets[link.from as usize] == 0 {
+            place = skips[place];
+        } else {
+            follow(link, sets);
+            place += 1;
+        }
     }
 }
 

@@ -5,7 +5,8 @@ ghost use Rattle.setups.specs.Wiring.{IsEntryNumber};
 ghost use Rattle.net.specs.NetRows.{AddsRow};
 
 use crate::contacts::CONTACTS;
-use crate::links::{Link, add_links, follow_all, leads_to_any};
+use crate::links::{Link, add_links, follow_all, leads_to_any, skips_of};
+use crate::passing::{add_contacts, pass_all};
 use crate::picture::{Contacts, Picture, cut_after_hubs};
 use crate::row_sets::RowSets;
 use bit_sets::{EXITS, Rows, WORDS, commons_of, reach};
@@ -23,6 +24,10 @@ pub struct Net {
     commons: [u64; WORDS],
     // The wires one by one, as the rows have them.
     links: Vec<Link>,
+    // For each of the links where those after it end that lead from the same place.
+    skips: Vec<usize>,
+    // The contacts that a wire leads to, one by one.
+    contacts: Vec<Link>,
     // Whether no wire leads to a common hub.
     is_direct: bool,
 }
@@ -37,7 +42,7 @@ impl Model for Net {
 
     ghost use Rattle.net.specs.Links.{IsNetInside};
 
-    ghost invariant = { λ net. IsNetInside CONTACTS net.commons net.links.items net.is_direct net.rows };
+    ghost invariant = { λ net. IsNetInside CONTACTS net.commons net.links.items net.contacts.items net.skips.items net.is_direct net.rows };
 }
 
 impl Net {
@@ -50,7 +55,11 @@ impl Net {
     ghost use Rattle.hubs.specs.declared.hub.Hub.{Hub};
     ghost use Rattle.net.specs.Laws.{EmitsOrIsFed};
     ghost use Rattle.net.specs.Links.{has_row_at};
-    ghost use Rattle.net.specs.RowSets.{LeadsToNoContact};
+    ghost use Rattle.std.specs.Prelude.{false};
+    ghost use Rattle.card_code.specs.declared.row.Row.{Row as CardRow};
+    ghost use Rattle.net.specs.Passing.{AreCommonsSilent, PassesOn, SameSets, closes_at_row};
+    ghost use Rattle.net.specs.RowSets.{LeadsToNoContact, pictures_of};
+    ghost use Rattle.net.specs.declared.cycle.Point.TheVariants.{Row};
 
     /// The net of a setup, with exactly its wires. Fails only where no memory is left.
     pub fn of(alloc: Global, setup: &Setup) -> Result<Net, AllocError>
@@ -66,12 +75,17 @@ impl Net {
             }
         }
         rows.bundle(alloc)?;
+        let skips = skips_of(alloc, links.as_slice())?;
+        let mut contacts = Vec::new(alloc);
+        add_contacts(&CONTACTS, links.as_slice(), &mut contacts)?;
         let commons = commons_of(&CONTACTS);
         let is_direct = !leads_to_any(links.as_slice(), &commons);
         Ok(Net {
             rows,
             commons,
             links,
+            skips,
+            contacts,
             is_direct,
         })
     }
@@ -110,7 +124,43 @@ impl Net {
             → (row : ℕ) (hub : Hub)
             → (has_row_at sets.new row hub ≡ true) ↔ EmitsOrIsFed wiring (has_row_at sets.old row) hub }
     {
-        follow_all(self.links.as_slice(), &mut sets.sets);
+        follow_all(self.links.as_slice(), self.skips.as_slice(), &mut sets.sets);
+    }
+
+    /// Spreads rows along the wires and the closed contacts, all rows at once: each hub gains the rows at which it is impulsed. The
+    /// contacts closed at the rows 9 to 0 are those of `digits`, at 11 and 12 those of `zones`. No hub from which contacts lead has a row at
+    /// first.
+    ///
+    /// Answers false where impulses pass one contact behind another: then the sets are not yet complete.
+    pub fn spread_through(&self, digits: &Contacts, zones: &Contacts, sets: &mut RowSets) -> bool
+        requires { AreCommonsSilent sets.old }
+        ensures { result ≡ true
+            → (wiring : Wiring)
+            → IsNetOf wiring self.now
+            → (row : CardRow)
+            → IsPicture wiring (pictures_of sets.old (Row row)) (closes_at_row digits.now zones.now row) (pictures_of sets.new (Row row)) }
+    {
+        self.spread(sets);
+        if !self.pass(digits, zones, sets) {
+            return true;
+        }
+        self.spread(sets);
+        !self.pass(digits, zones, sets)
+    }
+
+    // Passes rows on along the closed contacts that wires lead to. Answers whether a hub may have gained any.
+    fn pass(&self, digits: &Contacts, zones: &Contacts, sets: &mut RowSets) -> bool
+        ensures passes { (wiring : Wiring)
+            → IsNetOf wiring self.now
+            → PassesOn wiring digits.now zones.now sets.old sets.new }
+        ensures same { result ≡ false → SameSets sets.old sets.new }
+    {
+        pass_all(
+            self.contacts.as_slice(),
+            digits.words(),
+            zones.words(),
+            &mut sets.sets,
+        )
     }
 }
 

@@ -1,7 +1,7 @@
 -- Bits of words, as tests.
-use Rattle.std.proofs.Common.{◌≡◌, ◌∙◌, refl, ap, ℕ, ◌-◌, ◌*◌, ◌%◌, ◌^◌, ◌<◌, ◌==◌, ◌&&◌, ◌||◌, not, inl, inr, Bool, true, false, arith, bit_and, bit_or}
+use Rattle.std.proofs.Common.{◌≡◌, ◌∙◌, refl, ap, ℕ, ◌-◌, ◌*◌, ◌%◌, ◌^◌, ◌<◌, ◌≤◌, ◌==◌, ◌&&◌, ◌||◌, not, inl, inr, Bool, true, false, arith, bit_and, bit_or}
 use Rattle.std.proofs.lemmas.Bool.Decides.{eqb_tells, nat_tests}
-use Rattle.std.proofs.lemmas.Nat.Bits.{bit_at-pow_other, bit_at-pow_same, bit_at-lt, bit_at-zero, bit_at_or, bit_at_and, bit_at_not, bit_at_clear_same, bit_at_clear_other, bit_at_ones}
+use Rattle.std.proofs.lemmas.Nat.Bits.{bit_at-pow_other, bit_at-pow_same, bit_at-lt, bit_at-zero, bit_at_or, bit_at_and, bit_at_not, bit_at_clear_same, bit_at_clear_other, bit_at_ones, bit_at_above}
 use Rattle.std.proofs.lemmas.Nat.{one_shl}
 use Rattle.std.specs.Int.{bit_not, w128}
 use Rattle.net.specs.HubSets.{is_bit}
@@ -61,3 +61,8 @@ not-not false = refl
 pub is_bit-ones : (count k : ℕ) → k < count → is_bit (2 ^ count - 1) k ≡ true
 unfolding is_bit
 is_bit-ones count k below = rw (bit_at_ones count k below) refl
+
+-- a number has no bit from a width of it on
+pub is_bit-above : (n width k : ℕ) → n < 2 ^ width → width ≤ k → is_bit n k ≡ false
+unfolding is_bit
+is_bit-above n width k small high = rw (bit_at_above n width k small high) refl

@@ -2,13 +2,14 @@
 use Rattle.std.proofs.Common.{◌≡◌, ◌≢◌, ◌∙◌, refl, sym, ap, ℕ, ◌+◌, ◌*◌, ◌%◌, ◌^◌, ◌-◌, ◌<◌, ◌≤◌, ◌==◌, ◌&&◌, ◌||◌, not, ◌⊎◌, inl, inr, nat_lt, Bool, true, false, List, length, replicate, slice_index_or, slice_set, bit_and, bit_or, arith}
 use Rattle.std.proofs.lemmas.Bool.Decides.{eqb_tells, nat_tests}
 use Rattle.std.proofs.lemmas.List.{get_or-set_same, get_or-set_other, get_or-map, get_or-replicate, length-set, length-map}
-use Rattle.std.proofs.lemmas.Nat.{and_le_l}
+use Rattle.std.proofs.lemmas.Bool.{cases_lt, false≢true}
+use Rattle.std.proofs.lemmas.Nat.{and_le_l, and_le_r}
 use Rattle.std.proofs.lemmas.Nat.Bits.{bit_at-trailing_zeros}
 use Rattle.std.specs.Int.{bit_not, w128, trailing_zeros}
 use Rattle.net.specs.HubSets.{is_bit}
-use Rattle.print_unit.specs.RowSets.{rows_in, HasRowsOf, PutsRows, Receives, TakesRow, TakesLeft}
+use Rattle.print_unit.specs.RowSets.{rows_in, HasRowsOf, PutsLeft, PutsRows, Receives, TakesRow, TakesLeft}
 use Rattle.print_unit.specs.WheelWords.{received_at, rows_at}
-use Rattle.print_unit.proofs.Bits.{is_bit-zero, is_bit-and, is_bit-or, is_bit-joined, is_bit-cleared, is_bit-ones}
+use Rattle.print_unit.proofs.Bits.{is_bit-zero, is_bit-and, is_bit-or, is_bit-joined, is_bit-above, is_bit-cleared, is_bit-ones}
 use Rattle.print_unit.proofs.Ranges.{list-made, map-same}
 
 -- the place of the lowest bit of a word that has one
@@ -74,51 +75,90 @@ takes-lowest word left place old now some small narrow takes =
     let k = trailing_zeros w128 left in
     takes-bit word left (bit_and left (bit_not w128 (1 * 2 ^ k % 2 ^ 128))) place k old now at.0 narrow at.1 (λ j wide. is_bit-cleared left k j at.0 wide) takes
 
--- no row is put
-pub puts-none : (set k : ℕ) (rows : List ℕ) → PutsRows 0 set k rows rows
-puts-none set k rows p low j = none (is_bit (slice_index_or rows p 0) j) (is_bit set p) (j == k)
+-- the lowest twelve bits of a set
+low_twelve : (set p : ℕ) → p < 12 → is_bit (bit_and set (2 ^ 12 - 1)) p ≡ is_bit set p
+low_twelve set p low = is_bit-and set (2 ^ 12 - 1) p ∙ rw (is_bit-ones 12 p low) (grind (arith, nat_tests))
+
+-- all rows of a set are left
+pub puts-none : (set k : ℕ) (rows : List ℕ) → length rows ≡ 12 → PutsLeft set (bit_and set (2 ^ 12 - 1)) k rows rows
+puts-none set k rows long = record {
+  small = let less = and_le_r set (2 ^ 12 - 1) in omega (arith, less);
+  within = λ p low. rw (low_twelve set p low) (both (is_bit set p));
+  put = λ p low j. rw (low_twelve set p low) (none (is_bit (slice_index_or rows p 0) j) (is_bit set p) (j == k));
+  twelve = long;
+}
   where
-    none : (a b c : Bool) → a ≡ (a || (nat_lt p 0 && b) && c)
+    both : (b : Bool) → (b && b) ≡ b
+    both true = refl
+    both false = refl
+
+    none : (a b c : Bool) → a ≡ (a || (b && not b) && c)
     none a b c = grind (arith, nat_tests)
 
--- an empty set puts no row
-pub puts-empty : (set k : ℕ) (rows : List ℕ) → set ≡ 0 → PutsRows 12 set k rows rows
-puts-empty set k rows empty p low j =
-    rw (empty, is_bit-zero p) (none (is_bit (slice_index_or rows p 0) j) (nat_lt p 12) (j == k))
+-- the row of the lowest bit that is left is put
+pub puts-lowest : (set left k : ℕ) (old now : List ℕ) → left ≢ 0 → k < 128 → PutsLeft set left k old now
+    → (trailing_zeros w128 left < 12)
+    × PutsLeft set (bit_and left (bit_not w128 (1 * 2 ^ trailing_zeros w128 left % 2 ^ 128))) k old
+    (slice_set now (trailing_zeros w128 left) (bit_or (slice_index_or now (trailing_zeros w128 left) 0) (1 * 2 ^ k % 2 ^ 128)))
+puts-lowest set left k old now some narrow puts =
+    let wide : left < 2 ^ 128 = let low = puts.small in omega (arith, low) in
+    let at = lowest left some wide in
+    let near = within_twelve (trailing_zeros w128 left) at.1 in
+    (near, by (trailing_zeros w128 left) near at.1)
   where
-    none : (a b c : Bool) → a ≡ (a || (b && false) && c)
-    none a b c = grind (arith, nat_tests)
+    within_twelve : (p : ℕ) → is_bit left p ≡ true → p < 12
+    within_twelve p on = elim (cases_lt p 12) [
+      | inl low ↦ low
+      | inr high ↦ absurd (false≢true (sym (is_bit-above left 12 p puts.small high) ∙ on))
+    ]
 
--- a row more is put
-pub puts-more : (count set k word : ℕ) (old now : List ℕ) → length now ≡ 12 → count < 12
-    → ((j : ℕ) → is_bit word j ≡ (is_bit (slice_index_or now count 0) j || (is_bit set count && j == k)))
-    → PutsRows count set k old now → PutsRows (count + 1) set k old (slice_set now count word)
-puts-more count set k word old now long below joined before p low j = by (eqb_tells p count)
-  where
-    by : ((p == count) ≡ true) × (p ≡ count) ⊎ ((p == count) ≡ false) × (p ≢ count)
-        → is_bit (slice_index_or (slice_set now count word) p 0) j
-        ≡ (is_bit (slice_index_or old p 0) j || (nat_lt p (count + 1) && is_bit set p) && (j == k))
-    by (inl same) =
-        let was = before count below j in
-        let on = joined j in
-        rw (same.1, get_or-set_same now count word 0 (omega (arith, long, below))) (grind (arith, nat_tests, was, on))
-    by (inr other) =
-        let apart = other.1 in
-        let was = before p low j in
-        rw (get_or-set_other now count p word 0 apart, was) (grind (arith, nat_tests, apart))
+    by : (at : ℕ) → at < 12 → is_bit left at ≡ true
+        → PutsLeft set (bit_and left (bit_not w128 (1 * 2 ^ at % 2 ^ 128))) k old
+        (slice_set now at (bit_or (slice_index_or now at 0) (1 * 2 ^ k % 2 ^ 128)))
+    by at near on = record {
+      small =
+          let less = and_le_l left (bit_not w128 (1 * 2 ^ at % 2 ^ 128)) in let low = puts.small in omega (arith, less, low);
+      within = λ p low.
+          let w = puts.within p low in
+          rw (is_bit-cleared left at p (omega (arith, near)) (omega (arith, low))) (grind (arith, nat_tests, w));
+      put = λ p low j. put p low j (eqb_tells p at);
+      twelve = length-set now at (bit_or (slice_index_or now at 0) (1 * 2 ^ k % 2 ^ 128)) ∙ puts.twelve;
+    }
+      where
+        put : (p : ℕ) → p < 12 → (j : ℕ) → ((p == at) ≡ true) × (p ≡ at) ⊎ ((p == at) ≡ false) × (p ≢ at)
+            → is_bit (slice_index_or (slice_set now at (bit_or (slice_index_or now at 0) (1 * 2 ^ k % 2 ^ 128))) p 0) j
+            ≡ (is_bit (slice_index_or old p 0) j
+            || (is_bit set p && not (is_bit (bit_and left (bit_not w128 (1 * 2 ^ at % 2 ^ 128))) p)) && (j == k))
+        put p low j (inl same) =
+            let before = puts.put at near j in
+            let w = puts.within at near in
+            let long = puts.twelve in
+            let gone = is_bit-cleared left at at (omega (arith, near)) (omega (arith, near)) in
+            rw (same.1, get_or-set_same now at (bit_or (slice_index_or now at 0) (1 * 2 ^ k % 2 ^ 128)) 0 (omega (arith, long, near)), is_bit-joined 128 (slice_index_or now at 0) k j narrow, before)
+            (grind (arith, nat_tests, w, on, gone))
+        put p low j (inr other) =
+            let before = puts.put p low j in
+            let kept = is_bit-cleared left at p (omega (arith, near)) (omega (arith, low)) in
+            let apart = other.0 in
+            rw (get_or-set_other now at p (bit_or (slice_index_or now at 0) (1 * 2 ^ k % 2 ^ 128)) 0 other.1, before, kept, apart)
+            (grind (arith, nat_tests))
+
+-- where none is left all rows of the set are put
+pub puts-all : (set left k : ℕ) (old new : List ℕ) → left ≡ 0 → PutsLeft set left k old new → PutsRows set k old new
+puts-all set left k old new none puts p low j = puts.put p low j ∙ rw (none, is_bit-zero p) (grind (arith, nat_tests))
 
 -- no wheel's rows yet
 pub rows_of-none : (sets : List ℕ) → HasRowsOf 0 sets (replicate 12 0)
 rows_of-none sets p low j = rw (get_or-replicate {A = ℕ} 12 p 0 0 low, is_bit-zero j) (grind (arith, nat_tests))
 
 -- the rows of a wheel more
-pub rows_of-more : (count : ℕ) (sets old new : List ℕ) → PutsRows 12 (slice_index_or sets count 0) count old new
+pub rows_of-more : (count : ℕ) (sets old new : List ℕ) → PutsRows (slice_index_or sets count 0) count old new
     → HasRowsOf count sets old → HasRowsOf (count + 1) sets new
 rows_of-more count sets old new puts before p low j = puts p low j ∙ rw (before p low j) (by (eqb_tells j count))
   where
     by : ((j == count) ≡ true) × (j ≡ count) ⊎ ((j == count) ≡ false) × (j ≢ count)
         → ((nat_lt j count && is_bit (slice_index_or sets j 0) p)
-        || (nat_lt p 12 && is_bit (slice_index_or sets count 0) p) && (j == count))
+        || is_bit (slice_index_or sets count 0) p && (j == count))
         ≡ (nat_lt j (count + 1) && is_bit (slice_index_or sets j 0) p)
     by (inl same) = rw (same.0, same.1) (grind (arith, nat_tests, low))
     by (inr other) = let apart = other.1 in rw (other.0) (grind (arith, nat_tests, apart))

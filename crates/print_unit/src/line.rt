@@ -7,7 +7,7 @@ ghost use Rattle.print_unit.specs.ZeroControl.{character_of};
 ghost use Rattle.print_unit.specs.WheelWords.{printed_at, received_at, rows_at};
 
 use crate::characters::Characters;
-use crate::wheel_words::{WHEELS, has_bit, with_bit};
+use crate::wheel_words::{WHEELS, has_bit};
 
 /// A place for each bit of a word of wheels.
 pub const BITS: usize = 128;
@@ -43,14 +43,14 @@ pub fn rows_of(sets: &[u16; BITS]) -> [u128; 12]
 // Puts the bit of a wheel into the word of each row of its set.
 fn put_rows(rows: &mut [u128; 12], set: u16, k: usize)
     requires { k < 128 }
-    ensures rows { PutsRows 12 set k rows.old rows.new }
+    ensures rows { PutsRows set k rows.old rows.new }
     ensures twelve { length rows.new ≡ 12 }
 {
-    if set == 0 {
-        return;
-    }
-    for place in 0..12 {
-        rows[place] = with_bit(rows[place], k, has_bit(u128::from(set), place));
+    let mut left = u128::from(set & 0xfff);
+    while left != 0 {
+        let place = left.trailing_zeros() as usize;
+        rows[place] |= 1 << k;
+        left &= !(1 << place);
     }
 }
 

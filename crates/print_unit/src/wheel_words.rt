@@ -57,8 +57,8 @@ pub fn has_bit(word: u128, bit: usize) -> bool
     word >> bit & 1 == 1
 }
 
-/// The word with a bit set too, where the test is true.
-pub fn with_bit(word: u128, bit: usize, test: bool) -> u128
+// The word with a bit set too, where the test is true.
+fn with_bit(word: u128, bit: usize, test: bool) -> u128
     requires { bit < 128 }
     ensures { (k : ℕ) → is_bit result k ≡ (is_bit word k || (test && k == bit)) }
 {

@@ -2,3 +2,5 @@ pub mod CycleLemmas
 pub mod OwnHubs
 pub mod StorageLemmas
 pub mod WordLemmas
+pub mod RowWords
+pub mod AllRows

@@ -15,7 +15,7 @@ abbrev bit_of : Bool → ℕ
 bit_of test = if test then 1 else 0
 
 -- a word of so many tests has no more bits
-word_of-below : (test : ℕ → Bool) (n : ℕ) → word_of test n < 2 ^ n
+pub word_of-below : (test : ℕ → Bool) (n : ℕ) → word_of test n < 2 ^ n
 unfolding word_of
 word_of-below test zero = omega arith
 word_of-below test (suc last) = one_more (test (suc last)) (word_of-below test last)
@@ -41,7 +41,7 @@ word_of-bit test (suc last) i below = elim (cases_lt i last) [
     lowest false = refl
 
 -- bits that are tested alike are the same
-same_bit : (x y : ℕ) → x < 2 → y < 2 → (x == 1) ≡ (y == 1) → x ≡ y
+pub same_bit : (x y : ℕ) → x < 2 → y < 2 → (x == 1) ≡ (y == 1) → x ≡ y
 same_bit x y small small_y alike = grind (arith, nat_tests)
 
 -- the low sixteen bits of a word are the word of their tests

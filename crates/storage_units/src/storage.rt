@@ -4,9 +4,10 @@ ghost use Rattle.std.specs.Prelude.{◌≡◌, ◌≤◌, ◌<◌};
 ghost use Rattle.net.specs.HubSets.{has_hub, is_bit};
 ghost use Rattle.storage_units.specs.Storage.{columns_in};
 
+use crate::all_rows::{columns_of, has_bit, rows_of};
 use card_code::Row;
 use hubs::Hub;
-use net::{Cycle, Picture, Point, Unit};
+use net::{Cycle, Picture, Point, RowSets, Unit};
 use std::marker::Model;
 
 /// How many columns a storage unit has.
@@ -50,7 +51,9 @@ impl Model for Storage {
 impl Storage {
     ghost use Rattle.std.specs.Prelude.{◌≡◌, ◌≤◌, ◌&&◌, not, slice_index};
     ghost use Rattle.card_code.specs.Rows.{passing_place};
-    ghost use Rattle.storage_units.specs.Storage.{storage_at_start, holds};
+    ghost use Rattle.net.specs.RowSets.{GainsRows, after_rows, pictures_of};
+    ghost use Rattle.net.specs.declared.cycle.Point.TheVariants.{Row as AtRow};
+    ghost use Rattle.storage_units.specs.Storage.{storage_at_start, storage_emits, storage_sensed, holds};
 
     /// The storage unit with this number among the units, 35 to 38. It holds nothing.
     pub fn new(unit: u8) -> Self
@@ -71,7 +74,7 @@ impl Storage {
     pub fn holds(&self, row: Row, column: u8) -> bool
         ensures { result ≡ holds self.now row column }
     {
-        1 <= column && column <= STORAGE_COLUMNS && has_bit(self.held_at(row), column - 1)
+        1 <= column && column <= STORAGE_COLUMNS && has_bit(self.held_at(row), column as usize - 1)
     }
 
     /// Whether it was told neither to read in nor to read out at the last control point: then rows are nothing to it.
@@ -79,6 +82,25 @@ impl Storage {
         ensures { result ≡ (not self.now.reads_in && not self.now.reads_out) }
     {
         !self.reads_in && !self.reads_out
+    }
+
+    /// Adds to the sets of the exits the rows at whose points they emit.
+    pub fn emit_rows(&self, _cycle: Cycle, sets: &mut RowSets)
+        ensures { GainsRows (λ row. storage_emits self.now _cycle (AtRow row)) sets.old sets.new }
+    {
+        if self.reads_out {
+            let columns = columns_of(&self.held);
+            sets.insert_sets(Hub::SX(self.place, 1), &columns);
+        }
+    }
+
+    /// Senses the points of all rows at once.
+    pub fn sense_rows(&mut self, _cycle: Cycle, pictures: &RowSets)
+        ensures { self.new ≡ after_rows storage_sensed _cycle (pictures_of pictures.now) self.old }
+    {
+        if self.reads_in {
+            self.received = rows_of(pictures.from(Hub::SE(self.place, 1)));
+        }
     }
 
     // The columns that hold a row.
@@ -145,12 +167,4 @@ fn columns_in(picture: &Picture, unit: u8) -> u16
     ensures { result ≡ columns_in (has_hub picture.now) unit }
 {
     (picture.row(Hub::SE(unit, 1)) & 0xffff) as u16
-}
-
-// Whether a bit of a word is set.
-fn has_bit(word: u16, bit: u8) -> bool
-    requires { bit < 16 }
-    ensures { result ≡ is_bit word bit }
-{
-    word >> bit & 1 == 1
 }

@@ -1,28 +1,33 @@
-use Rattle.std.proofs.Common.{◌≡◌, ◌∙◌, ℕ, ap, ◌&&◌, ◌||◌, ◌==◌, slice_index_or, subst, arith}
-use Rattle.std.proofs.lemmas.List.{length-set}
-use Rattle.net.specs.HubSets.{is_bit}
-use Rattle.print_unit.specs.RowSets.{PutsRows}
-use Rattle.print_unit.proofs.Sets.{puts-empty, puts-more, puts-none}
+use Rattle.std.proofs.Common.{ℕ, List, subst, sym}
+use Rattle.print_unit.specs.RowSets.{PutsLeft}
+use Rattle.print_unit.proofs.Sets.{puts-all, puts-lowest, puts-none, without_lowest-smaller}
 use Rattle.print_unit.proofs.line.put_rows.Goals as goal
 
-pub returns-then-set-eq0-clause-rows : goal.returns-then-set-eq0-clause-rows
-returns-then-set-eq0-clause-rows c = puts-empty c.args.set c.args.k c.args.rows.now c.if-set-eq0.true
+pub loop-left-init : goal.loop-left-init
+loop-left-init c =
+    subst (λ (left : ℕ). PutsLeft c.args.set left c.args.k c.args.rows.now c.args.rows.now) (sym c.from-left.ensures)
+    (puts-none c.args.set c.args.k c.args.rows.now c.told-rows)
 
-pub loop-place-init : goal.loop-place-init
-loop-place-init c = record { rows = puts-none c.args.set c.args.k c.args.rows.now; twelve = c.told-rows }
+pub loop-left-smaller : goal.loop-left-smaller
+loop-left-smaller c = without_lowest-smaller c.loop-left.left c.loop-left-test.true c.loop-left.auto.left-fits.fits
 
-pub loop-place-preserved : goal.loop-place-preserved
-loop-place-preserved c = record {
-  rows =
-      puts-more c.loop-place.place c.args.set c.args.k c.with_bit.result c.args.rows.now c.loop-place.rows c.loop-place.invariant.twelve
-      c.loop-place-test.true
-      (λ j. c.with_bit.ensures j
-      ∙ ap (λ b. is_bit (slice_index_or c.loop-place.rows c.loop-place.place 0) j || (b && j == c.args.k)) (c.has_bit.ensures ∙ ap (λ (w : ℕ). is_bit w c.loop-place.place) c.from.ensures))
-      c.loop-place.invariant.rows;
-  twelve = length-set c.loop-place.rows c.loop-place.place c.with_bit.result ∙ c.loop-place.invariant.twelve;
-}
+pub loop-left-preserved : goal.loop-left-preserved
+loop-left-preserved c =
+    (puts-lowest c.args.set c.loop-left.left c.args.k c.args.rows.now c.loop-left.rows c.loop-left-test.true c.requires
+    c.loop-left.invariant).1
 
 pub returns-clause-rows : goal.returns-clause-rows
-returns-clause-rows c =
-    let end : c.loop-place.place ≡ 12 = omega arith in
-    subst (λ (count : ℕ). PutsRows count c.args.set c.args.k c.args.rows.now c.loop-place.rows) end c.loop-place.invariant.rows
+returns-clause-rows c = puts-all c.args.set c.loop-left.left c.args.k c.args.rows.now c.loop-left.rows c.loop-left-test.false c.loop-left.invariant
+
+pub returns-clause-twelve : goal.returns-clause-twelve
+returns-clause-twelve c = c.loop-left.invariant.twelve
+
+pub bounds-rows-place : goal.bounds-rows-place
+bounds-rows-place c =
+    (puts-lowest c.args.set c.loop-left.left c.args.k c.args.rows.now c.loop-left.rows c.loop-left-test.true c.requires
+    c.loop-left.invariant).0
+
+pub bounds-rows-place-in-loop-left : goal.bounds-rows-place-in-loop-left
+bounds-rows-place-in-loop-left c =
+    (puts-lowest c.args.set c.loop-left.left c.args.k c.args.rows.now c.loop-left.rows c.loop-left-test.true c.requires
+    c.loop-left.invariant).0

@@ -1,7 +1,10 @@
-use Rattle.std.proofs.Common.{◌≡◌, length}
-use Rattle.print_unit.specs.RowSets.{PutsRows}
+use Rattle.print_unit.specs.RowSets.{PutsLeft}
 use Rattle.print_unit.proofs.line.put_rows.Given as goal
 
--- the rows so far are put
-abbrev pub invariant-loop-place : goal.invariant-loop-place
-invariant-loop-place l = record { rows : PutsRows l.place l.set l.k l.fn.rows l.rows; twelve : length l.rows ≡ 12 }
+-- the rows that are no longer left are put
+abbrev pub invariant-loop-left : goal.invariant-loop-left
+invariant-loop-left l = PutsLeft l.set l.left l.k l.fn.rows l.rows
+
+-- each turn leaves fewer
+abbrev pub decreases-loop-left : goal.decreases-loop-left
+decreases-loop-left l = l.left

@@ -1,0 +1,28 @@
+//! The storage units of a machine at the points of all rows at once.
+
+ghost use Rattle.std.specs.Prelude.{◌≡◌, map};
+ghost use Rattle.std.specs.List.{list_any};
+ghost use Rattle.net.specs.RowSets.{GainsRows, after_rows, pictures_of};
+ghost use Rattle.net.specs.declared.cycle.Point.TheVariants.{Row as AtRow};
+ghost use Rattle.storage_units.specs.Storage.{storage_emits, storage_sensed};
+
+use net::{Cycle, RowSets};
+use storage_units::Storage;
+
+// All storage units add to the sets of their exits the rows at whose points they emit.
+pub(crate) fn emit_storage_rows(storage: &[Storage], cycle: Cycle, sets: &mut RowSets)
+    ensures { GainsRows (λ row exit. list_any (λ unit. storage_emits unit cycle (AtRow row) exit) storage.now) sets.old sets.new }
+{
+    for unit in storage {
+        unit.emit_rows(cycle, sets);
+    }
+}
+
+// All storage units sense the points of all rows.
+pub(crate) fn sense_storage_rows(storage: &mut [Storage], cycle: Cycle, pictures: &RowSets)
+    ensures { storage.new ≡ map (λ unit. after_rows storage_sensed cycle (pictures_of pictures.now) unit) storage.old }
+{
+    for unit in storage {
+        unit.sense_rows(cycle, pictures);
+    }
+}

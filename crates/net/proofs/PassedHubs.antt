@@ -1,0 +1,159 @@
+-- What contacts pass on, told of hubs: contacts lead from common hubs, and wires lead there.
+use Rattle.std.proofs.Common.{⊎_elim, ◌≡◌, ◌∙◌, ℕ, ◌+◌, ◌-◌, ◌<◌, ◌≤◌, ◌&&◌, ◌⊎◌, inl, inr, true, List, Option, Some, None, All, sym, ap, refl, arith}
+use Rattle.std.specs.List.{list_any}
+use Rattle.std.proofs.lemmas.Bool.{and_from, and_parts, false≢true, or_cases, or_left, or_right}
+use Rattle.std.proofs.lemmas.Option.{same_Some}
+use Rattle.card_code.specs.Rows.{passing_place}
+use Rattle.card_code.specs.declared.row.Row.{Row as CardRow}
+use Rattle.card_code.specs.declared.row.Row.TheVariants.{Zero, One, Two, Three, Four, Five, Six, Seven, Eight, Nine, Eleven, Twelve}
+use Rattle.hubs.proofs.HubLemmas.{hub_numbered, number_of-range}
+use Rattle.hubs.specs.Hubs.{number_of}
+use Rattle.hubs.specs.declared.hub.Hub.{Hub}
+use Rattle.setups.specs.Wiring.{HasWire, Wiring}
+use Rattle.bit_sets.specs.Contacts.{is_any_contact}
+use Rattle.bit_sets.specs.Rows.{leads}
+use Rattle.net.specs.HubSets.{HubSet, has_number}
+use Rattle.net.specs.Links.{IsInRange, IsPassing, has_at, has_at_number, has_row_at, is_led_to, is_linked}
+use Rattle.net.specs.Nets.{IsNetOf, NetRows, leads_by}
+use Rattle.net.specs.Panel.{contact_of}
+use Rattle.net.specs.Passing.{IsPassedOn, Passes, PassesOn, closes_at_row, is_closed_at, is_passed_by}
+use Rattle.net.specs.declared.contacts.TheConstants.{CONTACTS}
+use Rattle.net.specs.declared.links.Link.{Link}
+use Rattle.net.proofs.DirectWires.{exit_numbered, wires-lead}
+use Rattle.net.proofs.PanelContacts.{IsInRuns, contact_by_place, contact_numbered, in_runs, of_runs}
+use Rattle.net.proofs.PassLemmas.{linked-led, passed-found, passed-from}
+
+-- whether a contact is closed at a row, by the number of its exit
+closes-number : (digits zones : HubSet) (row : CardRow) (hub : Hub) (n : ℕ) → number_of hub ≡ Some n
+    → closes_at_row digits zones row hub ≡ is_closed_at digits.words zones.words (passing_place row) (n - 1)
+closes-number digits zones Nine hub n is = ap (has_number digits) is
+closes-number digits zones Eight hub n is = ap (has_number digits) is
+closes-number digits zones Seven hub n is = ap (has_number digits) is
+closes-number digits zones Six hub n is = ap (has_number digits) is
+closes-number digits zones Five hub n is = ap (has_number digits) is
+closes-number digits zones Four hub n is = ap (has_number digits) is
+closes-number digits zones Three hub n is = ap (has_number digits) is
+closes-number digits zones Two hub n is = ap (has_number digits) is
+closes-number digits zones One hub n is = ap (has_number digits) is
+closes-number digits zones Zero hub n is = ap (has_number digits) is
+closes-number digits zones Eleven hub n is = ap (has_number zones) is
+closes-number digits zones Twelve hub n is = ap (has_number zones) is
+
+-- a hub whose set has a row has a number
+numbered : (sets : List ℕ) (row : ℕ) (hub : Hub) → has_row_at sets row hub ≡ true → (n : ℕ) × (number_of hub ≡ Some n)
+numbered sets row hub on = by (number_of hub) refl where
+  by : (number : Option ℕ) → number_of hub ≡ number → (n : ℕ) × (number_of hub ≡ Some n)
+  by (Some n) is = (n, is)
+  by None is = absurd (false≢true (sym (ap (has_at_number sets row) is) ∙ on))
+
+-- the contacts of the panel lead from entries
+low-common : (from to : ℕ) → IsInRuns CONTACTS from to → 1040 ≤ from
+low-common from to at = grind (arith, at)
+
+module _ (wiring : Wiring) (net : NetRows) (links contacts : List Link) (digits zones : HubSet) (old new : List ℕ)
+    (is_net : IsNetOf wiring net) (range : All IsInRange links) (agree : (from to : ℕ) → is_linked links from to ≡ leads net.rows from to)
+    (passing : All IsPassing contacts)
+    (wired : (from to : ℕ) → is_linked contacts from to ≡ (is_any_contact CONTACTS from to && is_led_to links from))
+    (passes : Passes digits.words zones.words contacts old new) where
+  -- by the number of a hub
+  at-number : (sets : List ℕ) (row : ℕ) (hub : Hub) (n : ℕ) → number_of hub ≡ Some n → has_row_at sets row hub ≡ has_at sets (n - 1) row
+  at-number sets row hub n is = ap (has_at_number sets row) is
+
+  kept : (row : CardRow) (hub : Hub) → has_row_at old (passing_place row) hub ≡ true → has_row_at new (passing_place row) hub ≡ true
+  kept row hub on =
+      let number = numbered old (passing_place row) hub on in
+      at-number new (passing_place row) hub number.0 number.1 ∙ passes (number.0 - 1) (passing_place row)
+      ∙ or_left _ _ (sym (at-number old (passing_place row) hub number.0 number.1) ∙ on)
+
+  only : (row : CardRow) (hub : Hub) → has_row_at new (passing_place row) hub ≡ true
+      → (has_row_at old (passing_place row) hub ≡ true) ⊎ IsPassedOn digits zones old row hub
+  only row hub on =
+      let number = numbered new (passing_place row) hub on in
+      let n = number.0 in
+      let r = passing_place row in
+      ⊎_elim
+      (λ at. inl (at-number old r hub n number.1 ∙ at))
+      (λ passed. inr (by n number.1 (passed-found digits.words zones.words old contacts (n - 1) r passing passed)))
+      (or_cases (has_at old (n - 1) r) (list_any (is_passed_by digits.words zones.words old (n - 1) r) contacts)
+      (sym (passes (n - 1) r) ∙ sym (at-number new r hub n number.1) ∙ on))
+    where
+      by : (n : ℕ) → number_of hub ≡ Some n
+          → (from : ℕ) × (from < 1936) × (n - 1 < 1040) × (is_linked contacts from (n - 1) ≡ true) × (has_at old from (passing_place row) ≡ true)
+          × (is_closed_at digits.words zones.words (passing_place row) (n - 1) ≡ true)
+          → IsPassedOn digits zones old row hub
+      by n is found =
+          let from = found.0 in
+          let common = hub_numbered (from + 1) (omega arith) (let low = found.1 in omega (arith, low)) in
+          let index : from + 1 - 1 ≡ from = omega arith in
+          let first : 1 ≤ n = (number_of-range hub n is).0 in
+          let place : n ≡ n - 1 + 1 = omega (arith, first) in
+          let contact : is_any_contact CONTACTS from (n - 1) ≡ true =
+          (and_parts (is_any_contact CONTACTS from (n - 1)) (is_led_to links from) (sym (wired from (n - 1)) ∙ found.3)).0 in
+          record {
+            common = common.0;
+            contact = contact_by_place common.0 hub from (n - 1) common.1 (is ∙ ap Some place) (in_runs CONTACTS from (n - 1) contact);
+            closed = closes-number digits zones row hub n is ∙ found.5;
+            on = at-number old (passing_place row) common.0 (from + 1) common.1 ∙ ap (λ (p : ℕ). has_at old p (passing_place row)) index ∙ found.4;
+          }
+
+  passed : (row : CardRow) (exit hub : Hub) (on : IsPassedOn digits zones old row hub) → HasWire wiring exit on.common
+      → has_row_at new (passing_place row) hub ≡ true
+  passed row exit hub on wire =
+      let r = passing_place row in
+      let at = exit_numbered hub on.common wire.to on.contact wire.entry_numbered in
+      let h = at.0 in
+      let found = contact_numbered on.common hub h on.contact at.1 in
+      let g = found.0 in
+      let index : h + 1 - 1 ≡ h = omega arith in
+      let common_index : g + 1 - 1 ≡ g = omega arith in
+      let place : wire.to - 1 ≡ g = before wire.to g (same_Some _ _ (sym wire.entry_numbered ∙ found.1)) in
+      let linked : is_linked links (wire.number - 1) (wire.to - 1) ≡ true =
+      agree (wire.number - 1) (wire.to - 1)
+      ∙ sym (ap (λ n. leads_by net.rows n (number_of on.common)) wire.numbered ∙ ap (leads_by net.rows (Some wire.number)) wire.entry_numbered)
+      ∙ (is_net exit on.common).1 wire in
+      let led : is_led_to links g ≡ true =
+      ap (λ (p : ℕ). is_led_to links p) (sym place) ∙ linked-led links (wire.number - 1) (wire.to - 1) linked in
+      let contact : is_linked contacts g h ≡ true =
+      wired g h ∙ and_from (is_any_contact CONTACTS g h) (is_led_to links g) (of_runs CONTACTS g h found.2) led in
+      let there : has_at old g r ≡ true =
+      ap (λ (p : ℕ). has_at old p r) (sym common_index) ∙ sym (at-number old r on.common (g + 1) found.1) ∙ on.on in
+      let shut : is_closed_at digits.words zones.words r h ≡ true =
+      ap (λ (p : ℕ). is_closed_at digits.words zones.words r p) (sym index) ∙ sym (closes-number digits zones row hub (h + 1) at.1) ∙ on.closed in
+      at-number new r hub (h + 1) at.1 ∙ ap (λ (p : ℕ). has_at new p r) index ∙ passes h r
+      ∙ or_right (has_at old h r) _ (passed-from digits.words zones.words old contacts g h r contact there shut)
+    where
+      before : (n g : ℕ) → n ≡ g + 1 → n - 1 ≡ g
+      before n g e = omega (arith, e)
+
+  commons : (row : CardRow) (common hub : Hub) → contact_of hub ≡ Some common → has_row_at new (passing_place row) common ≡ true
+      → has_row_at old (passing_place row) common ≡ true
+  commons row common hub contact on =
+      let r = passing_place row in
+      let number = numbered new r common on in
+      let at = exit_numbered hub common number.0 contact number.1 in
+      let found = contact_numbered common hub at.0 contact at.1 in
+      let g = found.0 in
+      let index : g + 1 - 1 ≡ g = omega arith in
+      let there : has_at new g r ≡ true = ap (λ (p : ℕ). has_at new p r) (sym index) ∙ sym (at-number new r common (g + 1) found.1) ∙ on in
+      at-number old r common (g + 1) found.1 ∙ ap (λ (p : ℕ). has_at old p r) index
+      ∙ by g r (low-common g at.0 found.2)
+      (or_cases (has_at old g r) (list_any (is_passed_by digits.words zones.words old g r) contacts) (sym (passes g r) ∙ there))
+    where
+      by : (g r : ℕ) → 1040 ≤ g → (has_at old g r ≡ true) ⊎ (list_any (is_passed_by digits.words zones.words old g r) contacts ≡ true)
+          → has_at old g r ≡ true
+      by g r high (inl at) = at
+      by g r high (inr passed) =
+          let low = (passed-found digits.words zones.words old contacts g r passing passed).2 in absurd (omega (arith, high, low))
+
+pub passes-on : (wiring : Wiring) (net : NetRows) (links contacts : List Link) (digits zones : HubSet) (old new : List ℕ)
+    → IsNetOf wiring net → All IsInRange links → ((from to : ℕ) → is_linked links from to ≡ leads net.rows from to)
+    → All IsPassing contacts
+    → ((from to : ℕ) → is_linked contacts from to ≡ (is_any_contact CONTACTS from to && is_led_to links from))
+    → Passes digits.words zones.words contacts old new → PassesOn wiring digits zones old new
+passes-on wiring net links contacts digits zones old new is_net range agree passing wired passes = record {
+  leads = wires-lead wiring net links is_net range agree;
+  kept = kept wiring net links contacts digits zones old new is_net range agree passing wired passes;
+  only = only wiring net links contacts digits zones old new is_net range agree passing wired passes;
+  passed = passed wiring net links contacts digits zones old new is_net range agree passing wired passes;
+  commons = commons wiring net links contacts digits zones old new is_net range agree passing wired passes;
+}

@@ -1,0 +1,169 @@
+-- Sets of rows that are spread along wires and passed on by closed contacts, in turns: at each row they become the picture.
+use Rattle.std.proofs.Common.{◌≡◌, ◌∙◌, ◌↔◌, ◌⊎◌, inl, inr, sym, ap, refl, ℕ, ◌-◌, Bool, true, Option, Some, None, List}
+use Rattle.std.proofs.lemmas.Bool.{false≢true}
+use Rattle.card_code.specs.Rows.{passing_place}
+use Rattle.card_code.specs.declared.row.Row.{Row as CardRow}
+use Rattle.hubs.proofs.HubLemmas.{in_range}
+use Rattle.hubs.specs.Hubs.{is_hub_in_range, number_of}
+use Rattle.hubs.specs.declared.hub.Hub.{Hub}
+use Rattle.setups.specs.Wiring.{HasWire, LeadsToEntries, Wiring}
+use Rattle.net.proofs.ImpulsedLaws.{impulsed_within, no_exit_is_entry}
+use Rattle.net.specs.HubSets.{HubSet}
+use Rattle.net.specs.Impulsed.{IsImpulsed, IsPicture}
+use Rattle.net.specs.Impulsed.IsImpulsed.{emitting, led_on}
+use Rattle.net.specs.Laws.{EmitsOrIsFed, FollowsLeads}
+use Rattle.net.specs.Links.{has_at_number, has_row_at}
+use Rattle.net.specs.Panel.{contact_of}
+use Rattle.net.specs.Passing.{AreCommonsSilent, IsPassedOn, PassesOn, SameSets, closes_at_row}
+use Rattle.net.specs.RowSets.{pictures_of}
+use Rattle.net.specs.declared.cycle.Point.TheVariants.{Row}
+
+-- rows are spread along the wires of a setup
+abbrev pub SpreadsWires : Wiring → List ℕ → List ℕ → Type 0
+SpreadsWires wiring old new =
+    (row : ℕ) (hub : Hub) → (has_row_at new row hub ≡ true) ↔ EmitsOrIsFed wiring (has_row_at old row) hub
+
+-- the same sets are asked alike
+same-row : (old new : List ℕ) → SameSets old new → (row : ℕ) (hub : Hub) → has_row_at new row hub ≡ has_row_at old row hub
+same-row old new same row hub = by (number_of hub) where
+  by : (number : Option ℕ) → has_at_number new row number ≡ has_at_number old row number
+  by (Some n) = same (n - 1) row
+  by None = refl
+
+module _ (wiring : Wiring) (digits zones : HubSet) (row : CardRow) (first : List ℕ) where
+  abbrev exits : Hub → Bool
+  exits hub = has_row_at first (passing_place row) hub
+
+  abbrev closed : Hub → Bool
+  closed hub = closes_at_row digits zones row hub
+
+  -- all hubs of the sets are impulsed
+  abbrev AreImpulsed : List ℕ → Type 0
+  AreImpulsed sets = (hub : Hub) → has_row_at sets (passing_place row) hub ≡ true → IsImpulsed wiring exits closed hub
+
+  -- so it is of the first sets once they are spread, of others that are spread, and of those that are passed on
+  first-impulsed : (new : List ℕ) → SpreadsWires wiring first new → AreImpulsed new
+  first-impulsed new spread hub on = by ((spread (passing_place row) hub).0 on) where
+    by : EmitsOrIsFed wiring exits hub → IsImpulsed wiring exits closed hub
+    by (inl emits) = emitting hub emits.0 emits.1
+    by (inr fed) = led_on fed.exit hub (emitting fed.exit (exit-there fed.exit fed.emits) fed.emits) (inl fed.wire)
+      where
+        exit-there : (exit : Hub) → has_row_at first (passing_place row) exit ≡ true → is_hub_in_range exit ≡ true
+        exit-there exit at = there (number_of exit) refl at
+          where
+            there : (number : Option ℕ) → number_of exit ≡ number → has_row_at first (passing_place row) exit ≡ true → is_hub_in_range exit ≡ true
+            there (Some n) is at = in_range exit n is
+            there None is at = absurd (false≢true (sym (ap (has_at_number first (passing_place row)) is) ∙ at))
+
+  spread-impulsed : (old new : List ℕ) → SpreadsWires wiring old new → AreImpulsed old → AreImpulsed new
+  spread-impulsed old new spread before hub on = by ((spread (passing_place row) hub).0 on) where
+    by : EmitsOrIsFed wiring (has_row_at old (passing_place row)) hub → IsImpulsed wiring exits closed hub
+    by (inl emits) = before hub emits.1
+    by (inr fed) = led_on fed.exit hub (before fed.exit fed.emits) (inl fed.wire)
+
+  passed-impulsed : (old new : List ℕ) → PassesOn wiring digits zones old new → AreImpulsed old → AreImpulsed new
+  passed-impulsed old new passes before hub on = by (passes.only row hub on) where
+    by : (has_row_at old (passing_place row) hub ≡ true) ⊎ IsPassedOn digits zones old row hub → IsImpulsed wiring exits closed hub
+    by (inl at) = before hub at
+    by (inr passed) = led_on passed.common hub (before passed.common passed.on) (inr (passed.contact, passed.closed))
+
+  -- what is spread has the hubs that wires lead to from its own
+  spread-follows : (old new : List ℕ) → LeadsToEntries wiring → SpreadsWires wiring old new → (from to : Hub)
+      → has_row_at new (passing_place row) from ≡ true → HasWire wiring from to → has_row_at new (passing_place row) to ≡ true
+  spread-follows old new leads spread from to on wire = by ((spread (passing_place row) from).0 on) where
+    by : EmitsOrIsFed wiring (has_row_at old (passing_place row)) from → has_row_at new (passing_place row) to ≡ true
+    by (inl emits) = (spread (passing_place row) to).1 (inr (record { exit = from; emits = emits.1; wire = wire }))
+    by (inr fed) = absurd (no_exit_is_entry from (leads from to wire).0 (leads fed.exit from fed.wire).1)
+
+  -- sets whose hubs are impulsed, that have the first ones, and what their hubs lead on to, are the picture
+  picture-of : (sets : List ℕ) → AreImpulsed sets
+      → ((hub : Hub) → is_hub_in_range hub ≡ true → exits hub ≡ true → has_row_at sets (passing_place row) hub ≡ true)
+      → ((from to : Hub) → has_row_at sets (passing_place row) from ≡ true → HasWire wiring from to → has_row_at sets (passing_place row) to ≡ true)
+      → ((common hub : Hub) → contact_of hub ≡ Some common → closed hub ≡ true → has_row_at sets (passing_place row) common ≡ true
+      → has_row_at sets (passing_place row) hub ≡ true)
+      → IsPicture wiring exits closed (has_row_at sets (passing_place row))
+  picture-of sets impulsed holds wires contacts hub = (
+    impulsed hub,
+    λ at. impulsed_within wiring exits closed (has_row_at sets (passing_place row)) holds follows at,
+  )
+    where
+      follows : FollowsLeads wiring closed (has_row_at sets (passing_place row))
+      follows from to on (inl wire) = wires from to on wire
+      follows from to on (inr contact) = contacts from to contact.0 contact.1 on
+
+  -- where nothing is passed on
+  once : (spread passed : List ℕ) → AreCommonsSilent first → SpreadsWires wiring first spread
+      → PassesOn wiring digits zones spread passed → SameSets spread passed
+      → IsPicture wiring exits closed (has_row_at spread (passing_place row))
+  once spread passed silent spreads passes same =
+      picture-of spread (first-impulsed spread spreads)
+      (λ hub there emits. (spreads (passing_place row) hub).1 (inl (there, emits)))
+      (spread-follows first spread passes.leads spreads)
+      (λ common hub contact shut on.
+      sym (same-row spread passed same (passing_place row) hub)
+      ∙ by common hub contact shut on ((spreads (passing_place row) common).0 on))
+    where
+      by : (common hub : Hub) → contact_of hub ≡ Some common → closed hub ≡ true → has_row_at spread (passing_place row) common ≡ true
+          → EmitsOrIsFed wiring exits common → has_row_at passed (passing_place row) hub ≡ true
+      by common hub contact shut on (inl emits) =
+          absurd (false≢true (sym (silent common hub contact row) ∙ emits.1))
+      by common hub contact shut on (inr fed) =
+          passes.passed row fed.exit hub (record { common = common; contact = contact; closed = shut; on = on }) fed.wire
+
+  -- where what is passed on once passes no further contact
+  twice : (spread passed spread_on passed_on : List ℕ) → AreCommonsSilent first → SpreadsWires wiring first spread
+      → PassesOn wiring digits zones spread passed → SpreadsWires wiring passed spread_on
+      → PassesOn wiring digits zones spread_on passed_on → SameSets spread_on passed_on
+      → IsPicture wiring exits closed (has_row_at spread_on (passing_place row))
+  twice spread passed spread_on passed_on silent spreads passes spreads_on passes_on same =
+      picture-of spread_on
+      (spread-impulsed passed spread_on spreads_on (passed-impulsed spread passed passes (first-impulsed spread spreads)))
+      (λ hub there emits.
+      (spreads_on (passing_place row) hub).1
+      (inl (there, passes.kept row hub ((spreads (passing_place row) hub).1 (inl (there, emits))))))
+      (spread-follows passed spread_on passes.leads spreads_on)
+      (λ common hub contact shut on.
+      sym (same-row spread_on passed_on same (passing_place row) hub)
+      ∙ by common hub contact shut on ((spreads_on (passing_place row) common).0 on))
+    where
+      wired : (exit common hub : Hub) → contact_of hub ≡ Some common → closed hub ≡ true
+          → has_row_at spread_on (passing_place row) common ≡ true → HasWire wiring exit common
+          → has_row_at passed_on (passing_place row) hub ≡ true
+      wired exit common hub contact shut on wire =
+          passes_on.passed row exit hub (record { common = common; contact = contact; closed = shut; on = on }) wire
+
+      before : (common hub : Hub) → contact_of hub ≡ Some common → closed hub ≡ true
+          → has_row_at spread_on (passing_place row) common ≡ true → EmitsOrIsFed wiring exits common
+          → has_row_at passed_on (passing_place row) hub ≡ true
+      before common hub contact shut on (inl emits) =
+          absurd (false≢true (sym (silent common hub contact row) ∙ emits.1))
+      before common hub contact shut on (inr fed) = wired fed.exit common hub contact shut on fed.wire
+
+      by : (common hub : Hub) → contact_of hub ≡ Some common → closed hub ≡ true
+          → has_row_at spread_on (passing_place row) common ≡ true → EmitsOrIsFed wiring (has_row_at passed (passing_place row)) common
+          → has_row_at passed_on (passing_place row) hub ≡ true
+      by common hub contact shut on (inl emits) =
+          before common hub contact shut on ((spreads (passing_place row) common).0 (passes.commons row common hub contact emits.1))
+      by common hub contact shut on (inr fed) = wired fed.exit common hub contact shut on fed.wire
+
+-- a picture by other sets that are the same
+picture-same : (wiring : Wiring) (exits closed : Hub → Bool) (old new : List ℕ) (row : ℕ) → SameSets old new
+    → IsPicture wiring exits closed (has_row_at old row) → IsPicture wiring exits closed (has_row_at new row)
+picture-same wiring exits closed old new row same is hub = (
+  λ on. (is hub).0 (sym (same-row old new same row hub) ∙ on),
+  λ at. same-row old new same row hub ∙ (is hub).1 at,
+)
+
+pub passed_once : (wiring : Wiring) (digits zones : HubSet) (row : CardRow) (first spread passed : List ℕ) → AreCommonsSilent first
+    → SpreadsWires wiring first spread → PassesOn wiring digits zones spread passed → SameSets spread passed
+    → IsPicture wiring (pictures_of first (Row row)) (closes_at_row digits zones row) (pictures_of passed (Row row))
+passed_once wiring digits zones row first spread passed silent spreads passes same =
+    picture-same wiring _ _ spread passed (passing_place row) same (once wiring digits zones row first spread passed silent spreads passes same)
+
+pub passed_twice : (wiring : Wiring) (digits zones : HubSet) (row : CardRow) (first spread passed spread_on passed_on : List ℕ)
+    → AreCommonsSilent first → SpreadsWires wiring first spread → PassesOn wiring digits zones spread passed
+    → SpreadsWires wiring passed spread_on → PassesOn wiring digits zones spread_on passed_on → SameSets spread_on passed_on
+    → IsPicture wiring (pictures_of first (Row row)) (closes_at_row digits zones row) (pictures_of passed_on (Row row))
+passed_twice wiring digits zones row first spread passed spread_on passed_on silent spreads passes spreads_on passes_on same =
+    picture-same wiring _ _ spread_on passed_on (passing_place row) same
+    (twice wiring digits zones row first spread passed spread_on passed_on silent spreads passes spreads_on passes_on same)

@@ -1,0 +1,81 @@
+-- Contacts as links: sets of rows, one for each place, are passed on along closed contacts. A contact passes on the rows of its near end
+-- at which it is closed.
+use Rattle.std.specs.Prelude.{◌≡◌, ◌⊎◌, ℕ, ◌+◌, ◌≤◌, ◌==◌, ◌&&◌, ◌||◌, nat_lt, Bool, true, false, List, Some, if◌then◌else◌}
+use Rattle.std.specs.List.{list_any}
+use Rattle.card_code.specs.Rows.{passing_place}
+use Rattle.card_code.specs.declared.row.Row.{Row as CardRow}
+use Rattle.hubs.specs.declared.hub.Hub.{Hub}
+use Rattle.setups.specs.Wiring.{HasWire, LeadsToEntries, Wiring}
+use Rattle.bit_sets.specs.Bits.{has_place}
+use Rattle.bit_sets.specs.declared.contacts.Run.{Run}
+use Rattle.net.specs.HubSets.{HubSet, has_hub}
+use Rattle.net.specs.Links.{has_at, has_row_at, is_led_to, is_linked}
+use Rattle.net.specs.Panel.{contact_of}
+use Rattle.net.specs.declared.links.Link.{Link}
+
+-- whether the contact to a place is closed at the row at this place among the points: at the rows 9 to 0 where the first set has it, at 11
+-- and 12 where the second one has it
+abbrev pub is_closed_at : List ℕ → List ℕ → ℕ → ℕ → Bool
+is_closed_at digits zones row place = if nat_lt row 10 then has_place digits place else nat_lt row 12 && has_place zones place
+
+-- the same of the exit of a contact
+abbrev pub closes_at_row : HubSet → HubSet → CardRow → Hub → Bool
+closes_at_row digits zones row hub = has_hub (if nat_lt (passing_place row) 10 then digits else zones) hub
+
+-- whether the contact leads to a place, from one whose set has the row, and is closed at the row
+abbrev pub is_passed_by : List ℕ → List ℕ → List ℕ → ℕ → ℕ → Link → Bool
+is_passed_by digits zones sets place row contact =
+    (contact.to == place) && (has_at sets contact.from row && is_closed_at digits zones row contact.to)
+
+-- the far end of the contact has gained the rows that it passes on, and no other place has gained or lost any
+abbrev pub IsPassed : List ℕ → List ℕ → Link → List ℕ → List ℕ → Type 0
+IsPassed digits zones contact old new =
+    (place row : ℕ) → has_at new place row ≡ (has_at old place row || is_passed_by digits zones old place row contact)
+
+-- each place has the rows that it had, and those that the contacts pass on to it, and no other
+abbrev pub Passes : List ℕ → List ℕ → List Link → List ℕ → List ℕ → Type 0
+Passes digits zones contacts old new =
+    (place row : ℕ) → has_at new place row ≡ (has_at old place row || list_any (is_passed_by digits zones old place row) contacts)
+
+-- each place has the rows that it had
+abbrev pub SameSets : List ℕ → List ℕ → Type 0
+SameSets old new = (place row : ℕ) → has_at new place row ≡ has_at old place row
+
+-- new has what old has, and the contacts of the test that a link leads to
+abbrev pub AddsContacts : (ℕ → ℕ → Bool) → List Link → List Link → List Link → Type 0
+AddsContacts test links old new =
+    (from to : ℕ) → is_linked new from to ≡ (is_linked old from to || (test from to && is_led_to links from))
+
+-- a run of contacts leads from entries of the panel to exits
+pub record LeadsToExits (run : Run) : Type 0 where
+  pub from : 1040 ≤ run.common
+  pub high : run.common + run.count ≤ 1936
+  pub to : run.exits + run.count ≤ 1040
+
+-- a closed contact leads to the hub from one that has the row
+pub record IsPassedOn (digits zones : HubSet) (sets : List ℕ) (row : CardRow) (hub : Hub) : Type 0 where
+  pub common : Hub
+  pub contact : contact_of hub ≡ Some common
+  pub closed : closes_at_row digits zones row hub ≡ true
+  pub on : has_row_at sets (passing_place row) common ≡ true
+
+-- Hubs have the rows that they had, and no others but those that closed contacts pass on to them: all that pass a contact to which a wire
+-- leads. Hubs from which contacts lead gain none. All wires lead from exits to entries.
+pub record PassesOn (wiring : Wiring) (digits zones : HubSet) (old new : List ℕ) : Type 0 where
+  pub leads : LeadsToEntries wiring
+  pub kept :
+      (row : CardRow) (hub : Hub) → has_row_at old (passing_place row) hub ≡ true → has_row_at new (passing_place row) hub ≡ true
+  pub only :
+      (row : CardRow) (hub : Hub) → has_row_at new (passing_place row) hub ≡ true
+      → (has_row_at old (passing_place row) hub ≡ true) ⊎ IsPassedOn digits zones old row hub
+  pub passed :
+      (row : CardRow) (exit hub : Hub) (passed : IsPassedOn digits zones old row hub) → HasWire wiring exit passed.common
+      → has_row_at new (passing_place row) hub ≡ true
+  pub commons :
+      (row : CardRow) (common hub : Hub) → contact_of hub ≡ Some common → has_row_at new (passing_place row) common ≡ true
+      → has_row_at old (passing_place row) common ≡ true
+
+-- no hub from which contacts lead has a row
+abbrev pub AreCommonsSilent : List ℕ → Type 0
+AreCommonsSilent sets =
+    (common hub : Hub) → contact_of hub ≡ Some common → (row : CardRow) → has_row_at sets (passing_place row) common ≡ false

@@ -1,0 +1,111 @@
+//! The contacts of a net one by one, and the rows that they pass on while they are closed.
+
+ghost use Rattle.std.specs.Prelude.{◌≡◌, ℕ, ◌&&◌, All, OnOk, false};
+ghost use Rattle.std.specs.List.{list_any};
+ghost use Rattle.bit_sets.specs.Contacts.{is_any_contact, is_contact};
+ghost use Rattle.net.specs.HubSets.{is_bit};
+ghost use Rattle.net.specs.Links.{IsPassing, is_led_to};
+ghost use Rattle.net.specs.Passing.{AddsContacts, IsPassed, LeadsToExits, Passes, SameSets, is_closed_at};
+
+use crate::links::Link;
+use crate::picture::HUBS;
+use bit_sets::{Run, WORDS, has};
+use std::alloc::AllocError;
+
+// Adds the contacts of the runs that a link leads to.
+pub(crate) fn add_contacts(
+    runs: &[Run],
+    links: &[Link],
+    contacts: &mut Vec<Link>,
+) -> Result<(), AllocError>
+    requires runs { All LeadsToExits runs.now }
+    requires passing { All IsPassing contacts.old.items }
+    ensures passing { OnOk result (All IsPassing contacts.new.items) }
+    ensures added { OnOk result (AddsContacts (is_any_contact runs.now) links.now contacts.old.items contacts.new.items) }
+{
+    for run in runs {
+        add_run(*run, links, contacts)?;
+    }
+    Ok(())
+}
+
+// Adds the contacts of a run that a link leads to.
+fn add_run(run: Run, links: &[Link], contacts: &mut Vec<Link>) -> Result<(), AllocError>
+    requires run { LeadsToExits run }
+    requires passing { All IsPassing contacts.old.items }
+    ensures passing { OnOk result (All IsPassing contacts.new.items) }
+    ensures added { OnOk result (AddsContacts (is_contact run) links.now contacts.old.items contacts.new.items) }
+{
+    for k in 0..run.count {
+        if is_led_to(links, run.common + k) {
+            contacts.push(Link {
+                from: (run.common + k) as u16,
+                to: (run.exits + k) as u16,
+            })?;
+        }
+    }
+    Ok(())
+}
+
+// Whether a link leads to a place.
+fn is_led_to(links: &[Link], place: usize) -> bool
+    ensures { result ≡ is_led_to links.now place }
+{
+    for link in links {
+        if link.to as usize == place {
+            return true;
+        }
+    }
+    false
+}
+
+// The contacts pass on the rows of their near ends at which they are closed: `digits` has the exits of those closed at the rows 9 to 0,
+// `zones` of those closed at 11 and 12. Answers whether a far end may have gained any. No contact leads from where another one leads
+// to.
+pub(crate) fn pass_all(
+    contacts: &[Link],
+    digits: &[u64; WORDS],
+    zones: &[u64; WORDS],
+    sets: &mut [u16; HUBS],
+) -> bool
+    requires { All IsPassing contacts.now }
+    ensures passed { Passes digits.now zones.now contacts.now sets.old sets.new }
+    ensures same { result ≡ false → SameSets sets.old sets.new }
+{
+    let mut gained = false;
+    for contact in contacts {
+        let now = pass(*contact, digits, zones, sets);
+        gained |= now;
+    }
+    gained
+}
+
+// A contact passes on the rows of its near end at which it is closed. Answers whether the far end gained any.
+fn pass(contact: Link, digits: &[u64; WORDS], zones: &[u64; WORDS], sets: &mut [u16; HUBS]) -> bool
+    requires { IsPassing contact }
+    ensures passed { IsPassed digits.now zones.now contact sets.old sets.new }
+    ensures same { result ≡ false → SameSets sets.old sets.new }
+{
+    let near = sets[contact.from as usize];
+    if near == 0 {
+        return false;
+    }
+    let far = sets[contact.to as usize];
+    let joined = far | near & closed_rows(digits, zones, contact.to as usize);
+    sets[contact.to as usize] = joined;
+    joined != far
+}
+
+// The rows at which the contact to a place is closed: 9 to 0 are the first ten, 11 and 12 the next two.
+fn closed_rows(digits: &[u64; WORDS], zones: &[u64; WORDS], place: usize) -> u16
+    ensures { (row : ℕ) → is_bit result row ≡ is_closed_at digits.now zones.now row place }
+{
+    rows_where(has(digits, place), 0x3ff) | rows_where(has(zones, place), 0xc00)
+}
+
+// The rows where the test is true, else none.
+fn rows_where(test: bool, rows: u16) -> u16
+    ensures { (row : ℕ) → is_bit result row ≡ (test && is_bit rows row) }
+{
+    if test { rows } else { 0 }
+}
