@@ -16,6 +16,7 @@ mod Moving
 mod Parts
 mod Going
 mod KeptFeeds
+mod KeptPages
 mod KeptPoints
 pub mod Pictures
 mod Points

@@ -1,9 +1,11 @@
 -- Points of a cycle that are kept: what emitted at each, and which contacts were closed, by the state of the machine before it.
-use Rattle.std.specs.Prelude.{◌≡◌, ℕ, ◌<◌, List, [], ◌∷◌, Option, All, slice_index_or}
+use Rattle.std.specs.Prelude.{◌≡◌, ℕ, ◌<◌, ◌==◌, Bool, List, [], ◌∷◌, ◌++◌, Option, Some, None, All, map, slice_index_or}
+use Rattle.std.specs.List.{filter}
 use Rattle.placed_lines.specs.declared.placed_line.PlacedLine.{PlacedLine}
 use Rattle.setups.specs.Wiring.{Wiring}
 use Rattle.hubs.specs.declared.hub.Hub.{Hub}
 use Rattle.net.specs.HubSets.{has_hub}
+use Rattle.net.specs.Nets.{NetRows, IsNetOf}
 use Rattle.net.specs.declared.cycle.Cycle.{Cycle}
 use Rattle.net.specs.declared.cycle.Point.{Point}
 use Rattle.machine.specs.Cycles.{Reached, line_of, point_at}
@@ -57,3 +59,37 @@ pub record FeedsPast (wiring : Wiring) (machine : MachineState) (next : Option (
   pub lines : List PlacedLine
   pub feeds : Feeds wiring machine next left lines
   pub elsewhere : All (IsElsewhere page line) lines
+
+-- whether a line stands on a page
+abbrev pub is_on : ℕ → PlacedLine → Bool
+is_on page placed = placed.page == page
+
+-- the line that a cycle placed
+abbrev pub line_kept : KeptCycle → PlacedLine
+line_kept kept = kept.line
+
+-- A feed, and of its cycles, in their order, those that placed a line on a page, each with its points: these and no other.
+pub record FeedsKeeping (wiring : Wiring) (machine : MachineState) (next : Option (List ℕ)) (left : MachineState) (page : ℕ)
+    (kept : List KeptCycle) : Type 0 where
+  pub lines : List PlacedLine
+  pub feeds : Feeds wiring machine next left lines
+  pub placed : All (PlacedInFeed wiring machine next) kept
+  pub on_page : map line_kept kept ≡ filter (is_on page) lines
+
+-- With the wires of a setup the kept cycles have gained those of a feed that placed a line on a page.
+pub record GainsKept (net : NetRows) (machine : MachineState) (next : Option (List ℕ)) (left : MachineState) (page : ℕ)
+    (old new : List KeptCycle) : Type 0 where
+  pub kept : List KeptCycle
+  pub gained : new ≡ old ++ kept
+  pub feeds : (wiring : Wiring) → IsNetOf wiring net → FeedsKeeping wiring machine next left page kept
+
+-- With the wires of a setup the kept cycles have gained some of a feed that placed a line.
+pub record GainsSome (net : NetRows) (machine : MachineState) (next : Option (List ℕ)) (old new : List KeptCycle) : Type 0 where
+  pub kept : List KeptCycle
+  pub gained : new ≡ old ++ kept
+  pub placed : (wiring : Wiring) → IsNetOf wiring net → All (PlacedInFeed wiring machine next) kept
+
+-- Helper word: what is kept of a cycle that placed this line, or none.
+abbrev pub kept_of : Cycle → List KeptPoint → Option PlacedLine → List KeptCycle
+kept_of cycle points None = []
+kept_of cycle points (Some line) = record { cycle = cycle; points = points; line = line } ∷ []

@@ -1,6 +1,7 @@
 //! Cycles whose points are kept: what emitted at each, and which contacts were closed.
 
-ghost use Rattle.std.specs.Prelude.{◌≡◌, Some};
+ghost use Rattle.std.specs.Prelude.{◌≡◌, ◌++◌, Some, OnOk, OnErr};
+ghost use Rattle.machine.specs.Kept.{kept_of};
 
 use crate::closed::Closed;
 use crate::groups::nines;
@@ -9,6 +10,7 @@ use card_code::Card;
 use net::{Contacts, Cycle, Net, POINTS, Picture, Point};
 use placed_lines::PlacedLine;
 use selectors::with_carries;
+use std::alloc::AllocError;
 
 /// A point of a cycle as it was.
 #[derive(Clone, Copy, Debug)]
@@ -31,13 +33,14 @@ pub struct KeptCycle {
 }
 
 impl Units {
-    ghost use Rattle.std.specs.Prelude.{◌≡◌, Some, None, IfSome, All, [], ◌∷◌};
+    ghost use Rattle.std.specs.Prelude.{◌≡◌, Some, None, IfSome, All, OnOk, OnErr, [], ◌∷◌, option_to_list};
+    ghost use Rattle.std.specs.List.{filter};
     ghost use Rattle.setups.specs.Wiring.{Wiring};
     ghost use Rattle.net.specs.Nets.{IsNetOf};
     ghost use Rattle.machine.specs.Cycles.{CycleRun, line_of};
     ghost use Rattle.machine.specs.Feeds.{FeedStep, due_in, taken};
     ghost use Rattle.machine.specs.Ends.{EndsCycle, GoesOn};
-    ghost use Rattle.machine.specs.Kept.{FeedsPast, IsElsewhere, IsKept, KeepsPoints, PlacedInFeed};
+    ghost use Rattle.machine.specs.Kept.{FeedsPast, GainsKept, GainsSome, IsElsewhere, IsKept, KeepsPoints, PlacedInFeed, is_on};
     ghost use Rattle.machine.specs.Steady.{AreSteady};
 
     // A cycle, and its points in their order.
@@ -137,4 +140,55 @@ impl Units {
             _ => None,
         }
     }
+
+    // Feeds a card, or the end, runs the cycles that follow, and puts those that place a line on a page after the others.
+    pub(crate) fn feed_page(
+        &mut self,
+        net: &Net,
+        next: &Option<Card>,
+        page: u64,
+        kept: &mut Vec<KeptCycle>,
+    ) -> Result<(), AllocError>
+        ensures fed { OnOk result (GainsKept net.now self.old next.now self.new page kept.old.items kept.new.items) }
+        ensures refused { OnErr result (GainsSome net.now self.old next.now kept.old.items kept.new.items) }
+    {
+        let mut waits = self.begin(next);
+        while let Some(cycle) = self.due_in(waits, next) {
+            let (still, points) = self.run_due_kept(net, cycle, waits, next);
+            waits = still;
+            keep(kept, cycle, points, self.placed_on(page))?;
+        }
+        Ok(())
+    }
+
+    // The line that the cycle that ended last placed, if it placed one on this page.
+    fn placed_on(&self, page: u64) -> Option<PlacedLine>
+        ensures placed { IfSome result (λ placed. line_of self.now ≡ placed ∷ []) }
+        ensures on_page { option_to_list result ≡ filter (is_on page) (line_of self.now) }
+    {
+        match self.placed_line() {
+            Some(placed) if placed.page == page => Some(placed),
+            _ => None,
+        }
+    }
+}
+
+// Puts a cycle that placed a line after the others. Where memory is refused they stay as they were.
+fn keep(
+    kept: &mut Vec<KeptCycle>,
+    cycle: Cycle,
+    points: [KeptPoint; 14],
+    line: Option<PlacedLine>,
+) -> Result<(), AllocError>
+    ensures kept { OnOk result (kept.new.items ≡ kept.old.items ++ kept_of cycle points line) }
+    ensures refused { OnErr result (kept.new.items ≡ kept.old.items) }
+{
+    if let Some(line) = line {
+        kept.push(KeptCycle {
+            cycle,
+            points,
+            line,
+        })?;
+    }
+    Ok(())
 }

@@ -46,7 +46,7 @@ impl Machine {
     ghost use Rattle.std.specs.Prelude.{◌≡◌, ◌⊎◌, Some, None, Ok, Err, Option, IfOk, IfErr, OnOk, OnErr, true, false};
     ghost use Rattle.machine.specs.Running.{IsStarted, refusal, fed};
     ghost use Rattle.machine.specs.Gains.{GainsFeed, GainsPrefix};
-    ghost use Rattle.machine.specs.Kept.{FeedsPast, PlacedInFeed};
+    ghost use Rattle.machine.specs.Kept.{FeedsPast, GainsKept, GainsSome, PlacedInFeed};
     ghost use Rattle.net.specs.Nets.{IsNetOf};
     ghost use Rattle.setups.specs.Wiring.{Wiring};
     ghost use Rattle.std.specs.Prelude.{IfSome};
@@ -134,6 +134,41 @@ impl Machine {
             None => self.is_ended = true,
         }
         Ok(None)
+    }
+
+    /// Feeds the next card, or the end, as [`Machine::feed`] does, and puts the cycles that place a line on this page, each with its
+    /// points and the line, after those of `kept`.
+    ///
+    /// Refused with `Spoiled`, `TooManyCards` or `Ended` as a feed is: then nothing changes. With `Memory` where memory is refused in this feed:
+    /// then `kept` has gained some of these cycles, and the machine is spoiled.
+    pub fn feed_page(
+        &mut self,
+        next: Option<Card>,
+        page: u64,
+        kept: &mut Vec<KeptCycle>,
+    ) -> Result<(), FeedFault>
+        ensures kept { OnOk result (GainsKept self.old.net self.old.machine next self.new.machine page kept.old.items kept.new.items) }
+        ensures goes_on { OnOk result (self.new ≡ fed next self.new.machine self.old) }
+        ensures accepted { OnOk result (refusal self.old next ≡ None) }
+        ensures faults { IfErr result (λ fault. (fault ≡ Memory) ⊎ (refusal self.old next ≡ Some fault)) }
+        ensures refused { (fault : FeedFault) → refusal self.old next ≡ Some fault → result ≡ Err fault }
+        ensures unchanged { (fault : FeedFault) → refusal self.old next ≡ Some fault → self.new ≡ self.old }
+        ensures no_cycles { (fault : FeedFault) → refusal self.old next ≡ Some fault → kept.new.items ≡ kept.old.items }
+        ensures memory { result ≡ Err Memory → GainsSome self.old.net self.old.machine next kept.old.items kept.new.items }
+        ensures spoiled { result ≡ Err Memory → self.new.is_spoiled ≡ true }
+    {
+        if let Some(fault) = self.refusal(&next) {
+            return Err(fault);
+        }
+        if self.units.feed_page(&self.net, &next, page, kept).is_err() {
+            self.is_spoiled = true;
+            return Err(FeedFault::Memory);
+        }
+        match next {
+            Some(_) => self.cards += 1,
+            None => self.is_ended = true,
+        }
+        Ok(())
     }
 
     // Why a feed is refused, if it is.
