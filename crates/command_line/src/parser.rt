@@ -1,10 +1,14 @@
 //! The words that the program takes.
 
-use clap::{Arg, Command, Error};
+use clap::{Arg, Command, Error, value_parser};
 use std::alloc::Global;
 
 /// The version that the program answers.
 const VERSION: &str = "0.3";
+
+/// What stands behind the commands of the program's help.
+const AFTER_HELP: &str =
+    "Status: 0 done, 2 words that are no command, 3 a chart, a deck or another text that is refused, 4 a file that can't be read or an output that can't be written, 5 no memory. Why is told on one line of standard error.\n\nDocuments, in the folder docs: CHART.md the planning chart, GALLERY.md whole charts with their pages, WIRING.md wiring charts, MACHINE.md the machine, FAULTS.md every fault.";
 
 // The word for the chart, a file.
 fn chart_word<'a>(alloc: Global) -> Arg<'a> {
@@ -55,6 +59,22 @@ fn upgrade_command<'a>(alloc: Global) -> Result<Command<'a>, Error> {
     Ok(upgrade)
 }
 
+// The word for the number of a fault.
+fn number_word<'a>(alloc: Global) -> Arg<'a> {
+    Arg::new(alloc, "NN")
+        .help("the number of the fault, as its line tells it")
+        .value_parser(value_parser!(u8))
+        .required(true)
+}
+
+// The command that prints what the guide to faults says of a fault.
+fn fault_command<'a>(alloc: Global) -> Result<Command<'a>, Error> {
+    let fault = Command::new(alloc, "fault")
+        .about("Prints the name of a fault, its cause, its cure and an example")
+        .arg(number_word(alloc))?;
+    Ok(fault)
+}
+
 /// The program's commands, each with its words.
 pub fn parser<'a>(alloc: Global) -> Result<Command<'a>, Error> {
     let run = Command::new(alloc, "run")
@@ -72,11 +92,13 @@ pub fn parser<'a>(alloc: Global) -> Result<Command<'a>, Error> {
         .about(
             "Compiles planning charts and runs decks on a simulated IBM 407. Without a command it reads a chart and then its deck from standard input, and prints the pages.",
         )
+        .after_help(AFTER_HELP)
         .bin_name("run407")?
         .subcommand(run)?
         .subcommand(check)?
         .subcommand(wire)?
         .subcommand(replay_command(alloc)?)?
-        .subcommand(upgrade_command(alloc)?)?;
+        .subcommand(upgrade_command(alloc)?)?
+        .subcommand(fault_command(alloc)?)?;
     Ok(whole)
 }

@@ -41,6 +41,10 @@ pub enum Wanted<'a> {
     Upgrade {
         wiring: &'a str,
     },
+    /// What the guide to faults says of a fault.
+    Fault {
+        number: u8,
+    },
     /// No command: a planning chart and then its deck stand on standard input.
     StandardInput,
 }
@@ -113,6 +117,9 @@ fn wanted_by<'a>(matches: &ArgMatches<'a>) -> Wanted<'a> {
         },
         Some(("upgrade", given)) => Wanted::Upgrade {
             wiring: file_of(given, "WIRING"),
+        },
+        Some(("fault", given)) => Wanted::Fault {
+            number: given.get_one("NN").unwrap_or(0),
         },
         Some((_, given)) => Wanted::Check {
             chart: file_of(given, "CHART"),

@@ -5,6 +5,7 @@ ghost use Rattle.std.specs.IoError.{error_kind};
 
 use command_line::{Refused, Wanted, read_words};
 use commands::{Fault, chart_and_deck, read_whole, replay_by_orders, serve, tell, unprinted};
+use guides::fault_to_end;
 use std::io::{ErrorKind as IoErrorKind, Write};
 use std::{fs, io};
 
@@ -99,6 +100,13 @@ fn serve_chart(rt: &HostRuntime, command: &str, chart: &str) -> u8 {
     )
 }
 
+// Prints what the guide to faults says of a fault.
+fn guide(rt: &HostRuntime, number: u8) -> u8 {
+    let mut out = rt.stdout();
+    let mut faults = rt.stderr();
+    fault_to_end(rt.alloc(), number, &mut out, &mut faults).status
+}
+
 fn run_standard_input(rt: &HostRuntime) -> u8 {
     let mut faults = rt.stderr();
     let text = match read_whole(rt.alloc(), rt.stdin(), "-") {
@@ -123,6 +131,7 @@ fn obey(rt: &HostRuntime, wanted: Wanted) -> u8 {
             deck,
         } => serve_orders(rt, wiring, orders, deck),
         Wanted::Upgrade { wiring } => serve_chart(rt, "upgrade", wiring),
+        Wanted::Fault { number } => guide(rt, number),
         Wanted::StandardInput => run_standard_input(rt),
     }
 }
