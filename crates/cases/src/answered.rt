@@ -2,6 +2,8 @@
 
 use anyhow::Result;
 use commands::{replay_by_orders, serve};
+use guides::fault_to_end;
+use panel_guides::{Place, explain_to_end, legend_to_end};
 use std::alloc::Global;
 use std::io::{Read, Write};
 
@@ -52,6 +54,50 @@ impl Served {
             &mut output,
             &mut told,
         );
+        Served {
+            output,
+            told,
+            status,
+        }
+    }
+
+    /// What is printed of a fault.
+    pub fn of_fault(alloc: Global, number: u8) -> Served {
+        let mut output = Vec::new(alloc);
+        let mut told = Vec::new(alloc);
+        let status = fault_to_end(alloc, number, &mut output, &mut told).status;
+        Served {
+            output,
+            told,
+            status,
+        }
+    }
+
+    /// The legend of a chart.
+    pub fn legend(alloc: Global, chart: &[u8]) -> Served {
+        let mut output = Vec::new(alloc);
+        let mut told = Vec::new(alloc);
+        let status = legend_to_end(alloc, chart, &mut output, &mut told).status;
+        Served {
+            output,
+            told,
+            status,
+        }
+    }
+
+    /// The explanation of a wheel.
+    pub fn explain<R: Read + Drop>(alloc: Global, text: &[u8], deck: R, place: Place) -> Served {
+        let mut output = Vec::new(alloc);
+        let mut told = Vec::new(alloc);
+        let status = explain_to_end(
+            alloc,
+            text,
+            "my.deck",
+            deck,
+            place,
+            &mut output,
+            &mut told,
+        ).status;
         Served {
             output,
             told,

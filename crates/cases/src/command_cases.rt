@@ -4,13 +4,15 @@
 //! place of each line feed, or in a file whose name is given between parentheses. Between parentheses stand too: `(standard input)`
 //! and `(divide)` in place of a command, a text that has a chart and its deck, which are run, or of which the lengths are told;
 //! `(10000000 letters)` in one line, and `(1000000 empty lines)` and `(1000001 empty lines)`, in place of a text or deck; `(unreadable)` and `(1000000 blank cards)` in place of a deck; and last of all `(unwritable)`, where the output can't be written.
-//! A command `replay --orders` has its orders behind it, given as a text is.
+//! A command `replay --orders` has its orders behind it, given as a text is; `fault` has its number behind it, and `explain` the page, the
+//! line and the wheel.
 //! Of a million cards the number of bytes printed stands in place of these.
 
 use crate::answered::Served;
 use allocate::CapacityFault;
 use anyhow::Result;
 use commands::{Fault, chart_and_deck, serve, tell};
+use panel_guides::Place;
 use std::alloc::Global;
 use std::io::{ErrorKind, Read, Write};
 use std::{fs, io};
@@ -102,6 +104,48 @@ fn replay_deck(rt: &HostRuntime, wiring: &[u8], orders: &[u8], deck: &str) -> Re
     Ok(Served::by_orders(alloc, wiring, orders, cards.as_slice()))
 }
 
+// The wheel of a line that three numbers name.
+fn place_of(words: &str) -> Result<Option<Place>> {
+    let Some((page, rest)) = words.split_once(' ') else {
+        return Ok(None);
+    };
+    let Some((line, wheel)) = rest.split_once(' ') else {
+        return Ok(None);
+    };
+    Ok(Some(Place {
+        page: page.parse()?,
+        line: line.parse()?,
+        wheel: wheel.parse()?,
+    }))
+}
+
+// What is explained of the deck of a row.
+fn explain_deck(rt: &HostRuntime, text: &[u8], deck: &str, place: Place) -> Result<Served> {
+    let alloc = rt.alloc();
+    if deck == "(unreadable)" {
+        return Ok(Served::explain(alloc, text, Broken, place));
+    }
+    let cards = bytes_of(rt, deck)?;
+    Ok(Served::explain(alloc, text, cards.as_slice(), place))
+}
+
+// What a row's command gives, where it is one that guides through faults, panels or pages.
+fn guided(rt: &HostRuntime, command: &str, text: &[u8], deck: &str) -> Result<Option<Served>> {
+    if command == "legend" {
+        return Ok(Some(Served::legend(rt.alloc(), text)));
+    }
+    if let Some(number) = command.strip_prefix("fault ") {
+        return Ok(Some(Served::of_fault(rt.alloc(), number.parse()?)));
+    }
+    let Some(words) = command.strip_prefix("explain ") else {
+        return Ok(None);
+    };
+    match place_of(words)? {
+        Some(place) => Ok(Some(explain_deck(rt, text, deck, place)?)),
+        None => Ok(None),
+    }
+}
+
 fn write_served<W: Write>(out: &mut W, served: &Served) -> Result<()> {
     served.write(out)?;
     writeln!(out, "status {}", served.status)?;
@@ -130,6 +174,9 @@ fn write_row<W: Write>(
     if let Some(orders) = command.strip_prefix("replay --orders ") {
         let orders = bytes_of(rt, orders)?;
         let served = replay_deck(rt, text.as_slice(), orders.as_slice(), deck)?;
+        return write_served(out, &served);
+    }
+    if let Some(served) = guided(rt, command, text.as_slice(), deck)? {
         return write_served(out, &served);
     }
     if let Some((deck, "(unwritable)")) = deck.split_once('|') {

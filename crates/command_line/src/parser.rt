@@ -1,10 +1,14 @@
 //! The words that the program takes.
 
-use clap::{Arg, Command, Error};
+use clap::{Arg, Command, Error, value_parser};
 use std::alloc::Global;
 
 /// The version that the program answers.
 const VERSION: &str = "0.3";
+
+/// What stands behind the commands of the program's help.
+const AFTER_HELP: &str =
+    "Status: 0 done, 2 words that are no command, 3 a chart, a deck or another text that is refused, 4 a file that can't be read or an output that can't be written, 5 no memory. Why is told on one line of standard error.\n\nDocuments, in the folder docs: CHART.md the planning chart, GALLERY.md whole charts with their pages, WIRING.md wiring charts, MACHINE.md the machine, EXPLAIN.md explanations, FAULTS.md every fault.";
 
 // The word for the chart, a file.
 fn chart_word<'a>(alloc: Global) -> Arg<'a> {
@@ -55,6 +59,63 @@ fn upgrade_command<'a>(alloc: Global) -> Result<Command<'a>, Error> {
     Ok(upgrade)
 }
 
+// The word for the number of a fault.
+fn number_word<'a>(alloc: Global) -> Arg<'a> {
+    Arg::new(alloc, "NN")
+        .help("the number of the fault, as its line tells it")
+        .value_parser(value_parser!(u8))
+        .required(true)
+}
+
+// The command that prints what the guide to faults says of a fault.
+fn fault_command<'a>(alloc: Global) -> Result<Command<'a>, Error> {
+    let fault = Command::new(alloc, "fault")
+        .about("Prints the name of a fault, its cause, its cure and an example")
+        .arg(number_word(alloc))?;
+    Ok(fault)
+}
+
+// The command that prints the legend of a chart.
+fn legend_command<'a>(alloc: Global) -> Result<Command<'a>, Error> {
+    let legend = Command::new(alloc, "legend")
+        .about("Prints what each line of a planning chart asks for on the panel")
+        .arg(chart_word(alloc))?;
+    Ok(legend)
+}
+
+// The word for a text that gives a panel, a file.
+fn text_word<'a>(alloc: Global) -> Arg<'a> {
+    Arg::new(alloc, "TEXT")
+        .help("the planning chart, or a wiring chart, a file")
+        .required(true)
+}
+
+// The words for a wheel of a printed line, all numbers.
+fn place_words<'a>(alloc: Global, explain: Command<'a>) -> Result<Command<'a>, Error> {
+    let page = Arg::new(alloc, "PAGE")
+        .help("the page, from 1")
+        .value_parser(value_parser!(u64))
+        .required(true);
+    let line = Arg::new(alloc, "LINE")
+        .help("the line of the page, from 1")
+        .value_parser(value_parser!(u32))
+        .required(true);
+    let wheel = Arg::new(alloc, "WHEEL")
+        .help("the wheel, 1 to 120")
+        .value_parser(value_parser!(u32))
+        .required(true);
+    Ok(explain.arg(page)?.arg(line)?.arg(wheel)?)
+}
+
+// The command that explains a wheel of a printed line.
+fn explain_command<'a>(alloc: Global) -> Result<Command<'a>, Error> {
+    let explain = Command::new(alloc, "explain")
+        .about("Prints why a wheel of a printed line printed its character")
+        .arg(text_word(alloc))?
+        .arg(deck_word(alloc))?;
+    place_words(alloc, explain)
+}
+
 /// The program's commands, each with its words.
 pub fn parser<'a>(alloc: Global) -> Result<Command<'a>, Error> {
     let run = Command::new(alloc, "run")
@@ -72,11 +133,15 @@ pub fn parser<'a>(alloc: Global) -> Result<Command<'a>, Error> {
         .about(
             "Compiles planning charts and runs decks on a simulated IBM 407. Without a command it reads a chart and then its deck from standard input, and prints the pages.",
         )
+        .after_help(AFTER_HELP)
         .bin_name("run407")?
         .subcommand(run)?
         .subcommand(check)?
         .subcommand(wire)?
         .subcommand(replay_command(alloc)?)?
-        .subcommand(upgrade_command(alloc)?)?;
+        .subcommand(upgrade_command(alloc)?)?
+        .subcommand(legend_command(alloc)?)?
+        .subcommand(explain_command(alloc)?)?
+        .subcommand(fault_command(alloc)?)?;
     Ok(whole)
 }

@@ -41,6 +41,22 @@ pub enum Wanted<'a> {
     Upgrade {
         wiring: &'a str,
     },
+    /// The legend of a planning chart.
+    Legend {
+        chart: &'a str,
+    },
+    /// Why a wheel of a line that is printed of a deck printed its character, by a planning chart or a wiring chart.
+    Explain {
+        text: &'a str,
+        deck: &'a str,
+        page: u64,
+        line: u32,
+        wheel: u32,
+    },
+    /// What the guide to faults says of a fault.
+    Fault {
+        number: u8,
+    },
     /// No command: a planning chart and then its deck stand on standard input.
     StandardInput,
 }
@@ -113,6 +129,19 @@ fn wanted_by<'a>(matches: &ArgMatches<'a>) -> Wanted<'a> {
         },
         Some(("upgrade", given)) => Wanted::Upgrade {
             wiring: file_of(given, "WIRING"),
+        },
+        Some(("legend", given)) => Wanted::Legend {
+            chart: file_of(given, "CHART"),
+        },
+        Some(("explain", given)) => Wanted::Explain {
+            text: file_of(given, "TEXT"),
+            deck: file_of(given, "DECK"),
+            page: given.get_one("PAGE").unwrap_or(0),
+            line: given.get_one("LINE").unwrap_or(0),
+            wheel: given.get_one("WHEEL").unwrap_or(0),
+        },
+        Some(("fault", given)) => Wanted::Fault {
+            number: given.get_one("NN").unwrap_or(0),
         },
         Some((_, given)) => Wanted::Check {
             chart: file_of(given, "CHART"),

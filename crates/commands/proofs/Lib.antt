@@ -1,7 +1,7 @@
 mod Exclusions
 mod Outcomes
 mod PrintedPages
-mod Refusing
-mod Stopping
+pub mod Refusing
+pub mod Stopping
 mod Streaming
 mod Upgrading

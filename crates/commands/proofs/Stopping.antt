@@ -14,13 +14,13 @@ use Rattle.faults.specs.declared.fault.Fault.TheVariants as fault
 pub chart_refusal : (text : List ℕ) (told : Fault) → RefusesChart text told → told ≢ fault.Memory → status_of told ≡ 3
 chart_refusal text told refuses = named_status chart_told chart_status refuses.cause told refuses.named
 
-run_refusal : (text deck : List ℕ) (told : Fault) → RefusesRun text deck told → told ≢ fault.Memory → status_of told ≡ 3
+pub run_refusal : (text deck : List ℕ) (told : Fault) → RefusesRun text deck told → told ≢ fault.Memory → status_of told ≡ 3
 run_refusal text deck told (chart refuses) not_memory = chart_refusal text told refuses not_memory
 run_refusal text deck told (punches compiled compiles refuses) not_memory = deck_refusal deck told refuses not_memory
 run_refusal text deck told (cards compiled compiles read is_deck cause at_fault named) not_memory =
     named_status run_told run_status cause told named not_memory
 
-replay_refusal : (text deck : List ℕ) (told : Fault) → RefusesReplay text deck told → told ≢ fault.Memory → status_of told ≡ 3
+pub replay_refusal : (text deck : List ℕ) (told : Fault) → RefusesReplay text deck told → told ≢ fault.Memory → status_of told ≡ 3
 replay_refusal text deck told (wires cause at_fault named) not_memory = named_status wiring_told wiring_status cause told named not_memory
 replay_refusal text deck told (punches wiring reads refuses) not_memory = deck_refusal deck told refuses not_memory
 

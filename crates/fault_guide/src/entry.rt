@@ -4,8 +4,8 @@ ghost use Rattle.std.specs.Prelude.{◌≡◌, ◌↔◌, true, IfSome, IsSome};
 ghost use Rattle.fault_guide.specs.Numbered.{ToldFaultsHaveEntries, is_numbered};
 
 use crate::table::{
-    FaultEntry, capacity_entry, card_entry, chart_text_entry, deck_text_entry, order_entry,
-    rule_entry, unfit_entry, wiring_text_entry,
+    FaultEntry, capacity_entry, card_entry, chart_text_entry, deck_text_entry, explanation_entry,
+    order_entry, rule_entry, unfit_entry, wiring_text_entry,
 };
 
 /// The entry of the fault with a number; none where no fault has the number.
@@ -22,6 +22,7 @@ pub fn fault_entry(number: u8) -> Option<FaultEntry>
         61..=67 => Some(capacity_entry(number)),
         71..=76 => Some(wiring_text_entry(number)),
         84 => Some(order_entry()),
+        92..=93 => Some(explanation_entry(number)),
         _ => None,
     }
 }

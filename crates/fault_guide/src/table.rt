@@ -421,3 +421,27 @@ pub(crate) fn order_entry() -> FaultEntry
         example: "1 2 3",
     }
 }
+
+/// The entry of a fault of what is to be explained, 92 or 93.
+pub(crate) fn explanation_entry(number: u8) -> FaultEntry
+    requires from { 92 ≤ number }
+    requires to { number ≤ 93 }
+    ensures { result.number ≡ number }
+{
+    match number {
+        92 => FaultEntry {
+            number: 92,
+            name: "NoSuchLine",
+            cause: "no cycle of the run prints line L of page P",
+            cure: "look at the pages: both are counted from 1, and the blank lines of the form between printed ones count too, but none of them can be explained",
+            example: "run407 explain my.chart my.deck 1 66 1 where the report ends above line 66",
+        },
+        _ => FaultEntry {
+            number: 93,
+            name: "NoSuchWheel",
+            cause: "the wheel is not one of 1 to 120",
+            cure: "a line has 120 wheels: its first character is that of wheel 1",
+            example: "run407 explain my.chart my.deck 1 4 0",
+        },
+    }
+}

@@ -5,6 +5,8 @@ ghost use Rattle.std.specs.IoError.{error_kind};
 
 use command_line::{Refused, Wanted, read_words};
 use commands::{Fault, chart_and_deck, read_whole, replay_by_orders, serve, tell, unprinted};
+use guides::fault_to_end;
+use panel_guides::{Place, explain_to_end, legend_to_end};
 use std::io::{ErrorKind as IoErrorKind, Write};
 use std::{fs, io};
 
@@ -99,6 +101,48 @@ fn serve_chart(rt: &HostRuntime, command: &str, chart: &str) -> u8 {
     )
 }
 
+// Prints the legend of a chart.
+fn tell_legend(rt: &HostRuntime, chart: &str) -> u8 {
+    let mut faults = rt.stderr();
+    let text = match read_file(rt, chart) {
+        Ok(text) => text,
+        Err(fault) => return tell(&fault, &mut faults).status,
+    };
+    let mut out = rt.stdout();
+    legend_to_end(rt.alloc(), text.as_slice(), &mut out, &mut faults).status
+}
+
+// Prints why a wheel printed its character. The text is read whole and the deck is opened before a fault of either is told.
+fn explain(rt: &HostRuntime, text: &str, deck: &str, place: Place) -> u8 {
+    let mut faults = rt.stderr();
+    let panel = match read_file(rt, text) {
+        Ok(panel) => panel,
+        Err(fault) => return tell(&fault, &mut faults).status,
+    };
+    let cards = match fs::open(rt, deck) {
+        Ok(cards) => cards,
+        Err(error) => return tell(&unopened(&error, deck), &mut faults).status,
+    };
+    let mut out = rt.stdout();
+    explain_to_end(
+        rt.alloc(),
+        panel.as_slice(),
+        deck,
+        cards,
+        place,
+        &mut out,
+        &mut faults,
+    )
+    .status
+}
+
+// Prints what the guide to faults says of a fault.
+fn guide(rt: &HostRuntime, number: u8) -> u8 {
+    let mut out = rt.stdout();
+    let mut faults = rt.stderr();
+    fault_to_end(rt.alloc(), number, &mut out, &mut faults).status
+}
+
 fn run_standard_input(rt: &HostRuntime) -> u8 {
     let mut faults = rt.stderr();
     let text = match read_whole(rt.alloc(), rt.stdin(), "-") {
@@ -123,6 +167,15 @@ fn obey(rt: &HostRuntime, wanted: Wanted) -> u8 {
             deck,
         } => serve_orders(rt, wiring, orders, deck),
         Wanted::Upgrade { wiring } => serve_chart(rt, "upgrade", wiring),
+        Wanted::Legend { chart } => tell_legend(rt, chart),
+        Wanted::Explain {
+            text,
+            deck,
+            page,
+            line,
+            wheel,
+        } => explain(rt, text, deck, Place { page, line, wheel }),
+        Wanted::Fault { number } => guide(rt, number),
         Wanted::StandardInput => run_standard_input(rt),
     }
 }

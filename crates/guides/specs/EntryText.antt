@@ -1,0 +1,18 @@
+-- The text of an entry of the guide to faults.
+use Rattle.std.specs.Prelude.{ℕ, List, [], ◌∷◌, ◌++◌, codes, decimal}
+use Rattle.fault_guide.specs.declared.table.FaultEntry.{FaultEntry}
+
+-- the line of one thing that an entry says
+abbrev pub named_line : (name words : List ℕ) → List ℕ
+named_line name words = name ++ codes ": " ++ words ++ codes "\n"
+
+-- the line of the example; none where the guide has none
+abbrev pub example_line : List ℕ → List ℕ
+example_line [] = []
+example_line (first ∷ others) = named_line (codes "example") (first ∷ others)
+
+-- the number and the name of the fault, its cause, its cure and its example, a line each
+abbrev pub entry_text : FaultEntry → List ℕ
+entry_text entry =
+    codes "fault " ++ decimal entry.number ++ codes " " ++ entry.name.now ++ codes "\n"
+    ++ named_line (codes "cause") entry.cause.now ++ named_line (codes "cure") entry.cure.now ++ example_line entry.example.now

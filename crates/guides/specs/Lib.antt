@@ -1,0 +1,3 @@
+pub mod EntryText
+pub mod Printed
+pub mod Unknown

@@ -1,0 +1,5 @@
+mod Explaining
+mod Legending
+mod OnPages
+mod PanelFaults
+mod Stopping

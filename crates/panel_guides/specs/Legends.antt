@@ -1,0 +1,33 @@
+-- The legend of a planning chart, from its bytes, and why there is none.
+use Rattle.std.specs.Prelude.{◌≡◌, ℕ, List, Option}
+use Rattle.std.specs.Io.KnownBytes.{Appends}
+use Rattle.commands.specs.Answers.{CompilesAs}
+use Rattle.commands.specs.Refusals.{RefusesChart}
+use Rattle.compile407.specs.Compilation.{Compilation}
+use Rattle.faults.specs.Status.{status_of}
+use Rattle.faults.specs.declared.fault.Fault.{Fault}
+use Rattle.faults.specs.declared.fault.Fault.TheVariants as fault
+use Rattle.legend.specs.Laws.{IsOfLines}
+use Rattle.legend.specs.Legend.{IsLegend}
+use Rattle.wiring_text.specs.declared.statement.Version.TheVariants.{First}
+
+-- The legend of a text that is a chart which compiles: under each line of it stands what this line asks for on the panel, as a wiring
+-- chart of version 1 spells it. All lines together ask for exactly the wires, jacks and stops of the setup that is wired for the chart.
+pub record IsLegendOf (text answer : List ℕ) : Type 0 where
+  pub compiled : Compilation
+  pub compiles : CompilesAs text compiled
+  pub legend : IsLegend First compiled.chart.lines compiled.plan text answer
+  pub whole : IsOfLines compiled.chart.lines compiled.plan compiled.setup
+
+-- the legend was written after what was there
+pub record PrintsLegend (text : List ℕ) (old new : Option (List ℕ)) : Type 0 where
+  pub answer : List ℕ
+  pub is_legend : IsLegendOf text answer
+  pub written : Appends old new answer
+
+-- Why no legend was printed: the chart is refused, and nothing was printed; or the output can't be written, or memory ran out, and a part
+-- of the legend may have been printed.
+pub data StopsLegend (text : List ℕ) (told : Fault) (Unprinted : Type 0) : Type 0 where
+  refused : status_of told ≡ 3 → RefusesChart text told → Unprinted → StopsLegend text told Unprinted
+  unwritten : told ≡ fault.Write → StopsLegend text told Unprinted
+  memory_wanting : told ≡ fault.Memory → StopsLegend text told Unprinted

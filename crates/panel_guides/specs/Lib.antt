@@ -1,0 +1,6 @@
+pub mod Explained
+pub mod Laws
+pub mod Legends
+pub mod Panels
+pub mod Served
+pub mod Unexplained

@@ -1,0 +1,36 @@
+-- What the command has done where it ends well, and what it has told where it doesn't. The deck is known where its reader tells its bytes
+-- beforehand, and what is written where the writer tells what it holds.
+use Rattle.std.specs.Prelude.{◌≡◌, ℕ, List, Option, IfSome}
+use Rattle.std.specs.Io.KnownBytes.{Appends}
+use Rattle.faults.specs.declared.fault.Fault.{Fault}
+use Rattle.faults.specs.declared.fault.Fault.TheVariants as fault
+use Rattle.panel_guides.specs.Explained.{IsExplained, IsUnexplained}
+use Rattle.panel_guides.specs.Panels.{HasPanel}
+use Rattle.panel_guides.specs.Unexplained.{unexplained_status}
+use Rattle.panel_guides.specs.declared.place.Place.{Place}
+use Rattle.panel_guides.specs.declared.unexplained.Unexplained.{Unexplained}
+use Rattle.panel_guides.specs.declared.unexplained.Unexplained.TheVariants as why
+
+-- the explanation of the run over the deck that was read was written after what was there
+pub record PrintsExplanation (text : List ℕ) (deck : Option (List ℕ)) (place : Place) (old new : Option (List ℕ)) : Type 0 where
+  pub read : List ℕ
+  pub is_deck : IfSome deck (λ known. read ≡ known)
+  pub answer : List ℕ
+  pub explained : IsExplained text read place answer
+  pub written : Appends old new answer
+
+-- with the deck that was read nothing is explained, and this is told
+pub record LeavesUnexplained (text : List ℕ) (deck : Option (List ℕ)) (place : Place) (told : Unexplained) : Type 0 where
+  pub read : List ℕ
+  pub is_deck : IfSome deck (λ known. read ≡ known)
+  pub unexplained : IsUnexplained text read place told
+
+-- Why no explanation was printed: the texts are refused or there is no such place, or the deck can't be read, and nothing was printed; or
+-- the output can't be written, or memory ran out, and a part of the explanation may have been printed.
+pub data StopsExplanation (text : List ℕ) (deck : Option (List ℕ)) (place : Place) (told : Unexplained) (unreadable : Fault)
+    (Unprinted : Type 0) : Type 0 where
+  refused : unexplained_status told ≡ 3 → LeavesUnexplained text deck place told → Unprinted
+      → StopsExplanation text deck place told unreadable Unprinted
+  unread : told ≡ why.Failed unreadable → HasPanel text → Unprinted → StopsExplanation text deck place told unreadable Unprinted
+  unwritten : told ≡ why.Failed fault.Write → StopsExplanation text deck place told unreadable Unprinted
+  memory_wanting : told ≡ why.Failed fault.Memory → StopsExplanation text deck place told unreadable Unprinted

@@ -1,0 +1,23 @@
+//! What is told beside a panel and its pages, as commands: the legend of a planning chart, and why a wheel of a printed line printed its
+//! character.
+//!
+//! [`legend_of`] answers the legend of the bytes of a chart, and [`legend_to_end`] does the whole command: the legend is printed, or why
+//! there is none is told on one line. [`explained`] answers the explanation of the wheel at a [`Place`] of the pages that a planning chart,
+//! or a wiring chart, gives of a deck, and [`explain_to_end`] does the whole command.
+#![tactic(auto)]
+
+mod answers;
+mod laws;
+mod legends;
+mod panels;
+mod place;
+mod serving;
+mod unexplained;
+
+pub use answers::explained;
+pub use laws::explained_lines_are_on_pages;
+pub use legends::{legend_of, legend_to_end, print_legend};
+pub use panels::is_wiring_text;
+pub use place::Place;
+pub use serving::{explain_to_end, print_explanation};
+pub use unexplained::{Unexplained, tell_unexplained, write_unexplained};
