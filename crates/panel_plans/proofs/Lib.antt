@@ -1,0 +1,7 @@
+mod Rows
+mod Shown
+mod Inverse
+mod Wheels
+mod Unique
+mod Whole
+mod Found
