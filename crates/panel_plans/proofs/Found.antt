@@ -1,5 +1,5 @@
 -- What is shown of each total of a chart on a panel that is wired for it is the counter of the plan.
-use Rattle.std.proofs.Common.{◌≡◌, ◌∙◌, refl, sym, ap, subst, ℕ, ◌<◌, ◌≤◌, false, List, Contains, Option, Some, None, IfNone, IfSome, is_none, arith}
+use Rattle.std.proofs.Common.{◌≡◌, ◌∙◌, refl, sym, ap, subst, ℕ, ◌<◌, ◌≤◌, false, true≢false, List, Contains, Option, Some, None, IfNone, IfSome, is_none, arith}
 use Rattle.std.proofs.lemmas.Bool.{not-false}
 use Rattle.capacity.specs.Capacities.{standard}
 use Rattle.chart_rules.specs.Rules.{IsLawful, breaks}
@@ -51,10 +51,7 @@ module _ (chart : Chart) (lawful : IsLawful chart) (rise : NumbersRise chart.lin
     where
       by : (t : IsTotal chart.lines line total) (o : Option Field) → field_named chart.lines t.name ≡ o → is_none (field_named chart.lines t.name) ≡ false
           → names_text (field_named chart.lines t.name) ≡ false → TotalOn chart.lines line
-      by t None named some right = absurd (nothing (sym (ap is_none named) ∙ some))
-        where
-          nothing : is_none (None {X = Field}) ≡ false → ⊥
-          nothing e = cc
+      by t None named some right = absurd (true≢false (sym (ap is_none named) ∙ some))
       by t (Some field) named some right = record {
         level = t.level;
         wheel = t.wheel;
@@ -111,3 +108,10 @@ module _ (chart : Chart) (lawful : IsLawful chart) (rise : NumbersRise chart.lin
         let less = small line on counter.0 known.0 in
         only-found (IsShownOn chart.lines setup line on) counter.0 result (some on less) (none on less) known.0 known.1
         ∙ sym counter.1 ∙ sym (ap (served_by chart.lines its line.number) is)
+
+    -- and there is one
+    pub served-there : (line : Line) (total : Total) → Contains chart.lines line → line_total chart.lines line.number line.statement ≡ Some total
+        → (counter : TotalCounter) × (served_on chart.lines its line ≡ Some counter)
+    served-there line total listed is =
+        let counter = its-counter chart.lines chart.end its rise wired.planned line total listed is in
+        (counter.0, ap (served_by chart.lines its line.number) is ∙ counter.1)

@@ -5,3 +5,4 @@ mod Wheels
 mod Unique
 mod Whole
 mod Found
+mod Steps
