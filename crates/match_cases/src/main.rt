@@ -4,6 +4,9 @@
 //! wired here. Each panel must match its chart, and so must its copy whose counter groups have higher numbers. Of each tenth wire of a
 //! panel a copy is made without it, a copy with another wire besides, and a copy with that one in its place: these must not match, and
 //! what is told as missing and as too much must be just those wires.
+//!
+//! The file `told` names panels of the chart of the exercise in `docs/WIRING.md`, four of them with a mistake: of each what is told is
+//! printed, as it was worked out by hand.
 #![tactic(auto)]
 
 mod copies;
@@ -27,6 +30,13 @@ fn main(rt: HostRuntime) -> Result<()> {
         let chart = fs::read(&rt, &format!(in rt.alloc(); "{name}.chart")?)?;
         writeln!(out, "{name}")?;
         matches::write_wired(rt.alloc(), &mut out, chart.as_slice())?;
+    }
+    let told = fs::read_to_string(&rt, "told")?;
+    let exercise = fs::read(&rt, "exercise.chart")?;
+    for name in told.as_str().lines() {
+        let wiring = fs::read(&rt, &format!(in rt.alloc(); "{name}.wiring")?)?;
+        writeln!(out, "{name}")?;
+        matches::write_told(rt.alloc(), &mut out, exercise.as_slice(), wiring.as_slice())?;
     }
     out.flush()?;
     Ok(())

@@ -6,10 +6,11 @@ use compile407::{Compiled, compile};
 use differences::size;
 use hubs::Hub;
 use match_reports::{Matching, match_compiled};
+use match_texts::{counts, match_text};
 use setups::Setup;
 use std::alloc::Global;
 use std::io::Write;
-use wire_chart::read_setup;
+use wire_chart::{Version, read_setup};
 
 // Whether a panel matches a chart.
 fn does_match(alloc: Global, compiled: &Compiled, setup: &Setup) -> Result<bool> {
@@ -148,4 +149,16 @@ pub fn write_given<W: Write>(
 pub fn write_wired<W: Write>(alloc: Global, out: &mut W, chart: &[u8]) -> Result<()> {
     let compiled = compile(alloc, chart)?;
     write_panel(alloc, out, &compiled, compiled.setup())
+}
+
+/// Writes how much is missing and too much of a panel, and what is told of it.
+pub fn write_told<W: Write>(alloc: Global, out: &mut W, chart: &[u8], wiring: &[u8]) -> Result<()> {
+    let compiled = compile(alloc, chart)?;
+    let setup = read_setup(alloc, wiring)?;
+    let matching = match_compiled(alloc, &compiled, &setup)?;
+    let counts = counts(&matching);
+    writeln!(out, "missing {} extra {}", counts.missing, counts.extra)?;
+    let text = match_text(alloc, Version::First, compiled.chart(), &setup, &matching)?;
+    out.write_all(text.as_bytes())?;
+    Ok(())
 }

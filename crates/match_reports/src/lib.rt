@@ -5,7 +5,7 @@
 #![tactic(auto)]
 
 ghost use Rattle.std.specs.Prelude.{IfOk};
-ghost use Rattle.matching.specs.Matching.{IsMatched, IsMatchingOf};
+ghost use Rattle.matching.specs.Answers.{IsMatched, IsMatchingOf};
 ghost use Rattle.panel_plans.specs.Wired.{IsWiredBy};
 ghost use Rattle.plans.specs.Plans.{Lists};
 ghost use Rattle.promises.specs.Promises.{BeginsReport, PrintsReport};

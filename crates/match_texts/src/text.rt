@@ -1,7 +1,7 @@
 //! Writing what is found.
 
 ghost use Rattle.std.specs.Prelude.{Contains};
-ghost use Rattle.matching.specs.Matching.{IsMatchingOf};
+ghost use Rattle.matching.specs.Answers.{IsMatchingOf};
 ghost use Rattle.plans.specs.Plans.{IsFor};
 
 use crate::counts::is_same_form;

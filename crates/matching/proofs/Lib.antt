@@ -1,1 +1,1 @@
-mod Matching
+mod Compared

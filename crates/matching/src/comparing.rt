@@ -1,7 +1,7 @@
 //! A setup beside a chart.
 
 ghost use Rattle.std.specs.Prelude.{IfOk};
-ghost use Rattle.matching.specs.Matching.{IsMatched, IsMatchingOf};
+ghost use Rattle.matching.specs.Answers.{IsMatched, IsMatchingOf};
 ghost use Rattle.panel_plans.specs.Wired.{IsWiredBy};
 ghost use Rattle.plans.specs.Plans.{IsFor, Lists};
 

@@ -5,7 +5,7 @@ use Rattle.charts.specs.declared.chart.Line.{Line}
 use Rattle.differences.specs.Differences.{IsDifference, SameSetup}
 use Rattle.hubs.specs.declared.hub.Hub.{Hub}
 use Rattle.hubs.specs.declared.jack.Jack.{Jack}
-use Rattle.matching.specs.Matching.{IsExtra, IsMissing}
+use Rattle.matching.specs.Answers.{IsExtra, IsMissing}
 use Rattle.plans.specs.Plans.{Lists}
 use Rattle.setups.specs.Tapes.{has_stop}
 use Rattle.setups.specs.Wiring.{HasJack, HasWire, Wiring}
