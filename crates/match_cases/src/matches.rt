@@ -6,7 +6,7 @@ use compile407::{Compiled, compile};
 use differences::size;
 use hubs::Hub;
 use match_reports::{Matching, match_compiled};
-use match_texts::{counts, match_text};
+use match_texts::{counts_of, match_text};
 use setups::Setup;
 use std::alloc::Global;
 use std::io::Write;
@@ -156,7 +156,7 @@ pub fn write_told<W: Write>(alloc: Global, out: &mut W, chart: &[u8], wiring: &[
     let compiled = compile(alloc, chart)?;
     let setup = read_setup(alloc, wiring)?;
     let matching = match_compiled(alloc, &compiled, &setup)?;
-    let counts = counts(&matching);
+    let counts = counts_of(&matching);
     writeln!(out, "missing {} extra {}", counts.missing, counts.extra)?;
     let text = match_text(alloc, Version::First, compiled.chart(), &setup, &matching)?;
     out.write_all(text.as_bytes())?;

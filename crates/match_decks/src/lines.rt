@@ -1,6 +1,6 @@
 //! The first line that differs.
 
-ghost use Rattle.std.specs.Prelude.{◌≡◌, IfNone, IfSome};
+ghost use Rattle.std.specs.Prelude.{◌≡◌, ◌↔◌, IfNone, IfSome, IsTrue};
 ghost use Rattle.match_decks.specs.Differing.{IsFirstDifference, lower_place, place_of};
 
 use placed_lines::PlacedLine;
@@ -35,6 +35,13 @@ fn lower_place(one: &PlacedLine, other: &PlacedLine) -> Place
     }
 }
 
+// Whether two lines are the same.
+fn is_same(one: &PlacedLine, other: &PlacedLine) -> bool
+    ensures { IsTrue result ↔ (one.now ≡ other.now) }
+{
+    *one == *other
+}
+
 /// The place of the first line in which two lists of printed lines differ: up to it they are the same. Where there they have two
 /// lines, it is the lower one of their places, and where one list ends, the place of the other's line. None where the lists are the same.
 pub fn first_difference(one: &[PlacedLine], other: &[PlacedLine]) -> Option<Place>
@@ -44,7 +51,7 @@ pub fn first_difference(one: &[PlacedLine], other: &[PlacedLine]) -> Option<Plac
     for (place, line) in one.iter().enumerate() {
         match other.get(place) {
             Some(its) => {
-                if *its != *line {
+                if !is_same(its, line) {
                     return Some(lower_place(line, its));
                 }
             }

@@ -35,7 +35,7 @@ fn forms(one: &Tape, other: &Tape) -> u32
 
 /// How much is missing and too much, by what is found of a setup: the wires, jacks and stops of each difference, and one more where the
 /// form is not that of the chart. Nothing, where the setup is wired for the chart.
-pub fn counts(matching: &Matching) -> Counts
+pub fn counts_of(matching: &Matching) -> Counts
     ensures { AreCountsOf matching.now result }
 {
     match matching {

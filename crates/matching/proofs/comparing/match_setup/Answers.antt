@@ -11,8 +11,8 @@ returns-then-is_same-clause-told c = record {
       (c.if-is_same.ensures.0 refl);
 }
 
-pub returns-else-is_same-clause-told : goal.returns-else-is_same-clause-told
-returns-else-is_same-clause-told c = record {
+pub returns-clause-told : goal.returns-clause-told
+returns-clause-told c = record {
   planned = c.in_ok-plan.ensures.planned;
   unwired = λ wired. true≢false (sym (c.if-is_same.ensures.1
       (same-wired c.args.chart.now.lines c.in_ok-plan.plan c.in_ok-wanted.wanted c.args.setup.now c.in_ok-wanted.ensures wired)));
@@ -22,8 +22,8 @@ returns-else-is_same-clause-told c = record {
       c.in_ok-extra.extra c.in_ok-extra.ensures;
 }
 
-pub returns-else-is_same-clause-found : goal.returns-else-is_same-clause-found
-returns-else-is_same-clause-found c = λ its wired.
+pub returns-clause-found : goal.returns-clause-found
+returns-clause-found c = λ its wired.
     let plan = c.in_ok-plan.ensures.found its wired in
     true≢false (sym (c.if-is_same.ensures.1
     (same-wired c.args.chart.now.lines c.in_ok-plan.plan c.in_ok-wanted.wanted c.args.setup.now c.in_ok-wanted.ensures
