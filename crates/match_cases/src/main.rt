@@ -6,7 +6,7 @@
 //! what is told as missing and as too much must be just those wires.
 //!
 //! The file `told` names panels of the chart of the exercise in `docs/WIRING.md`, four of them with a mistake: of each what is told is
-//! printed, as it was worked out by hand.
+//! printed, and what is told with a deck, as it was worked out by hand.
 #![tactic(auto)]
 
 mod copies;
@@ -33,6 +33,7 @@ fn main(rt: HostRuntime) -> Result<()> {
     }
     let told = fs::read_to_string(&rt, "told")?;
     let exercise = fs::read(&rt, "exercise.chart")?;
+    let deck = fs::read(&rt, "exercise.deck")?;
     for name in told.as_str().lines() {
         let wiring = fs::read(&rt, &format!(in rt.alloc(); "{name}.wiring")?)?;
         writeln!(out, "{name}")?;

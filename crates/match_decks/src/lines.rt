@@ -49,17 +49,16 @@ pub fn first_difference(one: &[PlacedLine], other: &[PlacedLine]) -> Option<Plac
     ensures first { IfSome result (IsFirstDifference one.now other.now) }
 {
     for (place, line) in one.iter().enumerate() {
-        match other.get(place) {
-            Some(its) => {
-                if !is_same(its, line) {
-                    return Some(lower_place(line, its));
-                }
-            }
-            None => return Some(place_of(line)),
+        if place >= other.len() {
+            return Some(place_of(line));
+        }
+        if !is_same(line, &other[place]) {
+            return Some(lower_place(line, &other[place]));
         }
     }
-    match other.get(one.len()) {
-        Some(its) => Some(place_of(its)),
-        None => None,
+    if one.len() < other.len() {
+        Some(place_of(&other[one.len()]))
+    } else {
+        None
     }
 }
