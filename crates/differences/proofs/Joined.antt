@@ -1,0 +1,50 @@
+-- A difference put together from its tape, its jacks and its wires.
+use Rattle.std.proofs.Common.{◌≡◌, ◌↔◌, ◌∙◌, ℕ, ◌⊎◌, inl, inr, Result, Ok, Err, true, false, true≢false, IsTrue, sym, ap}
+use Rattle.std.specs.Result.{OnOk}
+use Rattle.hubs.specs.declared.hub.Hub.{Hub}
+use Rattle.hubs.specs.declared.jack.Jack.{Jack}
+use Rattle.jacks_and_tape.specs.HelperJacks.{Plugs}
+use Rattle.line_wires.specs.HelperAdds.{Adds}
+use Rattle.setups.specs.Tapes.{CarriageTape, has_stop}
+use Rattle.setups.specs.Wiring.{HasJack, HasWire, Wiring, is_plugged}
+use Rattle.differences.specs.Differences.{IsDifference, LacksJack, LacksStop, LacksWire}
+use Rattle.differences.specs.Helper.{IsTapeDifference, LacksHole}
+
+-- what follows where a call gave no error
+pub on_ok : {T E : Type 0} (r : Result T E) (P Q : Type 0) → (P → Q) → OnOk r P → OnOk r Q
+on_ok (Ok x) P Q f p = f p
+on_ok (Err e) P Q f p = tt
+
+-- a test that fails tells that it isn't so
+pub not_there : {P : Type 0} → IsTrue false ↔ P → P → ⊥
+not_there tells p = true≢false (sym (tells.1 p))
+
+pub joined : (one other fresh mid left : Wiring) (tape : CarriageTape) → ((exit entry : Hub) → ¬ HasWire fresh exit entry)
+    → ((jack : Jack) → is_plugged fresh jack ≡ false) → fresh.tape ≡ tape → IsTapeDifference one.tape other.tape tape
+    → Plugs (LacksJack one other) fresh mid → Adds (LacksWire one other) mid left → IsDifference one other left
+joined one other fresh mid left tape no_wires no_jacks taped is plugs adds =
+    let same : left.tape ≡ tape = adds.tape ∙ plugs.tape ∙ taped in
+    record {
+      wires = λ exit entry. (
+        λ has. elim ((adds.wires exit entry).0 has) [
+          | inl before ↦ absurd (no_wires exit entry ((plugs.wires exit entry).0 before))
+          | inr lacks ↦ lacks
+        ],
+        λ lacks. (adds.wires exit entry).1 (inr lacks),
+      );
+      jacks = λ jack. (
+        λ has. elim ((plugs.jacks jack).0 (sym (adds.jacks jack) ∙ has)) [
+          | inl before ↦ absurd (true≢false (sym before ∙ no_jacks jack))
+          | inr lacks ↦ lacks
+        ],
+        λ lacks. adds.jacks jack ∙ (plugs.jacks jack).1 (inr lacks),
+      );
+      stops = λ c l. (
+        λ has. let hole = (is.stops c l).0 (sym (ap (λ t. has_stop t c l) same) ∙ has) in
+            record { there = hole.there; lacking = hole.lacking },
+        λ lacks. ap (λ t. has_stop t c l) same ∙ (is.stops c l).1 (record { there = lacks.there; lacking = lacks.lacking }),
+      );
+      lines = ap (λ (t : CarriageTape). t.lines) same ∙ is.lines;
+      first = ap (λ (t : CarriageTape). t.first) same ∙ is.first;
+      overflow = ap (λ (t : CarriageTape). t.overflow) same ∙ is.overflow;
+    }

@@ -1,0 +1,8 @@
+mod Steps
+mod Stops
+mod Wires
+mod Jacks
+mod Counts
+mod Counting
+mod Same
+mod Joined

@@ -1,0 +1,37 @@
+-- Going through a list, with what each element gives.
+use Rattle.std.proofs.Common.{◌≡◌, ◌∙◌, refl, sym, ap, ℕ, ◌+◌, ◌<◌, suc, Bool, true, false, List, [], ◌∷◌, ◌++◌, Option, Some, None, Result, Ok, Err, IfOk, is_some, length, drop, get_or, filter_map, arith, append_assoc}
+use Rattle.std.specs.List.{cons_option}
+use Rattle.std.proofs.Math.Seq.{drop-cons}
+
+module _ {X Y : Type 0} (f : X → Option Y) (xs : List X) (i : ℕ) (x : X) (less : i < length xs) (is : x ≡ get_or xs i x) where
+  cut : drop i xs ≡ x ∷ drop (i + 1) xs
+  cut =
+      let next : suc i ≡ i + 1 = omega arith in
+      drop-cons xs i x less ∙ ap (λ y. y ∷ drop (suc i) xs) (sym is) ∙ ap (λ n. x ∷ drop n xs) next
+
+  pub one-more : (y : Y) (items all : List Y) → f x ≡ Some y → items ++ filter_map f (drop i xs) ≡ all
+      → (items ++ y ∷ []) ++ filter_map f (drop (i + 1) xs) ≡ all
+  one-more y items all gives known =
+      append_assoc items (y ∷ []) (filter_map f (drop (i + 1) xs))
+      ∙ ap (λ o. items ++ cons_option o (filter_map f (drop (i + 1) xs))) (sym gives)
+      ∙ ap (λ ys. items ++ filter_map f ys) (sym cut) ∙ known
+
+  pub no-more : (items all : List Y) → f x ≡ None → items ++ filter_map f (drop i xs) ≡ all
+      → items ++ filter_map f (drop (i + 1) xs) ≡ all
+  no-more items all gives known =
+      ap (λ o. items ++ cons_option o (filter_map f (drop (i + 1) xs))) (sym gives)
+      ∙ ap (λ ys. items ++ filter_map f ys) (sym cut) ∙ known
+
+-- an option that has a value, and one that has none
+pub value-of : {X : Type 0} (o : Option X) → true ≡ is_some o → (x : X) × (o ≡ Some x)
+value-of (Some x) has = (x, refl)
+value-of None has = cc
+
+pub none-of : {X : Type 0} (o : Option X) → false ≡ is_some o → o ≡ None
+none-of (Some x) has = cc
+none-of None has = refl
+
+-- what follows from what holds where a call gave no error
+pub if-ok : {T E : Type 0} (r : Result T E) (P Q : T → Type 0) → ((x : T) → P x → Q x) → IfOk r P → IfOk r Q
+if-ok (Ok x) P Q f p = f x p
+if-ok (Err e) P Q f p = tt

@@ -1,0 +1,4 @@
+pub mod Groups
+pub mod Shown
+pub mod Totals
+pub mod Wired

@@ -1,0 +1,44 @@
+-- A setup that is wired for a chart by a plan of it, and the counters of a plan line by line.
+use Rattle.std.specs.Prelude.{◌≡◌, ℕ, List, Contains, Option, Some, None}
+use Rattle.charts.specs.Field.{decimals_of}
+use Rattle.charts.specs.declared.chart.Line.{Line}
+use Rattle.charts.specs.declared.level.Level.{Level}
+use Rattle.charts.specs.declared.statement.Field.{Field}
+use Rattle.charts.specs.declared.statement.Mark.{Mark}
+use Rattle.charts.specs.declared.statement.Statement.TheVariants as says
+use Rattle.plans.specs.Plans.{IsFor, Lists}
+use Rattle.plans.specs.declared.counter.TotalCounter.{TotalCounter}
+use Rattle.setups.specs.Wiring.{Wiring}
+use Rattle.wanted.specs.ChartTotals.{line_total}
+use Rattle.wanted.specs.declared.total.Total.{Total}
+use Rattle.wiring_table.specs.Figures.{IsAmount, digit_wheel}
+use Rattle.wiring_table.specs.Parts.{counter_for}
+use Rattle.wiring_table.specs.WiredFor.{WiredFor}
+
+-- a setup is wired for a chart by a plan of it
+pub record IsWiredBy (lines : List Line) (setup : Wiring) (plan : Lists) : Type 0 where
+  pub planned : IsFor lines plan
+  pub wired : WiredFor lines plan setup
+
+-- a line of a chart is a total of an amount
+pub record TotalOn (lines : List Line) (line : Line) : Type 0 where
+  pub level : Level
+  pub wheel : ℕ
+  pub name : List ℕ
+  pub digits : ℕ
+  pub mark : Option Mark
+  pub field : Field
+  pub says_total : line.statement ≡ says.TotalAmount level wheel name digits mark
+  pub amount : IsAmount lines name field
+
+-- the wheel of its units
+abbrev pub units_wheel : (lines : List Line) (line : Line) → TotalOn lines line → ℕ
+units_wheel lines line total = digit_wheel total.wheel total.digits (decimals_of total.field.kind) 1
+
+-- the counter of the total on a line with a number, if it is one
+abbrev pub served_by : List Line → Lists → ℕ → Option Total → Option TotalCounter
+served_by lines plan number None = None
+served_by lines plan number (Some total) = counter_for lines plan number
+
+abbrev pub served_on : List Line → Lists → Line → Option TotalCounter
+served_on lines plan line = served_by lines plan line.number (line_total lines line.number line.statement)

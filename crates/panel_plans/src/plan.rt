@@ -1,0 +1,160 @@
+//! The plan that a setup shows.
+
+ghost use Rattle.std.specs.Prelude.{◌≡◌, IfOk, ◌∷◌};
+ghost use Rattle.panel_plans.specs.Wired.{IsWiredBy};
+ghost use Rattle.plans.specs.Plans.{IsFor, Lists};
+ghost use Rattle.std.specs.Option.{IsSomeAnd};
+ghost use Rattle.wanted.specs.Wanted.{parts_of};
+
+use crate::counters::{Units, shown_counter, shown_on, units_on};
+use crate::stand_ins::{Taken, stand_in};
+use chart_rules::Chart;
+use plans::{Plan, TotalCounter};
+use setups::Setup;
+use std::alloc::{AllocError, Global};
+use wanted::{Wanted, line_total};
+
+// Where the units of the totals of a chart stand, in the order of their lines.
+fn units_of(alloc: Global, chart: &Chart) -> Result<Vec<Units>, AllocError> {
+    chart
+        .lines()
+        .iter()
+        .filter_map(|line| units_on(chart, line))
+        .collect(alloc)
+}
+
+// The counters that a setup shows for the totals of a chart, in the order of their lines; none where it shows none for one of them.
+fn shown_counters(
+    alloc: Global,
+    chart: &Chart,
+    setup: &Setup,
+) -> Result<Option<Vec<TotalCounter>>, AllocError>
+    ensures { IfOk result (λ shown. (its : Lists) → IsWiredBy chart.now.lines setup.now its → IsSomeAnd shown (λ list. list.items ≡ its.counters)) }
+{
+    let lines = chart.lines();
+    let mut counters = Vec::new(alloc);
+    for line in lines {
+        if line_total(chart, line).is_some() {
+            match shown_on(chart, setup, line) {
+                Some(counter) => counters.push(counter)?,
+                None => return Ok(None),
+            }
+        }
+    }
+    Ok(Some(counters))
+}
+
+// What the setup shows of each total.
+fn shown_each(
+    alloc: Global,
+    setup: &Setup,
+    totals: &[Units],
+) -> Result<Vec<Option<TotalCounter>>, AllocError> {
+    let mut shown = Vec::new(alloc);
+    for units in totals {
+        shown.push(shown_counter(setup, *units))?;
+    }
+    Ok(shown)
+}
+
+// The counters of the totals: those that the setup shows, and free ones for the others; none where too few are left.
+fn all_counters(
+    alloc: Global,
+    setup: &Setup,
+    totals: &[Units],
+    shown: &[Option<TotalCounter>],
+) -> Result<Option<Vec<TotalCounter>>, AllocError> {
+    let mut counters = Vec::new(alloc);
+    for (units, its) in totals.iter().zip(shown) {
+        let taken = Taken {
+            shown,
+            so_far: counters.as_slice(),
+        };
+        let counter = match its {
+            Some(counter) => Some(*counter),
+            None => stand_in(setup, *units, taken),
+        };
+        match counter {
+            Some(counter) => counters.push(counter)?,
+            None => return Ok(None),
+        }
+    }
+    Ok(Some(counters))
+}
+
+// The plan of a chart with these counters, and with the other parts that every plan of it has.
+fn with_counters(
+    alloc: Global,
+    chart: &Chart,
+    own: &Plan,
+    counters: Vec<TotalCounter>,
+) -> Result<Plan, AllocError>
+    requires { IsFor chart.now.lines own.now }
+    ensures counters { IfOk result (λ plan. plan.counters ≡ counters.items) }
+    ensures parts { IfOk result (λ plan. plan.parts ≡ own.now.parts) }
+{
+    // What is known of the parts of every plan is told with them.
+    let _pilots = own.pilots();
+    let wanted = Wanted::of(alloc, chart)?;
+    Ok(Plan::of(counters, wanted.into_parts()))
+}
+
+// A plan of a chart once more.
+fn again(alloc: Global, chart: &Chart, own: &Plan) -> Result<Plan, AllocError>
+    requires { IsFor chart.now.lines own.now }
+    ensures { IfOk result (λ plan. plan ≡ own.now) }
+{
+    let mut counters = Vec::new(alloc);
+    counters.extend_from_slice(own.counters())?;
+    with_counters(alloc, chart, own, counters)
+}
+
+// The plan of a chart with these counters, where it is one; else the one that is given.
+fn planned(
+    alloc: Global,
+    chart: &Chart,
+    own: &Plan,
+    counters: Vec<TotalCounter>,
+) -> Result<Plan, AllocError>
+    requires { IsFor chart.now.lines own.now }
+    ensures planned { IfOk result (IsFor chart.now.lines) }
+    ensures kept { IfOk result (λ plan. (its : Lists) → IsFor chart.now.lines its → counters.items ≡ its.counters → plan ≡ its) }
+{
+    let plan = with_counters(alloc, chart, own, counters)?;
+    if plan.is_for(chart) {
+        Ok(plan)
+    } else {
+        again(alloc, chart, own)
+    }
+}
+
+// A plan of a chart that is near, where a setup shows no counter of some total.
+fn near_plan(alloc: Global, chart: &Chart, own: &Plan, setup: &Setup) -> Result<Plan, AllocError>
+    requires { IsFor chart.now.lines own.now }
+    ensures { IfOk result (IsFor chart.now.lines) }
+{
+    let totals = units_of(alloc, chart)?;
+    let shown = shown_each(alloc, setup, totals.as_slice())?;
+    match all_counters(alloc, setup, totals.as_slice(), shown.as_slice())? {
+        Some(counters) => planned(alloc, chart, own, counters),
+        None => again(alloc, chart, own),
+    }
+}
+
+/// The plan of a chart that the wires of a setup show. Where they show none, one that is near: what shows no counter of its own has a
+/// free one, and where that is no plan of the chart, it is a plan of it that is given. Its only refusal is memory.
+pub fn read_plan(
+    alloc: Global,
+    chart: &Chart,
+    own: &Plan,
+    setup: &Setup,
+) -> Result<Plan, AllocError>
+    requires { IsFor chart.now.lines own.now }
+    ensures planned { IfOk result (IsFor chart.now.lines) }
+    ensures found { IfOk result (λ plan. (its : Lists) → IsWiredBy chart.now.lines setup.now its → plan ≡ its) }
+{
+    match shown_counters(alloc, chart, setup)? {
+        Some(counters) => planned(alloc, chart, own, counters),
+        None => near_plan(alloc, chart, own, setup),
+    }
+}

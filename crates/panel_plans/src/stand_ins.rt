@@ -1,0 +1,149 @@
+//! Groups that stand in where none shows a total.
+
+ghost use Rattle.std.specs.Prelude.{◌≡◌, ◌≤◌, true, IfSome};
+ghost use Rattle.capacity.specs.Capacities.{HasGroup, standard};
+
+use crate::counters::Units;
+use crate::groups::{GROUPS, carries_to, group_at, is_read_out, leads_to};
+use capacity::CounterGroup;
+use plans::TotalCounter;
+use setups::Setup;
+use wanted::takes_two;
+
+/// The counters that are taken: those that the setup shows, and those that stand in for others.
+#[derive(Clone, Copy)]
+pub(crate) struct Taken<'a> {
+    /// What the setup shows of each total.
+    pub shown: &'a [Option<TotalCounter>],
+    /// The counters so far.
+    pub so_far: &'a [TotalCounter],
+}
+
+// Whether a group is in one of some counters.
+fn is_in(counters: &[TotalCounter], group: CounterGroup) -> bool {
+    counters.iter().any(|counter| counter.has(group))
+}
+
+// Whether a group is in one of the counters that a setup shows.
+fn is_shown(shown: &[Option<TotalCounter>], group: CounterGroup) -> bool {
+    shown.iter().any(|each| match each {
+        Some(counter) => counter.has(group),
+        None => false,
+    })
+}
+
+// Whether a group is free.
+fn is_free(taken: Taken, group: CounterGroup) -> bool {
+    !is_in(taken.so_far, group) && !is_shown(taken.shown, group)
+}
+
+// How many of the wires are there that show the units of a total.
+fn units_wires(setup: &Setup, units: Units, group: CounterGroup) -> u8
+    ensures { result ≤ 2 }
+{
+    let read_out = is_read_out(setup, units.level, group);
+    let leads = leads_to(setup, units.wheel, group);
+    u8::from(read_out) + u8::from(leads)
+}
+
+// The first free group of so many positions, or more, with so many of the wires that show the units of a total.
+fn group_with(
+    setup: &Setup,
+    units: Units,
+    taken: Taken,
+    width: u32,
+    wires: u8,
+) -> Option<CounterGroup>
+    ensures there { IfSome result (HasGroup standard) }
+    ensures wide { IfSome result (λ group. width ≤ group.width) }
+{
+    for place in 0..GROUPS {
+        let group = group_at(place);
+        if width <= u32::from(group.width)
+            && units_wires(setup, units, group) == wires
+            && is_free(taken, group)
+        {
+            return Some(group);
+        }
+    }
+    None
+}
+
+// The free group of so many positions, or more, with the most of these wires.
+fn units_group(setup: &Setup, units: Units, taken: Taken, width: u32) -> Option<CounterGroup>
+    ensures there { IfSome result (HasGroup standard) }
+    ensures wide { IfSome result (λ group. width ≤ group.width) }
+{
+    for missing in 0..3 {
+        let group = group_with(setup, units, taken, width, 2 - missing);
+        if group.is_some() {
+            return group;
+        }
+    }
+    None
+}
+
+// How much speaks for a group as the upper one of a counter: the carry from the lower one, or that the level's cycle reads it out.
+fn upper_wires(setup: &Setup, units: Units, lower: CounterGroup, group: CounterGroup) -> u8
+    ensures { result ≤ 2 }
+{
+    if carries_to(setup, lower, group) {
+        2
+    } else {
+        u8::from(is_read_out(setup, units.level, group))
+    }
+}
+
+// The first free group of 8 positions of a higher number for which so much speaks as the upper one of a counter.
+fn upper_with(
+    setup: &Setup,
+    units: Units,
+    taken: Taken,
+    lower: CounterGroup,
+    wires: u8,
+) -> Option<CounterGroup>
+    ensures there { IfSome result (HasGroup standard) }
+{
+    for place in 0..GROUPS {
+        let group = group_at(place);
+        if group.width == 8
+            && lower.number < group.number
+            && upper_wires(setup, units, lower, group) == wires
+            && is_free(taken, group)
+        {
+            return Some(group);
+        }
+    }
+    None
+}
+
+// The free group for which the most speaks.
+fn upper_group(
+    setup: &Setup,
+    units: Units,
+    taken: Taken,
+    lower: CounterGroup,
+) -> Option<CounterGroup>
+    ensures there { IfSome result (HasGroup standard) }
+{
+    for missing in 0..3 {
+        let group = upper_with(setup, units, taken, lower, 2 - missing);
+        if group.is_some() {
+            return group;
+        }
+    }
+    None
+}
+
+/// A counter of free groups that stands in for that of a total, if there is one: of the groups that are enough the one with the most of
+/// the wires that would show it.
+pub(crate) fn stand_in(setup: &Setup, units: Units, taken: Taken) -> Option<TotalCounter> {
+    if takes_two(units.need) {
+        let lower = units_group(setup, units, taken, 8)?;
+        let upper = upper_group(setup, units, taken, lower)?;
+        Some(TotalCounter::Coupled { lower, upper })
+    } else {
+        let group = units_group(setup, units, taken, units.need)?;
+        Some(TotalCounter::Single { group })
+    }
+}
