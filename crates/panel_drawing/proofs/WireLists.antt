@@ -9,7 +9,7 @@ use Rattle.setups.specs.Wiring.{Wiring, HasWire}
 use Rattle.hubs.specs.declared.hub.Hub.{Hub}
 use Rattle.hubs.proofs.HubLemmas.{number_of-range}
 use Rattle.wire_chart.specs.WrittenText.{IsHubBefore, IsWireBefore}
-use Rattle.wire_chart.specs.Writing.{IsListedAt, IsWireTo, IsWireToBelow, IsWireToAny, IsWireOf, IsWireFrom, IsWireFromBelow}
+use Rattle.wire_chart.specs.Writing.{IsListedAt, IsWireTo, IsWireToBelow, IsWireToAny, IsWireFrom, IsWireFromBelow}
 use Rattle.panel_drawing.specs.Wires.{AreWiresOf, GainsWires}
 use Rattle.panel_drawing.proofs.Ordered.{pairs_none, pairs_one, pairs_append, contains_none, contains_one, contains_first}
 

@@ -1,5 +1,5 @@
 -- What a text gains thing by thing.
-use Rattle.std.proofs.Common.{add-one, ◌≡◌, ◌∙◌, refl, arith, append_assoc, append-nil, ◌≤◌, sym, ap, ℕ, ◌+◌, ◌<◌, List, [], ◌∷◌, ◌++◌, length, flat_map, take, get_or}
+use Rattle.std.proofs.Common.{add-one, ◌≡◌, ◌∙◌, refl, arith, append_assoc, append-nil, sym, ap, ℕ, ◌+◌, ◌<◌, List, [], ◌∷◌, ◌++◌, length, flat_map, take, get_or}
 use Rattle.std.specs.Prelude.{OnOk, Option, Result, Ok, Err, Some, None, drop, map}
 use Rattle.std.specs.List.{range_with_len}
 use Rattle.std.proofs.Math.Seq.{drop-cons}
@@ -47,7 +47,6 @@ pub steps_more : (old mid new : List ℕ) (from to : Hub) (others : List Hub) (p
     → new ++ steps_text to (drop (place + 1) others) ≡ whole
 steps_more old mid new from to others place whole less item before one =
     let left : drop place others ≡ to ∷ drop (place + 1) others =
-    
     let parts : drop place others ≡ get_or others place to ∷ drop (place + 1) others = rw (add-one, drop-cons others place to) in
     parts ∙ ap (λ (h : Hub). h ∷ drop (place + 1) others) item in
     ap (λ (l : List ℕ). l ++ steps_text to (drop (place + 1) others)) one

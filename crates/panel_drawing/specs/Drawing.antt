@@ -1,11 +1,11 @@
 -- The drawing as SVG: a box with a label for each block, a dot for each hub of the panel, in the order of their numbers, and a curve for
 -- each wire of a list, in its order. A step is a unit of the drawing.
-use Rattle.std.specs.Prelude.{◌≡◌, ℕ, ◌==◌, ◌%◌, Bool, List, [], ◌∷◌, ◌++◌, Some, codes, decimal, if◌then◌else◌, map}
+use Rattle.std.specs.Prelude.{◌≡◌, ℕ, ◌==◌, ◌%◌, List, [], ◌∷◌, ◌++◌, Some, codes, decimal, if◌then◌else◌, map}
 use Rattle.std.specs.List.{flat_map, range_with_len}
 use Rattle.hub_table.specs.HubTable.{row_of}
 use Rattle.hubs.specs.Hubs.{letters_of, number_of}
 use Rattle.hubs.specs.declared.hub.Hub.{Hub}
-use Rattle.panel_drawing.specs.Blocks.{blocks, middle, place_of}
+use Rattle.panel_drawing.specs.Blocks.{blocks, place_of}
 use Rattle.panel_drawing.specs.Names.{hub_text}
 use Rattle.panel_drawing.specs.declared.blocks.Block.{Block}
 use Rattle.panel_drawing.specs.declared.blocks.Place.{Place}

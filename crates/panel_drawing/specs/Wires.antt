@@ -1,5 +1,5 @@
 -- The wires of a setup, one by one.
-use Rattle.std.specs.Prelude.{◌≡◌, ◌↔◌, ℕ, List, ◌++◌, AllPairs, Contains}
+use Rattle.std.specs.Prelude.{◌≡◌, ◌↔◌, List, ◌++◌, AllPairs, Contains}
 use Rattle.hubs.specs.declared.hub.Hub.{Hub}
 use Rattle.setups.specs.Wiring.{Wiring, HasWire}
 use Rattle.wire_chart.specs.WrittenText.{IsWireBefore}

@@ -31,7 +31,10 @@ fn write_box(text: &mut String, block: &Block) -> Result<(), AllocError>
     let y = block.top;
     let width = block.columns;
     let height = block.rows;
-    write!(text, "<rect x=\"{x}\" y=\"{y}\" width=\"{width}\" height=\"{height}\"/>")
+    write!(
+        text,
+        "<rect x=\"{x}\" y=\"{y}\" width=\"{width}\" height=\"{height}\"/>"
+    )
 }
 
 // The width of the counter groups of a block, where each width has one.

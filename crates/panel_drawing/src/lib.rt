@@ -14,6 +14,9 @@ mod wires;
 
 pub use blocks::{Block, Place, hub_place};
 pub use drawing::{PanelWire, write_drawing, write_way};
-pub use laws::{blocks_have_all_hubs, exits_stand_above_entries, hubs_have_places_of_their_own, places_are_on_the_drawing};
+pub use laws::{
+    blocks_have_all_hubs, exits_stand_above_entries, hubs_have_places_of_their_own,
+    places_are_on_the_drawing,
+};
 pub use names::write_hub;
 pub use wires::panel_wires;

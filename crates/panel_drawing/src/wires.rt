@@ -15,7 +15,6 @@ use std::alloc::{AllocError, Global};
 pub fn panel_wires(alloc: Global, setup: &Setup) -> Result<Vec<(Hub, Hub)>, AllocError>
     ensures { IfOk result (λ wires. AreWiresOf setup.now wires.items) }
 {
-    let setup = setup.known();
     let mut wires = Vec::new(alloc);
     for number in 1..1937 {
         list_from(&mut wires, setup, number)?;
@@ -24,11 +23,7 @@ pub fn panel_wires(alloc: Global, setup: &Setup) -> Result<Vec<(Hub, Hub)>, Allo
 }
 
 // The wires from the hub of a number.
-fn list_from(
-    wires: &mut Vec<(Hub, Hub)>,
-    setup: &Setup,
-    number: u32,
-) -> Result<(), AllocError>
+fn list_from(wires: &mut Vec<(Hub, Hub)>, setup: &Setup, number: u32) -> Result<(), AllocError>
     ensures { OnOk result (GainsWires (IsWireFrom setup.now number) wires.old.items wires.new.items) }
 {
     let Some(exit) = Hub::of_number(number) else {

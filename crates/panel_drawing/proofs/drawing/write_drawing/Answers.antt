@@ -1,4 +1,4 @@
-use Rattle.std.proofs.Common.{◌≡◌, ◌++◌, List}
+use Rattle.std.proofs.Common.{◌≡◌, ◌++◌}
 use Rattle.std.specs.String.{string_bytes}
 use Rattle.panel_drawing.specs.Blocks.{blocks}
 use Rattle.panel_drawing.specs.Drawing.{drawing_close}
