@@ -1,2 +1,2 @@
-mod Escaping
+pub mod Pieces
 mod Reading

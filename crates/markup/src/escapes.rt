@@ -62,7 +62,7 @@ fn push_escaped_byte(text: &mut String, byte: u8) -> Result<(), AllocError>
     }
 }
 
-#[tactic(auto, using(crate::proofs::Escaping::one_more))]
+#[tactic(auto, using(crate::proofs::Pieces::one_more))]
 /// Writes bytes into a text of XHTML: the signs of markup by their names, line feeds and all other printable characters as they are,
 /// the rest by their numbers, control characters by those of their pictures.
 ///
