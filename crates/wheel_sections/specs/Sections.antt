@@ -20,9 +20,14 @@ way_text None = []
 way_text (Some way) = codes "<path d=\"" ++ way_curve way.items ++ codes "\"/>"
 
 -- the front of an element: its name, and a link back to the row
-abbrev pub section_open : (page line wheel : ℕ) → List ℕ
-section_open page line wheel =
-    codes "<section id=\"" ++ wheel_name page line wheel ++ codes "\"><a href=\"#" ++ row_name page line ++ codes "\">back</a>"
+abbrev pub name_open : (page line wheel : ℕ) → List ℕ
+name_open page line wheel = codes "<section id=\"" ++ wheel_name page line wheel ++ codes "\">"
+
+abbrev pub back_text : (page line : ℕ) → List ℕ
+back_text page line = codes "<a href=\"#" ++ row_name page line ++ codes "\">back</a>"
+
+unfoldable pub section_open : (page line wheel : ℕ) → List ℕ
+section_open page line wheel = name_open page line wheel ++ back_text page line
 
 -- what stands around the words, and around the ways
 unfoldable pub words_open : List ℕ

@@ -3,7 +3,7 @@
 ghost use Rattle.std.specs.Prelude.{◌≡◌, ◌++◌, codes, OnOk};
 ghost use Rattle.std.specs.List.{flat_map};
 ghost use Rattle.std.specs.String.{string_bytes};
-ghost use Rattle.wheel_sections.specs.Sections.{picture_open, section_close, section_open, section_text, way_text, words_open};
+ghost use Rattle.wheel_sections.specs.Sections.{back_text, name_open, picture_open, section_close, section_open, section_text, way_text, words_open};
 
 use hubs::Hub;
 use markup::push_escaped;
@@ -37,15 +37,31 @@ fn write_ways(text: &mut String, rows: &[Option<Vec<Hub>>]) -> Result<(), AllocE
     Ok(())
 }
 
+// The name of an element.
+fn write_name(text: &mut String, page: u64, line: u32, wheel: u8) -> Result<(), AllocError>
+    ensures { OnOk result (string_bytes text.new ≡ string_bytes text.old ++ name_open page line wheel) }
+{
+    text.push_str("<section id=\"")?;
+    write_wheel_name(text, page, line, wheel)?;
+    text.push_str("\">")
+}
+
+// The link back to the row.
+fn write_back(text: &mut String, page: u64, line: u32) -> Result<(), AllocError>
+    ensures { OnOk result (string_bytes text.new ≡ string_bytes text.old ++ back_text page line) }
+{
+    text.push_str("<a href=\"#")?;
+    write_row_name(text, page, line)?;
+    text.push_str("\">back</a>")
+}
+
+#[tactic(auto, unfolding(crate::specs::Sections::section_open))]
 // The front of an element.
 fn write_open(text: &mut String, page: u64, line: u32, wheel: u8) -> Result<(), AllocError>
     ensures { OnOk result (string_bytes text.new ≡ string_bytes text.old ++ section_open page line wheel) }
 {
-    text.push_str("<section id=\"")?;
-    write_wheel_name(text, page, line, wheel)?;
-    text.push_str("\"><a href=\"#")?;
-    write_row_name(text, page, line)?;
-    text.push_str("\">back</a>")
+    write_name(text, page, line, wheel)?;
+    write_back(text, page, line)
 }
 
 #[tactic(auto, unfolding(crate::specs::Sections::words_open))]
