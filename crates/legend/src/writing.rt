@@ -81,8 +81,9 @@ fn write_form_part(
     }
 }
 
-// Writes the group of a line of the chart.
-fn write_group(
+/// Writes the group of a line of a chart with its plan behind what a legend has. Its only refusal is memory; a part of the group may then
+/// have been written.
+pub fn write_group(
     alloc: Global,
     legend: &mut Vec<u8>,
     version: Version,

@@ -1,0 +1,4 @@
+mod Ordered
+mod Places
+mod WireLists
+mod Written

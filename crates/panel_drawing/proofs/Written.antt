@@ -1,0 +1,87 @@
+-- What a text gains thing by thing.
+use Rattle.std.proofs.Common.{add-one, ◌≡◌, ◌∙◌, refl, arith, append_assoc, append-nil, sym, ap, ℕ, ◌+◌, ◌<◌, List, [], ◌∷◌, ◌++◌, length, flat_map, take, get_or}
+use Rattle.std.specs.Prelude.{OnOk, Option, Result, Ok, Err, Some, None, drop, map}
+use Rattle.std.specs.List.{range_with_len}
+use Rattle.std.proofs.Math.Seq.{drop-cons}
+use Rattle.std.proofs.lemmas.List.{take_more, flat_map_more, map-append}
+use Rattle.std.proofs.lemmas.List.FromFn.{map-range_with_len_more}
+use Rattle.hubs.specs.Hubs.{number_of}
+use Rattle.hubs.specs.declared.hub.Hub.{Hub}
+use Rattle.hubs.proofs.HubLemmas.{hub_numbered}
+use Rattle.panel_drawing.specs.Blocks.{blocks}
+use Rattle.panel_drawing.specs.Drawing.{block_text, dot_text, drawing_between, drawing_close, drawing_open, step_text, steps_text, wire_text}
+use Rattle.panel_drawing.specs.Helper.{GainsDots, GainsDrawing}
+use Rattle.panel_drawing.specs.declared.drawing.PanelWire.{PanelWire}
+
+pub one_more : {A : Type 0} (word : A → List ℕ) (old mid new : List ℕ) (things : List A) (place : ℕ) (thing : A)
+    → place < length things → get_or things place thing ≡ thing → mid ≡ old ++ flat_map word (take place things)
+    → new ≡ mid ++ word thing → new ≡ old ++ flat_map word (take (place + 1) things)
+one_more {A} word old mid new things place thing less item before one =
+    one ∙ ap (λ (l : List ℕ). l ++ word thing) before ∙ flat_map_more word old (take place things) thing
+    ∙ ap (λ (l : List A). old ++ flat_map word l)
+    (sym (take_more things place thing less ∙ ap (λ (a : A). take place things ++ a ∷ []) item))
+
+-- a piece more
+pub and_more : (old mid new pieces piece : List ℕ) → mid ≡ old ++ pieces → new ≡ mid ++ piece → new ≡ old ++ (pieces ++ piece)
+and_more old mid new pieces piece before one = one ∙ ap (λ (l : List ℕ). l ++ piece) before ∙ append_assoc old pieces piece
+
+-- one dot more
+pub dots_none : (old : List ℕ) → GainsDots 0 old old
+dots_none old = record { hubs = []; all = refl; gained = sym (append-nil old) }
+
+pub dots_more : (last : ℕ) (old mid new : List ℕ) (hub : Hub) → GainsDots last old mid → number_of hub ≡ Some (last + 1)
+    → new ≡ mid ++ dot_text hub → GainsDots (last + 1) old new
+dots_more last old mid new hub before numbered one = record {
+  hubs = before.hubs ++ hub ∷ [];
+  all =
+      map-append number_of before.hubs (hub ∷ [])
+      ∙ ap (λ (l : List (Option ℕ)). l ++ number_of hub ∷ []) before.all
+      ∙ ap (λ (o : Option ℕ). map (λ number. Some number) (range_with_len 1 last) ++ o ∷ []) numbered
+      ∙ sym (map-range_with_len_more (λ (number : ℕ). Some number) 1 last (last + 1) (omega arith));
+  gained = one ∙ ap (λ (l : List ℕ). l ++ dot_text hub) before.gained ∙ flat_map_more dot_text old before.hubs hub;
+}
+
+-- one step more
+pub steps_more : (old mid new : List ℕ) (from to : Hub) (others : List Hub) (place : ℕ) (whole : List ℕ) → place < length others
+    → get_or others place to ≡ to → mid ++ steps_text from (drop place others) ≡ whole → new ≡ mid ++ step_text from to
+    → new ++ steps_text to (drop (place + 1) others) ≡ whole
+steps_more old mid new from to others place whole less item before one =
+    let left : drop place others ≡ to ∷ drop (place + 1) others =
+    let parts : drop place others ≡ get_or others place to ∷ drop (place + 1) others = rw (add-one, drop-cons others place to) in
+    parts ∙ ap (λ (h : Hub). h ∷ drop (place + 1) others) item in
+    ap (λ (l : List ℕ). l ++ steps_text to (drop (place + 1) others)) one
+    ∙ append_assoc mid (step_text from to) (steps_text to (drop (place + 1) others))
+    ∙ sym (ap (λ (l : List Hub). mid ++ steps_text from l) left) ∙ before
+
+-- the pieces of a drawing
+pub drawing_whole : (wires : List PanelWire) (old one two three four five new : List ℕ)
+    → one ≡ old ++ drawing_open → two ≡ one ++ flat_map block_text blocks → GainsDots 1936 two three
+    → four ≡ three ++ drawing_between → five ≡ four ++ flat_map wire_text wires → new ≡ five ++ drawing_close
+    → GainsDrawing wires old new
+drawing_whole wires old one two three four five new first second third fourth fifth sixth = record {
+  drawing = drawing_open ++ flat_map block_text blocks ++ flat_map dot_text third.hubs ++ drawing_between ++ flat_map wire_text wires
+      ++ drawing_close;
+  is = record { hubs = third.hubs; all = third.all; spelled = refl };
+  gained = by old drawing_open (flat_map block_text blocks) (flat_map dot_text third.hubs) drawing_between (flat_map wire_text wires)
+      drawing_close first second third.gained fourth fifth sixth;
+}
+  where
+    by : (o a b c d e f : List ℕ) → one ≡ o ++ a → two ≡ one ++ b → three ≡ two ++ c → four ≡ three ++ d → five ≡ four ++ e
+        → new ≡ five ++ f → new ≡ o ++ (a ++ b ++ c ++ d ++ e ++ f)
+    by o a b c d e f h1 h2 h3 h4 h5 h6 =
+        and_more o five new _ f (and_more o four five _ e (and_more o three four _ d (and_more o two three _ c
+        (and_more o one two a b h1 h2) h3) h4) h5) h6
+
+-- each number is that of a hub
+pub some_hub : (number : ℕ) → number < 1936 → ((hub : Hub) → number_of hub ≡ Some (number + 1) → None ≡ Some hub) → ⊥
+some_hub number less none =
+    let found = hub_numbered (number + 1) (omega arith) (omega (arith, less)) in
+    none_some found.0 (none found.0 found.1)
+  where
+    none_some : (hub : Hub) → None ≡ Some hub → ⊥
+    none_some hub e = cc
+
+-- what follows where a call gave no error
+pub where_ok : {A E : Type 0} (P Q : Type 0) (result : Result A E) → (P → Q) → OnOk result P → OnOk result Q
+where_ok P Q (Ok x) then was = then was
+where_ok P Q (Err e) then was = was

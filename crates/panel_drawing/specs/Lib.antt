@@ -1,0 +1,5 @@
+pub mod Blocks
+pub mod Drawing
+pub mod Helper
+pub mod Names
+pub mod Wires

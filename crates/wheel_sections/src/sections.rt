@@ -1,0 +1,109 @@
+//! An element.
+
+ghost use Rattle.std.specs.Prelude.{◌≡◌, ◌++◌, codes, OnOk};
+ghost use Rattle.std.specs.List.{flat_map};
+ghost use Rattle.std.specs.String.{string_bytes};
+ghost use Rattle.wheel_sections.specs.Sections.{back_text, name_open, picture_open, section_close, section_open, section_text, way_text, words_open};
+
+use hubs::Hub;
+use markup::push_escaped;
+use panel_drawing::write_way;
+use report_sheets::{write_row_name, write_wheel_name};
+use std::alloc::AllocError;
+
+#[tactic(auto, unfolding(crate::specs::Sections::way_text))]
+// The way at a row.
+fn write_way_path(text: &mut String, row: &Option<Vec<Hub>>) -> Result<(), AllocError>
+    ensures { OnOk result (string_bytes text.new ≡ string_bytes text.old ++ way_text row.now) }
+{
+    match row {
+        Some(way) => {
+            text.push_str("<path d=\"")?;
+            write_way(text, way)?;
+            text.push_str("\"/>")
+        }
+        None => Ok(()),
+    }
+}
+
+#[tactic(auto, using(markup::proofs::Pieces::one_more))]
+// The ways at all rows.
+fn write_ways(text: &mut String, rows: &[Option<Vec<Hub>>]) -> Result<(), AllocError>
+    ensures { OnOk result (string_bytes text.new ≡ string_bytes text.old ++ flat_map way_text rows.now) }
+{
+    for row in rows {
+        write_way_path(text, row)?;
+    }
+    Ok(())
+}
+
+// The name of an element.
+fn write_name(text: &mut String, page: u64, line: u32, wheel: u8) -> Result<(), AllocError>
+    ensures { OnOk result (string_bytes text.new ≡ string_bytes text.old ++ name_open page line wheel) }
+{
+    text.push_str("<section id=\"")?;
+    write_wheel_name(text, page, line, wheel)?;
+    text.push_str("\">")
+}
+
+// The link back to the row.
+fn write_back(text: &mut String, page: u64, line: u32) -> Result<(), AllocError>
+    ensures { OnOk result (string_bytes text.new ≡ string_bytes text.old ++ back_text page line) }
+{
+    text.push_str("<a href=\"#")?;
+    write_row_name(text, page, line)?;
+    text.push_str("\">back</a>")
+}
+
+#[tactic(auto, unfolding(crate::specs::Sections::section_open))]
+// The front of an element.
+fn write_open(text: &mut String, page: u64, line: u32, wheel: u8) -> Result<(), AllocError>
+    ensures { OnOk result (string_bytes text.new ≡ string_bytes text.old ++ section_open page line wheel) }
+{
+    write_name(text, page, line, wheel)?;
+    write_back(text, page, line)
+}
+
+#[tactic(auto, unfolding(crate::specs::Sections::words_open))]
+// What stands before the words.
+fn write_words_open(text: &mut String) -> Result<(), AllocError>
+    ensures { OnOk result (string_bytes text.new ≡ string_bytes text.old ++ words_open) }
+{
+    text.push_str("<pre>")
+}
+
+#[tactic(auto, unfolding(crate::specs::Sections::picture_open))]
+// What stands before the ways.
+fn write_picture_open(text: &mut String) -> Result<(), AllocError>
+    ensures { OnOk result (string_bytes text.new ≡ string_bytes text.old ++ picture_open) }
+{
+    text.push_str("</pre><svg viewBox=\"0 0 87 77\"><use href=\"#board\"/>")
+}
+
+#[tactic(auto, unfolding(crate::specs::Sections::section_close))]
+// The end of an element.
+fn write_close(text: &mut String) -> Result<(), AllocError>
+    ensures { OnOk result (string_bytes text.new ≡ string_bytes text.old ++ section_close) }
+{
+    text.push_str("</svg></section>\n")
+}
+
+#[tactic(auto, unfolding(crate::specs::Sections::section_text))]
+// The element of a wheel, with these words and these ways.
+pub(crate) fn write_section(
+    text: &mut String,
+    page: u64,
+    line: u32,
+    wheel: u8,
+    words: &[u8],
+    rows: &[Option<Vec<Hub>>],
+) -> Result<(), AllocError>
+    ensures { OnOk result (string_bytes text.new ≡ string_bytes text.old ++ section_text page line wheel words.now rows.now) }
+{
+    write_open(text, page, line, wheel)?;
+    write_words_open(text)?;
+    push_escaped(text, words)?;
+    write_picture_open(text)?;
+    write_ways(text, rows)?;
+    write_close(text)
+}
