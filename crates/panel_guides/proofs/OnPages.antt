@@ -1,5 +1,5 @@
 -- A line that the machine prints stands on the pages of the text and the deck that give its run.
-use Rattle.std.proofs.Common.{◌≡◌, sym, subst, refl, ℕ, Bool, true, false, List}
+use Rattle.std.proofs.Common.{sym, subst, refl, ℕ, Bool, List}
 use Rattle.commands.specs.Answers.{Answers}
 use Rattle.compile407.specs.Headline.{WiredSetupsPrintReports}
 use Rattle.explanations.specs.PlacedInRun.{PlacedLinesArePrinted, PrintsLine}
@@ -9,7 +9,7 @@ use Rattle.report.specs.ChartForm.{form_of}
 use Rattle.report.specs.Report.{Report}
 use Rattle.setups.specs.Wiring.{Wiring}
 use Rattle.panel_guides.specs.Laws.{ExplainedLinesAreOnPages, IsOnPages, printing}
-use Rattle.panel_guides.specs.Panels.{IsRunOf, is_wiring_text, replayed, reported}
+use Rattle.panel_guides.specs.Panels.{IsRunOf, replayed, reported}
 
 of_run : (reports : WiredSetupsPrintReports) (text deck : List ℕ) (cards : List (List ℕ)) {wiring : Wiring}
     → IsRunOf text deck cards wiring → (line : PlacedLine) → PrintsLine wiring cards line → IsOnPages text deck line

@@ -1,9 +1,9 @@
 -- The panel and the cards of a text and a deck, and its faults.
-use Rattle.std.proofs.Common.{◌≡◌, ◌≢◌, ◌∙◌, ◌⊎◌, inl, inr, ap, ℕ, true, false, List, Result, Ok, Err}
+use Rattle.std.proofs.Common.{◌≡◌, ◌≢◌, inl, inr, ℕ, true, false, List, Result, Ok, Err}
 use Rattle.std.specs.Prelude.{IfErr, OnOk}
 use Rattle.commands.proofs.Refusing.{wiring_refused}
 use Rattle.commands.specs.Answers.{Compiles}
-use Rattle.commands.specs.Refusals.{RefusesChart, RefusesRun, chart}
+use Rattle.commands.specs.Refusals.{RefusesChart, chart}
 use Rattle.faults.specs.Told.{wiring_told}
 use Rattle.faults.specs.declared.fault.Fault.{Fault}
 use Rattle.faults.specs.declared.fault.Fault.TheVariants as fault

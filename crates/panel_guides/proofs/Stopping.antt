@@ -1,14 +1,13 @@
 -- Why no explanation is printed, and which line and status each cause has.
 use Rattle.std.proofs.Common.{◌≡◌, ◌≢◌, ◌∙◌, ◌⊎◌, ◌≤◌, inl, inr, ap, arith, sym, subst, refl, ℕ, Bool, List, Option, Some, Result, Ok, Err}
 use Rattle.std.specs.Prelude.{IfErr, IfSome, OnOk}
-use Rattle.std.specs.Io.KnownBytes.{Appends}
 use Rattle.commands.proofs.Stopping.{replay_refusal, run_refusal}
 use Rattle.faults.proofs.Statuses.{memory_or_not}
 use Rattle.faults.specs.Lines.{IsTold}
 use Rattle.faults.specs.Status.{status_of}
 use Rattle.faults.specs.declared.fault.Fault.{Fault}
 use Rattle.faults.specs.declared.fault.Fault.TheVariants as fault
-use Rattle.panel_guides.specs.Explained.{IsExplained, IsUnexplained, LacksPlace, RefusesTexts, no_line, no_wheel, nowhere, texts}
+use Rattle.panel_guides.specs.Explained.{IsUnexplained, RefusesTexts, no_line, no_wheel, nowhere, texts}
 use Rattle.panel_guides.specs.Panels.{HasPanel}
 use Rattle.panel_guides.specs.Served.{LeavesUnexplained, PrintsExplanation, StopsExplanation, memory_wanting, refused, unread, unwritten}
 use Rattle.panel_guides.specs.Unexplained.{IsToldUnexplained, unexplained_status}

@@ -1,5 +1,5 @@
 -- The explanation of a wheel of a line that the run of a text and a deck prints, from the bytes of both; or why there is none.
-use Rattle.std.specs.Prelude.{◌≡◌, ◌≢◌, ◌<◌, ◌≤◌, ◌⊎◌, ℕ, List}
+use Rattle.std.specs.Prelude.{◌≡◌, ◌<◌, ◌⊎◌, ℕ, List}
 use Rattle.commands.specs.Refusals.{RefusesReplay, RefusesRun}
 use Rattle.explanation_text.specs.Told.{Explains}
 use Rattle.explanations.specs.PlacedInRun.{PrintsNoneAt}
