@@ -1,1 +1,2 @@
 mod Compared
+pub mod Told

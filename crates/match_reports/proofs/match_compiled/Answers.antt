@@ -1,0 +1,26 @@
+use Rattle.std.proofs.Common.{subst}
+use Rattle.charts.specs.Chart.{Chart}
+use Rattle.matching.specs.Answers.{IsMatchingOf}
+use Rattle.matching.proofs.Told.{wired-of}
+use Rattle.match_reports.proofs.Onward.{if-ok}
+use Rattle.match_reports.proofs.match_compiled.Goals as goal
+
+pub returns-clause-prints : goal.returns-clause-prints
+returns-clause-prints c =
+    if-ok c.match_setup.result _ _
+    (λ matching told is.
+    let here = subst (λ (chart : Chart). IsMatchingOf chart.lines c.args.setup.now matching) c.chart-chart.ensures.value told in
+    let wired = wired-of c.args.compiled.now.chart.lines c.args.setup.now matching here is in
+    c.wired_setups_print_reports.ensures c.args.compiled.now.chart wired.0 c.args.setup.now c.chart-chart.ensures.compiled.sound
+    wired.1.planned wired.1.wired)
+    c.match_setup.ensures.told
+
+pub returns-clause-begins : goal.returns-clause-begins
+returns-clause-begins c =
+    if-ok c.match_setup.result _ _
+    (λ matching told is.
+    let here = subst (λ (chart : Chart). IsMatchingOf chart.lines c.args.setup.now matching) c.chart-chart.ensures.value told in
+    let wired = wired-of c.args.compiled.now.chart.lines c.args.setup.now matching here is in
+    c.wired_setups_begin_reports.ensures c.args.compiled.now.chart wired.0 c.args.setup.now c.chart-chart.ensures.compiled.sound
+    wired.1.planned wired.1.wired)
+    c.match_setup.ensures.told
