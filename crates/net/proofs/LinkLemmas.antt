@@ -93,7 +93,7 @@ linked-more links link f t =
     ∙ ap (λ b. is_linked links f t || b) (or-false ((f == link.from) && (t == link.to)))
 
 -- a link that feeds a place leads there, from an exit that has the row
-fed-found : (links : List Link) (sets : List ℕ) (place row : ℕ) → All IsInRange links → is_fed_at links sets place row ≡ true
+pub fed-found : (links : List Link) (sets : List ℕ) (place row : ℕ) → All IsInRange links → is_fed_at links sets place row ≡ true
     → (from : ℕ) × (from < 1040) × (is_linked links from place ≡ true) × (has_at sets from row ≡ true)
 fed-found [] sets place row range fed = absurd (false≢true fed)
 fed-found (link ∷ links) sets place row range fed =
@@ -116,7 +116,7 @@ fed-found (link ∷ links) sets place row range fed =
       there found = (found.0, found.1, or_right ((found.0 == link.from) && (place == link.to)) _ found.2, found.3)
 
 -- and each such link feeds its place
-fed-from : (links : List Link) (sets : List ℕ) (from place row : ℕ) → is_linked links from place ≡ true → has_at sets from row ≡ true
+pub fed-from : (links : List Link) (sets : List ℕ) (from place row : ℕ) → is_linked links from place ≡ true → has_at sets from row ≡ true
     → is_fed_at links sets place row ≡ true
 fed-from [] sets from place row linked at = absurd (false≢true linked)
 fed-from (link ∷ links) sets from place row linked at =

@@ -6,17 +6,19 @@ use Rattle.std.proofs.lemmas.Option.{same_Some}
 use Rattle.card_code.specs.Rows.{passing_place}
 use Rattle.card_code.specs.declared.row.Row.{Row as CardRow}
 use Rattle.card_code.specs.declared.row.Row.TheVariants.{Zero, One, Two, Three, Four, Five, Six, Seven, Eight, Nine, Eleven, Twelve}
-use Rattle.hubs.proofs.HubLemmas.{hub_numbered, number_of-range}
+use Rattle.hubs.proofs.HubLemmas.{hub_numbered, in_range, number_of-range}
 use Rattle.hubs.specs.Hubs.{number_of}
 use Rattle.hubs.specs.declared.hub.Hub.{Hub}
 use Rattle.setups.specs.Wiring.{HasWire, Wiring}
 use Rattle.bit_sets.specs.Contacts.{is_any_contact}
 use Rattle.bit_sets.specs.Rows.{leads}
 use Rattle.net.specs.HubSets.{HubSet, has_number}
-use Rattle.net.specs.Links.{IsInRange, IsPassing, has_at, has_at_number, has_row_at, is_led_to, is_linked}
+use Rattle.net.specs.Laws.{EmitsOrIsFed}
+use Rattle.net.proofs.LinkLemmas.{fed-found, fed-from}
+use Rattle.net.specs.Links.{IsInRange, IsPassing, Spreads, is_fed_at, has_at, has_at_number, has_row_at, is_led_to, is_linked}
 use Rattle.net.specs.Nets.{IsNetOf, NetRows, leads_by}
 use Rattle.net.specs.Panel.{contact_of}
-use Rattle.net.specs.Passing.{IsPassedOn, Passes, PassesOn, closes_at_row, is_closed_at, is_passed_by}
+use Rattle.net.specs.Passing.{IsPassedOn, Passes, PassesOn, SpreadsOn, closes_at_row, is_closed_at, is_passed_by}
 use Rattle.net.specs.declared.contacts.TheConstants.{CONTACTS}
 use Rattle.net.specs.declared.links.Link.{Link}
 use Rattle.net.proofs.DirectWires.{exit_numbered, wires-lead}
@@ -157,3 +159,77 @@ passes-on wiring net links contacts digits zones old new is_net range agree pass
   passed = passed wiring net links contacts digits zones old new is_net range agree passing wired passes;
   commons = commons wiring net links contacts digits zones old new is_net range agree passing wired passes;
 }
+
+-- what is spread along the links from the exits of contacts, told of hubs
+pub spreads-on : (wiring : Wiring) (net : NetRows) (links contacts further : List Link) (old new : List ℕ)
+    → IsNetOf wiring net → All IsInRange links → ((from to : ℕ) → is_linked links from to ≡ leads net.rows from to)
+    → ((from to : ℕ) → is_linked contacts from to ≡ (is_any_contact CONTACTS from to && is_led_to links from))
+    → All IsInRange further → ((from to : ℕ) → is_linked further from to ≡ (is_linked links from to && is_led_to contacts from))
+    → Spreads further old new → SpreadsOn wiring old new
+spreads-on wiring net links contacts further old new is_net range agree wired further_range follows spreads = record {
+  kept = λ row hub on.
+      let number = numbered old row hub on in
+      at-row new row hub number.0 number.1 ∙ spreads (number.0 - 1) row
+      ∙ or_left _ _ (sym (at-row old row hub number.0 number.1) ∙ on);
+  only = λ row hub on.
+      let number = numbered new row hub on in
+      only row hub number.0 number.1
+      (or_cases (has_at old (number.0 - 1) row) (is_fed_at further old (number.0 - 1) row)
+      (sym (spreads (number.0 - 1) row) ∙ sym (at-row new row hub number.0 number.1) ∙ on));
+  fed = fed;
+}
+  where
+    at-row : (sets : List ℕ) (row : ℕ) (hub : Hub) (n : ℕ) → number_of hub ≡ Some n → has_row_at sets row hub ≡ has_at sets (n - 1) row
+    at-row sets row hub n is = ap (has_at_number sets row) is
+
+    linked-wire : (from to : Hub) (wire : HasWire wiring from to) → is_linked links (wire.number - 1) (wire.to - 1) ≡ true
+    linked-wire from to wire =
+        agree (wire.number - 1) (wire.to - 1)
+        ∙ sym (ap (λ n. leads_by net.rows n (number_of to)) wire.numbered ∙ ap (leads_by net.rows (Some wire.number)) wire.entry_numbered)
+        ∙ (is_net from to).1 wire
+
+    only : (row : ℕ) (hub : Hub) (n : ℕ) → number_of hub ≡ Some n
+        → (has_at old (n - 1) row ≡ true) ⊎ (is_fed_at further old (n - 1) row ≡ true) → EmitsOrIsFed wiring (has_row_at old row) hub
+    only row hub n is (inl at) = inl (in_range hub n is, at-row old row hub n is ∙ at)
+    only row hub n is (inr feeds) =
+        let found = fed-found further old (n - 1) row further_range feeds in
+        let from = found.0 in
+        let exit = hub_numbered (from + 1) (omega arith) (let low = found.1 in omega (arith, low)) in
+        let index : from + 1 - 1 ≡ from = omega arith in
+        let linked : is_linked links from (n - 1) ≡ true =
+        (and_parts (is_linked links from (n - 1)) (is_led_to contacts from) (sym (follows from (n - 1)) ∙ found.2)).0 in
+        inr (record {
+          exit = exit.0;
+          emits = at-row old row exit.0 (from + 1) exit.1 ∙ ap (λ (p : ℕ). has_at old p row) index ∙ found.3;
+          wire =
+              (is_net exit.0 hub).0
+              (ap (λ m. leads_by net.rows m (number_of hub)) exit.1 ∙ ap (leads_by net.rows (Some (from + 1))) is
+              ∙ ap (λ (p : ℕ). leads net.rows p (n - 1)) index ∙ sym (agree from (n - 1)) ∙ linked);
+        })
+
+    fed : (row : ℕ) (exit common hub before : Hub) → contact_of exit ≡ Some common → HasWire wiring before common
+        → HasWire wiring exit hub → has_row_at old row exit ≡ true → has_row_at new row hub ≡ true
+    fed row exit common hub before contact into wire on =
+        let at = exit_numbered exit common into.to contact into.entry_numbered in
+        let h = at.0 in
+        let found = contact_numbered common exit h contact at.1 in
+        let g = found.0 in
+        let place : into.to - 1 ≡ g = one_less into.to g (same_Some _ _ (sym into.entry_numbered ∙ found.1)) in
+        let exit_place : wire.number - 1 ≡ h = one_less wire.number h (same_Some _ _ (sym wire.numbered ∙ at.1)) in
+        let led : is_led_to links g ≡ true =
+        ap (λ (p : ℕ). is_led_to links p) (sym place) ∙ linked-led links (into.number - 1) (into.to - 1) (linked-wire before common into) in
+        let leads_there : is_led_to contacts h ≡ true =
+        linked-led contacts g h
+        (wired g h ∙ and_from (is_any_contact CONTACTS g h) (is_led_to links g) (of_runs CONTACTS g h found.2) led) in
+        let from = wire.number - 1 in
+        let to = wire.to - 1 in
+        let linked : is_linked further from to ≡ true =
+        follows from to
+        ∙ and_from (is_linked links from to) (is_led_to contacts from) (linked-wire exit hub wire)
+        (ap (λ (p : ℕ). is_led_to contacts p) exit_place ∙ leads_there) in
+        let there : has_at old from row ≡ true = sym (at-row old row exit wire.number wire.numbered) ∙ on in
+        at-row new row hub wire.to wire.entry_numbered ∙ spreads to row
+        ∙ or_right (has_at old to row) _ (fed-from further old from to row linked there)
+      where
+        one_less : (n g : ℕ) → n ≡ g + 1 → n - 1 ≡ g
+        one_less n g e = omega (arith, e)

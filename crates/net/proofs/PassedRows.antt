@@ -14,7 +14,7 @@ use Rattle.net.specs.Impulsed.IsImpulsed.{emitting, led_on}
 use Rattle.net.specs.Laws.{EmitsOrIsFed, FollowsLeads}
 use Rattle.net.specs.Links.{has_at_number, has_row_at}
 use Rattle.net.specs.Panel.{contact_of}
-use Rattle.net.specs.Passing.{AreCommonsSilent, IsPassedOn, PassesOn, SameSets, closes_at_row}
+use Rattle.net.specs.Passing.{AreCommonsSilent, IsPassedOn, PassesOn, SameSets, SpreadsOn, closes_at_row}
 use Rattle.net.specs.RowSets.{pictures_of}
 use Rattle.net.specs.declared.cycle.Point.TheVariants.{Row}
 
@@ -37,6 +37,11 @@ module _ (wiring : Wiring) (digits zones : HubSet) (row : CardRow) (first : List
   abbrev closed : Hub → Bool
   closed hub = closes_at_row digits zones row hub
 
+  -- the row is spread along the wires
+  abbrev SpreadsRow : List ℕ → List ℕ → Type 0
+  SpreadsRow old new =
+      (hub : Hub) → (has_row_at new (passing_place row) hub ≡ true) ↔ EmitsOrIsFed wiring (has_row_at old (passing_place row)) hub
+
   -- all hubs of the sets are impulsed
   abbrev AreImpulsed : List ℕ → Type 0
   AreImpulsed sets = (hub : Hub) → has_row_at sets (passing_place row) hub ≡ true → IsImpulsed wiring exits closed hub
@@ -55,8 +60,8 @@ module _ (wiring : Wiring) (digits zones : HubSet) (row : CardRow) (first : List
             there (Some n) is at = in_range exit n is
             there None is at = absurd (false≢true (sym (ap (has_at_number first (passing_place row)) is) ∙ at))
 
-  spread-impulsed : (old new : List ℕ) → SpreadsWires wiring old new → AreImpulsed old → AreImpulsed new
-  spread-impulsed old new spread before hub on = by ((spread (passing_place row) hub).0 on) where
+  spread-impulsed : (old new : List ℕ) → SpreadsRow old new → AreImpulsed old → AreImpulsed new
+  spread-impulsed old new spread before hub on = by ((spread hub).0 on) where
     by : EmitsOrIsFed wiring (has_row_at old (passing_place row)) hub → IsImpulsed wiring exits closed hub
     by (inl emits) = before hub emits.1
     by (inr fed) = led_on fed.exit hub (before fed.exit fed.emits) (inl fed.wire)
@@ -68,11 +73,11 @@ module _ (wiring : Wiring) (digits zones : HubSet) (row : CardRow) (first : List
     by (inr passed) = led_on passed.common hub (before passed.common passed.on) (inr (passed.contact, passed.closed))
 
   -- what is spread has the hubs that wires lead to from its own
-  spread-follows : (old new : List ℕ) → LeadsToEntries wiring → SpreadsWires wiring old new → (from to : Hub)
+  spread-follows : (old new : List ℕ) → LeadsToEntries wiring → SpreadsRow old new → (from to : Hub)
       → has_row_at new (passing_place row) from ≡ true → HasWire wiring from to → has_row_at new (passing_place row) to ≡ true
-  spread-follows old new leads spread from to on wire = by ((spread (passing_place row) from).0 on) where
+  spread-follows old new leads spread from to on wire = by ((spread from).0 on) where
     by : EmitsOrIsFed wiring (has_row_at old (passing_place row)) from → has_row_at new (passing_place row) to ≡ true
-    by (inl emits) = (spread (passing_place row) to).1 (inr (record { exit = from; emits = emits.1; wire = wire }))
+    by (inl emits) = (spread to).1 (inr (record { exit = from; emits = emits.1; wire = wire }))
     by (inr fed) = absurd (no_exit_is_entry from (leads from to wire).0 (leads fed.exit from fed.wire).1)
 
   -- sets whose hubs are impulsed, that have the first ones, and what their hubs lead on to, are the picture
@@ -98,7 +103,7 @@ module _ (wiring : Wiring) (digits zones : HubSet) (row : CardRow) (first : List
   once spread passed silent spreads passes same =
       picture-of spread (first-impulsed spread spreads)
       (λ hub there emits. (spreads (passing_place row) hub).1 (inl (there, emits)))
-      (spread-follows first spread passes.leads spreads)
+      (spread-follows first spread passes.leads (λ h. spreads (passing_place row) h))
       (λ common hub contact shut on.
       sym (same-row spread passed same (passing_place row) hub)
       ∙ by common hub contact shut on ((spreads (passing_place row) common).0 on))
@@ -110,21 +115,44 @@ module _ (wiring : Wiring) (digits zones : HubSet) (row : CardRow) (first : List
       by common hub contact shut on (inr fed) =
           passes.passed row fed.exit hub (record { common = common; contact = contact; closed = shut; on = on }) fed.wire
 
+  -- what is passed on once is spread on by the wires from the exits of contacts alone
+  spread-on : (spread passed spread_on : List ℕ) → AreCommonsSilent first → SpreadsWires wiring first spread
+      → PassesOn wiring digits zones spread passed → SpreadsOn wiring passed spread_on → SpreadsRow passed spread_on
+  spread-on spread passed spread_on silent spreads passes on hub = (on.only (passing_place row) hub, by) where
+    from-spread : (exit : Hub) → has_row_at spread (passing_place row) exit ≡ true → HasWire wiring exit hub
+        → has_row_at spread_on (passing_place row) hub ≡ true
+    from-spread exit at wire =
+        on.kept (passing_place row) hub
+        (passes.kept row hub (spread-follows first spread passes.leads (λ h. spreads (passing_place row) h) exit hub at wire))
+
+    by : EmitsOrIsFed wiring (has_row_at passed (passing_place row)) hub → has_row_at spread_on (passing_place row) hub ≡ true
+    by (inl emits) = on.kept (passing_place row) hub emits.1
+    by (inr fed) = elim (passes.only row fed.exit fed.emits) [
+      | inl at ↦ from-spread fed.exit at fed.wire
+      | inr contact ↦ wired contact ((spreads (passing_place row) contact.common).0 contact.on)
+    ]
+      where
+        wired : (contact : IsPassedOn digits zones spread row fed.exit) → EmitsOrIsFed wiring exits contact.common
+            → has_row_at spread_on (passing_place row) hub ≡ true
+        wired contact (inl emits) = absurd (false≢true (sym (silent contact.common fed.exit contact.contact row) ∙ emits.1))
+        wired contact (inr before) =
+            on.fed (passing_place row) fed.exit contact.common hub before.exit contact.contact before.wire fed.wire fed.emits
+
   -- where what is passed on once passes no further contact
   twice : (spread passed spread_on passed_on : List ℕ) → AreCommonsSilent first → SpreadsWires wiring first spread
-      → PassesOn wiring digits zones spread passed → SpreadsWires wiring passed spread_on
+      → PassesOn wiring digits zones spread passed → SpreadsRow passed spread_on
       → PassesOn wiring digits zones spread_on passed_on → SameSets spread_on passed_on
       → IsPicture wiring exits closed (has_row_at spread_on (passing_place row))
   twice spread passed spread_on passed_on silent spreads passes spreads_on passes_on same =
       picture-of spread_on
       (spread-impulsed passed spread_on spreads_on (passed-impulsed spread passed passes (first-impulsed spread spreads)))
       (λ hub there emits.
-      (spreads_on (passing_place row) hub).1
+      (spreads_on hub).1
       (inl (there, passes.kept row hub ((spreads (passing_place row) hub).1 (inl (there, emits))))))
       (spread-follows passed spread_on passes.leads spreads_on)
       (λ common hub contact shut on.
       sym (same-row spread_on passed_on same (passing_place row) hub)
-      ∙ by common hub contact shut on ((spreads_on (passing_place row) common).0 on))
+      ∙ by common hub contact shut on ((spreads_on common).0 on))
     where
       wired : (exit common hub : Hub) → contact_of hub ≡ Some common → closed hub ≡ true
           → has_row_at spread_on (passing_place row) common ≡ true → HasWire wiring exit common
@@ -162,8 +190,9 @@ passed_once wiring digits zones row first spread passed silent spreads passes sa
 
 pub passed_twice : (wiring : Wiring) (digits zones : HubSet) (row : CardRow) (first spread passed spread_on passed_on : List ℕ)
     → AreCommonsSilent first → SpreadsWires wiring first spread → PassesOn wiring digits zones spread passed
-    → SpreadsWires wiring passed spread_on → PassesOn wiring digits zones spread_on passed_on → SameSets spread_on passed_on
+    → SpreadsOn wiring passed spread_on → PassesOn wiring digits zones spread_on passed_on → SameSets spread_on passed_on
     → IsPicture wiring (pictures_of first (Row row)) (closes_at_row digits zones row) (pictures_of passed_on (Row row))
 passed_twice wiring digits zones row first spread passed spread_on passed_on silent spreads passes spreads_on passes_on same =
     picture-same wiring _ _ spread_on passed_on (passing_place row) same
-    (twice wiring digits zones row first spread passed spread_on passed_on silent spreads passes spreads_on passes_on same)
+    (twice wiring digits zones row first spread passed spread_on passed_on silent spreads passes
+    (spread-on wiring digits zones row first spread passed spread_on silent spreads passes spreads_on) passes_on same)

@@ -9,6 +9,7 @@ use Rattle.setups.specs.Wiring.{HasWire, LeadsToEntries, Wiring}
 use Rattle.bit_sets.specs.Bits.{has_place}
 use Rattle.bit_sets.specs.declared.contacts.Run.{Run}
 use Rattle.net.specs.HubSets.{HubSet, has_hub}
+use Rattle.net.specs.Laws.{EmitsOrIsFed}
 use Rattle.net.specs.Links.{has_at, has_row_at, is_led_to, is_linked}
 use Rattle.net.specs.Panel.{contact_of}
 use Rattle.net.specs.declared.links.Link.{Link}
@@ -45,6 +46,20 @@ SameSets old new = (place row : ℕ) → has_at new place row ≡ has_at old pla
 abbrev pub AddsContacts : (ℕ → ℕ → Bool) → List Link → List Link → List Link → Type 0
 AddsContacts test links old new =
     (from to : ℕ) → is_linked new from to ≡ (is_linked old from to || (test from to && is_led_to links from))
+
+-- new has what old has, and the links from where contacts lead
+abbrev pub AddsFurther : List Link → List Link → List Link → List Link → Type 0
+AddsFurther links contacts old new =
+    (from to : ℕ) → is_linked new from to ≡ (is_linked old from to || (is_linked links from to && is_led_to contacts from))
+
+-- Hubs have the rows that they had, and no others but those that wires lead to them: all those from the exits of contacts to which a
+-- wire leads.
+pub record SpreadsOn (wiring : Wiring) (old new : List ℕ) : Type 0 where
+  pub kept : (row : ℕ) (hub : Hub) → has_row_at old row hub ≡ true → has_row_at new row hub ≡ true
+  pub only : (row : ℕ) (hub : Hub) → has_row_at new row hub ≡ true → EmitsOrIsFed wiring (has_row_at old row) hub
+  pub fed :
+      (row : ℕ) (exit common hub before : Hub) → contact_of exit ≡ Some common → HasWire wiring before common
+      → HasWire wiring exit hub → has_row_at old row exit ≡ true → has_row_at new row hub ≡ true
 
 -- a run of contacts leads from entries of the panel to exits
 pub record LeadsToExits (run : Run) : Type 0 where

@@ -6,7 +6,7 @@ ghost use Rattle.net.specs.NetRows.{AddsRow};
 
 use crate::contacts::CONTACTS;
 use crate::links::{Link, add_links, follow_all, leads_to_any, skips_of};
-use crate::passing::{add_contacts, pass_all};
+use crate::passing::{add_contacts, add_further, pass_all};
 use crate::picture::{Contacts, Picture, cut_after_hubs};
 use crate::row_sets::RowSets;
 use bit_sets::{EXITS, Rows, WORDS, commons_of, reach};
@@ -28,6 +28,9 @@ pub struct Net {
     skips: Vec<usize>,
     // The contacts that a wire leads to, one by one.
     contacts: Vec<Link>,
+    // The wires from the exits of these contacts, and for each where those after it end that lead from the same place.
+    further: Vec<Link>,
+    further_skips: Vec<usize>,
     // Whether no wire leads to a common hub.
     is_direct: bool,
 }
@@ -42,7 +45,7 @@ impl Model for Net {
 
     ghost use Rattle.net.specs.Links.{IsNetInside};
 
-    ghost invariant = { λ net. IsNetInside CONTACTS net.commons net.links.items net.contacts.items net.skips.items net.is_direct net.rows };
+    ghost invariant = { λ net. IsNetInside CONTACTS net.commons net.links.items net.contacts.items net.further.items net.skips.items net.further_skips.items net.is_direct net.rows };
 }
 
 impl Net {
@@ -57,7 +60,7 @@ impl Net {
     ghost use Rattle.net.specs.Links.{has_row_at};
     ghost use Rattle.std.specs.Prelude.{false};
     ghost use Rattle.card_code.specs.declared.row.Row.{Row as CardRow};
-    ghost use Rattle.net.specs.Passing.{AreCommonsSilent, PassesOn, SameSets, closes_at_row};
+    ghost use Rattle.net.specs.Passing.{AreCommonsSilent, PassesOn, SameSets, SpreadsOn, closes_at_row};
     ghost use Rattle.net.specs.RowSets.{LeadsToNoContact, pictures_of};
     ghost use Rattle.net.specs.declared.cycle.Point.TheVariants.{Row};
 
@@ -78,6 +81,9 @@ impl Net {
         let skips = skips_of(alloc, links.as_slice())?;
         let mut contacts = Vec::new(alloc);
         add_contacts(&CONTACTS, links.as_slice(), &mut contacts)?;
+        let mut further = Vec::new(alloc);
+        add_further(links.as_slice(), contacts.as_slice(), &mut further)?;
+        let further_skips = skips_of(alloc, further.as_slice())?;
         let commons = commons_of(&CONTACTS);
         let is_direct = !leads_to_any(links.as_slice(), &commons);
         Ok(Net {
@@ -86,6 +92,8 @@ impl Net {
             links,
             skips,
             contacts,
+            further,
+            further_skips,
             is_direct,
         })
     }
@@ -144,8 +152,19 @@ impl Net {
         if !self.pass(digits, zones, sets) {
             return true;
         }
-        self.spread(sets);
+        self.spread_on(sets);
         !self.pass(digits, zones, sets)
+    }
+
+    // Spreads rows along the wires from the exits of the contacts that wires lead to.
+    fn spread_on(&self, sets: &mut RowSets)
+        ensures { (wiring : Wiring) → IsNetOf wiring self.now → SpreadsOn wiring sets.old sets.new }
+    {
+        follow_all(
+            self.further.as_slice(),
+            self.further_skips.as_slice(),
+            &mut sets.sets,
+        );
     }
 
     // Passes rows on along the closed contacts that wires lead to. Answers whether a hub may have gained any.

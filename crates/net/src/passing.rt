@@ -4,8 +4,8 @@ ghost use Rattle.std.specs.Prelude.{◌≡◌, ℕ, ◌&&◌, All, OnOk, false};
 ghost use Rattle.std.specs.List.{list_any};
 ghost use Rattle.bit_sets.specs.Contacts.{is_any_contact, is_contact};
 ghost use Rattle.net.specs.HubSets.{is_bit};
-ghost use Rattle.net.specs.Links.{IsPassing, is_led_to};
-ghost use Rattle.net.specs.Passing.{AddsContacts, IsPassed, LeadsToExits, Passes, SameSets, is_closed_at};
+ghost use Rattle.net.specs.Links.{IsInRange, IsPassing, is_led_to};
+ghost use Rattle.net.specs.Passing.{AddsContacts, AddsFurther, IsPassed, LeadsToExits, Passes, SameSets, is_closed_at};
 
 use crate::links::Link;
 use crate::picture::HUBS;
@@ -42,6 +42,25 @@ fn add_run(run: Run, links: &[Link], contacts: &mut Vec<Link>) -> Result<(), All
                 from: (run.common + k) as u16,
                 to: (run.exits + k) as u16,
             })?;
+        }
+    }
+    Ok(())
+}
+
+// Adds the links from the exits of the contacts.
+pub(crate) fn add_further(
+    links: &[Link],
+    contacts: &[Link],
+    further: &mut Vec<Link>,
+) -> Result<(), AllocError>
+    requires range { All IsInRange links.now }
+    requires lawful { All IsInRange further.old.items }
+    ensures lawful { OnOk result (All IsInRange further.new.items) }
+    ensures added { OnOk result (AddsFurther links.now contacts.now further.old.items further.new.items) }
+{
+    for link in links {
+        if is_led_to(contacts, link.from as usize) {
+            further.push(*link)?;
         }
     }
     Ok(())

@@ -7,7 +7,7 @@ ghost use Rattle.print_unit.specs.ZeroControl.{character_of};
 ghost use Rattle.print_unit.specs.WheelWords.{printed_at, received_at, rows_at};
 
 use crate::characters::Characters;
-use crate::wheel_words::{WHEELS, has_bit};
+use crate::wheel_words::WHEELS;
 
 /// A place for each bit of a word of wheels.
 pub const BITS: usize = 128;
@@ -17,16 +17,35 @@ pub fn print(characters: &Characters, sets: &[u16; BITS], hidden: u128, line: &m
     ensures characters { (k : ℕ) → k < 120 → slice_index_or line.new k 0 ≡ printed_at sets.now hidden k }
     ensures wheels { length line.new ≡ 120 }
 {
+    print_all(characters, sets, line);
+    hide(hidden, line);
+}
+
+// Prints each wheel's character on the line.
+fn print_all(characters: &Characters, sets: &[u16; BITS], line: &mut [u8; WHEELS])
+    ensures characters { (k : ℕ) → k < 120 → slice_index_or line.new k 0 ≡ character_of (received_at sets.now k) }
+    ensures wheels { length line.new ≡ 120 }
+{
     for k in 0..WHEELS {
-        line[k] = printed(characters, sets[k], has_bit(hidden, k));
+        line[k] = characters.of(sets[k]);
     }
 }
 
-// The character of a set of rows, and a blank where its wheel is hidden.
-fn printed(characters: &Characters, set: u16, is_hidden: bool) -> u8
-    ensures { result ≡ (if is_hidden then 32 else character_of (rows_in set)) }
+// Makes the wheels of a word blank. Those that are not hidden are not looked at.
+fn hide(hidden: u128, line: &mut [u8; WHEELS])
+    ensures hidden { (k : ℕ)
+        → k < 120
+        → slice_index_or line.new k 0 ≡ (if is_bit hidden k then 32 else slice_index_or line.old k 0) }
+    ensures wheels { length line.new ≡ 120 }
 {
-    if is_hidden { b' ' } else { characters.of(set) }
+    let mut left = hidden;
+    while left != 0 {
+        let wheel = left.trailing_zeros() as usize;
+        if wheel < WHEELS {
+            line[wheel] = b' ';
+        }
+        left &= !(1 << wheel);
+    }
 }
 
 /// The words of the rows: which wheels received each.

@@ -1,4 +1,4 @@
-use Rattle.std.proofs.Common.{ℕ, List, subst, sym}
+use Rattle.std.proofs.Common.{ℕ, subst, sym}
 use Rattle.print_unit.specs.RowSets.{PutsLeft}
 use Rattle.print_unit.proofs.Sets.{puts-all, puts-lowest, puts-none, without_lowest-smaller}
 use Rattle.print_unit.proofs.line.put_rows.Goals as goal

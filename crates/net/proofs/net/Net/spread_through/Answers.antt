@@ -9,6 +9,6 @@ returns-then-not-pass c all wiring is_net row =
 
 pub returns : goal.returns
 returns c all wiring is_net row =
-    passed_twice wiring c.args.digits.now c.args.zones.now row c.args.sets.now c.spread.new.sets c.pass.new.sets c.spread-2.new.sets
-    c.pass-2.new.sets c.requires (c.spread.ensures wiring is_net) (c.pass.ensures.passes wiring is_net) (c.spread-2.ensures wiring is_net)
+    passed_twice wiring c.args.digits.now c.args.zones.now row c.args.sets.now c.spread.new.sets c.pass.new.sets c.spread_on.new.sets
+    c.pass-2.new.sets c.requires (c.spread.ensures wiring is_net) (c.pass.ensures.passes wiring is_net) (c.spread_on.ensures wiring is_net)
     (c.pass-2.ensures.passes wiring is_net) (c.pass-2.ensures.same (not-true _ all))
