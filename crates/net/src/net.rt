@@ -15,6 +15,9 @@ use setups::Setup;
 use std::alloc::{AllocError, Global};
 use std::marker::Model;
 
+// The most wires along which sets of rows are spread through contacts.
+const MOST_LINKS: usize = 4096;
+
 /// The wires of one setup, made ready for pictures at every point of a run.
 #[derive(Drop)]
 pub struct Net {
@@ -139,7 +142,8 @@ impl Net {
     /// contacts closed at the rows 9 to 0 are those of `digits`, at 11 and 12 those of `zones`. No hub from which contacts lead has a row at
     /// first.
     ///
-    /// Answers false where impulses pass one contact behind another: then the sets are not yet complete.
+    /// Answers false where impulses may pass one contact behind another: then the sets are not yet complete. It also does where there are
+    /// more than 4,096 wires, since so many are followed faster by the words of their rows, point by point.
     pub fn spread_through(&self, digits: &Contacts, zones: &Contacts, sets: &mut RowSets) -> bool
         requires { AreCommonsSilent sets.old }
         ensures { result ≡ true
@@ -148,6 +152,9 @@ impl Net {
             → (row : CardRow)
             → IsPicture wiring (pictures_of sets.old (Row row)) (closes_at_row digits.now zones.now row) (pictures_of sets.new (Row row)) }
     {
+        if self.links.len() > MOST_LINKS {
+            return false;
+        }
         self.spread(sets);
         if !self.pass(digits, zones, sets) {
             return true;
