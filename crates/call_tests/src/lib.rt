@@ -39,3 +39,5 @@ mod streams;
 mod wired_setups;
 #[cfg(test)]
 mod wiring_texts;
+#[cfg(test)]
+mod written_pages;

@@ -17,8 +17,6 @@ mod fault;
 mod feeding;
 pub mod laws;
 mod outlet;
-#[cfg(test)]
-mod tests;
 mod writer;
 
 pub use fault::WriteFault;

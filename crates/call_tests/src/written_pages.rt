@@ -1,9 +1,9 @@
 //! Forty lines of eleven characters, eight to a page, for writers that are sound and for writers that fail. The numbers of bytes are
 //! counted by hand: a page has a blank line, eight lines of 12 bytes, three blank lines and a form feed, 101 bytes.
 
-use crate::{PageWriter, write_pages};
 use devices::ToWrite;
 use devices::limited::{LimitedWriter, Stop};
+use page_writer::{PageWriter, write_pages};
 use placed_lines::{PlacedLine, in_order};
 use std::alloc::Global;
 use std::test::Fail;
