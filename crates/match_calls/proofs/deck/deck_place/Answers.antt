@@ -13,6 +13,6 @@ returns c = record {
   reads_as = c.in_ok-setup.ensures.read;
   cards = c.in_ok-cards.cards.items;
   is_deck = c.in_ok-cards.ensures.deck;
-  differ = subst (λ own. DifferOnDeck own c.in_ok-setup.setup c.in_ok-cards.cards.items c.in_ok-place.place) c.setup.ensures.value
+  differ = subst (λ own. DifferOnDeck own c.in_ok-setup.setup c.in_ok-cards.cards.items c.in_ok-place.place) c.setup-own.ensures.value
       c.in_ok-place.ensures;
 }
