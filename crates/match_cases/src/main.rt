@@ -37,7 +37,13 @@ fn main(rt: HostRuntime) -> Result<()> {
     for name in told.as_str().lines() {
         let wiring = fs::read(&rt, &format!(in rt.alloc(); "{name}.wiring")?)?;
         writeln!(out, "{name}")?;
-        matches::write_told(rt.alloc(), &mut out, exercise.as_slice(), wiring.as_slice())?;
+        matches::write_told(
+            rt.alloc(),
+            &mut out,
+            exercise.as_slice(),
+            wiring.as_slice(),
+            deck.as_slice(),
+        )?;
     }
     out.flush()?;
     Ok(())

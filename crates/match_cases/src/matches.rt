@@ -2,15 +2,17 @@
 
 use crate::copies::{Shift, group_of, unwired, wires_of, with_higher_groups, without};
 use anyhow::{Result, bail};
+use card_code::read_deck;
 use compile407::{Compiled, compile};
 use differences::size;
 use hubs::Hub;
-use match_calls::{match_to_end, match_with_deck_to_end};
+use match_decks::differing_line;
 use match_reports::{Matching, match_compiled};
+use match_texts::{counts_of, match_text};
 use setups::Setup;
 use std::alloc::Global;
 use std::io::Write;
-use wire_chart::read_setup;
+use wire_chart::{Version, read_setup};
 
 // Whether a panel matches a chart.
 fn does_match(alloc: Global, compiled: &Compiled, setup: &Setup) -> Result<bool> {
@@ -151,7 +153,8 @@ pub fn write_wired<W: Write>(alloc: Global, out: &mut W, chart: &[u8]) -> Result
     write_panel(alloc, out, &compiled, compiled.setup())
 }
 
-/// Writes what is printed and told of a panel, the status, and what is told with a deck.
+/// Writes how much is missing and too much of a panel, what is told of it, and the first line of a deck that it prints differently from the
+/// panel of the chart.
 pub fn write_told<W: Write>(
     alloc: Global,
     out: &mut W,
@@ -159,14 +162,17 @@ pub fn write_told<W: Write>(
     wiring: &[u8],
     deck: &[u8],
 ) -> Result<()> {
-    let mut told = Vec::new(alloc);
-    let ending = match_to_end(alloc, chart, wiring, out, &mut told);
-    out.write_all(told.as_slice())?;
-    writeln!(out, "status {}", ending.status)?;
-    let mut printed = Vec::new(alloc);
-    let mut told = Vec::new(alloc);
-    let ending = match_with_deck_to_end(alloc, chart, wiring, deck, &mut printed, &mut told);
-    out.write_all(told.as_slice())?;
-    writeln!(out, "with a deck status {}", ending.status)?;
+    let compiled = compile(alloc, chart)?;
+    let setup = read_setup(alloc, wiring)?;
+    let matching = match_compiled(alloc, &compiled, &setup)?;
+    let counts = counts_of(&matching);
+    writeln!(out, "missing {} extra {}", counts.missing, counts.extra)?;
+    let text = match_text(alloc, Version::First, compiled.chart(), &setup, &matching)?;
+    out.write_all(text.as_bytes())?;
+    let cards = read_deck(alloc, deck)?;
+    match differing_line(alloc, compiled.setup(), &setup, cards.as_slice())? {
+        Some(place) => writeln!(out, "page {} line {}", place.page, place.line)?,
+        None => writeln!(out, "the same lines")?,
+    }
     Ok(())
 }
