@@ -28,39 +28,11 @@ const DEPARTMENTS: &[u8] =
 const SALES: &[u8] =
     b"10 ADAMS      3   4795\n10 BAKER     12  21540\n10 ADAMS      1    899\n20 CLARK      5  12500\n";
 
-/// Explains a wheel of a line of page 1.
-fn explained(
-    alloc: Global,
-    chart: &[u8],
-    deck: &[u8],
-    line: u32,
-    wheel: u8,
-) -> Result<Result<String, Refusal>, Fail> {
-    let text = text_of(alloc, chart, b"")?;
-    let compiled = compile(alloc, text.as_slice())?;
-    let cards = read_deck(alloc, deck)?;
-    Ok(explain_text(alloc, compiled.setup(), cards.as_slice(), 1, line, wheel))
-}
-
-/// Looks a row of a table up: what is explained of a wheel is this text.
-fn explains(
-    rt: &impl Abort,
-    alloc: Global,
-    chart: &[u8],
-    deck: &[u8],
-    place: (u32, u8),
-    text: &str,
-) -> Result<(), Fail> {
-    match explained(alloc, chart, deck, place.0, place.1)? {
-        Ok(told) => assert_eq!(rt; told.as_str(), text),
-        Err(refusal) => assert!(rt; false, "{refusal}"),
-    }
-    Ok(())
-}
-
-#[test]
-fn a_mark_passes_the_balance_contacts(rt: HostRuntime) -> Result<(), Fail> {
-    let text = "page 1 line 2 wheel 3 prints C\n\
+/// The chart and the deck of a wheel, its line on page 1 and its number, and what is explained of it.
+#[rattlefmt::skip]
+static EXPLAINED: [(&[u8], &[u8], (u32, u8), &str); 8] = [
+    // A mark passes the balance contacts.
+    (SIGNED, b"07\n09-\n", (2, 3), "page 1 line 2 wheel 3 prints C\n\
         cycle Prog 4 3 after card 2\n\
         row 3: EM.8.3 -> BAC.3.1.3 => BAT.3.1.3 -> W.3\n  \
         EM.8.3: emitter 8 sends row 3 in the third cycle of level 4\n  \
@@ -69,34 +41,22 @@ fn a_mark_passes_the_balance_contacts(rt: HostRuntime) -> Result<(), Fail> {
         EM.8.12: emitter 8 sends row 12 in the third cycle of level 4\n  \
         BAC.3.1.3 => BAT.3.1.3: the balance latch of group 3.1 is set\n\
         rows 3 and 12 are C\n\
-        zero control: a SYMBOL wheel; wheel 2 received one figure, 2, and LINK 3 passes it on: so it prints\n";
-    explains(&rt, rt.alloc(), SIGNED, b"07\n09-\n", (2, 3), text)
-}
-
-#[test]
-fn a_total_below_zero_is_read_out_turned(rt: HostRuntime) -> Result<(), Fail> {
-    let text = "page 1 line 2 wheel 2 prints 2\n\
+        zero control: a SYMBOL wheel; wheel 2 received one figure, 2, and LINK 3 passes it on: so it prints\n"),
+    // A total below zero is read out turned.
+    (SIGNED, b"07\n09-\n", (2, 2), "page 1 line 2 wheel 2 prints 2\n\
         cycle Prog 4 3 after card 2\n\
         row 2: GX.3.1.1 -> W.2\n  \
         GX.3.1.1: group 3.1 held 002, and is read out\n\
-        row 2 is 2\n";
-    explains(&rt, rt.alloc(), SIGNED, b"07\n09-\n", (2, 2), text)
-}
-
-#[test]
-fn a_zero_is_blank_without_significance(rt: HostRuntime) -> Result<(), Fail> {
-    let text = "page 1 line 2 wheel 1 prints blank\n\
+        row 2 is 2\n"),
+    // A zero is blank without significance.
+    (SIGNED, b"07\n09-\n", (2, 1), "page 1 line 2 wheel 1 prints blank\n\
         cycle Prog 4 3 after card 2\n\
         row 0: GX.3.1.2 -> W.1\n  \
         GX.3.1.2: group 3.1 held 002, and is read out\n\
         row 0 is 0\n\
-        zero control: a SUPPRESS wheel without significance: the zero is blank\n";
-    explains(&rt, rt.alloc(), SIGNED, b"07\n09-\n", (2, 1), text)
-}
-
-#[test]
-fn a_text_is_indicated_once(rt: HostRuntime) -> Result<(), Fail> {
-    let first = "page 1 line 2 wheel 1 prints B\n\
+        zero control: a SUPPRESS wheel without significance: the zero is blank\n"),
+    // A text is indicated once.
+    (INDICATED, b"B\nB\n", (2, 1), "page 1 line 2 wheel 1 prints B\n\
         cycle Card 1\n\
         row 2: SR.1 -> IE.1.1 => IX.1.1 -> W.1\n  \
         SR.1: column 1 of card 1 has a 2\n  \
@@ -104,38 +64,25 @@ fn a_text_is_indicated_once(rt: HostRuntime) -> Result<(), Fail> {
         row 12: SR.1 -> IE.1.1 => IX.1.1 -> W.1\n  \
         SR.1: column 1 of card 1 has a 12\n  \
         IE.1.1 => IX.1.1: the card is the first of a group of level 1\n\
-        rows 2 and 12 are B\n";
-    explains(&rt, rt.alloc(), INDICATED, b"B\nB\n", (2, 1), first)?;
-    let second = "page 1 line 3 wheel 1 prints blank\ncycle Card 2\n";
-    explains(&rt, rt.alloc(), INDICATED, b"B\nB\n", (3, 1), second)
-}
-
-#[test]
-fn a_text_comes_out_of_storage(rt: HostRuntime) -> Result<(), Fail> {
-    let text = "page 1 line 2 wheel 1 prints K\n\
+        rows 2 and 12 are B\n"),
+    (INDICATED, b"B\nB\n", (3, 1), "page 1 line 3 wheel 1 prints blank\ncycle Card 2\n"),
+    // A text comes out of storage.
+    (STORED, b"K\n", (2, 1), "page 1 line 2 wheel 1 prints K\n\
         cycle Prog 1 3 after card 1\n\
         row 2: SX.1.1 -> W.1\n  \
         SX.1.1: storage 1 holds a 2 in column 1, and is read out\n\
         row 11: SX.1.1 -> W.1\n  \
         SX.1.1: storage 1 holds an 11 in column 1, and is read out\n\
-        rows 2 and 11 are K\n";
-    explains(&rt, rt.alloc(), STORED, b"K\n", (2, 1), text)
-}
-
-#[test]
-fn a_digit_comes_out_of_a_counter(rt: HostRuntime) -> Result<(), Fail> {
-    let text = "page 1 line 2 wheel 15 prints 2\n\
+        rows 2 and 11 are K\n"),
+    // A digit comes out of a counter.
+    (DEPARTMENTS, SALES, (2, 15), "page 1 line 2 wheel 15 prints 2\n\
         cycle Prog 1 3 after card 3\n\
         row 2: GX.8.1.5 -> W.15\n  \
         GX.8.1.5: group 8.1 held 00027234, and is read out\n\
         row 2 is 2\n\
-        zero control: a SUPPRESS wheel that received no zero: it prints\n";
-    explains(&rt, rt.alloc(), DEPARTMENTS, SALES, (2, 15), text)
-}
-
-#[test]
-fn a_point_is_three_rows(rt: HostRuntime) -> Result<(), Fail> {
-    let text = "page 1 line 2 wheel 18 prints .\n\
+        zero control: a SUPPRESS wheel that received no zero: it prints\n"),
+    // A point is three rows.
+    (DEPARTMENTS, SALES, (2, 18), "page 1 line 2 wheel 18 prints .\n\
         cycle Prog 1 3 after card 3\n\
         row 8: EM.5.8 -> W.18\n  \
         EM.5.8: emitter 5 sends row 8 in the third cycle of level 1\n\
@@ -143,15 +90,43 @@ fn a_point_is_three_rows(rt: HostRuntime) -> Result<(), Fail> {
         EM.5.3: emitter 5 sends row 3 in the third cycle of level 1\n\
         row 12: EM.5.12 -> W.18\n  \
         EM.5.12: emitter 5 sends row 12 in the third cycle of level 1\n\
-        rows 8, 3 and 12 are .\n";
-    explains(&rt, rt.alloc(), DEPARTMENTS, SALES, (2, 18), text)
+        rows 8, 3 and 12 are .\n"),
+];
+
+/// What is explained of a wheel of page 1, or why nothing is.
+fn explained(
+    alloc: Global,
+    chart: &[u8],
+    deck: &[u8],
+    (line, wheel): (u32, u8),
+) -> Result<Result<String, Refusal>, Fail> {
+    let text = text_of(alloc, chart)?;
+    let compiled = compile(alloc, text.as_slice())?;
+    let cards = read_deck(alloc, deck)?;
+    Ok(explain_text(alloc, compiled.setup(), cards.as_slice(), 1, line, wheel))
+}
+
+/// Looks each row of the table up.
+fn look_up(
+    rt: &impl Abort,
+    alloc: Global,
+    rows: &[(&[u8], &[u8], (u32, u8), &str)],
+) -> Result<(), Fail> {
+    for (chart, deck, place, text) in rows {
+        match explained(alloc, chart, deck, *place)? {
+            Ok(told) => assert_eq!(rt; told.as_str(), *text),
+            Err(refusal) => assert!(rt; false, "{refusal}"),
+        }
+    }
+    Ok(())
 }
 
 #[test]
-fn what_is_not_there_is_refused(rt: HostRuntime) -> Result<(), Fail> {
-    let no_line = explained(rt.alloc(), STORED, b"K\n", 3, 1)?;
+fn wheels_are_explained(rt: HostRuntime) -> Result<(), Fail> {
+    look_up(&rt, rt.alloc(), &EXPLAINED)?;
+    let no_line = explained(rt.alloc(), STORED, b"K\n", (3, 1))?;
     assert!(rt; matches!(&no_line, Err(Refusal::NoSuchLine)));
-    let no_wheel = explained(rt.alloc(), STORED, b"K\n", 3, 121)?;
+    let no_wheel = explained(rt.alloc(), STORED, b"K\n", (3, 121))?;
     assert!(rt; matches!(&no_wheel, Err(Refusal::NoSuchWheel)));
     Ok(())
 }

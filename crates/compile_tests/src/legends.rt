@@ -1,8 +1,10 @@
 //! Legends, and the guide to faults.
 
-use crate::given::{chart_of, text_of};
+use crate::given::text_of;
 use allocate::allocate;
 use capacity::Profile;
+use chart_rules::check;
+use chart_text::read_chart;
 use fault_guide::fault_entry;
 use legend::legend;
 use std::alloc::Global;
@@ -11,9 +13,9 @@ use wire_chart::Version;
 
 // The legend of the chart of some lines, which the standard machine has room for.
 fn legend_of(alloc: Global, lines: &[u8], version: Version) -> Result<String, Fail> {
-    let chart = chart_of(alloc, lines, b"")?;
+    let source = text_of(alloc, lines)?;
+    let chart = check(alloc, read_chart(alloc, source.as_slice())?)?;
     let plan = allocate(alloc, &chart, &Profile::standard())?;
-    let source = text_of(alloc, lines, b"")?;
     let text = legend(alloc, version, &chart, &plan, source.as_slice())?;
     Ok(String::from_utf8(text)?)
 }
@@ -46,17 +48,6 @@ STOP 2 5
 
 ";
 
-#[test]
-fn a_listing_has_its_legend(rt: HostRuntime) -> Result<(), Fail> {
-    let lines =
-        b"FIELD NAME TEXT 1 2\nPRINT DETAIL\nDETAIL 5 NAME\nSPACE DETAIL 2\nFORM 12 1 9\nTAPE 2 3 5\n";
-    assert_eq!(rt;
-        legend_of(rt.alloc(), lines, Version::First)?.as_str(),
-        LISTING
-    );
-    Ok(())
-}
-
 // What two totals of a signed amount ask for, the one of level 1 and the one of the deck, as the wiring table has it.
 static TOTAL: &str = "\
 JACK TOTAL 4
@@ -70,7 +61,13 @@ RING 4.1
 ";
 
 #[test]
-fn a_total_has_its_jacks_and_its_ring(rt: HostRuntime) -> Result<(), Fail> {
+fn charts_have_their_legends(rt: HostRuntime) -> Result<(), Fail> {
+    let lines =
+        b"FIELD NAME TEXT 1 2\nPRINT DETAIL\nDETAIL 5 NAME\nSPACE DETAIL 2\nFORM 12 1 9\nTAPE 2 3 5\n";
+    assert_eq!(rt;
+        legend_of(rt.alloc(), lines, Version::First)?.as_str(),
+        LISTING
+    );
     let lines =
         b"FIELD DEPT TEXT 1 1\nFIELD AMT AMOUNT 2 3 0 X 4\nCONTROL 1 DEPT\nPRINT GROUP\nTOTAL 1 2 AMT 2 MARK -\nTOTAL 4 1 AMT 3 MARK -\nFORM 12 1 9\n";
     let text = legend_of(rt.alloc(), lines, Version::Second)?;

@@ -19,10 +19,6 @@ const BOLTS: &[u8] =
 const GROUPS: &[u8] =
     b"FIELD A AMOUNT 1 1 0\nFIELD N TEXT 2 2\nCONTROL 1 N\nPRINT GROUP\nTOTAL 1 1 A 1\nFORM 12 1 9\n";
 
-/// The same totals after the cards of their groups.
-const DETAILS: &[u8] =
-    b"FIELD A AMOUNT 1 1 0\nFIELD N TEXT 2 2\nCONTROL 1 N\nPRINT DETAIL\nDETAIL 1 A\nTOTAL 1 5 A 1\nFORM 12 1 9\n";
-
 const CARDS: u64 = 40;
 
 /// Five pages of 101 bytes.
@@ -30,7 +26,7 @@ const ALL_BYTES: u64 = 505;
 
 /// The compiled chart of some lines.
 fn compiled_of(alloc: Global, lines: &[u8]) -> Result<Compiled, Fail> {
-    let text = text_of(alloc, lines, b"")?;
+    let text = text_of(alloc, lines)?;
     Ok(compile(alloc, text.as_slice())?)
 }
 
@@ -70,7 +66,7 @@ fn bytes_of(lines: u64) -> u64
 }
 
 #[test]
-fn forty_bolts_come_in_parts_of_any_length(rt: HostRuntime) -> Result<(), Fail> {
+fn reads_bring_parts_of_any_length_or_fail(rt: HostRuntime) -> Result<(), Fail> {
     let compiled = compiled_of(rt.alloc(), BOLTS)?;
     let deck = forty_bolts(rt.alloc())?;
     for most in [1, 7, 11, 4096] {
@@ -86,13 +82,6 @@ fn forty_bolts_come_in_parts_of_any_length(rt: HostRuntime) -> Result<(), Fail> 
         assert_eq!(rt; answer, Ok(CARDS));
         assert_eq!(rt; writer.bytes().len() as u64, ALL_BYTES);
     }
-    Ok(())
-}
-
-#[test]
-fn each_read_may_fail(rt: HostRuntime) -> Result<(), Fail> {
-    let compiled = compiled_of(rt.alloc(), BOLTS)?;
-    let deck = forty_bolts(rt.alloc())?;
     // The read after the last line finds the end.
     for read in 1..42 {
         let mut writer = LimitedWriter::new(rt.alloc(), 4096, None);
@@ -121,7 +110,7 @@ fn each_read_may_fail(rt: HostRuntime) -> Result<(), Fail> {
 }
 
 #[test]
-fn each_write_may_fail_or_take_nothing(rt: HostRuntime) -> Result<(), Fail> {
+fn each_write_may_fail_or_take_nothing_and_the_flush_may_fail(rt: HostRuntime) -> Result<(), Fail> {
     let compiled = compiled_of(rt.alloc(), BOLTS)?;
     let deck = forty_bolts(rt.alloc())?;
     for write in 1..506 {
@@ -146,13 +135,6 @@ fn each_write_may_fail_or_take_nothing(rt: HostRuntime) -> Result<(), Fail> {
             assert_eq!(rt; writer.writes(), write);
         }
     }
-    Ok(())
-}
-
-#[test]
-fn a_flush_may_fail(rt: HostRuntime) -> Result<(), Fail> {
-    let compiled = compiled_of(rt.alloc(), BOLTS)?;
-    let deck = forty_bolts(rt.alloc())?;
     let rows: [(&[u8], u64); 2] = [(b"", 0), (deck.as_slice(), ALL_BYTES)];
     for (cards, written) in rows {
         let mut writer = LimitedWriter::new(rt.alloc(), 4096, Some(Stop::FailsToFlush));
@@ -164,55 +146,6 @@ fn a_flush_may_fail(rt: HostRuntime) -> Result<(), Fail> {
                 written
             })
         );
-    }
-    Ok(())
-}
-
-#[test]
-fn a_deck_without_cards_has_no_page(rt: HostRuntime) -> Result<(), Fail> {
-    let compiled = compiled_of(rt.alloc(), BOLTS)?;
-    let mut writer = LimitedWriter::new(rt.alloc(), 4096, None);
-    let answer = stream(rt.alloc(), &compiled, b"", 4096, None, &mut writer);
-    assert_eq!(rt; answer, Ok(0));
-    assert!(rt; writer.bytes().is_empty());
-    Ok(())
-}
-
-/// The card that a cause names.
-fn card_of(cause: &StreamCause) -> u32 {
-    match cause {
-        StreamCause::Invalid { card, .. } => *card,
-        StreamCause::Misfit { misfit } => misfit.card,
-        _ => 0,
-    }
-}
-
-#[test]
-fn the_cause_that_is_met_first_is_told(rt: HostRuntime) -> Result<(), Fail> {
-    let rows: [(&[u8], &[u8], u8, u32, &[u8]); 4] = [
-        (GROUPS, b"5A\n5A\n1B\n1B\nXB\n", 43, 2, b""),
-        (GROUPS, b"5A\n5A\nX\n", 42, 3, b""),
-        (GROUPS, b"5A\n4A\n1B\n9B\n", 43, 4, b"\n9\n"),
-        (
-            DETAILS,
-            b"5A\n4A\n5B\n5B\n1C\n",
-            43,
-            4,
-            b"\n5\n4\n    9\n5\n",
-        ),
-    ];
-    for (lines, deck, number, card, written) in rows {
-        let compiled = compiled_of(rt.alloc(), lines)?;
-        let mut writer = LimitedWriter::new(rt.alloc(), 4096, None);
-        match stream(rt.alloc(), &compiled, deck, 4096, None, &mut writer) {
-            Ok(_) => assert!(rt; false),
-            Err(fault) => {
-                assert_eq!(rt; fault.cause.number(), Some(number));
-                assert_eq!(rt; card_of(&fault.cause), card);
-                assert_eq!(rt; fault.written, written.len() as u64);
-            },
-        }
-        assert!(rt; writer.bytes() == written);
     }
     Ok(())
 }
@@ -232,5 +165,8 @@ fn a_deck_that_is_held_whole_is_checked_first(rt: HostRuntime) -> Result<(), Fai
         let refused = run(rt.alloc(), &compiled, cards.as_slice());
         assert!(rt; refused.err() == Some(fault));
     }
+    let cards = read_deck(rt.alloc(), b"5A\n4A\n1B\n")?;
+    let pages = run(rt.alloc(), &compiled, cards.as_slice())?;
+    assert!(rt; pages.as_slice() == b"\n9\n1\n\n\n\n\n\n\n\n\n\n\x0C".as_slice());
     Ok(())
 }
