@@ -68,12 +68,12 @@ asked_more lines plan pairs wires wire before is = record {
       (All-cons (HasItsLine lines plan) wire [] is (All-nil (HasItsLine lines plan)));
 }
 
-pub asked_item : (lines : List Line) (plan : Lists) (pairs : List (Hub × Hub)) (place : ℕ) (pair : Hub × Hub) (old new : List PanelWire)
-    (wire : PanelWire) → place < length pairs → get_or pairs place pair ≡ pair → AreAsked lines plan (take place pairs) old
-    → IsAsked lines plan pair wire → new ≡ old ++ wire ∷ [] → AreAsked lines plan (take (place + 1) pairs) new
-asked_item lines plan pairs place pair old new wire less item before is pushed =
+pub asked_item : (lines : List Line) (plan : Lists) (pairs : List (Hub × Hub)) (place : ℕ) (d : Hub × Hub) (old new : List PanelWire)
+    (wire : PanelWire) → place < length pairs → AreAsked lines plan (take place pairs) old
+    → IsAsked lines plan (get_or pairs place d) wire → new ≡ old ++ wire ∷ [] → AreAsked lines plan (take (place + 1) pairs) new
+asked_item lines plan pairs place d old new wire less before is pushed =
     let more = asked_more lines plan (take place pairs) old wire before is.asked in
     let all : take place pairs ++ ends wire ∷ [] ≡ take (place + 1) pairs =
-    ap (λ (p : Hub × Hub). take place pairs ++ p ∷ []) is.ends_is ∙ sym (take_more pairs place pair less ∙ ap (λ (p : Hub × Hub). take place pairs ++ p ∷ []) item) in
+    ap (λ (p : Hub × Hub). take place pairs ++ p ∷ []) is.ends_is ∙ sym (take_more pairs place d less) in
     subst (λ (l : List PanelWire). AreAsked lines plan (take (place + 1) pairs) l) (sym pushed)
     (subst (λ (l : List (Hub × Hub)). AreAsked lines plan l (old ++ wire ∷ [])) all more)
