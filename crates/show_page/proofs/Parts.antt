@@ -1,45 +1,20 @@
 -- The parts of the page.
-use Rattle.std.proofs.Common.{◌≡◌, ◌∙◌, refl, sym, ap, subst, arith, add-one, Bool, true, false, ℕ, ◌+◌, ◌<◌, ◌≤◌, List, [], ◌∷◌, ◌++◌, length, take, drop, get_or, append_assoc, append-nil}
+use Rattle.std.proofs.Common.{◌≡◌, ◌∙◌, refl, sym, ap, subst, Bool, true, false, ℕ, ◌+◌, ◌<◌, List, [], ◌∷◌, ◌++◌, length, take, get_or}
 use Rattle.std.specs.Prelude.{All, Contains, if◌then◌else◌, nat_le}
 use Rattle.std.specs.List.{range_with_len}
-use Rattle.std.proofs.Math.Seq.{drop-cons}
 use Rattle.std.proofs.lemmas.List.{take_more}
 use Rattle.std.proofs.lemmas.List.Elements.{All-cons, All-head, All-nil, All-tail, Contains-get_or}
-use Rattle.std.proofs.lemmas.Bool.{le-leb}
-use Rattle.std.proofs.lemmas.Bool.Decides.{nat_tests}
 use Rattle.explanations.specs.PlacedInRun.{PrintsLine}
 use Rattle.machine.specs.Runs.{MachineLines}
 use Rattle.markup.specs.Pieces.{GainsEach, GainsOne}
-use Rattle.markup.proofs.Pieces.{and_more, each_item, each_none}
+use Rattle.markup.proofs.Pieces.{and_more, each_more, each_none}
 use Rattle.placed_lines.specs.declared.placed_line.PlacedLine.{PlacedLine}
 use Rattle.setups.specs.Wiring.{Wiring}
 use Rattle.wheel_sections.specs.Sections.{IsOfLine, IsOfWheel}
-use Rattle.show_page.specs.Page.{front, shown}
-
--- the lines before a place, and those of the first two pages behind it
-pub front_begins : (lines : List PlacedLine) → take 0 lines ++ front (drop 0 lines) ≡ front lines
-front_begins lines = refl
-
-pub front_goes_on : (lines : List PlacedLine) (place : ℕ) (d : PlacedLine) → place < length lines
-    → (get_or lines place d).page ≤ 2 → take place lines ++ front (drop place lines) ≡ front lines
-    → take (place + 1) lines ++ front (drop (place + 1) lines) ≡ front lines
-front_goes_on lines place d less early before =
-    let line = get_or lines place d in
-    let parts : drop place lines ≡ line ∷ drop (place + 1) lines = rw (add-one, drop-cons lines place d) in
-    let here : front (line ∷ drop (place + 1) lines) ≡ line ∷ front (drop (place + 1) lines) =
-    ap (λ (b : Bool). if b then line ∷ front (drop (place + 1) lines) else []) (le-leb line.page 2 early) in
-    ap (λ (l : List PlacedLine). l ++ front (drop (place + 1) lines)) (take_more lines place d less)
-    ∙ append_assoc (take place lines) (line ∷ []) (front (drop (place + 1) lines))
-    ∙ sym (ap (λ (l : List PlacedLine). take place lines ++ l) (ap front parts ∙ here)) ∙ before
-
-pub front_ends : (lines : List PlacedLine) (place : ℕ) (d : PlacedLine) → place < length lines
-    → 2 < (get_or lines place d).page → take place lines ++ front (drop place lines) ≡ front lines → take place lines ≡ front lines
-front_ends lines place d less late before =
-    let line = get_or lines place d in
-    let parts : drop place lines ≡ line ∷ drop (place + 1) lines = rw (add-one, drop-cons lines place d) in
-    let here : front (line ∷ drop (place + 1) lines) ≡ [] =
-    ap (λ (b : Bool). if b then line ∷ front (drop (place + 1) lines) else []) (grind (arith, nat_tests, late)) in
-    sym (append-nil (take place lines)) ∙ sym (ap (λ (l : List PlacedLine). take place lines ++ l) (ap front parts ∙ here)) ∙ before
+use Rattle.panel_drawing.specs.Helper.{GainsDrawing}
+use Rattle.panel_drawing.specs.declared.drawing.PanelWire.{PanelWire}
+use Rattle.show_page.specs.Frame.{document_close, legend_open, why_open}
+use Rattle.show_page.specs.Page.{IsPage, front, front_text, page_text, shown}
 
 -- the lines of a run are printed, and so are those of them that are shown
 pub run_prints : (wiring : Wiring) (deck : List (List ℕ)) (lines : List PlacedLine) → MachineLines wiring deck lines
@@ -69,11 +44,38 @@ shown_prints wiring deck cards lines run = by (nat_le cards 200)
 pub lines_none : (wiring : Wiring) (deck : List (List ℕ)) (old : List ℕ) → GainsEach (IsOfLine wiring deck) [] old old
 lines_none wiring deck old = each_none (IsOfLine wiring deck) old
 
-pub lines_more : (wiring : Wiring) (deck : List (List ℕ)) (lines : List PlacedLine) (place : ℕ) (line : PlacedLine)
-    (old mid new : List ℕ) → place < length lines → get_or lines place line ≡ line
-    → GainsEach (IsOfLine wiring deck) (take place lines) old mid
-    → GainsEach (IsOfWheel wiring deck line) (range_with_len 1 120) mid new
+pub lines_more : (wiring : Wiring) (deck : List (List ℕ)) (lines : List PlacedLine) (place : ℕ) (d : PlacedLine)
+    (old mid new : List ℕ) → place < length lines → GainsEach (IsOfLine wiring deck) (take place lines) old mid
+    → GainsEach (IsOfWheel wiring deck (get_or lines place d)) (range_with_len 1 120) mid new
     → GainsEach (IsOfLine wiring deck) (take (place + 1) lines) old new
-lines_more wiring deck lines place line old mid new less item before one =
-    each_item (IsOfLine wiring deck) lines place line old mid new less item before
-    (record { text = one.text; is = one.each; gained = one.gained })
+lines_more wiring deck lines place d old mid new less before one =
+    subst (λ (l : List PlacedLine). GainsEach (IsOfLine wiring deck) l old new) (sym (take_more lines place d less))
+    (each_more (IsOfLine wiring deck) (take place lines) (get_or lines place d) old mid new before
+    (record { text = one.text; is = one.each; gained = one.gained }))
+
+-- the pieces of the page
+pub page_whole : (wiring : Wiring) (deck : List (List ℕ)) (lines : List PlacedLine) (wires : List PanelWire)
+    (legend none one two three four five six new : List ℕ) → MachineLines wiring deck lines → none ≡ []
+    → one ≡ none ++ front_text (length deck) (shown (length deck) lines) wiring.tape.lines
+    → GainsDrawing wires one two → three ≡ two ++ legend_open → four ≡ three ++ legend → five ≡ four ++ why_open
+    → GainsEach (IsOfLine wiring deck) (shown (length deck) lines) five six → new ≡ six ++ document_close
+    → IsPage wiring deck wires legend new
+unfolding page_text
+page_whole wiring deck lines wires legend none one two three four five six new run empty h1 h2 h3 h4 h5 h6 h7 =
+    let first = front_text (length deck) (shown (length deck) lines) wiring.tape.lines in
+    let begun : one ≡ [] ++ first = h1 ∙ ap (λ (l : List ℕ). l ++ first) empty in
+    record {
+      lines = lines;
+      run = run;
+      drawing = h2.drawing;
+      drawn = h2.is;
+      sections = h6.text;
+      told = h6.each;
+      spelled =
+          and_more [] six new (first ++ h2.drawing ++ legend_open ++ legend ++ why_open ++ h6.text) document_close
+          (and_more [] five six (first ++ h2.drawing ++ legend_open ++ legend ++ why_open) h6.text
+          (and_more [] four five (first ++ h2.drawing ++ legend_open ++ legend) why_open
+          (and_more [] three four (first ++ h2.drawing ++ legend_open) legend
+          (and_more [] two three (first ++ h2.drawing) legend_open
+          (and_more [] one two first h2.drawing begun h2.gained) h3) h4) h5) h6.gained) h7;
+    }

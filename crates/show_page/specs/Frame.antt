@@ -10,7 +10,7 @@ unfoldable pub style_a : List ℕ
 style_a = codes "body{margin:1em;font:16px/1.4 sans-serif;color:#222;background:#fff}h1{font-size:1.2em}\npre{margin:0;font:13px/1.5 monospace}.sheets{overflow-x:auto}\n"
 
 unfoldable pub style_b : List ℕ
-style_b = codes ".sheets pre{display:table;min-width:60em;padding:0 1.5em;margin:0 0 1em;border:1px solid #bbb;line-height:1.5em;background:repeating-linear-gradient(#fff 0 4.5em,#e2f0e0 4.5em 9em);print-color-adjust:exact}\n.sheets a{color:inherit;text-decoration:none}.sheets a:hover,.sheets a:focus,.sheets span:target{background:#fd6}\n"
+style_b = codes ".sheets pre{width:max-content;padding:0 1.5em;margin:0 0 1em;border:1px solid #bbb;line-height:1.5em;background:repeating-linear-gradient(#fff 0 4.5em,#e2f0e0 4.5em 9em);print-color-adjust:exact}\n.sheets a{color:inherit;text-decoration:none}.sheets a:hover,.sheets a:focus,.sheets span:target{background:#fd6}\n"
 
 unfoldable pub style_c : List ℕ
 style_c = codes "#panel{display:block;width:100%;max-width:80em;height:auto}\n.hubs rect{fill:#f3f1ec;stroke:#ccc;stroke-width:.1;transform:translate(-.5px,-.5px)}\n.hubs text{font:1.4px sans-serif;transform:translate(-.4px,-.8px)}.hubs circle{fill:#777}\n"

@@ -27,7 +27,7 @@ fn write_style_a(text: &mut String) -> Result<(), AllocError>
 fn write_style_b(text: &mut String) -> Result<(), AllocError>
     ensures { OnOk result (string_bytes text.new ≡ string_bytes text.old ++ style_b) }
 {
-    text.push_str(".sheets pre{display:table;min-width:60em;padding:0 1.5em;margin:0 0 1em;border:1px solid #bbb;line-height:1.5em;background:repeating-linear-gradient(#fff 0 4.5em,#e2f0e0 4.5em 9em);print-color-adjust:exact}\n.sheets a{color:inherit;text-decoration:none}.sheets a:hover,.sheets a:focus,.sheets span:target{background:#fd6}\n")
+    text.push_str(".sheets pre{width:max-content;padding:0 1.5em;margin:0 0 1em;border:1px solid #bbb;line-height:1.5em;background:repeating-linear-gradient(#fff 0 4.5em,#e2f0e0 4.5em 9em);print-color-adjust:exact}\n.sheets a{color:inherit;text-decoration:none}.sheets a:hover,.sheets a:focus,.sheets span:target{background:#fd6}\n")
 }
 
 #[tactic(auto, unfolding(crate::specs::Frame::style_c))]

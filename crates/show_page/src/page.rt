@@ -70,7 +70,7 @@ pub(crate) fn write_front(
     write_panel_open(text)
 }
 
-#[tactic(auto, using(crate::proofs::Parts::lines_none, crate::proofs::Parts::lines_more))]
+#[tactic(auto, using(crate::proofs::Parts::lines_none))]
 // The explanations of lines that the setup prints of the deck.
 pub(crate) fn write_sections(
     alloc: Global,
