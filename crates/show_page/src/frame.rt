@@ -11,7 +11,9 @@ use std::alloc::AllocError;
 pub(crate) fn write_document_open(text: &mut String) -> Result<(), AllocError>
     ensures { OnOk result (string_bytes text.new ≡ string_bytes text.old ++ document_open) }
 {
-    text.push_str("<!DOCTYPE html>\n<html xmlns=\"http://www.w3.org/1999/xhtml\" lang=\"en\"><head><meta charset=\"utf-8\"/>\n<meta name=\"viewport\" content=\"width=device-width, initial-scale=1\"/><title>A report and its panel</title>\n<style>")
+    text.push_str(
+        "<!DOCTYPE html>\n<html xmlns=\"http://www.w3.org/1999/xhtml\" lang=\"en\"><head><meta charset=\"utf-8\"/>\n<meta name=\"viewport\" content=\"width=device-width, initial-scale=1\"/><title>A report and its panel</title>\n<style>",
+    )
 }
 
 #[tactic(auto, unfolding(crate::specs::Frame::style_a))]
@@ -19,7 +21,9 @@ pub(crate) fn write_document_open(text: &mut String) -> Result<(), AllocError>
 fn write_style_a(text: &mut String) -> Result<(), AllocError>
     ensures { OnOk result (string_bytes text.new ≡ string_bytes text.old ++ style_a) }
 {
-    text.push_str("body{margin:1em;font:16px/1.4 sans-serif;color:#222;background:#fff}h1{font-size:1.2em}\npre{margin:0;font:13px/1.5 monospace}.sheets{overflow-x:auto}\n")
+    text.push_str(
+        "body{margin:1em;font:16px/1.4 sans-serif;color:#222;background:#fff}h1{font-size:1.2em}\npre{margin:0;font:13px/1.5 monospace}.sheets{overflow-x:auto}\n",
+    )
 }
 
 #[tactic(auto, unfolding(crate::specs::Frame::style_b))]
@@ -27,7 +31,9 @@ fn write_style_a(text: &mut String) -> Result<(), AllocError>
 fn write_style_b(text: &mut String) -> Result<(), AllocError>
     ensures { OnOk result (string_bytes text.new ≡ string_bytes text.old ++ style_b) }
 {
-    text.push_str(".sheets pre{width:max-content;padding:0 1.5em;margin:0 0 1em;border:1px solid #bbb;line-height:1.5em;background:repeating-linear-gradient(#fff 0 4.5em,#e2f0e0 4.5em 9em);print-color-adjust:exact}\n.sheets a{color:inherit;text-decoration:none}.sheets a:hover,.sheets a:focus,.sheets span:target{background:#fd6}\n")
+    text.push_str(
+        ".sheets pre{width:max-content;padding:0 1.5em;margin:0 0 1em;border:1px solid #bbb;line-height:1.5em;background:repeating-linear-gradient(#fff 0 4.5em,#e2f0e0 4.5em 9em);print-color-adjust:exact}\n.sheets a{color:inherit;text-decoration:none}.sheets a:hover,.sheets a:focus,.sheets span:target{background:#fd6}\n",
+    )
 }
 
 #[tactic(auto, unfolding(crate::specs::Frame::style_c))]
@@ -35,7 +41,9 @@ fn write_style_b(text: &mut String) -> Result<(), AllocError>
 fn write_style_c(text: &mut String) -> Result<(), AllocError>
     ensures { OnOk result (string_bytes text.new ≡ string_bytes text.old ++ style_c) }
 {
-    text.push_str("#panel{display:block;width:100%;max-width:80em;height:auto}\n.hubs rect{fill:#f3f1ec;stroke:#ccc;stroke-width:.1;transform:translate(-.5px,-.5px)}\n.hubs text{font:1.4px sans-serif;transform:translate(-.4px,-.8px)}.hubs circle{fill:#777}\n")
+    text.push_str(
+        "#panel{display:block;width:100%;max-width:80em;height:auto}\n.hubs rect{fill:#f3f1ec;stroke:#ccc;stroke-width:.1;transform:translate(-.5px,-.5px)}\n.hubs text{font:1.4px sans-serif;transform:translate(-.4px,-.8px)}.hubs circle{fill:#777}\n",
+    )
 }
 
 #[tactic(auto, unfolding(crate::specs::Frame::style_d))]
@@ -43,7 +51,9 @@ fn write_style_c(text: &mut String) -> Result<(), AllocError>
 fn write_style_d(text: &mut String) -> Result<(), AllocError>
     ensures { OnOk result (string_bytes text.new ≡ string_bytes text.old ++ style_d) }
 {
-    text.push_str(".wires path{fill:none;stroke-width:.2;stroke-opacity:.75}.wires path:hover{stroke-width:.6;stroke-opacity:1}\n.c0{stroke:#555;border-color:#555}.c1{stroke:#c0392b;border-color:#c0392b}.c2{stroke:#2471a3;border-color:#2471a3}\n")
+    text.push_str(
+        ".wires path{fill:none;stroke-width:.2;stroke-opacity:.75}.wires path:hover{stroke-width:.6;stroke-opacity:1}\n.c0{stroke:#555;border-color:#555}.c1{stroke:#c0392b;border-color:#c0392b}.c2{stroke:#2471a3;border-color:#2471a3}\n",
+    )
 }
 
 #[tactic(auto, unfolding(crate::specs::Frame::style_e))]
@@ -51,7 +61,9 @@ fn write_style_d(text: &mut String) -> Result<(), AllocError>
 fn write_style_e(text: &mut String) -> Result<(), AllocError>
     ensures { OnOk result (string_bytes text.new ≡ string_bytes text.old ++ style_e) }
 {
-    text.push_str(".c3{stroke:#1e8449;border-color:#1e8449}.c4{stroke:#7d3c98;border-color:#7d3c98}.c5{stroke:#ca6f1e;border-color:#ca6f1e}\n.c6{stroke:#0e7c7b;border-color:#0e7c7b}.c7{stroke:#b03a83;border-color:#b03a83}.c8{stroke:#6e4b1f;border-color:#6e4b1f}\n")
+    text.push_str(
+        ".c3{stroke:#1e8449;border-color:#1e8449}.c4{stroke:#7d3c98;border-color:#7d3c98}.c5{stroke:#ca6f1e;border-color:#ca6f1e}\n.c6{stroke:#0e7c7b;border-color:#0e7c7b}.c7{stroke:#b03a83;border-color:#b03a83}.c8{stroke:#6e4b1f;border-color:#6e4b1f}\n",
+    )
 }
 
 #[tactic(auto, unfolding(crate::specs::Frame::style_f))]
@@ -59,7 +71,9 @@ fn write_style_e(text: &mut String) -> Result<(), AllocError>
 fn write_style_f(text: &mut String) -> Result<(), AllocError>
     ensures { OnOk result (string_bytes text.new ≡ string_bytes text.old ++ style_f) }
 {
-    text.push_str(".c9{stroke:#5b6abf;border-color:#5b6abf}.c10{stroke:#7a8b12;border-color:#7a8b12}.c11{stroke:#e0559a;border-color:#e0559a}\n.legend pre{white-space:pre-wrap;border-left-width:6px;border-left-style:solid;padding-left:.6em;margin:0 0 .5em}\n")
+    text.push_str(
+        ".c9{stroke:#5b6abf;border-color:#5b6abf}.c10{stroke:#7a8b12;border-color:#7a8b12}.c11{stroke:#e0559a;border-color:#e0559a}\n.legend pre{white-space:pre-wrap;border-left-width:6px;border-left-style:solid;padding-left:.6em;margin:0 0 .5em}\n",
+    )
 }
 
 #[tactic(auto, unfolding(crate::specs::Frame::style_g))]
@@ -67,7 +81,9 @@ fn write_style_f(text: &mut String) -> Result<(), AllocError>
 fn write_style_g(text: &mut String) -> Result<(), AllocError>
     ensures { OnOk result (string_bytes text.new ≡ string_bytes text.old ++ style_g) }
 {
-    text.push_str(".legend pre:target{background:#fd6}.why section{display:none}.why pre{white-space:pre-wrap;margin:.3em 0}\n.why section:target{display:block;position:fixed;left:0;right:0;bottom:0;max-height:60vh;overflow:auto;box-sizing:border-box;padding:.5em 1em;background:#fffbe8;border-top:3px solid #c90}\n")
+    text.push_str(
+        ".legend pre:target{background:#fd6}.why section{display:none}.why pre{white-space:pre-wrap;margin:.3em 0}\n.why section:target{display:block;position:fixed;left:0;right:0;bottom:0;max-height:60vh;overflow:auto;box-sizing:border-box;padding:.5em 1em;background:#fffbe8;border-top:3px solid #c90}\n",
+    )
 }
 
 #[tactic(auto, unfolding(crate::specs::Frame::style_h))]
@@ -75,7 +91,9 @@ fn write_style_g(text: &mut String) -> Result<(), AllocError>
 fn write_style_h(text: &mut String) -> Result<(), AllocError>
     ensures { OnOk result (string_bytes text.new ≡ string_bytes text.old ++ style_h) }
 {
-    text.push_str(".why svg{display:block;width:100%;height:auto;background:#fff}.why use{opacity:.3}\n.why path{fill:none;stroke:#d00;stroke-width:.5;stroke-linejoin:round}\n@media(min-width:75em){body{margin-right:46vw}.why section:target{left:auto;top:0;width:44vw;max-height:none;border-top:0;border-left:3px solid #c90}}\n")
+    text.push_str(
+        ".why svg{display:block;width:100%;height:auto;background:#fff}.why use{opacity:.3}\n.why path{fill:none;stroke:#d00;stroke-width:.5;stroke-linejoin:round}\n@media(min-width:75em){body{margin-right:46vw}.why section:target{left:auto;top:0;width:44vw;max-height:none;border-top:0;border-left:3px solid #c90}}\n",
+    )
 }
 
 #[tactic(auto, unfolding(crate::specs::Frame::style_i))]
@@ -91,7 +109,9 @@ fn write_style_i(text: &mut String) -> Result<(), AllocError>
 pub(crate) fn write_body_open(text: &mut String) -> Result<(), AllocError>
     ensures { OnOk result (string_bytes text.new ≡ string_bytes text.old ++ body_open) }
 {
-    text.push_str("</style></head><body>\n<p>The drawing of the panel is our own schematic, not the real layout of the machine.</p>\n<h1>The report</h1>\n")
+    text.push_str(
+        "</style></head><body>\n<p>The drawing of the panel is our own schematic, not the real layout of the machine.</p>\n<h1>The report</h1>\n",
+    )
 }
 
 #[tactic(auto, unfolding(crate::specs::Frame::cut_words))]
