@@ -1,5 +1,5 @@
 -- The lines that ask for a wire, and wires with their lines.
-use Rattle.std.proofs.Common.{◌≡◌, ◌≢◌, ◌⊎◌, ◌↔◌, inl, inr, ◌∙◌, refl, sym, ap, subst, arith, eqb, Bool, true, false, true≢false, false≢true, ℕ, ◌+◌, ◌<◌, ◌≤◌, List, [], ◌∷◌, ◌++◌, Some, length, take, get_or}
+use Rattle.std.proofs.Common.{◌≡◌, ◌≢◌, ◌⊎◌, ◌↔◌, inl, inr, ◌∙◌, refl, sym, ap, subst, arith, eqb, Bool, true, false, true≢false, ℕ, ◌+◌, ◌<◌, ◌≤◌, List, [], ◌∷◌, ◌++◌, Some, length, take, get_or}
 use Rattle.std.specs.Prelude.{All, IsTrue, map, slice_get}
 use Rattle.std.proofs.lemmas.Bool.{eqb-true, eq-eqb}
 use Rattle.std.proofs.lemmas.List.{map-append, take_more}
@@ -12,7 +12,7 @@ use Rattle.plans.specs.Plans.{Lists}
 use Rattle.setups.specs.Wiring.{Wiring, HasWire}
 use Rattle.wire_gen.specs.OfLine.{IsSetupOfLine}
 use Rattle.wiring_table.specs.Wires.{LineWire}
-use Rattle.chart_panels.specs.Asking.{AreAsked, HasItsLine, IsFirstAsking, IsLineOf, NoneAsks, NoneBefore, ends}
+use Rattle.chart_panels.specs.Asking.{AreAsked, HasItsLine, IsAsked, IsFirstAsking, IsLineOf, NoneAsks, NoneBefore, ends}
 
 -- no line stands before the first one
 pub none_before : (lines : List Line) (plan : Lists) (exit entry : Hub) → NoneBefore lines plan exit entry 0
@@ -68,12 +68,12 @@ asked_more lines plan pairs wires wire before is = record {
       (All-cons (HasItsLine lines plan) wire [] is (All-nil (HasItsLine lines plan)));
 }
 
-pub asked_item : (lines : List Line) (plan : Lists) (pairs : List (Hub × Hub)) (place : ℕ) (pair : Hub × Hub) (old new : List PanelWire)
-    (wire : PanelWire) → place < length pairs → get_or pairs place pair ≡ pair → AreAsked lines plan (take place pairs) old
-    → HasItsLine lines plan wire → ends wire ≡ pair → new ≡ old ++ wire ∷ [] → AreAsked lines plan (take (place + 1) pairs) new
-asked_item lines plan pairs place pair old new wire less item before is same pushed =
-    let more = asked_more lines plan (take place pairs) old wire before is in
+pub asked_item : (lines : List Line) (plan : Lists) (pairs : List (Hub × Hub)) (place : ℕ) (d : Hub × Hub) (old new : List PanelWire)
+    (wire : PanelWire) → place < length pairs → AreAsked lines plan (take place pairs) old
+    → IsAsked lines plan (get_or pairs place d) wire → new ≡ old ++ wire ∷ [] → AreAsked lines plan (take (place + 1) pairs) new
+asked_item lines plan pairs place d old new wire less before is pushed =
+    let more = asked_more lines plan (take place pairs) old wire before is.asked in
     let all : take place pairs ++ ends wire ∷ [] ≡ take (place + 1) pairs =
-    ap (λ (p : Hub × Hub). take place pairs ++ p ∷ []) (same ∙ sym item) ∙ sym (take_more pairs place pair less) in
+    ap (λ (p : Hub × Hub). take place pairs ++ p ∷ []) is.ends_is ∙ sym (take_more pairs place d less) in
     subst (λ (l : List PanelWire). AreAsked lines plan (take (place + 1) pairs) l) (sym pushed)
     (subst (λ (l : List (Hub × Hub)). AreAsked lines plan l (old ++ wire ∷ [])) all more)

@@ -41,6 +41,11 @@ HasItsLine lines plan wire = IsLineOf lines plan wire.exit wire.entry wire.line
 abbrev pub ends : PanelWire → Hub × Hub
 ends wire = (wire.exit, wire.entry)
 
+-- a drawn wire with these hubs, and its line
+pub record IsAsked (lines : List Line) (plan : Lists) (pair : Hub × Hub) (wire : PanelWire) : Type 0 where
+  pub ends_is : ends wire ≡ pair
+  pub asked : HasItsLine lines plan wire
+
 -- wires with these hubs, each with its line
 pub record AreAsked (lines : List Line) (plan : Lists) (pairs : List (Hub × Hub)) (wires : List PanelWire) : Type 0 where
   pub ends_are : map ends wires ≡ pairs

@@ -2,7 +2,7 @@
 
 ghost use Rattle.std.specs.Prelude.{◌≡◌, IfOk};
 ghost use Rattle.plans.specs.Plans.{IsFor};
-ghost use Rattle.chart_panels.specs.Asking.{AreAsked, AreChartWires, IsLineOf};
+ghost use Rattle.chart_panels.specs.Asking.{AreAsked, AreChartWires, IsAsked, IsLineOf};
 
 use chart_rules::Chart;
 use hubs::Hub;
@@ -32,8 +32,27 @@ fn asking_line(
     Ok(0)
 }
 
-// The wires with the lines that ask for them.
+// A wire with the line that asks for it.
 fn asked(
+    alloc: Global,
+    chart: &Chart,
+    plan: &Plan,
+    pair: (Hub, Hub),
+) -> Result<PanelWire, AllocError>
+    requires { IsFor chart.now.lines plan.now }
+    ensures { IfOk result (IsAsked chart.now.lines plan.now pair) }
+{
+    let line = asking_line(alloc, chart, plan, pair.0, pair.1)?;
+    Ok(PanelWire {
+        exit: pair.0,
+        entry: pair.1,
+        line,
+    })
+}
+
+#[tactic(auto, using(crate::proofs::Asks::asked_none, crate::proofs::Asks::asked_item))]
+// The wires with the lines that ask for them.
+fn all_asked(
     alloc: Global,
     chart: &Chart,
     plan: &Plan,
@@ -44,9 +63,8 @@ fn asked(
 {
     let mut wires = Vec::new(alloc);
     for pair in pairs {
-        let (exit, entry) = *pair;
-        let line = asking_line(alloc, chart, plan, exit, entry)?;
-        wires.push(PanelWire { exit, entry, line })?;
+        let wire = asked(alloc, chart, plan, *pair)?;
+        wires.push(wire)?;
     }
     Ok(wires)
 }
@@ -63,5 +81,5 @@ pub fn chart_wires(
     ensures { IfOk result (λ wires. AreChartWires chart.now.lines plan.now setup.now wires.items) }
 {
     let pairs = panel_wires(alloc, setup)?;
-    asked(alloc, chart, plan, &pairs)
+    all_asked(alloc, chart, plan, &pairs)
 }

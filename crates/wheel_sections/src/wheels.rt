@@ -34,7 +34,14 @@ fn write_explained(
     let _cards = cards;
     let told = line.wheel(alloc, setup, wheel)?;
     let words = wheel_text(alloc, setup, line, &told)?;
-    write_section(text, placed.page, placed.line, wheel, words.as_bytes(), &told.rows)
+    write_section(
+        text,
+        placed.page,
+        placed.line,
+        wheel,
+        words.as_bytes(),
+        &told.rows,
+    )
 }
 
 #[tactic(auto, using(crate::proofs::Gains::wheel_blank, crate::proofs::Gains::wheel_printed))]

@@ -30,6 +30,6 @@ returns c =
       gained = gained ∙ ap (λ (l : List ℕ). string_bytes c.args.text.now ++ section_text page line c.args.wheel l c.deref.result.now)
           c.as_bytes.ensures.value
           ∙ ap (λ (l : List (Option (Vec Hub Global))). string_bytes c.args.text.now
-            ++ section_text page line c.args.wheel (string_bytes c.in_ok-words.words) l) c.deref.ensures.value;
+          ++ section_text page line c.args.wheel (string_bytes c.in_ok-words.words) l) c.deref.ensures.value;
     })
     c.write_section.ensures

@@ -1,6 +1,6 @@
 use Rattle.std.specs.Prelude.{take}
 use Rattle.chart_panels.specs.Asking.{AreAsked}
-use Rattle.chart_panels.proofs.asking.asked.Given as goal
+use Rattle.chart_panels.proofs.asking.all_asked.Given as goal
 
 -- the wires so far have their lines
 abbrev pub invariant-loop-pair : goal.invariant-loop-pair

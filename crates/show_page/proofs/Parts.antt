@@ -1,0 +1,81 @@
+-- The parts of the page.
+use Rattle.std.proofs.Common.{◌≡◌, ◌∙◌, refl, sym, ap, subst, Bool, true, false, ℕ, ◌+◌, ◌<◌, List, [], ◌∷◌, ◌++◌, length, take, get_or}
+use Rattle.std.specs.Prelude.{All, Contains, if◌then◌else◌, nat_le}
+use Rattle.std.specs.List.{range_with_len}
+use Rattle.std.proofs.lemmas.List.{take_more}
+use Rattle.std.proofs.lemmas.List.Elements.{All-cons, All-head, All-nil, All-tail, Contains-get_or}
+use Rattle.explanations.specs.PlacedInRun.{PrintsLine}
+use Rattle.machine.specs.Runs.{MachineLines}
+use Rattle.markup.specs.Pieces.{GainsEach, GainsOne}
+use Rattle.markup.proofs.Pieces.{and_more, each_more, each_none}
+use Rattle.placed_lines.specs.declared.placed_line.PlacedLine.{PlacedLine}
+use Rattle.setups.specs.Wiring.{Wiring}
+use Rattle.wheel_sections.specs.Sections.{IsOfLine, IsOfWheel}
+use Rattle.panel_drawing.specs.Helper.{GainsDrawing}
+use Rattle.panel_drawing.specs.declared.drawing.PanelWire.{PanelWire}
+use Rattle.show_page.specs.Frame.{document_close, legend_open, why_open}
+use Rattle.show_page.specs.Page.{IsPage, front, front_text, page_text, shown}
+
+-- the lines of a run are printed, and so are those of them that are shown
+pub run_prints : (wiring : Wiring) (deck : List (List ℕ)) (lines : List PlacedLine) → MachineLines wiring deck lines
+    → All (PrintsLine wiring deck) lines
+run_prints wiring deck lines run =
+    λ k d less. record { lines = lines; run = run; printed = Contains-get_or lines k d less }
+
+front_all : (P : PlacedLine → Type 0) (lines : List PlacedLine) → All P lines → All P (front lines)
+front_all P [] all = All-nil P
+front_all P (line ∷ others) all =
+    by (nat_le line.page 2) (front_all P others (All-tail P line others all))
+  where
+    by : (b : Bool) → All P (front others) → All P (if b then line ∷ front others else [])
+    by true rest = All-cons P line (front others) (All-head P line others all) rest
+    by false rest = All-nil P
+
+pub shown_prints : (wiring : Wiring) (deck : List (List ℕ)) (cards : ℕ) (lines : List PlacedLine) → MachineLines wiring deck lines
+    → All (PrintsLine wiring deck) (shown cards lines)
+unfolding shown
+shown_prints wiring deck cards lines run = by (nat_le cards 200)
+  where
+    by : (b : Bool) → All (PrintsLine wiring deck) (if b then lines else front lines)
+    by true = run_prints wiring deck lines run
+    by false = front_all (PrintsLine wiring deck) lines (run_prints wiring deck lines run)
+
+-- one line more is explained
+pub lines_none : (wiring : Wiring) (deck : List (List ℕ)) (old : List ℕ) → GainsEach (IsOfLine wiring deck) [] old old
+lines_none wiring deck old = each_none (IsOfLine wiring deck) old
+
+pub lines_more : (wiring : Wiring) (deck : List (List ℕ)) (lines : List PlacedLine) (place : ℕ) (d : PlacedLine)
+    (old mid new : List ℕ) → place < length lines → GainsEach (IsOfLine wiring deck) (take place lines) old mid
+    → GainsEach (IsOfWheel wiring deck (get_or lines place d)) (range_with_len 1 120) mid new
+    → GainsEach (IsOfLine wiring deck) (take (place + 1) lines) old new
+lines_more wiring deck lines place d old mid new less before one =
+    subst (λ (l : List PlacedLine). GainsEach (IsOfLine wiring deck) l old new) (sym (take_more lines place d less))
+    (each_more (IsOfLine wiring deck) (take place lines) (get_or lines place d) old mid new before
+    (record { text = one.text; is = one.each; gained = one.gained }))
+
+-- the pieces of the page
+pub page_whole : (wiring : Wiring) (deck : List (List ℕ)) (lines : List PlacedLine) (wires : List PanelWire)
+    (legend none one two three four five six new : List ℕ) → MachineLines wiring deck lines → none ≡ []
+    → one ≡ none ++ front_text (length deck) (shown (length deck) lines) wiring.tape.lines
+    → GainsDrawing wires one two → three ≡ two ++ legend_open → four ≡ three ++ legend → five ≡ four ++ why_open
+    → GainsEach (IsOfLine wiring deck) (shown (length deck) lines) five six → new ≡ six ++ document_close
+    → IsPage wiring deck wires legend new
+unfolding page_text
+page_whole wiring deck lines wires legend none one two three four five six new run empty h1 h2 h3 h4 h5 h6 h7 =
+    let first = front_text (length deck) (shown (length deck) lines) wiring.tape.lines in
+    let begun : one ≡ [] ++ first = h1 ∙ ap (λ (l : List ℕ). l ++ first) empty in
+    record {
+      lines = lines;
+      run = run;
+      drawing = h2.drawing;
+      drawn = h2.is;
+      sections = h6.text;
+      told = h6.each;
+      spelled =
+          and_more [] six new (first ++ h2.drawing ++ legend_open ++ legend ++ why_open ++ h6.text) document_close
+          (and_more [] five six (first ++ h2.drawing ++ legend_open ++ legend ++ why_open) h6.text
+          (and_more [] four five (first ++ h2.drawing ++ legend_open ++ legend) why_open
+          (and_more [] three four (first ++ h2.drawing ++ legend_open) legend
+          (and_more [] two three (first ++ h2.drawing) legend_open
+          (and_more [] one two first h2.drawing begun h2.gained) h3) h4) h5) h6.gained) h7;
+    }

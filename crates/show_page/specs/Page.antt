@@ -1,0 +1,59 @@
+-- The page of a setup and a deck: the printed pages, the drawing of the panel, the legend, and an explanation of each printed character.
+use Rattle.std.specs.Prelude.{◌≡◌, ℕ, List, [], ◌∷◌, ◌++◌, if◌then◌else◌, length, nat_le}
+use Rattle.charts.specs.declared.chart.Line.{Line}
+use Rattle.chart_panels.specs.Asking.{AreChartWires}
+use Rattle.chart_panels.specs.Legends.{IsLegendSection}
+use Rattle.machine.specs.Runs.{MachineLines}
+use Rattle.markup.specs.Pieces.{EachText}
+use Rattle.panel_drawing.specs.Drawing.{IsDrawing}
+use Rattle.panel_drawing.specs.declared.drawing.PanelWire.{PanelWire}
+use Rattle.placed_lines.specs.declared.placed_line.PlacedLine.{PlacedLine}
+use Rattle.plans.specs.Plans.{Lists}
+use Rattle.report_sheets.specs.Sheets.{sheets_text}
+use Rattle.setups.specs.Wiring.{Wiring}
+use Rattle.wheel_sections.specs.Sections.{IsOfLine}
+use Rattle.wiring_text.specs.declared.statement.Version.{Version}
+use Rattle.show_page.specs.Frame.{body_open, cut_words, document_close, document_open, legend_open, panel_open, sheets_open, style, why_open}
+
+-- the lines of the first two pages
+abbrev pub front : List PlacedLine → List PlacedLine
+front [] = []
+front (line ∷ others) = if nat_le line.page 2 then line ∷ front others else []
+
+-- the lines that are shown: all of a deck of so many cards, where it has 200 at most, else those of the first two pages
+unfoldable pub shown : ℕ → List PlacedLine → List PlacedLine
+shown cards lines = if nat_le cards 200 then lines else front lines
+
+-- what is said of a deck of more cards
+unfoldable pub cut_text : ℕ → List ℕ
+cut_text cards = if nat_le cards 200 then [] else cut_words
+
+-- the page up to the drawing
+unfoldable pub front_text : ℕ → List PlacedLine → ℕ → List ℕ
+front_text cards lines long =
+    document_open ++ style ++ body_open ++ cut_text cards ++ sheets_open ++ sheets_text lines long ++ panel_open
+
+-- the page, by its parts
+unfoldable pub page_text : (cards : ℕ) → List PlacedLine → (long : ℕ) → (drawing legend sections : List ℕ) → List ℕ
+page_text cards lines long drawing legend sections =
+    front_text cards lines long ++ drawing ++ legend_open ++ legend ++ why_open ++ sections ++ document_close
+
+-- The page of a setup and a deck: the lines are those that the machine prints, each wire of the list is drawn once, and each printed
+-- character that is shown has its element.
+pub record IsPage (wiring : Wiring) (deck : List (List ℕ)) (wires : List PanelWire) (legend text : List ℕ) : Type 0 where
+  pub lines : List PlacedLine
+  pub run : MachineLines wiring deck lines
+  pub drawing : List ℕ
+  pub drawn : IsDrawing wires drawing
+  pub sections : List ℕ
+  pub told : EachText (IsOfLine wiring deck) (shown (length deck) lines) sections
+  pub spelled : text ≡ page_text (length deck) (shown (length deck) lines) wiring.tape.lines drawing legend sections
+
+-- The page of a chart, its plan and its setup, and a deck: the wires are those of the setup, and the legend that of the chart.
+pub record ShowsChart (version : Version) (lines : List Line) (plan : Lists) (setup : Wiring) (source : List ℕ)
+    (deck : List (List ℕ)) (text : List ℕ) : Type 0 where
+  pub wires : List PanelWire
+  pub are : AreChartWires lines plan setup wires
+  pub legend : List ℕ
+  pub is_legend : EachText (IsLegendSection version lines plan source) lines legend
+  pub page : IsPage setup deck wires legend text

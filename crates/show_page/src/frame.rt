@@ -1,0 +1,179 @@
+//! The frame of the page.
+
+ghost use Rattle.std.specs.Prelude.{◌≡◌, ◌++◌, OnOk};
+ghost use Rattle.std.specs.String.{string_bytes};
+ghost use Rattle.show_page.specs.Frame.{document_open, style_a, style_b, style_c, style_d, style_e, style_f, style_g, style_h, style_i, body_open, cut_words, sheets_open, panel_open, legend_open, why_open, document_close, style};
+
+use std::alloc::AllocError;
+
+#[tactic(auto, unfolding(crate::specs::Frame::document_open))]
+// The front of the document.
+pub(crate) fn write_document_open(text: &mut String) -> Result<(), AllocError>
+    ensures { OnOk result (string_bytes text.new ≡ string_bytes text.old ++ document_open) }
+{
+    text.push_str(
+        "<!DOCTYPE html>\n<html xmlns=\"http://www.w3.org/1999/xhtml\" lang=\"en\"><head><meta charset=\"utf-8\"/>\n<meta name=\"viewport\" content=\"width=device-width, initial-scale=1\"/><title>A report and its panel</title>\n<style>",
+    )
+}
+
+#[tactic(auto, unfolding(crate::specs::Frame::style_a))]
+// A part of the style.
+fn write_style_a(text: &mut String) -> Result<(), AllocError>
+    ensures { OnOk result (string_bytes text.new ≡ string_bytes text.old ++ style_a) }
+{
+    text.push_str(
+        "body{margin:1em;font:16px/1.4 sans-serif;color:#222;background:#fff}h1{font-size:1.2em}\npre{margin:0;font:13px/1.5 monospace}.sheets{overflow-x:auto}\n",
+    )
+}
+
+#[tactic(auto, unfolding(crate::specs::Frame::style_b))]
+// A part of the style.
+fn write_style_b(text: &mut String) -> Result<(), AllocError>
+    ensures { OnOk result (string_bytes text.new ≡ string_bytes text.old ++ style_b) }
+{
+    text.push_str(
+        ".sheets pre{width:max-content;padding:0 1.5em;margin:0 0 1em;border:1px solid #bbb;line-height:1.5em;background:repeating-linear-gradient(#fff 0 4.5em,#e2f0e0 4.5em 9em);print-color-adjust:exact}\n.sheets a{color:inherit;text-decoration:none}.sheets a:hover,.sheets a:focus,.sheets span:target{background:#fd6}\n",
+    )
+}
+
+#[tactic(auto, unfolding(crate::specs::Frame::style_c))]
+// A part of the style.
+fn write_style_c(text: &mut String) -> Result<(), AllocError>
+    ensures { OnOk result (string_bytes text.new ≡ string_bytes text.old ++ style_c) }
+{
+    text.push_str(
+        "#panel{display:block;width:100%;max-width:80em;height:auto}\n.hubs rect{fill:#f3f1ec;stroke:#ccc;stroke-width:.1;transform:translate(-.5px,-.5px)}\n.hubs text{font:1.4px sans-serif;transform:translate(-.4px,-.8px)}.hubs circle{fill:#777}\n",
+    )
+}
+
+#[tactic(auto, unfolding(crate::specs::Frame::style_d))]
+// A part of the style.
+fn write_style_d(text: &mut String) -> Result<(), AllocError>
+    ensures { OnOk result (string_bytes text.new ≡ string_bytes text.old ++ style_d) }
+{
+    text.push_str(
+        ".wires path{fill:none;stroke-width:.2;stroke-opacity:.75}.wires path:hover{stroke-width:.6;stroke-opacity:1}\n.c0{stroke:#555;border-color:#555}.c1{stroke:#c0392b;border-color:#c0392b}.c2{stroke:#2471a3;border-color:#2471a3}\n",
+    )
+}
+
+#[tactic(auto, unfolding(crate::specs::Frame::style_e))]
+// A part of the style.
+fn write_style_e(text: &mut String) -> Result<(), AllocError>
+    ensures { OnOk result (string_bytes text.new ≡ string_bytes text.old ++ style_e) }
+{
+    text.push_str(
+        ".c3{stroke:#1e8449;border-color:#1e8449}.c4{stroke:#7d3c98;border-color:#7d3c98}.c5{stroke:#ca6f1e;border-color:#ca6f1e}\n.c6{stroke:#0e7c7b;border-color:#0e7c7b}.c7{stroke:#b03a83;border-color:#b03a83}.c8{stroke:#6e4b1f;border-color:#6e4b1f}\n",
+    )
+}
+
+#[tactic(auto, unfolding(crate::specs::Frame::style_f))]
+// A part of the style.
+fn write_style_f(text: &mut String) -> Result<(), AllocError>
+    ensures { OnOk result (string_bytes text.new ≡ string_bytes text.old ++ style_f) }
+{
+    text.push_str(
+        ".c9{stroke:#5b6abf;border-color:#5b6abf}.c10{stroke:#7a8b12;border-color:#7a8b12}.c11{stroke:#e0559a;border-color:#e0559a}\n.legend pre{white-space:pre-wrap;border-left-width:6px;border-left-style:solid;padding-left:.6em;margin:0 0 .5em}\n",
+    )
+}
+
+#[tactic(auto, unfolding(crate::specs::Frame::style_g))]
+// A part of the style.
+fn write_style_g(text: &mut String) -> Result<(), AllocError>
+    ensures { OnOk result (string_bytes text.new ≡ string_bytes text.old ++ style_g) }
+{
+    text.push_str(
+        ".legend pre:target{background:#fd6}.why section{display:none}.why pre{white-space:pre-wrap;margin:.3em 0}\n.why section:target{display:block;position:fixed;left:0;right:0;bottom:0;max-height:60vh;overflow:auto;box-sizing:border-box;padding:.5em 1em;background:#fffbe8;border-top:3px solid #c90}\n",
+    )
+}
+
+#[tactic(auto, unfolding(crate::specs::Frame::style_h))]
+// A part of the style.
+fn write_style_h(text: &mut String) -> Result<(), AllocError>
+    ensures { OnOk result (string_bytes text.new ≡ string_bytes text.old ++ style_h) }
+{
+    text.push_str(
+        ".why svg{display:block;width:100%;height:auto;background:#fff}.why use{opacity:.3}\n.why path{fill:none;stroke:#d00;stroke-width:.5;stroke-linejoin:round}\n@media(min-width:75em){body{margin-right:46vw}.why section:target{left:auto;top:0;width:44vw;max-height:none;border-top:0;border-left:3px solid #c90}}\n",
+    )
+}
+
+#[tactic(auto, unfolding(crate::specs::Frame::style_i))]
+// A part of the style.
+fn write_style_i(text: &mut String) -> Result<(), AllocError>
+    ensures { OnOk result (string_bytes text.new ≡ string_bytes text.old ++ style_i) }
+{
+    text.push_str("@media print{body{margin:0}.why{display:none}.sheets pre{break-after:page}}\n")
+}
+
+#[tactic(auto, unfolding(crate::specs::Frame::body_open))]
+// The end of the head, and the front of the body.
+pub(crate) fn write_body_open(text: &mut String) -> Result<(), AllocError>
+    ensures { OnOk result (string_bytes text.new ≡ string_bytes text.old ++ body_open) }
+{
+    text.push_str(
+        "</style></head><body>\n<p>The drawing of the panel is our own schematic, not the real layout of the machine.</p>\n<h1>The report</h1>\n",
+    )
+}
+
+#[tactic(auto, unfolding(crate::specs::Frame::cut_words))]
+// What is said where only the first pages are shown.
+pub(crate) fn write_cut_words(text: &mut String) -> Result<(), AllocError>
+    ensures { OnOk result (string_bytes text.new ≡ string_bytes text.old ++ cut_words) }
+{
+    text.push_str("<p>The deck has more than 200 cards: its first two pages are shown.</p>\n")
+}
+
+#[tactic(auto, unfolding(crate::specs::Frame::sheets_open))]
+// What stands before the sheets.
+pub(crate) fn write_sheets_open(text: &mut String) -> Result<(), AllocError>
+    ensures { OnOk result (string_bytes text.new ≡ string_bytes text.old ++ sheets_open) }
+{
+    text.push_str("<div class=\"sheets\">\n")
+}
+
+#[tactic(auto, unfolding(crate::specs::Frame::panel_open))]
+// What stands between the sheets and the drawing.
+pub(crate) fn write_panel_open(text: &mut String) -> Result<(), AllocError>
+    ensures { OnOk result (string_bytes text.new ≡ string_bytes text.old ++ panel_open) }
+{
+    text.push_str("</div>\n<h1>The panel</h1>\n")
+}
+
+#[tactic(auto, unfolding(crate::specs::Frame::legend_open))]
+// What stands between the drawing and the legend.
+pub(crate) fn write_legend_open(text: &mut String) -> Result<(), AllocError>
+    ensures { OnOk result (string_bytes text.new ≡ string_bytes text.old ++ legend_open) }
+{
+    text.push_str("<h1>What each line asks for</h1>\n<div class=\"legend\">\n")
+}
+
+#[tactic(auto, unfolding(crate::specs::Frame::why_open))]
+// What stands between the legend and the explanations.
+pub(crate) fn write_why_open(text: &mut String) -> Result<(), AllocError>
+    ensures { OnOk result (string_bytes text.new ≡ string_bytes text.old ++ why_open) }
+{
+    text.push_str("</div>\n<div class=\"why\">\n")
+}
+
+#[tactic(auto, unfolding(crate::specs::Frame::document_close))]
+// The end of the document.
+pub(crate) fn write_document_close(text: &mut String) -> Result<(), AllocError>
+    ensures { OnOk result (string_bytes text.new ≡ string_bytes text.old ++ document_close) }
+{
+    text.push_str("</div>\n</body></html>\n")
+}
+
+#[tactic(auto, unfolding(crate::specs::Frame::style))]
+// The style.
+pub(crate) fn write_style(text: &mut String) -> Result<(), AllocError>
+    ensures { OnOk result (string_bytes text.new ≡ string_bytes text.old ++ style) }
+{
+    write_style_a(text)?;
+    write_style_b(text)?;
+    write_style_c(text)?;
+    write_style_d(text)?;
+    write_style_e(text)?;
+    write_style_f(text)?;
+    write_style_g(text)?;
+    write_style_h(text)?;
+    write_style_i(text)
+}
