@@ -62,12 +62,16 @@ fn miss(rt: &impl Abort, hubs: &[Hub]) {
 }
 
 #[test]
-fn hubs_have_their_numbers_letters_and_shapes(rt: HostRuntime) {
+fn hubs_have_the_numbers_of_their_rows(rt: HostRuntime) {
     look_up(&rt, &NUMBERED);
     miss(&rt, &OUTSIDE);
     for number in [0, 1937] {
         assert!(rt; Hub::of_number(number).is_none() && Letters::of_number(number).is_none());
     }
+}
+
+#[test]
+fn kinds_have_their_letters_and_shapes(rt: HostRuntime) {
     assert_eq!(rt; Letters::of_spelled(b"GX"), Some(Letters::GX));
     assert_eq!(rt; Letters::of_spelled(b"gx"), None);
     assert!(rt; Letters::PIC.spelled() == "PIC" && !Letters::PIC.are_exits());

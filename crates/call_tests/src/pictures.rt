@@ -47,7 +47,7 @@ static ENDS: [(Hub, Hub); 5] = [
 ];
 
 #[test]
-fn pictures_and_contacts_are_words(rt: HostRuntime) -> Result<(), Fail> {
+fn hubs_at_the_ends_of_words(rt: HostRuntime) -> Result<(), Fail> {
     let net = wired(rt.alloc(), &ENDS)?;
     let mut words = [0; 31];
     assert!(rt; *picture(&net, &[], &[]).words() == words);
@@ -63,10 +63,15 @@ fn pictures_and_contacts_are_words(rt: HostRuntime) -> Result<(), Fail> {
     words[16] = 1 << 16;
     words[30] = 0;
     assert!(rt; *picture(&net, &[Hub::FR(65)], &[]).words() == words);
-    // A row that reaches after hub 1936 is cut there: from that hub it is one hub long, and from the last wheel, hub 1918, 19.
+    Ok(())
+}
+
+// A row that reaches after hub 1936 is cut there: from that hub it is one hub long, and from the last wheel, hub 1918, 19.
+#[test]
+fn rows_that_reach_after_the_last_hub(rt: HostRuntime) -> Result<(), Fail> {
     let mut last = Picture::new();
     last.insert_row(Hub::RS, u128::MAX);
-    words = [0; 31];
+    let mut words = [0; 31];
     words[30] = 1 << 15;
     assert!(rt; *last.words() == words);
     assert!(rt; last == set(&[Hub::RS]));
@@ -129,12 +134,17 @@ fn are_pictures(net: &Net, rows: &[(&[Hub], &[Hub], &[Hub])]) -> bool {
 }
 
 #[test]
-fn contacts_entries_and_wires_lead_on(rt: HostRuntime) -> Result<(), Fail> {
+fn contacts_and_entries_lead_on(rt: HostRuntime) -> Result<(), Fail> {
     let in_loop = wired(rt.alloc(), &LOOP)?;
     assert!(rt; are_pictures(&in_loop, &IN_LOOP));
     let net = wired(rt.alloc(), &[(Hub::CSZ(16), Hub::W(7))])?;
     assert!(rt; are_pictures(&net, &ENTRIES));
-    // All columns of a card are wired to wheels one by one, some columns to a second wheel, and one to another unit besides.
+    Ok(())
+}
+
+// All columns of a card are wired to wheels one by one, some columns to a second wheel, and one to another unit besides.
+#[test]
+fn wires_side_by_side(rt: HostRuntime) -> Result<(), Fail> {
     let mut setup = Setup::new(rt.alloc(), Tape::new(66, 4, 60, &[])?);
     let mut exits = Picture::new();
     let mut all = Picture::new();

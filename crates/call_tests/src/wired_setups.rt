@@ -41,12 +41,17 @@ fn add_all(rt: &impl Abort, setup: &mut Setup, wires: &[(Hub, Hub)]) {
 }
 
 #[test]
-fn setups_are_wired(rt: HostRuntime) -> Result<(), Fail> {
+fn tapes_are_made_and_refused(rt: HostRuntime) -> Result<(), Fail> {
     let tape = Tape::new(66, 4, 60, &[(2, 10), (3, 10), (2, 66)])?;
     assert!(rt; tape.has_stop(2, 66) && !tape.has_stop(3, 66) && tape.overflow() == 60);
     for stops in NO_STOPS {
         assert!(rt; Tape::new(66, 4, 60, &stops) == Err(SetupFault::TapeFault));
     }
+    Ok(())
+}
+
+#[test]
+fn setups_are_wired(rt: HostRuntime) -> Result<(), Fail> {
     let mut setup = setup_of(rt.alloc(), Tape::new(3, 1, 3, &[])?, &[])?;
     add_all(&rt, &mut setup, &WIRES);
     for wheel in 1..=6 {
@@ -56,6 +61,12 @@ fn setups_are_wired(rt: HostRuntime) -> Result<(), Fail> {
     assert_eq!(rt; setup.entries_of(Hub::SR(80)), wheels.as_slice());
     assert!(rt; setup.entries_of(Hub::SR(1)).is_empty() && setup.entries_of(Hub::W(1)).is_empty());
     assert!(rt; !setup.has(Hub::FR(1), Hub::CB(30)) && !setup.has(Hub::W(1), Hub::SR(80)));
+    Ok(())
+}
+
+#[test]
+fn jacks_and_stops_are_set(rt: HostRuntime) -> Result<(), Fail> {
+    let mut setup = setup_of(rt.alloc(), Tape::new(3, 1, 3, &[])?, &[])?;
     for jack in [Jack::List, Jack::Total(4), Jack::Head(3), Jack::Symbol(120)] {
         assert!(rt; !setup.has_jack(jack) && setup.plug(jack));
         assert!(rt; setup.has_jack(jack) && !setup.plug(jack));
