@@ -254,7 +254,7 @@ pub(crate) fn card_entry(number: u8) -> FaultEntry
             number: 43,
             name: "DoesNotFit",
             cause: "the total of amount N for the group of level L that ends with card K has more digits than its TOTAL line says, the first such total: by the last card of its group, then by level, the lowest first, then by the line of the chart",
-            cure: "give the total more digits (8 at most, 7 with a sign column), or divide the group; what the sum was on the way doesn't count",
+            cure: "give the total more digits (16 at most, 15 with a sign column), or divide the group; what the sum was on the way doesn't count",
             example: "FIELD A AMOUNT 1 1 0; TOTAL 4 1 A 1 over two cards of 5",
         },
     }
