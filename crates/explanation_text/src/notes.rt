@@ -1,13 +1,15 @@
-//! Notes behind the line of a row: what its exit stands for, and why each contact was closed.
+//! Notes behind the line of a row: what its exit stands for, why each contact was closed, and who asks for its wires.
 
 ghost use Rattle.std.specs.Prelude.{◌≡◌, ◌<◌, ◌≤◌, ℕ, true, OnOk, length, slice_index_or};
 ghost use Rattle.std.specs.String.{string_bytes};
+ghost use Rattle.explanation_text.specs.Asked.{HasWireOf};
 ghost use Rattle.explanation_text.specs.Writing.{GainsNotes, GainsWords};
 
 use crate::names::{is_contact_exit, row_at, write_hub};
 use explanations::FoundLine;
 use hubs::{Group, Hub};
 use net::Cycle;
+use setups::Setup;
 use std::alloc::{AllocError, Global};
 
 // Whether words have no end of a line.
@@ -35,11 +37,58 @@ fn write_note(text: &mut String, words: &str) -> Result<(), AllocError>
     text.push_str("\n")
 }
 
-#[tactic(auto, using(crate::proofs::Gains::notes_none, crate::proofs::Gains::notes_then))]
-// The notes of a row: what the exit stands for, and each contact of the way. What they say is not told by contracts.
-//
-// The lines of a planning chart that ask for the wires of the way belong here too, once it is known which they are.
+#[tactic(auto, using(crate::proofs::Gains::notes_then))]
+// The notes of a row: what the exit stands for, each contact of the way, and who asks for its wires. What they say is not told by
+// contracts.
 pub(crate) fn write_notes(
+    alloc: Global,
+    text: &mut String,
+    found: &FoundLine,
+    asked: &[(String, Setup)],
+    place: usize,
+    way: &[Hub],
+) -> Result<(), AllocError>
+    requires { place < 12 }
+    ensures { OnOk result (GainsNotes (string_bytes text.old) (string_bytes text.new)) }
+{
+    write_step_notes(alloc, text, found, place, way)?;
+    write_asked(alloc, text, asked, way)
+}
+
+// Whether a setup has a wire of a way, from one of its hubs to the next.
+fn has_wire_of(setup: &Setup, way: &[Hub]) -> bool
+    ensures { result ≡ true → HasWireOf setup.now way.now }
+{
+    for step in 1..way.len() {
+        if setup.has(way[step - 1], way[step]) {
+            return true;
+        }
+    }
+    false
+}
+
+#[tactic(auto, using(crate::proofs::Gains::notes_none, crate::proofs::Gains::notes_then))]
+// A note for each of those that ask for wires, where one of these is a wire of the way.
+fn write_asked(
+    alloc: Global,
+    text: &mut String,
+    asked: &[(String, Setup)],
+    way: &[Hub],
+) -> Result<(), AllocError>
+    ensures { OnOk result (GainsNotes (string_bytes text.old) (string_bytes text.new)) }
+{
+    for (words, setup) in asked {
+        if has_wire_of(setup, way) {
+            let note = format!(in alloc; "wires: {words}")?;
+            write_note(text, &note)?;
+        }
+    }
+    Ok(())
+}
+
+#[tactic(auto, using(crate::proofs::Gains::notes_none, crate::proofs::Gains::notes_then))]
+// A note on the exit of a way, and one on each of its contacts.
+fn write_step_notes(
     alloc: Global,
     text: &mut String,
     found: &FoundLine,

@@ -36,6 +36,28 @@ pub fn explain_text(
     ensures wheel { result ≡ Err NoSuchWheel → (wheel < 1) ⊎ (120 < wheel) }
     ensures no_line { result ≡ Err NoSuchLine → PrintsNoneAt setup.now cards.now page line }
 {
+    explain_text_with(alloc, setup, &[], cards, page, line, wheel)
+}
+
+/// The same text, in which a note behind each way names those that ask for its wires. `asked` has the words for each that asks for
+/// wires, say a line of a planning chart, and a setup with the wires that it asks for. Words with an end of a line are left out.
+///
+/// Refused as [`explain_text`] is.
+pub fn explain_text_with(
+    alloc: Global,
+    setup: &Setup,
+    asked: &[(String, Setup)],
+    cards: &[Card],
+    page: u64,
+    line: u32,
+    wheel: u8,
+) -> Result<String, Refusal>
+    requires { length cards.now ≤ most_cards }
+    ensures told { IfOk result (λ text. Explains setup.now cards.now page line wheel (string_bytes text)) }
+    ensures no_wheel { (wheel < 1) ⊎ (120 < wheel) → result ≡ Err NoSuchWheel }
+    ensures wheel { result ≡ Err NoSuchWheel → (wheel < 1) ⊎ (120 < wheel) }
+    ensures no_line { result ≡ Err NoSuchLine → PrintsNoneAt setup.now cards.now page line }
+{
     if wheel < 1 || 120 < wheel {
         return Err(Refusal::NoSuchWheel);
     }
@@ -44,14 +66,16 @@ pub fn explain_text(
     };
     let ways = LineWays::of(alloc, setup, found)?;
     let told = ways.wheel(alloc, setup, wheel)?;
-    Ok(wheel_text(alloc, setup, &ways, &told)?)
+    Ok(wheel_text(alloc, setup, asked, &ways, &told)?)
 }
 
 #[tactic(auto, using(crate::proofs::Gains::text_whole))]
-/// The text of what was told of a wheel of a line. The setup is that by which the line was found. Fails only where no memory is left.
+/// The text of what was told of a wheel of a line. The setup is that by which the line was found, and `asked` names who asks for wires,
+/// as for [`explain_text_with`]. Fails only where no memory is left.
 pub fn wheel_text(
     alloc: Global,
     setup: &Setup,
+    asked: &[(String, Setup)],
     line: &LineWays,
     told: &Explanation,
 ) -> Result<String, AllocError>
@@ -62,7 +86,7 @@ pub fn wheel_text(
     let mut text = String::new(alloc);
     write_page_line(&mut text, told)?;
     write_cycle_line(&mut text, told.cycle, told.cards)?;
-    write_rows(alloc, &mut text, line, told)?;
+    write_rows(alloc, &mut text, asked, line, told)?;
     let closing = closing_words(alloc, setup, line, told)?;
     text.push_str(&closing)?;
     Ok(text)
@@ -73,6 +97,7 @@ pub fn wheel_text(
 fn write_rows(
     alloc: Global,
     text: &mut String,
+    asked: &[(String, Setup)],
     line: &LineWays,
     told: &Explanation,
 ) -> Result<(), AllocError>
@@ -80,7 +105,7 @@ fn write_rows(
     ensures { OnOk result (GainsRows told.now.rows.items 12 (string_bytes text.old) (string_bytes text.new)) }
 {
     for place in 0..12 {
-        write_row(alloc, text, line, told, place)?;
+        write_row(alloc, text, asked, line, told, place)?;
     }
     Ok(())
 }
@@ -90,6 +115,7 @@ fn write_rows(
 fn write_row(
     alloc: Global,
     text: &mut String,
+    asked: &[(String, Setup)],
     line: &LineWays,
     told: &Explanation,
     place: usize,
@@ -101,7 +127,7 @@ fn write_row(
     match &told.rows[place] {
         Some(way) => {
             write_row_line(text, place, way)?;
-            write_notes(alloc, text, &line.found, place, way)
+            write_notes(alloc, text, &line.found, asked, place, way)
         }
         None => Ok(()),
     }

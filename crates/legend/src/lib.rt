@@ -11,4 +11,4 @@ mod writing;
 
 pub use laws::lines_make_the_setup;
 pub use row::Row;
-pub use writing::legend;
+pub use writing::{legend, line_setups};

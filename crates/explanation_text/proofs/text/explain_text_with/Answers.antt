@@ -3,7 +3,7 @@ use Rattle.std.specs.Prelude.{IfSome}
 use Rattle.explanations.specs.PlacedInRun.{IsFound}
 use Rattle.explanations.specs.declared.found.FoundLine.{FoundLine}
 use Rattle.explanation_text.proofs.Places.{told_there}
-use Rattle.explanation_text.proofs.text.explain_text.Goals as goal
+use Rattle.explanation_text.proofs.text.explain_text_with.Goals as goal
 
 pub returns-clause-told : goal.returns-clause-told
 returns-clause-told c =
