@@ -3,8 +3,9 @@
 use crate::given::text_of;
 use card_code::read_deck;
 use compile407::compile;
-use explanation_text::explain_text;
-use explanations::Refusal;
+use explanation_text::{explain_text, explain_text_with, page_wheel_text};
+use explanations::{PageWays, Refusal, find_page};
+use legend::line_setups;
 use std::alloc::Global;
 use std::process::Abort;
 use std::test::Fail;
@@ -153,5 +154,57 @@ fn what_is_not_there_is_refused(rt: HostRuntime) -> Result<(), Fail> {
     assert!(rt; matches!(&no_line, Err(Refusal::NoSuchLine)));
     let no_wheel = explained(rt.alloc(), STORED, b"K\n", 3, 121)?;
     assert!(rt; matches!(&no_wheel, Err(Refusal::NoSuchWheel)));
+    Ok(())
+}
+
+/// The mark of the signed total, with the line of the chart that asks for its wires.
+static MARK: &str = "page 1 line 2 wheel 3 prints C\n\
+    cycle Prog 4 3 after card 2\n\
+    row 3: EM.8.3 -> BAC.3.1.3 => BAT.3.1.3 -> W.3\n  \
+    EM.8.3: emitter 8 sends row 3 in the third cycle of level 4\n  \
+    BAC.3.1.3 => BAT.3.1.3: the balance latch of group 3.1 is set\n  \
+    wires: TOTAL 4 1 AMT 2 MARK CR (line 4 of the chart)\n\
+    row 12: EM.8.12 -> BAC.3.1.3 => BAT.3.1.3 -> W.3\n  \
+    EM.8.12: emitter 8 sends row 12 in the third cycle of level 4\n  \
+    BAC.3.1.3 => BAT.3.1.3: the balance latch of group 3.1 is set\n  \
+    wires: TOTAL 4 1 AMT 2 MARK CR (line 4 of the chart)\n\
+    rows 3 and 12 are C\n\
+    zero control: a SYMBOL wheel; wheel 2 received one figure, 2, and LINK 3 passes it on: so it prints\n";
+
+#[test]
+fn each_wire_names_the_line_that_asks_for_it(rt: HostRuntime) -> Result<(), Fail> {
+    let source = text_of(rt.alloc(), SIGNED, b"")?;
+    let compiled = compile(rt.alloc(), source.as_slice())?;
+    let asked = line_setups(rt.alloc(), compiled.chart(), compiled.plan(), source.as_slice())?;
+    let cards = read_deck(rt.alloc(), b"07\n09-\n")?;
+    let told = explain_text_with(
+        rt.alloc(),
+        compiled.setup(),
+        asked.as_slice(),
+        cards.as_slice(),
+        1,
+        2,
+        3,
+    )?;
+    assert_eq!(rt; told.as_str(), MARK);
+    Ok(())
+}
+
+#[test]
+fn a_page_is_explained_by_one_run(rt: HostRuntime) -> Result<(), Fail> {
+    let source = text_of(rt.alloc(), SIGNED, b"")?;
+    let compiled = compile(rt.alloc(), source.as_slice())?;
+    let setup = compiled.setup();
+    let asked = line_setups(rt.alloc(), compiled.chart(), compiled.plan(), source.as_slice())?;
+    let cards = read_deck(rt.alloc(), b"07\n09-\n")?;
+    let page = PageWays::of(rt.alloc(), setup, cards.as_slice(), 1)?;
+    let told = page_wheel_text(rt.alloc(), setup, asked.as_slice(), &page, 2, 3)?;
+    assert_eq!(rt; told.as_str(), MARK);
+    let no_line = page_wheel_text(rt.alloc(), setup, &[], &page, 3, 1);
+    assert!(rt; matches!(&no_line, Err(Refusal::NoSuchLine)));
+    let no_wheel = page_wheel_text(rt.alloc(), setup, &[], &page, 3, 121);
+    assert!(rt; matches!(&no_wheel, Err(Refusal::NoSuchWheel)));
+    let found = find_page(rt.alloc(), setup, cards.as_slice(), 2)?;
+    assert!(rt; found.is_empty());
     Ok(())
 }
