@@ -210,7 +210,7 @@ pub(crate) fn rule_entry(number: u8) -> FaultEntry
             name: "Form",
             cause: "no FORM line (told at END); a first line of 0; headings that reach the overflow line, or, without headings, a first line that does; an overflow line less than 2 lines above the last; more than 144 lines",
             cure: "see CHART.md, FORM",
-            example: "FORM 12 1 11; without HEAD lines FORM 12 9 9 too",
+            example: "FORM 12 1 11 or, without HEAD lines, FORM 12 9 9",
         },
         37 => FaultEntry {
             number: 37,
@@ -224,7 +224,7 @@ pub(crate) fn rule_entry(number: u8) -> FaultEntry
             name: "CoupledMark",
             cause: "in version 2, a total with the word COUPLED that needs 8 positions or fewer, or without it that needs more; it needs one for each digit, and one more if its amount has a sign column. In version 1 no line breaks this rule",
             cure: "write the word where two counter groups are meant, or change the digits",
-            example: "TOTAL 4 1 A 8 COUPLED; TOTAL 4 1 A 9",
+            example: "TOTAL 4 1 A 8 COUPLED or TOTAL 4 1 A 9",
         },
     }
 }
@@ -272,28 +272,28 @@ pub(crate) fn unfit_entry(number: u8) -> FaultEntry
             name: "NotExit",
             cause: "the first hub of a wire is no exit: it is an entry, or one of its numbers is out of range. Of RING, and of the first number of COUPLE: there is no such counter group",
             cure: "write the exit first; a wire leads from an exit to an entry",
-            example: "WIRE W.1 SR.1; WIRE SR.81 W.1; in version 2 RING 5.1",
+            example: "WIRE W.1 SR.1 or WIRE SR.81 W.1 or, in version 2, RING 5.1",
         },
         52 => FaultEntry {
             number: 52,
             name: "NotEntry",
             cause: "the first hub is an exit and the second is no entry: it is an exit, or one of its numbers is out of range. Of the second number of COUPLE: there is no such counter group of 8 positions",
             cure: "look up the range of its numbers in WIRING.md",
-            example: "WIRE SR.1 W.121; WIRE SR.1 SR.2; in version 2 COUPLE 1 9",
+            example: "WIRE SR.1 W.121 or WIRE SR.1 SR.2 or, in version 2, COUPLE 1 9",
         },
         53 => FaultEntry {
             number: 53,
             name: "CarryRing",
             cause: "a wire from a carry exit leads to no carry entry, or one to a carry entry comes from no carry exit; its two counter groups are different ones and not both of 8 positions; or it and a wire that is there leave one carry exit, enter one carry entry, or join three groups",
             cure: "wire CO to CI of the same group, or CO of one group of 8 positions to CI of another, with the wire back for a ring, and nothing else to either",
-            example: "WIRE CO.4.1 CI.4.2; WIRE CO.4.1 W.1; WIRE CO.8.1 CI.8.3 after WIRE CO.8.1 CI.8.2; in version 2 RING 8.1 after COUPLE 1 2",
+            example: "WIRE CO.4.1 CI.4.2 or WIRE CO.4.1 W.1 or WIRE CO.8.1 CI.8.3 after WIRE CO.8.1 CI.8.2 or, in version 2, RING 8.1 after COUPLE 1 2",
         },
         _ => FaultEntry {
             number: 54,
             name: "TapeFault",
             cause: "the form has not 3 to 144 lines, or its first or overflow line is not one of them (told at line 2); a stop at a line that the form doesn't have",
             cure: "correct the form, or move the stop",
-            example: "STOP 3 13 on a form of 12 lines; FORM 2 1 1 on line 2",
+            example: "STOP 3 13 on a form of 12 lines, or FORM 2 1 1 on line 2",
         },
     }
 }
@@ -322,7 +322,7 @@ pub(crate) fn capacity_entry(number: u8) -> FaultEntry
         63 => FaultEntry {
             number: 63,
             name: "Comparing",
-            cause: "the control fields have more than 30 columns together",
+            cause: "the CONTROL lines name more than 30 columns; a field that controls two levels counts twice",
             cure: "shorten a control field to the columns that tell its groups apart, or drop a level",
             example: "",
         },
@@ -383,7 +383,7 @@ pub(crate) fn wiring_text_entry(number: u8) -> FaultEntry
             name: "NotALine",
             cause: "line K is no STOP, JACK or WIRE, in version 2 no RING or COUPLE either, or stands after END without being empty; also a second FORM, a channel that is not 2 to 11, a jack that the panel doesn't have, and a hub with letters that there aren't or with too many or too few numbers; in version 2 a WIRE with a CO or a CI, whatever its numbers, and a COUPLE of a group with itself",
             cure: "compare it with WIRING.md: a misspelt or missing word, a number with a leading zero, a tab, a small letter",
-            example: "WIRE CC.1 W.1; JACK TOTAL 5; STOP 12 3; in version 2 COUPLE 1 1",
+            example: "WIRE CC.1 W.1 or JACK TOTAL 5 or STOP 12 3 or, in version 2, COUPLE 1 1",
         },
         74 => FaultEntry {
             number: 74,
