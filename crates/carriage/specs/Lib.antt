@@ -1,3 +1,4 @@
+pub mod Below
 pub mod Asked
 pub mod Carriage
 pub mod Laws

@@ -1,3 +1,4 @@
+pub mod Below
 pub mod Lowest
 pub mod InOrder
 pub mod Laws

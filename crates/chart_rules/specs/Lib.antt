@@ -1,3 +1,4 @@
+pub mod Below
 pub mod Rules
 pub mod RuleFaults
 pub mod ValidCard

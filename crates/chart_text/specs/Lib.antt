@@ -1,3 +1,4 @@
+pub mod Below
 pub mod ChartText
 pub mod Forms
 pub mod HelperForms

@@ -1,3 +1,4 @@
+pub mod Below
 pub mod Chart
 pub mod Field
 pub mod Headings

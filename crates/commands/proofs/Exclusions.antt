@@ -1,11 +1,11 @@
 -- What a command answers it doesn't refuse.
 use Rattle.std.proofs.Common.{◌≡◌, ℕ, List, subst}
 use Rattle.card_code.proofs.Faults.{Deck-no_fault, Deck-same}
-use Rattle.charts.specs.Chart.{Chart}
-use Rattle.chart_text.proofs.ChartGrammar.{one_chart}
+use Rattle.chart_rules.specs.Below.charts.Chart.{Chart}
+use Rattle.faults.proofs.Below.chart_text.ChartGrammar.{one_chart}
 use Rattle.compile407.proofs.Exclusions.{compiled_texts_have_no_fault, runnable_decks_have_no_fault}
 use Rattle.compile407.specs.RunFaults.{HasRunFault}
-use Rattle.wiring_reader.proofs.Answered.{no_fault}
+use Rattle.wire_chart.proofs.Below.wiring_reader.Answered.{no_fault}
 use Rattle.commands.specs.Answers.{ArePagesOf, AreReplayedPages, Compiles}
 use Rattle.commands.specs.Laws.{AnsweredTextsAreNotRefused}
 use Rattle.commands.specs.Refusals.{RefusesChart, RefusesReplay, RefusesRun, cards, chart, punches, wires}

@@ -2,9 +2,9 @@
 use Rattle.std.proofs.Common.{◌≡◌, ◌≢◌, ◌∙◌, ap, sym, subst, refl, ℕ, List, [], Option, Result, Ok, Err, unwrap_or, IfSome}
 use Rattle.std.specs.Prelude.{IfErr, OnOk, codes}
 use Rattle.std.specs.Io.KnownBytes.{Appends}
-use Rattle.wiring_text.specs.WiringFaults as wiring_faults
-use Rattle.wiring_text.specs.declared.fault.WiringFault.{WiringFault}
-use Rattle.wiring_text.specs.declared.fault.WiringFault.TheVariants as wiring
+use Rattle.wire_chart.specs.Below.wiring_text.WiringFaults as wiring_faults
+use Rattle.wire_chart.specs.Below.wiring_text.declared.fault.WiringFault.{WiringFault}
+use Rattle.wire_chart.specs.Below.wiring_text.declared.fault.WiringFault.TheVariants as wiring
 use Rattle.commands.proofs.Refusing.{wiring_refused}
 use Rattle.program_io.proofs.Refusing.{is_known, read_is_known, refusal_is_not_memory}
 use Rattle.commands.specs.Answers.{Answers, Compiles, IsUpgradeOf, IsWiringChartOf, PrintAlike}

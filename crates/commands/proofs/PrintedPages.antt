@@ -6,10 +6,10 @@ use Rattle.commands.specs.Answers.{AreReplayedPages}
 use Rattle.commands.specs.Served.{PrintsFront, PrintsReplay}
 use Rattle.machine.specs.Runs.{MachineLines}
 use Rattle.page_text.specs.Pages.{Pages}
-use Rattle.placed_lines.specs.declared.placed_line.PlacedLine.{PlacedLine}
+use Rattle.page_text.specs.Below.placed_lines.declared.placed_line.PlacedLine.{PlacedLine}
 use Rattle.replays.specs.Replays.{GainsFront, GainsPages}
 use Rattle.setups.specs.Wiring.{Wiring}
-use Rattle.wiring_text.specs.WiringText.{ReadsAs}
+use Rattle.wire_chart.specs.Below.wiring_text.WiringText.{ReadsAs}
 
 module _ (text deck : List ℕ) (wiring : Wiring) (reads : ReadsAs text wiring) where
   replayed_pages : (cards : List (List ℕ)) → Deck deck cards → (lines : List PlacedLine) → MachineLines wiring cards lines

@@ -9,11 +9,11 @@ use Rattle.faults.specs.declared.chart.ChartFault.{ChartFault}
 use Rattle.faults.specs.declared.chart.ChartFault.TheVariants as chart
 use Rattle.faults.specs.declared.deck.RunFault.{RunFault}
 use Rattle.faults.specs.declared.deck.RunFault.TheVariants as run
-use Rattle.wiring_text.specs.WiringFaults as wiring_faults
-use Rattle.wiring_text.specs.declared.fault.WiringFault.{WiringFault}
-use Rattle.wiring_text.specs.declared.fault.WiringFault.TheVariants as wiring
+use Rattle.wire_chart.specs.Below.wiring_text.WiringFaults as wiring_faults
+use Rattle.wire_chart.specs.Below.wiring_text.declared.fault.WiringFault.{WiringFault}
+use Rattle.wire_chart.specs.Below.wiring_text.declared.fault.WiringFault.TheVariants as wiring
 use Rattle.setups.specs.Wiring.{Wiring}
-use Rattle.wiring_text.specs.WiringText.{ReadsAs}
+use Rattle.wire_chart.specs.Below.wiring_text.WiringText.{ReadsAs}
 use Rattle.commands.specs.Answers.{ArePagesOf, ArePagesOn, AreReplayedPages, CompilesAs}
 use Rattle.commands.specs.Refusals.{RefusesChart, RefusesReplay, RefusesRun, cards, punches, wires}
 use Rattle.program_io.specs.Refusals.{RefusesDeck}

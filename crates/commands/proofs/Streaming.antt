@@ -23,10 +23,10 @@ use Rattle.faults.specs.declared.deck.RunFault.{RunFault}
 use Rattle.faults.specs.declared.deck.RunFault.TheVariants as deck
 use Rattle.faults.specs.declared.fault.Fault.{Fault}
 use Rattle.faults.specs.declared.fault.Fault.TheVariants as fault
-use Rattle.streamed_runs.specs.Runs.{HasRun, HasStopped}
-use Rattle.streamed_runs.specs.declared.fault.StreamCause.{StreamCause}
-use Rattle.streamed_runs.specs.declared.fault.StreamCause.TheVariants as cause
-use Rattle.streamed_runs.specs.declared.fault.StreamFault.{StreamFault}
+use Rattle.compile407.specs.Below.streamed_runs.Runs.{HasRun, HasStopped}
+use Rattle.compile407.specs.Below.streamed_runs.declared.fault.StreamCause.{StreamCause}
+use Rattle.compile407.specs.Below.streamed_runs.declared.fault.StreamCause.TheVariants as cause
+use Rattle.compile407.specs.Below.streamed_runs.declared.fault.StreamFault.{StreamFault}
 
 -- the report of all bytes of the reader
 pub run_whole : (compiled : Compilation) (text : List ℕ) → CompilesAs text compiled → (reader old new : Option (List ℕ)) (count : ℕ)

@@ -4,14 +4,14 @@ use Rattle.std.specs.Prelude.{IfErr}
 use Rattle.setups.specs.Tapes.{has_stop}
 use Rattle.setups.specs.Wiring.{Wiring, is_plugged}
 use Rattle.wire_chart.specs.WrittenText.{IsWrittenIn}
-use Rattle.wiring_reader.proofs.Answered.{one_setup}
-use Rattle.wiring_text.specs.WiringFaults as wiring_faults
-use Rattle.wiring_text.specs.WiringText.{IsSameSetup, IsSetupOf, ReadsAs}
-use Rattle.wiring_text.specs.declared.fault.WiringFault.{WiringFault}
-use Rattle.wiring_text.specs.declared.fault.WiringFault.TheVariants as wiring
-use Rattle.wiring_text.specs.declared.statement.FormNumbers.{FormNumbers}
-use Rattle.wiring_text.specs.declared.statement.Statement.{Statement}
-use Rattle.wiring_text.specs.declared.statement.Version.TheVariants.{Second}
+use Rattle.wire_chart.proofs.Below.wiring_reader.Answered.{one_setup}
+use Rattle.wire_chart.specs.Below.wiring_text.WiringFaults as wiring_faults
+use Rattle.wire_chart.specs.Below.wiring_text.WiringText.{IsSameSetup, IsSetupOf, ReadsAs}
+use Rattle.wire_chart.specs.Below.wiring_text.declared.fault.WiringFault.{WiringFault}
+use Rattle.wire_chart.specs.Below.wiring_text.declared.fault.WiringFault.TheVariants as wiring
+use Rattle.wire_chart.specs.Below.wiring_text.declared.statement.FormNumbers.{FormNumbers}
+use Rattle.wire_chart.specs.Below.wiring_text.declared.statement.Statement.{Statement}
+use Rattle.wire_chart.specs.Below.wiring_text.declared.statement.Version.TheVariants.{Second}
 use Rattle.commands.specs.Answers.{AreReplayedPages, IsUpgradeOf, PrintAlike}
 use Rattle.program_io.specs.Refusals.{RefusesWiring}
 use Rattle.faults.specs.Told.{wiring_told}

@@ -8,9 +8,9 @@ use Rattle.compile407.specs.RunFaults.{HasRunFault}
 use Rattle.faults.specs.declared.chart.ChartFault.{ChartFault}
 use Rattle.faults.specs.declared.deck.RunFault.{RunFault}
 use Rattle.setups.specs.Wiring.{Wiring}
-use Rattle.wiring_text.specs.WiringFaults as wiring_faults
-use Rattle.wiring_text.specs.WiringText.{ReadsAs}
-use Rattle.wiring_text.specs.declared.fault.WiringFault.{WiringFault}
+use Rattle.wire_chart.specs.Below.wiring_text.WiringFaults as wiring_faults
+use Rattle.wire_chart.specs.Below.wiring_text.WiringText.{ReadsAs}
+use Rattle.wire_chart.specs.Below.wiring_text.declared.fault.WiringFault.{WiringFault}
 use Rattle.commands.specs.Answers.{CompilesAs}
 use Rattle.faults.specs.Told.{chart_told, run_told, wiring_told}
 use Rattle.program_io.specs.declared.command.Command.{Command}

@@ -16,10 +16,10 @@ use Rattle.faults.specs.Told.{deck_told, run_told}
 use Rattle.faults.specs.declared.deck.RunFault.TheVariants as deck
 use Rattle.faults.specs.declared.fault.Fault.{Fault}
 use Rattle.faults.specs.declared.fault.Fault.TheVariants as fault
-use Rattle.streamed_runs.specs.Runs.{HasStopped}
-use Rattle.streamed_runs.specs.declared.fault.StreamCause.{StreamCause}
-use Rattle.streamed_runs.specs.declared.fault.StreamCause.TheVariants as cause
-use Rattle.streamed_runs.specs.declared.fault.StreamFault.{StreamFault}
+use Rattle.compile407.specs.Below.streamed_runs.Runs.{HasStopped}
+use Rattle.compile407.specs.Below.streamed_runs.declared.fault.StreamCause.{StreamCause}
+use Rattle.compile407.specs.Below.streamed_runs.declared.fault.StreamCause.TheVariants as cause
+use Rattle.compile407.specs.Below.streamed_runs.declared.fault.StreamFault.{StreamFault}
 
 -- what is told of a card that was not read: its line's fault, or that the reader failed at it
 abbrev pub read_told : ReadFault → Fault

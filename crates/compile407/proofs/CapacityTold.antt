@@ -1,12 +1,12 @@
 -- What is told of a chart that exceeds a capacity of the machine.
 use Rattle.std.proofs.Common.{◌≢◌, ℕ, List, refl}
 use Rattle.allocate.specs.Exceeded.{HasCapacityFault}
-use Rattle.wanted.specs.Wanted.{wanted_of}
+use Rattle.plans.specs.Below.wanted.Wanted.{wanted_of}
 use Rattle.allocate.specs.declared.fault.CapacityFault.{CapacityFault}
 use Rattle.allocate.specs.declared.fault.CapacityFault.TheVariants as exceeds
 use Rattle.capacity.specs.Capacities.{standard}
 use Rattle.chart_rules.specs.Rules.{IsLawful}
-use Rattle.charts.specs.Chart.{Chart}
+use Rattle.chart_text.specs.Below.charts.Chart.{Chart}
 use Rattle.chart_text.specs.ChartText.{Reads}
 use Rattle.faults.specs.ChartCauses.{of_capacity}
 use Rattle.compile407.specs.ChartFaults.{HasChartFault}

@@ -5,17 +5,17 @@ use Rattle.std.proofs.lemmas.List.Elements.{All-get_or}
 use Rattle.std.proofs.lemmas.Option.{slice_get_within, get_or_from_slice_get}
 use Rattle.allocate.proofs.Exclusions.{fitting_charts_have_no_fault}
 use Rattle.allocate.specs.Exceeded.{HasCapacityFault}
-use Rattle.wanted.specs.Wanted.{wanted_of}
+use Rattle.plans.specs.Below.wanted.Wanted.{wanted_of}
 use Rattle.capacity.specs.Capacities.{standard}
-use Rattle.charts.specs.Chart.{Chart}
+use Rattle.chart_text.specs.Below.charts.Chart.{Chart}
 use Rattle.chart_text.specs.declared.fault.TextFault.TheVariants as text
 use Rattle.chart_text.proofs.ChartGrammar.{one_chart, no_chart}
 use Rattle.chart_rules.specs.Rules.{Broken, IsKept, IsLawful}
-use Rattle.field_rules.specs.Fields.{fields_of}
+use Rattle.chart_rules.specs.Below.field_rules.Fields.{fields_of}
 use Rattle.chart_rules.specs.ValidCard.{IsValidCard, IsFirstInvalid}
 use Rattle.chart_rules.specs.declared.card.CardFault.{CardFault}
-use Rattle.report.specs.Misfits.{first_of}
-use Rattle.report.proofs.Fitting.{fit_without_misfits}
+use Rattle.misfits.specs.Below.report.Misfits.{first_of}
+use Rattle.misfits.proofs.Below.report.Fitting.{fit_without_misfits}
 use Rattle.faults.specs.declared.chart.ChartFault.TheVariants as chart
 use Rattle.faults.specs.declared.deck.RunFault.{RunFault}
 use Rattle.faults.specs.declared.deck.RunFault.TheVariants as deck

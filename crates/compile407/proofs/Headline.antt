@@ -3,14 +3,14 @@ use Rattle.std.proofs.Common.{◌≡◌, ◌∙◌, ℕ, ◌≤◌, List, ◌∷
 use Rattle.std.specs.List.{All}
 use Rattle.card_code.specs.MostCards.{most_cards}
 use Rattle.plans.specs.Plans.{Lists, IsFor}
-use Rattle.placed_lines.specs.declared.placed_line.PlacedLine.{PlacedLine}
+use Rattle.page_text.specs.Below.placed_lines.declared.placed_line.PlacedLine.{PlacedLine}
 use Rattle.chart_rules.specs.Rules.{IsLawful}
 use Rattle.chart_rules.specs.ValidCard.{IsValidCard}
 use Rattle.printed_reports.proofs.Begun.{machines_begin_reports}
 use Rattle.printed_reports.proofs.Reports.{machine_prints_reports}
-use Rattle.charts.specs.Chart.{Chart, NumbersRise}
+use Rattle.chart_text.specs.Below.charts.Chart.{Chart, NumbersRise}
 use Rattle.chart_text.specs.ChartText.{Reads}
-use Rattle.charts.specs.declared.chart.Line.{Line}
+use Rattle.chart_text.specs.Below.charts.declared.chart.Line.{Line}
 use Rattle.chart_text.proofs.ReadLiterals.{read_literals}
 use Rattle.setups.specs.Wiring.{Wiring}
 use Rattle.machine.proofs.SameSetups.{MachineLines-same}
@@ -18,14 +18,14 @@ use Rattle.machine.proofs.SomeOutcome.{FedLines-some, MachineLines-some}
 use Rattle.machine.specs.Machine.{machine_at_start}
 use Rattle.machine.specs.Runs.{MachineLines}
 use Rattle.page_text.specs.Pages.{Pages}
-use Rattle.report.specs.ChartForm.{form_of}
-use Rattle.report.specs.Report.{report_lines}
-use Rattle.report.specs.Totals.{Fits}
+use Rattle.misfits.specs.Below.report.ChartForm.{form_of}
+use Rattle.misfits.specs.Below.report.Report.{report_lines}
+use Rattle.misfits.specs.Below.report.Totals.{Fits}
 use Rattle.wiring_reader.proofs.Answered.{one_setup}
-use Rattle.wiring_text.specs.WiringText.{IsSameSetup}
-use Rattle.wiring_table.specs.WiredFor.{WiredFor}
+use Rattle.wiring_reader.specs.Below.wiring_text.WiringText.{IsSameSetup}
+use Rattle.printed_reports.specs.Below.wiring_table.WiredFor.{WiredFor}
 use Rattle.compile407.specs.Compilation.{Compilation, IsCompiled}
-use Rattle.promises.specs.Promises.{IsDeck}
+use Rattle.streamed_runs.specs.Below.promises.Promises.{IsDeck}
 use Rattle.compile407.specs.Headline.{IsSound, ReadSetupsPrintAlike, WiredSetupsBeginReports, WiredSetupsPrintReports, WrittenSetupsPrintReports}
 
 -- a chart that was read and breaks no rule is sound

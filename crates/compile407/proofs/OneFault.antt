@@ -8,17 +8,17 @@ use Rattle.std.proofs.lemmas.Option.{slice_get_within, get_or_from_slice_get}
 use Rattle.card_code.specs.MostCards.{most_cards}
 use Rattle.allocate.proofs.OneFault.{charts_exceed_one_capacity}
 use Rattle.allocate.specs.Exceeded.{HasCapacityFault}
-use Rattle.wanted.specs.Wanted.{wanted_of}
+use Rattle.plans.specs.Below.wanted.Wanted.{wanted_of}
 use Rattle.allocate.specs.declared.fault.CapacityFault.{CapacityFault}
 use Rattle.capacity.specs.Capacities.{standard}
 use Rattle.chart_text.proofs.ChartGrammar.{one_chart, no_chart, one_fault}
-use Rattle.charts.specs.Chart.{Chart}
+use Rattle.chart_text.specs.Below.charts.Chart.{Chart}
 use Rattle.chart_text.specs.ChartText.{Reads}
 use Rattle.chart_text.specs.TextFaults.{HasTextFault}
 use Rattle.chart_text.specs.declared.fault.TextFault.{TextFault}
 use Rattle.chart_text.specs.declared.fault.TextFault.TheVariants as text
 use Rattle.chart_rules.proofs.OneFault as rules
-use Rattle.field_rules.specs.Fields.{fields_of}
+use Rattle.chart_rules.specs.Below.field_rules.Fields.{fields_of}
 use Rattle.chart_rules.specs.RuleFaults.{IsTold}
 use Rattle.chart_rules.specs.Rules.{IsKept, IsLawful}
 use Rattle.chart_rules.specs.ValidCard.{IsFirstInvalid, IsValidCard}
@@ -27,7 +27,7 @@ use Rattle.chart_rules.specs.declared.fault.RuleFault.TheVariants as rule
 use Rattle.compile407.proofs.Exclusions.{none_told, none_invalid}
 use Rattle.faults.specs.ChartCauses.{of_text, of_rule}
 use Rattle.compile407.specs.ChartFaults.{HasChartFault}
-use Rattle.promises.specs.Promises.{IsDeck}
+use Rattle.streamed_runs.specs.Below.promises.Promises.{IsDeck}
 use Rattle.compile407.specs.Outcomes.{ChartsHaveOneFault, DecksHaveOneFault}
 use Rattle.compile407.specs.RunFaults.{HasRunFault, IsInvalidDeck, IsMisfit, of_card}
 use Rattle.faults.specs.declared.chart.ChartFault.{ChartFault}

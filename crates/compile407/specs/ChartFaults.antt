@@ -1,11 +1,11 @@
 -- What a fault says of the text of a chart.
 use Rattle.std.specs.Prelude.{◌≢◌, ℕ, List}
 use Rattle.allocate.specs.Exceeded.{HasCapacityFault}
-use Rattle.wanted.specs.Wanted.{wanted_of}
+use Rattle.plans.specs.Below.wanted.Wanted.{wanted_of}
 use Rattle.allocate.specs.declared.fault.CapacityFault.{CapacityFault}
 use Rattle.allocate.specs.declared.fault.CapacityFault.TheVariants as capacity
 use Rattle.capacity.specs.Capacities.{standard}
-use Rattle.charts.specs.Chart.{Chart}
+use Rattle.chart_text.specs.Below.charts.Chart.{Chart}
 use Rattle.chart_text.specs.ChartText.{Reads}
 use Rattle.chart_text.specs.TextFaults.{HasTextFault}
 use Rattle.chart_text.specs.declared.fault.TextFault.TheVariants as text

@@ -2,11 +2,11 @@
 use Rattle.allocate.specs.Exceeded.{FitsMachine}
 use Rattle.plans.specs.Plans.{Lists, IsFor}
 use Rattle.allocate.specs.Allocated.{IsPlanOf}
-use Rattle.wanted.specs.Wanted.{wanted_of}
+use Rattle.plans.specs.Below.wanted.Wanted.{wanted_of}
 use Rattle.capacity.specs.Capacities.{standard}
-use Rattle.charts.specs.Chart.{Chart}
+use Rattle.chart_text.specs.Below.charts.Chart.{Chart}
 use Rattle.setups.specs.Wiring.{Wiring}
-use Rattle.wiring_table.specs.WiredFor.{WiredFor}
+use Rattle.printed_reports.specs.Below.wiring_table.WiredFor.{WiredFor}
 use Rattle.compile407.specs.Headline.{IsSound}
 
 -- a chart, its plan and a setup

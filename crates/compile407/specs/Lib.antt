@@ -1,3 +1,4 @@
+pub mod Below
 pub mod Headline
 pub mod Compilation
 pub mod Runnable

@@ -1,6 +1,6 @@
 -- What can be answered excludes what else can be told, and one thing at most is told.
 use Rattle.std.specs.Prelude.{◌≡◌, ℕ, List}
-use Rattle.charts.specs.Chart.{Chart}
+use Rattle.chart_text.specs.Below.charts.Chart.{Chart}
 use Rattle.chart_text.specs.ChartText.{Reads}
 use Rattle.faults.specs.declared.chart.ChartFault.{ChartFault}
 use Rattle.faults.specs.declared.deck.RunFault.{RunFault}

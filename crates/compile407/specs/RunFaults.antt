@@ -1,15 +1,15 @@
 -- What a fault says of a deck of cards.
 use Rattle.std.specs.Prelude.{◌≡◌, ℕ, ◌+◌, ◌<◌, ◌≤◌, List, Some, length, take, slice_get, All}
 use Rattle.card_code.specs.MostCards.{most_cards}
-use Rattle.charts.specs.Chart.{Chart}
-use Rattle.field_rules.specs.Fields.{fields_of}
+use Rattle.chart_text.specs.Below.charts.Chart.{Chart}
+use Rattle.chart_rules.specs.Below.field_rules.Fields.{fields_of}
 use Rattle.chart_rules.specs.ValidCard.{IsValidCard, IsFirstInvalid}
 use Rattle.chart_rules.specs.declared.card.CardFault.{CardFault}
 use Rattle.chart_rules.specs.declared.card.CardFault.TheVariants as card
-use Rattle.report.specs.Misfits.{Misfit, first_of, misfits}
+use Rattle.misfits.specs.Below.report.Misfits.{Misfit, first_of, misfits}
 use Rattle.faults.specs.declared.deck.RunFault.{RunFault}
 use Rattle.faults.specs.declared.deck.RunFault.TheVariants as deck
-use Rattle.promises.specs.Promises.{IsDeck}
+use Rattle.streamed_runs.specs.Below.promises.Promises.{IsDeck}
 
 -- the fault of a card with a number, as one of a deck
 abbrev pub of_card : CardFault → ℕ → RunFault

@@ -1,9 +1,9 @@
 -- Decks that can be run: their cards are valid, not too many, and their totals fit.
 use Rattle.std.specs.Prelude.{ℕ, ◌≤◌, List, replicate}
 use Rattle.chart_rules.specs.Rules.{IsLawful}
-use Rattle.charts.specs.Chart.{Chart}
-use Rattle.report.specs.Totals.{Fits}
-use Rattle.promises.specs.Promises.{IsDeck}
+use Rattle.chart_text.specs.Below.charts.Chart.{Chart}
+use Rattle.misfits.specs.Below.report.Totals.{Fits}
+use Rattle.streamed_runs.specs.Below.promises.Promises.{IsDeck}
 
 -- the deck can be run
 pub record IsRunnable (chart : Chart) (cards : List (List ℕ)) : Type 0 where

@@ -3,12 +3,12 @@
 ghost use Rattle.std.specs.Prelude.{◌≡◌, ◌≢◌, ◌≤◌, ◌<◌, ◌+◌, length, IfOk, IfErr, OnOk, All, option_map};
 ghost use Rattle.card_code.specs.MostCards.{most_cards};
 ghost use Rattle.misfits.specs.Told.{told};
-ghost use Rattle.report.specs.Misfits.{first_of, misfits};
-ghost use Rattle.report.specs.Totals.{Fits};
+ghost use Rattle.misfits.specs.Below.report.Misfits.{first_of, misfits};
+ghost use Rattle.misfits.specs.Below.report.Totals.{Fits};
 ghost use Rattle.compile407.specs.RunFaults.{HasRunFault, IsInvalidDeck, IsMisfit, of_card};
 ghost use Rattle.faults.specs.declared.deck.RunFault.TheVariants as deck;
-ghost use Rattle.promises.specs.Promises.{IsDeck};
-ghost use Rattle.report.specs.Report.{Report};
+ghost use Rattle.streamed_runs.specs.Below.promises.Promises.{IsDeck};
+ghost use Rattle.misfits.specs.Below.report.Report.{Report};
 ghost use Rattle.compile407.specs.Runnable.{IsRunnable};
 ghost use Rattle.chart_rules.specs.ValidCard.{IsValidCard};
 

@@ -2,7 +2,7 @@
 
 ghost use Rattle.std.specs.Prelude.{◌≡◌, ℕ, List, Some, true, IfErr, IfOk, OnOk};
 ghost use Rattle.std.specs.Io.KnownBytes.{Appends, IsAtEnd};
-ghost use Rattle.card_lines.specs.declared.fault.ReadFault.TheVariants as read;
+ghost use Rattle.streamed_runs.specs.Below.card_lines.declared.fault.ReadFault.TheVariants as read;
 ghost use Rattle.streamed_runs.specs.Runs.{HasRun, HasStopped};
 ghost use Rattle.streamed_runs.specs.declared.fault.StreamCause.TheVariants as cause;
 

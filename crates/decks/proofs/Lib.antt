@@ -1,3 +1,4 @@
+pub mod Below
 pub mod Numbered
 pub mod Misfits
 pub mod FirstMisfits

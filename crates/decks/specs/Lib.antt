@@ -1,3 +1,4 @@
+pub mod Below
 pub mod CardMisfits
 pub mod FitBefore
 pub mod FitSoFar

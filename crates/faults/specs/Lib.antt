@@ -1,3 +1,4 @@
+pub mod Below
 pub mod ChartCauses
 pub mod FaultNumbers
 pub mod Lines

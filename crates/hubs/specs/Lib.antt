@@ -1,3 +1,4 @@
+pub mod Below
 pub mod Carries
 pub mod Hubs
 pub mod Jacks

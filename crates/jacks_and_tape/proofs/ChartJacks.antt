@@ -14,7 +14,7 @@ use Rattle.charts.specs.declared.statement.Statement.TheVariants as says
 use Rattle.setups.specs.Wiring.{Wiring}
 use Rattle.hubs.specs.declared.jack.Jack.{Jack}
 use Rattle.hubs.specs.declared.jack.Jack.TheVariants as jack
-use Rattle.report.specs.ChartForm.{heading_count, is_total_item, prints_details, prints_totals}
+use Rattle.wiring_table.specs.Below.report.ChartForm.{heading_count, is_total_item, prints_details, prints_totals}
 use Rattle.charts.proofs.Listed.{any-passing}
 use Rattle.jacks_and_tape.proofs.Plugging.{plugs-as, plugs-both, plugs-none}
 use Rattle.jacks_and_tape.specs.HelperJacks.{FigureJacks, links, suppresses, symbols, JacksBefore, LineJacks, Plugs, Ranged, ranged, TotalsBelow, level}

@@ -4,9 +4,9 @@ use Rattle.std.specs.List.{Contains}
 use Rattle.chart_rules.specs.Rules.{IsLawful}
 use Rattle.charts.specs.Chart.{Chart}
 use Rattle.setups.specs.Tapes.{IsFormed, IsStop}
-use Rattle.report.specs.ChartForm.{form_of, stops_of}
-use Rattle.report.proofs.LawfulForms.{IsGoodTape, room_of, stops-good}
-use Rattle.report.proofs.NextStops.{listed_stop, on_form, rising}
+use Rattle.wiring_table.specs.Below.report.ChartForm.{form_of, stops_of}
+use Rattle.wiring_table.proofs.Below.report.LawfulForms.{IsGoodTape, room_of, stops-good}
+use Rattle.wiring_table.proofs.Below.report.NextStops.{listed_stop, on_form, rising}
 use Rattle.charts.proofs.Listed.{listed-none}
 use Rattle.jacks_and_tape.specs.HelperJacks.{HasTape}
 

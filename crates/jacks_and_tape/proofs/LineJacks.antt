@@ -1,6 +1,6 @@
 -- The jacks of a line of the chart by its item.
 use Rattle.std.proofs.Common.{◌≡◌, ℕ, List, Some, sym, ap, ◌∙◌, subst}
-use Rattle.field_rules.specs.Fields.{fields_of}
+use Rattle.print_rules.specs.Below.field_rules.Fields.{fields_of}
 use Rattle.print_rules.specs.Items.{item_of}
 use Rattle.print_rules.specs.declared.items.Figure.{Figure}
 use Rattle.print_rules.specs.declared.items.Item.{Item}

@@ -15,7 +15,7 @@ use Rattle.hubs.specs.declared.jack.Jack.{Jack}
 use Rattle.hubs.specs.declared.jack.Jack.TheVariants as jack
 use Rattle.print_rules.specs.Forms.{heading_count, heading_of}
 use Rattle.print_rules.specs.declared.items.Figure.{Figure}
-use Rattle.report.specs.ChartForm.{is_print_detail, is_total_item}
+use Rattle.wiring_table.specs.Below.report.ChartForm.{is_print_detail, is_total_item}
 use Rattle.wiring_table.specs.Jacks.{ChartJack, HasFigure}
 use Rattle.wiring_table.specs.Jacks as chart
 use Rattle.jacks_and_tape.proofs.ChartJacks.{of-figure}

@@ -7,7 +7,7 @@ use Rattle.std.specs.List.{All, Contains}
 use Rattle.std.proofs.Math.Bool.{or-true}
 use Rattle.charts.specs.declared.chart.Line.{Line}
 use Rattle.setups.specs.Tapes.{AddsStop, CarriageTape, HasStops, has_stop}
-use Rattle.report.specs.ChartForm.{form_of, stops_of}
+use Rattle.wiring_table.specs.Below.report.ChartForm.{form_of, stops_of}
 use Rattle.jacks_and_tape.specs.HelperJacks.{HasTape, Punches, StopsBefore}
 use Rattle.wiring_table.specs.WiredFor.{IsTapeOf}
 

@@ -1,7 +1,7 @@
 -- A helper of the code: plugging jacks and punching stops step by step.
 use Rattle.std.specs.Prelude.{◌≡◌, ◌↔◌, ◌⊎◌, ℕ, ◌+◌, ◌<◌, ◌≤◌, List, Contains, Some, slice_get, true}
 use Rattle.print_rules.specs.Items.{figure_width, item_of}
-use Rattle.field_rules.specs.Fields.{fields_of}
+use Rattle.print_rules.specs.Below.field_rules.Fields.{fields_of}
 use Rattle.print_rules.specs.declared.items.Item.{Item}
 use Rattle.print_rules.specs.declared.items.Figure.{Figure}
 use Rattle.charts.specs.declared.chart.Line.{Line}
@@ -10,7 +10,7 @@ use Rattle.setups.specs.Tapes.{CarriageTape, IsFormed, IsStop, has_stop}
 use Rattle.setups.specs.Wiring.{Wiring, HasJack, SameWires}
 use Rattle.hubs.specs.declared.jack.Jack.{Jack}
 use Rattle.hubs.specs.declared.jack.Jack.TheVariants as jack
-use Rattle.report.specs.ChartForm.{form_of, prints_totals, stops_of}
+use Rattle.wiring_table.specs.Below.report.ChartForm.{form_of, prints_totals, stops_of}
 use Rattle.wiring_table.specs.Figures.{IsFigure, mark_wheel, free_digits}
 
 -- the new setup has the old one's jacks and some more, and the old one's wires and tape

@@ -8,7 +8,7 @@ use Rattle.charts.specs.declared.statement.Statement.{Statement}
 use Rattle.charts.specs.declared.statement.Statement.TheVariants as says
 use Rattle.hubs.specs.declared.jack.Jack.{Jack}
 use Rattle.hubs.specs.declared.jack.Jack.TheVariants as jack
-use Rattle.report.specs.ChartForm.{form_of}
+use Rattle.wiring_table.specs.Below.report.ChartForm.{form_of}
 use Rattle.setups.specs.Tapes.{CarriageTape, has_stop}
 use Rattle.jacks_and_tape.specs.HelperJacks.{LineJacks, Ranged}
 

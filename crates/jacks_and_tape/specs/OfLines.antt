@@ -3,7 +3,7 @@ use Rattle.std.specs.Prelude.{◌↔◌, ℕ, Contains}
 use Rattle.charts.specs.Chart.{Chart}
 use Rattle.chart_rules.specs.Rules.{IsLawful}
 use Rattle.hubs.specs.declared.jack.Jack.{Jack}
-use Rattle.report.specs.ChartForm.{stops_of}
+use Rattle.wiring_table.specs.Below.report.ChartForm.{stops_of}
 use Rattle.wiring_table.specs.Jacks.{ChartJack}
 use Rattle.jacks_and_tape.specs.OfLine.{HasLineJack, HasLineStop}
 

@@ -1,7 +1,7 @@
 //! The carriage tape of a chart.
 
 ghost use Rattle.std.specs.Prelude.{◌≡◌, ◌≤◌, All, Contains};
-ghost use Rattle.report.specs.ChartForm as form;
+ghost use Rattle.wiring_table.specs.Below.report.ChartForm as form;
 ghost use Rattle.jacks_and_tape.specs.HelperJacks.{HasTape, Punches};
 ghost use Rattle.wiring_table.specs.WiredFor.{IsTapeOf};
 

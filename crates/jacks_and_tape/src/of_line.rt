@@ -3,7 +3,7 @@
 ghost use Rattle.std.specs.Prelude.{◌≡◌, [], Contains};
 ghost use Rattle.charts.specs.Levels.{level_number};
 ghost use Rattle.hubs.specs.declared.jack.Jack.TheVariants as jack;
-ghost use Rattle.report.specs.ChartForm.{form_of};
+ghost use Rattle.wiring_table.specs.Below.report.ChartForm.{form_of};
 ghost use Rattle.setups.specs.Tapes.{HasStops};
 ghost use Rattle.jacks_and_tape.specs.HelperJacks.{FiguresAre, Plugs};
 ghost use Rattle.jacks_and_tape.specs.OfLine.{IsTapeOfLine, LineJack, PrintJack};

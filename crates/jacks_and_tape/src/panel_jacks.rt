@@ -3,7 +3,7 @@
 ghost use Rattle.std.specs.Prelude.{◌≡◌, ◌+◌, ◌≤◌, ℕ, Some, slice_get, length, true};
 ghost use Rattle.print_rules.specs.Items.{figure_width};
 ghost use Rattle.hubs.specs.declared.jack.Jack.TheVariants as jack;
-ghost use Rattle.report.specs.ChartForm as form;
+ghost use Rattle.wiring_table.specs.Below.report.ChartForm as form;
 ghost use Rattle.wiring_table.specs.Figures.{mark_wheel, free_digits};
 ghost use Rattle.jacks_and_tape.specs.HelperJacks.{FigureJacks, FiguresAre, IsGoodFigure, JacksBefore, LineJacks, Plugs, Ranged, TotalsBelow};
 ghost use Rattle.wiring_table.specs.Jacks.{ChartJack};

@@ -1,19 +1,19 @@
 -- A body line comes to the place that the report gives it, and its skip or page turn leaves the carriage where the report says.
 use Rattle.std.proofs.Common.{◌≡◌, ℕ, ◌+◌, ◌-◌, ◌<◌, ◌≤◌, ◌&&◌, ◌||◌, nat_lt, nat_le, Bool, true, false, List, Option, Some, None, refl, sym, ap, subst, ◌∙◌, arith, if◌then◌else◌}
 use Rattle.std.proofs.lemmas.Bool.Decides.{nat_tests}
-use Rattle.setups.specs.Tapes.{CarriageTape}
-use Rattle.net.specs.Printing.{prints}
-use Rattle.net.specs.declared.cycle.Cycle.{Cycle}
-use Rattle.net.specs.declared.cycle.Cycle.TheVariants.{Card, Prog}
-use Rattle.net.specs.declared.cycle.ProgramLevel.TheVariants.{Minor, Intermediate, Major, Final}
-use Rattle.net.specs.declared.cycle.Ordinal.TheVariants.{Third}
+use Rattle.carriage.specs.Below.setups.Tapes.{CarriageTape}
+use Rattle.carriage.specs.Below.net.Printing.{prints}
+use Rattle.carriage.specs.Below.net.declared.cycle.Cycle.{Cycle}
+use Rattle.carriage.specs.Below.net.declared.cycle.Cycle.TheVariants.{Card, Prog}
+use Rattle.carriage.specs.Below.net.declared.cycle.ProgramLevel.TheVariants.{Minor, Intermediate, Major, Final}
+use Rattle.carriage.specs.Below.net.declared.cycle.Ordinal.TheVariants.{Third}
 use Rattle.carriage.specs.Carriage.{CarriageState, carriage_ended, ended_at, spaced}
 use Rattle.carriage.specs.Moves.{down_by, skipped, skipped_to, restored}
 use Rattle.carriage.specs.declared.spot.Spot.{Spot}
 use Rattle.carriage.proofs.Descents.{down_by-on_form}
-use Rattle.charts.specs.declared.chart.Line.{Line}
-use Rattle.charts.specs.declared.statement.After.{After}
-use Rattle.charts.specs.declared.statement.After.TheVariants as action
+use Rattle.report.specs.Below.charts.declared.chart.Line.{Line}
+use Rattle.report.specs.Below.charts.declared.statement.After.{After}
+use Rattle.report.specs.Below.charts.declared.statement.After.TheVariants as action
 use Rattle.report.specs.ChartForm.{form_of, spacing_of, after_of}
 use Rattle.report.specs.Places.{Left, page_of, line_below, next_stop, after_action, above_overflow}
 use Rattle.line_places.specs.Placing.{printing_of_chart, kind_of, prints_kind, channel_of, turns_page, asked_of, IsFormOf, IsCarriageOf, IsOnLine, AwaitsBody, line_above}

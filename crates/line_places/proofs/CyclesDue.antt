@@ -1,21 +1,21 @@
 -- Which cycle is due between cards, after a level, and within one.
 use Rattle.std.proofs.Common.{◌≡◌, ℕ, ◌+◌, ◌≤◌, ◌&&◌, ◌||◌, not, Bool, true, false, List, Option, Some, None, refl, ap, ◌∙◌, arith, if◌then◌else◌}
 use Rattle.std.proofs.lemmas.Bool.Decides.{nat_tests}
-use Rattle.net.specs.Cycles.{level_number}
-use Rattle.net.specs.Printing.{prints}
-use Rattle.net.specs.declared.cycle.Cycle.{Cycle}
-use Rattle.net.specs.declared.cycle.Cycle.TheVariants.{Card, Prog, Head}
-use Rattle.net.specs.declared.cycle.ProgramLevel.{ProgramLevel}
-use Rattle.net.specs.declared.cycle.ProgramLevel.TheVariants.{Minor, Final}
-use Rattle.net.specs.declared.cycle.Ordinal.{Ordinal}
-use Rattle.net.specs.declared.cycle.Ordinal.TheVariants.{First, Second, Third}
-use Rattle.net.specs.declared.printing.Printing.{Printing}
+use Rattle.carriage.specs.Below.net.Cycles.{level_number}
+use Rattle.carriage.specs.Below.net.Printing.{prints}
+use Rattle.carriage.specs.Below.net.declared.cycle.Cycle.{Cycle}
+use Rattle.carriage.specs.Below.net.declared.cycle.Cycle.TheVariants.{Card, Prog, Head}
+use Rattle.carriage.specs.Below.net.declared.cycle.ProgramLevel.{ProgramLevel}
+use Rattle.carriage.specs.Below.net.declared.cycle.ProgramLevel.TheVariants.{Minor, Final}
+use Rattle.carriage.specs.Below.net.declared.cycle.Ordinal.{Ordinal}
+use Rattle.carriage.specs.Below.net.declared.cycle.Ordinal.TheVariants.{First, Second, Third}
+use Rattle.carriage.specs.Below.net.declared.printing.Printing.{Printing}
 use Rattle.carriage.specs.declared.spot.Spot.{Spot}
 use Rattle.program_unit.specs.CycleOrder.{levels_to, level_above, top_level, has_level_left, headed, after_heading, cycle_after, is_over_at, card_over}
 use Rattle.program_unit.specs.Program.{ProgramState, stage_ended}
 use Rattle.program_unit.specs.declared.stage.Stage.{Stage}
 use Rattle.program_unit.specs.declared.stage.Stage.TheVariants.{RanIn, RanCard, RanProg, BeforeCard, BeforeTotal}
-use Rattle.charts.specs.declared.chart.Line.{Line}
+use Rattle.report.specs.Below.charts.declared.chart.Line.{Line}
 use Rattle.report.specs.Places.{Left}
 use Rattle.line_places.specs.Placing.{IsOnLine, IsAt}
 use Rattle.line_places.specs.CarriageCycles.{begun_by}

@@ -1,8 +1,8 @@
 -- Which cycle is due, as the cards' cycles go on.
 use Rattle.std.specs.Prelude.{Bool, true, false, not, ◌||◌, Option, Some, None, if◌then◌else◌}
-use Rattle.net.specs.declared.cycle.Cycle.{Cycle}
-use Rattle.net.specs.declared.cycle.ProgramLevel.{ProgramLevel}
-use Rattle.net.specs.declared.cycle.Ordinal.TheVariants.{First, Second, Third}
+use Rattle.carriage.specs.Below.net.declared.cycle.Cycle.{Cycle}
+use Rattle.carriage.specs.Below.net.declared.cycle.ProgramLevel.{ProgramLevel}
+use Rattle.carriage.specs.Below.net.declared.cycle.Ordinal.TheVariants.{First, Second, Third}
 use Rattle.program_unit.specs.CycleOrder.{next_cycle, card_over}
 use Rattle.program_unit.specs.Program.{ProgramState}
 use Rattle.program_unit.specs.declared.stage.Stage.{Stage}

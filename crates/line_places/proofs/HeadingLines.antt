@@ -2,17 +2,17 @@
 use Rattle.std.proofs.Common.{◌≡◌, ℕ, zero, suc, ◌+◌, ◌-◌, ◌^◌, ◌<◌, ◌≤◌, nat_lt, nat_le, max, Bool, true, false, List, [], ◌∷◌, ◌++◌, map, Option, None, refl, sym, ap, subst, ◌∙◌, arith, if◌then◌else◌}
 use Rattle.std.specs.List.{range_with_len}
 use Rattle.std.proofs.lemmas.Bool.Decides.{nat_tests}
-use Rattle.setups.specs.Tapes.{CarriageTape}
-use Rattle.net.specs.declared.cycle.Cycle.TheVariants.{Head}
-use Rattle.net.specs.declared.cycle.Ordinal.TheVariants.{First, Second, Third}
-use Rattle.net.specs.declared.printing.Printing.{Printing}
+use Rattle.carriage.specs.Below.setups.Tapes.{CarriageTape}
+use Rattle.carriage.specs.Below.net.declared.cycle.Cycle.TheVariants.{Head}
+use Rattle.carriage.specs.Below.net.declared.cycle.Ordinal.TheVariants.{First, Second, Third}
+use Rattle.carriage.specs.Below.net.declared.printing.Printing.{Printing}
 use Rattle.carriage.specs.Asked.{nothing_asked}
 use Rattle.carriage.specs.Carriage as carriages
 use Rattle.carriage.specs.Carriage.{CarriageState, ended_at, spaced}
 use Rattle.carriage.specs.Moves.{next_page}
-use Rattle.placed_lines.specs.declared.placed_line.PlacedLine.{PlacedLine}
+use Rattle.report.specs.Below.placed_lines.declared.placed_line.PlacedLine.{PlacedLine}
 use Rattle.carriage.specs.declared.spot.Spot.{Spot}
-use Rattle.charts.specs.declared.chart.Line.{Line}
+use Rattle.report.specs.Below.charts.declared.chart.Line.{Line}
 use Rattle.report.specs.BodyLines.{heading_line}
 use Rattle.report.specs.ChartForm.{form_of, heading_count}
 use Rattle.report.specs.Places.{Left, heading_on}

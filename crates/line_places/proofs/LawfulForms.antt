@@ -1,7 +1,7 @@
 -- A lawful chart has a good form: what the rules on the form and on the carriage tape come to.
 use Rattle.std.proofs.Common.{◌≡◌}
-use Rattle.charts.specs.Chart.{Chart}
-use Rattle.chart_rules.specs.Rules.{IsLawful}
+use Rattle.report.specs.Below.charts.Chart.{Chart}
+use Rattle.report.specs.Below.chart_rules.Rules.{IsLawful}
 use Rattle.report.proofs.LawfulForms.{headings-few, room_of, skip-range, spacing-range, stops_rise, stops_within}
 use Rattle.line_places.specs.FormFacts.{HasGoodForm}
 

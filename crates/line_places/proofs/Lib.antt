@@ -1,3 +1,4 @@
+pub mod Below
 pub mod Stops
 pub mod BodyLines
 pub mod HeadingLines

@@ -1,14 +1,14 @@
 -- A body line with the heading lines before it, and cycles that place no line.
 use Rattle.std.proofs.Common.{◌≡◌, ℕ, ◌<◌, ◌^◌, Bool, true, false, List, [], ◌∷◌, ◌++◌, Option, Some, None, refl, sym, ap, ap₂, subst, ◌∙◌, append_assoc}
-use Rattle.setups.specs.Wiring.{Wiring}
-use Rattle.net.specs.Printing.{prints}
-use Rattle.net.specs.declared.cycle.Cycle.{Cycle}
-use Rattle.net.specs.declared.cycle.Cycle.TheVariants.{RunIn, Card, Prog, Head}
-use Rattle.net.specs.declared.cycle.Ordinal.TheVariants.{First, Second, Third}
+use Rattle.carriage.specs.Below.setups.Wiring.{Wiring}
+use Rattle.carriage.specs.Below.net.Printing.{prints}
+use Rattle.carriage.specs.Below.net.declared.cycle.Cycle.{Cycle}
+use Rattle.carriage.specs.Below.net.declared.cycle.Cycle.TheVariants.{RunIn, Card, Prog, Head}
+use Rattle.carriage.specs.Below.net.declared.cycle.Ordinal.TheVariants.{First, Second, Third}
 use Rattle.carriage.specs.Asked.{nothing_asked}
 use Rattle.carriage.specs.Carriage.{CarriageState, carriage_at_start, ended_at, spaced}
 use Rattle.carriage.specs.declared.spot.Spot.{Spot}
-use Rattle.charts.specs.declared.chart.Line.{Line}
+use Rattle.report.specs.Below.charts.declared.chart.Line.{Line}
 use Rattle.report.specs.ChartForm.{form_of}
 use Rattle.report.specs.Places.{BodyText, Left, before_all, left_by, headed}
 use Rattle.line_places.specs.Placing.{kind_of, prints_kind, asked_of, IsCarriageOf, IsAt, AwaitsBody}

@@ -2,10 +2,10 @@
 use Rattle.std.proofs.Common.{◌≡◌, ℕ, ◌<◌, ◌≤◌, ◌==◌, true, false, List, Contains, Option, Some, None, refl, sym, subst, ◌∙◌, arith}
 use Rattle.std.proofs.lemmas.Bool.Decides.{nat_tests}
 use Rattle.std.proofs.lemmas.Bool.{false_from_ne_true}
-use Rattle.setups.specs.Tapes.{CarriageTape, has_stop}
+use Rattle.carriage.specs.Below.setups.Tapes.{CarriageTape, has_stop}
 use Rattle.carriage.specs.Moves as moves
 use Rattle.carriage.proofs.StopSteps.{next_stop-tells, next_stop-none_tells}
-use Rattle.charts.specs.declared.chart.Line.{Line}
+use Rattle.report.specs.Below.charts.declared.chart.Line.{Line}
 use Rattle.report.specs.ChartForm.{form_of, stops_of}
 use Rattle.report.specs.Places.{next_stop}
 use Rattle.report.proofs.NextStops.{IsNextOf, found, listed_stop, missing, on_form, stop_listed}

@@ -3,29 +3,29 @@ use Rattle.std.proofs.Common.{◌≡◌, sym, Option, nat_lt, arith, ℕ, ◌==�
 use Rattle.std.specs.List.{list_any}
 use Rattle.std.proofs.lemmas.Bool.Decides.{nat_tests}
 use Rattle.std.proofs.lemmas.Bool.{not-false, or_parts}
-use Rattle.charts.specs.declared.statement.After.{After}
-use Rattle.net.specs.Printing.{prints}
-use Rattle.net.specs.declared.cycle.Cycle.{Cycle}
-use Rattle.net.specs.declared.cycle.Cycle.TheVariants.{RunIn, Card, Prog, Head}
+use Rattle.report.specs.Below.charts.declared.statement.After.{After}
+use Rattle.carriage.specs.Below.net.Printing.{prints}
+use Rattle.carriage.specs.Below.net.declared.cycle.Cycle.{Cycle}
+use Rattle.carriage.specs.Below.net.declared.cycle.Cycle.TheVariants.{RunIn, Card, Prog, Head}
 use Rattle.carriage.specs.Asked.{nothing_asked}
 use Rattle.carriage.specs.Carriage.{CarriageState}
-use Rattle.charts.specs.Chart.{Chart}
-use Rattle.charts.specs.Levels.{level_number}
-use Rattle.charts.specs.Spacings.{spacing_number}
-use Rattle.charts.specs.declared.chart.Line.{Line}
-use Rattle.charts.specs.declared.level.Level.{Level}
-use Rattle.charts.specs.declared.level.Level.TheVariants as level
-use Rattle.charts.specs.declared.statement.BodyLine.{BodyLine}
-use Rattle.charts.specs.declared.statement.BodyLine.TheVariants as body
-use Rattle.charts.specs.declared.statement.Printing.TheVariants as print
-use Rattle.charts.specs.declared.statement.Statement.{Statement}
-use Rattle.charts.specs.declared.statement.Statement.TheVariants as says
-use Rattle.chart_rules.specs.declared.rule.Rule.TheVariants as rule
-use Rattle.print_rules.specs.Items.{printed_line_of}
-use Rattle.print_rules.specs.Printing.{is_kind, has_item_of, is_print, is_print_group, prints_group, has_print, breaks_print_kind}
-use Rattle.chart_rules.specs.Rules.{IsLawful}
-use Rattle.charts.proofs.Listed.{any-passing}
-use Rattle.chart_rules.proofs.Laws.{kept-line, lacks-lawful}
+use Rattle.report.specs.Below.charts.Chart.{Chart}
+use Rattle.report.specs.Below.charts.Levels.{level_number}
+use Rattle.report.specs.Below.charts.Spacings.{spacing_number}
+use Rattle.report.specs.Below.charts.declared.chart.Line.{Line}
+use Rattle.report.specs.Below.charts.declared.level.Level.{Level}
+use Rattle.report.specs.Below.charts.declared.level.Level.TheVariants as level
+use Rattle.report.specs.Below.charts.declared.statement.BodyLine.{BodyLine}
+use Rattle.report.specs.Below.charts.declared.statement.BodyLine.TheVariants as body
+use Rattle.report.specs.Below.charts.declared.statement.Printing.TheVariants as print
+use Rattle.report.specs.Below.charts.declared.statement.Statement.{Statement}
+use Rattle.report.specs.Below.charts.declared.statement.Statement.TheVariants as says
+use Rattle.report.specs.Below.chart_rules.declared.rule.Rule.TheVariants as rule
+use Rattle.report.specs.Below.print_rules.Items.{printed_line_of}
+use Rattle.report.specs.Below.print_rules.Printing.{is_kind, has_item_of, is_print, is_print_group, prints_group, has_print, breaks_print_kind}
+use Rattle.report.specs.Below.chart_rules.Rules.{IsLawful}
+use Rattle.report.proofs.Below.charts.Listed.{any-passing}
+use Rattle.report.proofs.Below.chart_rules.Laws.{kept-line, lacks-lawful}
 use Rattle.report.specs.ChartForm.{is_print_detail, prints_details, is_total_item, prints_totals, kind_number, spacing_of, spacing_from, after_of, after_from}
 use Rattle.line_places.specs.Placing.{prints_kind, channel_of, turns_page, kind_of, asked_of, IsCarriageOf}
 use Rattle.line_places.specs.CarriageCycles.{carriage_after, begins_page}

@@ -1,14 +1,14 @@
 -- Cycles as the carriage ends them, one after another, and the lines that they place.
 use Rattle.std.specs.Prelude.{ℕ, List, [], ◌∷◌, ◌++◌, Option, Some, None, Bool, true, false, if◌then◌else◌}
-use Rattle.net.specs.declared.cycle.Cycle.{Cycle}
-use Rattle.net.specs.declared.cycle.Cycle.TheVariants.{RunIn, Card, Prog, Head}
-use Rattle.net.specs.declared.cycle.Ordinal.TheVariants.{First, Second, Third}
+use Rattle.carriage.specs.Below.net.declared.cycle.Cycle.{Cycle}
+use Rattle.carriage.specs.Below.net.declared.cycle.Cycle.TheVariants.{RunIn, Card, Prog, Head}
+use Rattle.carriage.specs.Below.net.declared.cycle.Ordinal.TheVariants.{First, Second, Third}
 use Rattle.carriage.specs.Asked.{nothing_asked}
 use Rattle.carriage.specs.Carriage.{CarriageState, carriage_ended}
 use Rattle.carriage.specs.declared.asked.Asked.{Asked}
-pub use Rattle.placed_lines.specs.Lines.{line_at}
-use Rattle.placed_lines.specs.declared.placed_line.PlacedLine.{PlacedLine}
-use Rattle.charts.specs.declared.chart.Line.{Line}
+pub use Rattle.report.specs.Below.placed_lines.Lines.{line_at}
+use Rattle.report.specs.Below.placed_lines.declared.placed_line.PlacedLine.{PlacedLine}
+use Rattle.report.specs.Below.charts.declared.chart.Line.{Line}
 use Rattle.line_places.specs.Placing.{asked_of}
 
 -- A cycle at its end: what the carriage was asked for, and the line on the print wheels.

@@ -1,8 +1,8 @@
 -- What the rules say of a chart's form: a page has room, stops rise on the form, and a skip goes to a channel with stops.
 use Rattle.std.specs.Prelude.{◌≡◌, ℕ, ◌+◌, ◌<◌, ◌≤◌, true, List, Some}
-use Rattle.print_rules.specs.Tapes.{rise_above, are_within}
-use Rattle.charts.specs.declared.chart.Line.{Line}
-use Rattle.charts.specs.declared.statement.After.TheVariants as action
+use Rattle.report.specs.Below.print_rules.Tapes.{rise_above, are_within}
+use Rattle.report.specs.Below.charts.declared.chart.Line.{Line}
+use Rattle.report.specs.Below.charts.declared.statement.After.TheVariants as action
 use Rattle.report.specs.ChartForm.{form_of, heading_count, spacing_of, after_of, stops_of}
 use Rattle.report.specs.Places.{top_line}
 

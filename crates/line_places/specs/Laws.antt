@@ -1,17 +1,17 @@
 -- Laws of places: where the carriage of a machine that is wired for a chart places its lines, and which cycles come before them.
 use Rattle.std.specs.Prelude.{◌≡◌, ℕ, ◌<◌, ◌≤◌, ◌^◌, true, false, List, [], ◌∷◌, Some, None}
-use Rattle.setups.specs.Wiring.{Wiring}
-use Rattle.net.specs.Printing.{prints}
-use Rattle.net.specs.declared.cycle.Cycle.{Cycle}
-use Rattle.net.specs.declared.printing.Printing.{Printing}
+use Rattle.carriage.specs.Below.setups.Wiring.{Wiring}
+use Rattle.carriage.specs.Below.net.Printing.{prints}
+use Rattle.carriage.specs.Below.net.declared.cycle.Cycle.{Cycle}
+use Rattle.carriage.specs.Below.net.declared.printing.Printing.{Printing}
 use Rattle.carriage.specs.Asked.{nothing_asked}
 use Rattle.carriage.specs.Carriage.{CarriageState, carriage_at_start}
-use Rattle.placed_lines.specs.declared.placed_line.PlacedLine.{PlacedLine}
+use Rattle.report.specs.Below.placed_lines.declared.placed_line.PlacedLine.{PlacedLine}
 use Rattle.carriage.specs.declared.spot.Spot.{Spot}
 use Rattle.program_unit.specs.CycleOrder.{headed as headed_by}
-use Rattle.charts.specs.Chart.{Chart}
-use Rattle.charts.specs.declared.chart.Line.{Line}
-use Rattle.chart_rules.specs.Rules.{IsLawful}
+use Rattle.report.specs.Below.charts.Chart.{Chart}
+use Rattle.report.specs.Below.charts.declared.chart.Line.{Line}
+use Rattle.report.specs.Below.chart_rules.Rules.{IsLawful}
 use Rattle.report.specs.BodyLines.{heading_line}
 use Rattle.report.specs.ChartForm.{heading_count}
 use Rattle.report.specs.Places.{BodyText, Left, before_all, page_of, line_below, left_by, headed, placed}

@@ -1,3 +1,4 @@
+pub mod Below
 pub mod Placing
 pub mod CarriageCycles
 pub mod FormFacts

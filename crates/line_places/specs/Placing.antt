@@ -1,19 +1,19 @@
 -- What a chart asks of the carriage: its tape, the cycles that print, and what each kind of body line asks for. And where the carriage
 -- stands as a report's lines leave the form.
 use Rattle.std.specs.Prelude.{◌≡◌, ◌↔◌, ℕ, zero, suc, ◌<◌, ◌≤◌, Bool, true, false, nat_le, List, Contains, Option, Some, None}
-use Rattle.setups.specs.Tapes as tapes
-use Rattle.setups.specs.Tapes.{has_stop}
-use Rattle.net.specs.Cycles.{level_number}
-use Rattle.net.specs.declared.cycle.Cycle.{Cycle}
-use Rattle.net.specs.declared.cycle.Cycle.TheVariants.{RunIn, Card, Prog, Head}
-use Rattle.net.specs.declared.cycle.Ordinal.TheVariants.{First, Second, Third}
-use Rattle.net.specs.declared.printing.Printing.{Printing}
+use Rattle.carriage.specs.Below.setups.Tapes as tapes
+use Rattle.carriage.specs.Below.setups.Tapes.{has_stop}
+use Rattle.carriage.specs.Below.net.Cycles.{level_number}
+use Rattle.carriage.specs.Below.net.declared.cycle.Cycle.{Cycle}
+use Rattle.carriage.specs.Below.net.declared.cycle.Cycle.TheVariants.{RunIn, Card, Prog, Head}
+use Rattle.carriage.specs.Below.net.declared.cycle.Ordinal.TheVariants.{First, Second, Third}
+use Rattle.carriage.specs.Below.net.declared.printing.Printing.{Printing}
 use Rattle.carriage.specs.Carriage.{CarriageState}
 use Rattle.carriage.specs.declared.asked.Asked.{Asked}
 use Rattle.carriage.specs.declared.spot.Spot.{Spot}
-use Rattle.charts.specs.declared.chart.Line.{Line}
-use Rattle.charts.specs.declared.statement.After.{After}
-use Rattle.charts.specs.declared.statement.After.TheVariants as action
+use Rattle.report.specs.Below.charts.declared.chart.Line.{Line}
+use Rattle.report.specs.Below.charts.declared.statement.After.{After}
+use Rattle.report.specs.Below.charts.declared.statement.After.TheVariants as action
 use Rattle.report.specs.ChartForm.{form_of, heading_count, prints_details, prints_totals, spacing_of, after_of, stops_of}
 use Rattle.report.specs.Places.{Left, page_of, top_line}
 

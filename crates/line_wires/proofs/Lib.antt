@@ -1,2 +1,3 @@
+pub mod Below
 mod RowSets
 pub mod Steps

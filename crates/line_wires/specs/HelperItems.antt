@@ -1,8 +1,8 @@
 -- A helper of the code: the wires of the items of the line of a card, and their ranges.
 use Rattle.std.specs.Prelude.{ℕ, ◌+◌, ◌≤◌, List, Option}
 use Rattle.plans.specs.Plans.{Lists}
-use Rattle.chart_rules.specs.HelperOnCard.{IsOnCard}
-use Rattle.print_rules.specs.Items.{mark_shown, mark_width}
+use Rattle.wanted.specs.Below.chart_rules.HelperOnCard.{IsOnCard}
+use Rattle.wiring_table.specs.Below.print_rules.Items.{mark_shown, mark_width}
 use Rattle.charts.specs.Field.{columns_of, decimals_of}
 use Rattle.charts.specs.declared.statement.DetailOption.{DetailOption}
 use Rattle.charts.specs.declared.statement.DetailOption.TheVariants as shown

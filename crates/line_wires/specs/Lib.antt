@@ -1,3 +1,4 @@
+pub mod Below
 pub mod HelperAdds
 pub mod HelperRows
 pub mod HelperRanges

@@ -1,7 +1,7 @@
 //! Control fields: comparing consecutive cards.
 
 ghost use Rattle.std.specs.Prelude.{◌≡◌, ◌+◌, ◌≤◌, ◌<◌, OnOk};
-ghost use Rattle.chart_rules.specs.HelperOnCard.{IsOnCard};
+ghost use Rattle.wanted.specs.Below.chart_rules.HelperOnCard.{IsOnCard};
 ghost use Rattle.line_wires.specs.HelperAdds.{Adds};
 ghost use Rattle.line_wires.specs.HelperRows.{ComparedColumn, ComparedWires, PickupWires};
 

@@ -1,7 +1,7 @@
 //! The line of a card: its texts and its amounts.
 
 ghost use Rattle.std.specs.Prelude.{◌≡◌, ◌+◌, ◌-◌, ◌≤◌, ◌<◌, OnOk, None, Option, true, length, max};
-ghost use Rattle.chart_rules.specs.HelperOnCard.{IsOnCard};
+ghost use Rattle.wanted.specs.Below.chart_rules.HelperOnCard.{IsOnCard};
 ghost use Rattle.charts.specs.Field.{columns_of, decimals_of};
 ghost use Rattle.wiring_table.specs.Figures.{digit_wheel, mark_wheel};
 ghost use Rattle.line_wires.specs.HelperAdds.{Adds};

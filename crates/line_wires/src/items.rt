@@ -1,13 +1,13 @@
 //! The items of the line of a card.
 
 ghost use Rattle.std.specs.Prelude.{◌≡◌, ◌+◌, ◌≤◌, OnOk};
-ghost use Rattle.print_rules.specs.Items.{mark_shown};
+ghost use Rattle.wiring_table.specs.Below.print_rules.Items.{mark_shown};
 ghost use Rattle.charts.specs.Field.{columns_of, decimals_of};
 ghost use Rattle.wiring_table.specs.Figures as figures;
 ghost use Rattle.line_wires.specs.HelperAdds.{Adds};
 ghost use Rattle.line_wires.specs.HelperItems.{DetailAmount, DetailMarks, DetailRanges, DetailText, DetailWires, HasFigureWheels, HasWheels, IsGoodDetail};
 ghost use Rattle.line_wires.specs.HelperRanges.{HasWheelsForMark};
-ghost use Rattle.chart_rules.specs.HelperOnCard.{IsOnCard};
+ghost use Rattle.wanted.specs.Below.chart_rules.HelperOnCard.{IsOnCard};
 
 use crate::character::wire_point;
 use crate::detail::{wire_digits, wire_indicated, wire_text};

@@ -1,3 +1,4 @@
+pub mod Below
 pub mod Keeps
 pub mod Work
 pub mod FeedSteps

@@ -1,3 +1,4 @@
+pub mod Below
 pub mod Machine
 pub mod Cycles
 pub mod Runs

@@ -1,3 +1,4 @@
+pub mod Below
 pub mod HelperAmounts
 pub mod HelperGroups
 pub mod HelperTotals

@@ -1,3 +1,4 @@
+pub mod Below
 pub mod EachPicture
 pub mod GrownSets
 pub mod ImpulsedLaws

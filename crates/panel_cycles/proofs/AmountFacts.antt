@@ -2,34 +2,34 @@
 use Rattle.std.proofs.Common.{◌≡◌, ◌∙◌, refl, sym, ap, ℕ, zero, suc, ◌<◌, ◌≤◌, ◌==◌, nat_lt, Bool, true, false, List, Contains, Option, Some, None, is_some, is_none, option_and_then, arith, if◌then◌else◌}
 use Rattle.std.proofs.lemmas.Bool.Decides.{nat_tests}
 use Rattle.std.proofs.lemmas.Bool.{not-false, both_ways, and_parts}
-use Rattle.wanted.specs.ChartTotals.{names_signed}
-use Rattle.plans.specs.Plans.{Lists}
-use Rattle.field_rules.proofs.Places.{is_same_name-equal}
-use Rattle.field_rules.specs.Fields.{field_named}
-use Rattle.field_rules.specs.Names.{names_text}
-use Rattle.chart_rules.specs.Rules.{IsLawful, breaks}
-use Rattle.chart_rules.specs.declared.rule.Rule.TheVariants as rule
-use Rattle.charts.specs.Chart.{Chart}
-use Rattle.charts.specs.Field.{sign_column, column_of_rule, is_amount}
-use Rattle.charts.specs.Levels.{level_number}
-use Rattle.charts.specs.Name.{is_same_name}
-use Rattle.charts.specs.declared.chart.Line.{Line}
-use Rattle.charts.specs.declared.statement.Field.{Field}
-use Rattle.charts.specs.declared.statement.FieldKind.{FieldKind}
-use Rattle.charts.specs.declared.statement.FieldKind.TheVariants as holds
-use Rattle.charts.specs.declared.statement.SignRule.{SignRule}
-use Rattle.charts.specs.declared.statement.Statement.{Statement}
-use Rattle.charts.specs.declared.statement.Statement.TheVariants as says
+use Rattle.wired_panels.specs.Below.wanted.ChartTotals.{names_signed}
+use Rattle.wired_panels.specs.Below.plans.Plans.{Lists}
+use Rattle.wired_panels.proofs.Below.field_rules.Places.{is_same_name-equal}
+use Rattle.wired_panels.specs.Below.field_rules.Fields.{field_named}
+use Rattle.wired_panels.specs.Below.field_rules.Names.{names_text}
+use Rattle.wired_panels.specs.Below.chart_rules.Rules.{IsLawful, breaks}
+use Rattle.wired_panels.specs.Below.chart_rules.declared.rule.Rule.TheVariants as rule
+use Rattle.wired_panels.specs.Below.charts.Chart.{Chart}
+use Rattle.wired_panels.specs.Below.charts.Field.{sign_column, column_of_rule, is_amount}
+use Rattle.wired_panels.specs.Below.charts.Levels.{level_number}
+use Rattle.wired_panels.specs.Below.charts.Name.{is_same_name}
+use Rattle.wired_panels.specs.Below.charts.declared.chart.Line.{Line}
+use Rattle.wired_panels.specs.Below.charts.declared.statement.Field.{Field}
+use Rattle.wired_panels.specs.Below.charts.declared.statement.FieldKind.{FieldKind}
+use Rattle.wired_panels.specs.Below.charts.declared.statement.FieldKind.TheVariants as holds
+use Rattle.wired_panels.specs.Below.charts.declared.statement.SignRule.{SignRule}
+use Rattle.wired_panels.specs.Below.charts.declared.statement.Statement.{Statement}
+use Rattle.wired_panels.specs.Below.charts.declared.statement.Statement.TheVariants as says
 use Rattle.totals.proofs.Levels.{lower_less, lower_has}
 use Rattle.totals.specs.Amounts.{lower}
-use Rattle.wiring_table.specs.Figures.{IsAmount, IsSigned, IsUnsigned, rule_of}
-use Rattle.wiring_table.specs.Parts.{HasTotal, IsLowest, counter_for}
+use Rattle.printed_lines.specs.Below.wiring_table.Figures.{IsAmount, IsSigned, IsUnsigned, rule_of}
+use Rattle.printed_lines.specs.Below.wiring_table.Parts.{HasTotal, IsLowest, counter_for}
 use Rattle.wired_panels.proofs.CounterAsksTold.{IsUnder}
 use Rattle.wired_panels.proofs.PlanOwners.{level_some}
 use Rattle.panel_cycles.specs.ChartAmounts.{is_total_at, total_line, digits_of, total_digits, total_counter, amount_of}
-use Rattle.wiring_table.proofs.Totals.{one-total, one-total_line}
-use Rattle.charts.proofs.Listed.{found-listed, found-passing}
-use Rattle.chart_rules.proofs.Laws.{kept-line}
+use Rattle.printed_lines.proofs.Below.wiring_table.Totals.{one-total, one-total_line}
+use Rattle.wired_panels.proofs.Below.charts.Listed.{found-listed, found-passing}
+use Rattle.wired_panels.proofs.Below.chart_rules.Laws.{kept-line}
 
 -- the line that is found has the total
 pub found_total : (lines : List Line) (name : List ℕ) (level : ℕ) (line : Line) → total_line lines name level ≡ Some line

@@ -1,26 +1,26 @@
 -- The amounts of a lawful chart with a plan are lawful amounts, and each valid card has no more digits of one than its totals.
 use Rattle.std.proofs.Common.{◌≡◌, ◌∙◌, refl, ap, ℕ, ◌^◌, ◌≤◌, true, List, Some, None, is_some, arith}
 use Rattle.std.proofs.Math.Nat.{pow-le-pow_right}
-use Rattle.wanted.specs.ChartTotals.{names_signed, need_of}
-use Rattle.plans.specs.Plans.{Lists, IsFor}
-use Rattle.field_rules.specs.Fields.{field_named}
-use Rattle.chart_rules.specs.Rules.{IsLawful}
-use Rattle.charts.specs.Chart.{Chart, NumbersRise}
-use Rattle.charts.specs.Field.{columns_of, sign_column}
-use Rattle.charts.specs.declared.statement.Field.{Field}
-use Rattle.charts.specs.declared.statement.FieldKind.{FieldKind}
-use Rattle.charts.specs.declared.statement.FieldKind.TheVariants as holds
-use Rattle.report.specs.Amounts.{digits_on, is_negated, number_in}
+use Rattle.wired_panels.specs.Below.wanted.ChartTotals.{names_signed, need_of}
+use Rattle.wired_panels.specs.Below.plans.Plans.{Lists, IsFor}
+use Rattle.wired_panels.specs.Below.field_rules.Fields.{field_named}
+use Rattle.wired_panels.specs.Below.chart_rules.Rules.{IsLawful}
+use Rattle.wired_panels.specs.Below.charts.Chart.{Chart, NumbersRise}
+use Rattle.wired_panels.specs.Below.charts.Field.{columns_of, sign_column}
+use Rattle.wired_panels.specs.Below.charts.declared.statement.Field.{Field}
+use Rattle.wired_panels.specs.Below.charts.declared.statement.FieldKind.{FieldKind}
+use Rattle.wired_panels.specs.Below.charts.declared.statement.FieldKind.TheVariants as holds
+use Rattle.line_places.specs.Below.report.Amounts.{digits_on, is_negated, number_in}
 use Rattle.totals.specs.Amounts.{IsOnCard, HasGroups}
-use Rattle.wiring_table.specs.Figures.{IsAmount}
+use Rattle.printed_lines.specs.Below.wiring_table.Figures.{IsAmount}
 use Rattle.panel_cycles.proofs.AmountFacts.{counter_at, digits_are, has_from}
 use Rattle.panel_cycles.proofs.CounterAsksCards.{number_small}
 use Rattle.panel_cycles.specs.ChartAmounts.{amount_of, positions_of}
-use Rattle.plans.specs.Counters.{IsEnoughFor}
-use Rattle.plans.specs.declared.counter.TotalCounter.{TotalCounter}
-use Rattle.plans.specs.declared.counter.TotalCounter.TheVariants as of
-use Rattle.wiring_table.proofs.Groups.{counter-enough, counter-given}
-use Rattle.wiring_table.proofs.Totals.{digits-grow, total-digits}
+use Rattle.wired_panels.specs.Below.plans.Counters.{IsEnoughFor}
+use Rattle.wired_panels.specs.Below.plans.declared.counter.TotalCounter.{TotalCounter}
+use Rattle.wired_panels.specs.Below.plans.declared.counter.TotalCounter.TheVariants as of
+use Rattle.printed_lines.proofs.Below.wiring_table.Groups.{counter-enough, counter-given}
+use Rattle.printed_lines.proofs.Below.wiring_table.Totals.{digits-grow, total-digits}
 
 -- a counter that is enough for a total has room for its digits and its sign
 enough_room : (need : ℕ) (counter : TotalCounter) → IsEnoughFor need counter → need ≤ positions_of (Some counter)

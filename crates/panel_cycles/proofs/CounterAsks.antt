@@ -1,28 +1,28 @@
 -- What is asked of the counter of a total in a cycle, by the pictures of the cycle.
 use Rattle.std.proofs.Common.{◌≡◌, ◌∙◌, refl, sym, ap, subst, ℕ, ◌^◌, ◌<◌, ◌==◌, ◌&&◌, Bool, true, false, List, Some, arith, if◌then◌else◌}
 use Rattle.std.proofs.lemmas.Bool.Decides.{nat_tests}
-use Rattle.counter_cycles.specs.Acts.{Act, Held, act_controls, digit_of}
-use Rattle.counter_cycles.specs.Acts.Act.{Still}
-use Rattle.wanted.specs.ChartTotals.{names_signed}
-use Rattle.plans.specs.Plans.{Lists}
-use Rattle.field_rules.specs.Fields.{field_named}
-use Rattle.charts.specs.Chart.{Chart, NumbersRise}
-use Rattle.charts.specs.declared.statement.Field.{Field}
-use Rattle.setups.specs.Wiring.{Wiring}
-use Rattle.hubs.specs.declared.hub.Group.{Group}
-use Rattle.hubs.specs.declared.hub.Hub.{Hub}
-use Rattle.machine.specs.Machine.{MachineState}
-use Rattle.net.specs.Cycles.{level_number}
-use Rattle.net.specs.declared.cycle.Cycle.{Cycle}
-use Rattle.net.specs.declared.cycle.Cycle.TheVariants.{RunIn, Card, Prog, Head}
-use Rattle.net.specs.declared.cycle.ProgramLevel.{ProgramLevel}
-use Rattle.net.specs.declared.cycle.Ordinal.{Ordinal}
-use Rattle.net.specs.declared.cycle.Ordinal.TheVariants.{First, Second, Third}
-use Rattle.net.specs.declared.cycle.Point.{Point}
-use Rattle.report.specs.Amounts.{digits_on, number_in, is_negated}
+use Rattle.totals.specs.Below.counter_cycles.Acts.{Act, Held, act_controls, digit_of}
+use Rattle.totals.specs.Below.counter_cycles.Acts.Act.{Still}
+use Rattle.wired_panels.specs.Below.wanted.ChartTotals.{names_signed}
+use Rattle.wired_panels.specs.Below.plans.Plans.{Lists}
+use Rattle.wired_panels.specs.Below.field_rules.Fields.{field_named}
+use Rattle.wired_panels.specs.Below.charts.Chart.{Chart, NumbersRise}
+use Rattle.wired_panels.specs.Below.charts.declared.statement.Field.{Field}
+use Rattle.wired_panels.specs.Below.setups.Wiring.{Wiring}
+use Rattle.wired_panels.specs.Below.hubs.declared.hub.Group.{Group}
+use Rattle.wired_panels.specs.Below.hubs.declared.hub.Hub.{Hub}
+use Rattle.wired_panels.specs.Below.machine.Machine.{MachineState}
+use Rattle.totals.specs.Below.net.Cycles.{level_number}
+use Rattle.totals.specs.Below.net.declared.cycle.Cycle.{Cycle}
+use Rattle.totals.specs.Below.net.declared.cycle.Cycle.TheVariants.{RunIn, Card, Prog, Head}
+use Rattle.totals.specs.Below.net.declared.cycle.ProgramLevel.{ProgramLevel}
+use Rattle.totals.specs.Below.net.declared.cycle.Ordinal.{Ordinal}
+use Rattle.totals.specs.Below.net.declared.cycle.Ordinal.TheVariants.{First, Second, Third}
+use Rattle.totals.specs.Below.net.declared.cycle.Point.{Point}
+use Rattle.line_places.specs.Below.report.Amounts.{digits_on, number_in, is_negated}
 use Rattle.totals.specs.Amounts.{Amount, IsSmall, Kind, act_of, lower}
 use Rattle.totals.specs.Amounts.Kind.{Entry, Prog as ProgKind, Other}
-use Rattle.wiring_table.specs.Figures.{IsAmount}
+use Rattle.printed_lines.specs.Below.wiring_table.Figures.{IsAmount}
 use Rattle.panel_cycles.proofs.AmountFacts.{digits_are, has_it, lowest_from, signed_from, total_field, total_level, under_from}
 use Rattle.wired_panels.proofs.Contacts.{is_set}
 use Rattle.panel_cycles.proofs.CounterAsksEntries.{card_spells, turn_spells, up_spells}
@@ -34,10 +34,10 @@ use Rattle.panel_cycles.specs.ChartAmounts.{amount_of}
 use Rattle.wired_panels.specs.PanelCycles.{IsCardRead, IsPanelCycle}
 use Rattle.panel_cycles.specs.CounterStates.{AsksCounter, IsKindOf, held_in, number_held, state_of}
 use Rattle.panel_cycles.specs.CounterStates.IsKindOf.{card as card_kind, heading as heading_kind, program as program_kind, run_in as run_in_kind}
-use Rattle.plans.specs.declared.counter.TotalCounter.{TotalCounter}
-use Rattle.plans.specs.declared.counter.TotalCounter.TheVariants as of
-use Rattle.wiring_table.proofs.Groups.{counter-given}
-use Rattle.wiring_table.specs.Parts.{HasPanelGroup, top_group}
+use Rattle.wired_panels.specs.Below.plans.declared.counter.TotalCounter.{TotalCounter}
+use Rattle.wired_panels.specs.Below.plans.declared.counter.TotalCounter.TheVariants as of
+use Rattle.printed_lines.proofs.Below.wiring_table.Groups.{counter-given}
+use Rattle.printed_lines.specs.Below.wiring_table.Parts.{HasPanelGroup, top_group}
 
 -- tests
 is_number : (a b : ℕ) → (a == b) ≡ true → a ≡ b

@@ -6,24 +6,24 @@ use Rattle.std.proofs.lemmas.List.FromFn.{get_or-map-range_with_len, length-map-
 use Rattle.std.proofs.lemmas.List.Sums.{sum_by-cons}
 use Rattle.std.specs.List.{count_by, range_with_len}
 use Rattle.std.proofs.lemmas.Bool.{both_ways}
-use Rattle.counter_cycles.proofs.ShownLemmas.{digits-tell}
-use Rattle.counter_cycles.specs.Acts.{digit_of}
-use Rattle.card_code.specs.CardCode.{has_row}
-use Rattle.card_code.specs.Rows.{row_number}
-use Rattle.card_code.specs.declared.row.Row.{Row as CardRow}
-use Rattle.card_code.specs.declared.row.Row.TheVariants.{Zero, One, Two, Three, Four, Five, Six, Seven, Eight, Nine, Eleven, Twelve}
-use Rattle.chart_rules.specs.ValidCard.{column_of, digit_rows, digit_count, IsValidCard}
-use Rattle.charts.specs.Chart.{Chart}
-use Rattle.charts.specs.Field.{columns_of}
-use Rattle.charts.specs.declared.statement.Field.{Field}
-use Rattle.counters.proofs.NumberLemmas.{number-lt}
-use Rattle.counters.specs.Laws.{IsDigit}
-use Rattle.counters.specs.Numbers.{number}
-use Rattle.report.specs.Amounts.{digit_in, digits_on, number_in}
-use Rattle.wiring_table.specs.Figures.{IsAmount}
+use Rattle.totals.proofs.Below.counter_cycles.ShownLemmas.{digits-tell}
+use Rattle.totals.specs.Below.counter_cycles.Acts.{digit_of}
+use Rattle.wired_panels.specs.Below.card_code.CardCode.{has_row}
+use Rattle.wired_panels.specs.Below.card_code.Rows.{row_number}
+use Rattle.wired_panels.specs.Below.card_code.declared.row.Row.{Row as CardRow}
+use Rattle.wired_panels.specs.Below.card_code.declared.row.Row.TheVariants.{Zero, One, Two, Three, Four, Five, Six, Seven, Eight, Nine, Eleven, Twelve}
+use Rattle.wired_panels.specs.Below.chart_rules.ValidCard.{column_of, digit_rows, digit_count, IsValidCard}
+use Rattle.wired_panels.specs.Below.charts.Chart.{Chart}
+use Rattle.wired_panels.specs.Below.charts.Field.{columns_of}
+use Rattle.wired_panels.specs.Below.charts.declared.statement.Field.{Field}
+use Rattle.totals.proofs.Below.counters.NumberLemmas.{number-lt}
+use Rattle.totals.specs.Below.counters.Laws.{IsDigit}
+use Rattle.totals.specs.Below.counters.Numbers.{number}
+use Rattle.line_places.specs.Below.report.Amounts.{digit_in, digits_on, number_in}
+use Rattle.printed_lines.specs.Below.wiring_table.Figures.{IsAmount}
 use Rattle.wired_panels.proofs.Ways.{same_tests}
-use Rattle.charts.proofs.Listed.{found-listed, listed-cases, listed-within}
-use Rattle.chart_rules.proofs.Laws.{amount-valid, one-digit}
+use Rattle.wired_panels.proofs.Below.charts.Listed.{found-listed, listed-cases, listed-within}
+use Rattle.wired_panels.proofs.Below.chart_rules.Laws.{amount-valid, one-digit}
 
 -- a digit, a blank counting 0
 abbrev pub digit_value : Option ℕ → ℕ

@@ -2,50 +2,50 @@
 use Rattle.std.proofs.Common.{◌≡◌, ◌∙◌, refl, sym, ap, subst, ℕ, ◌+◌, ◌-◌, ◌^◌, ◌<◌, ◌≤◌, ◌==◌, nat_le, ◌&&◌, Bool, true, false, List, Contains, Some, length, All, arith, option_map, inl, inr}
 use Rattle.std.proofs.lemmas.Bool.Decides.{nat_tests}
 use Rattle.std.proofs.lemmas.Option.{same_Some, slice_get_read}
-use Rattle.counter_cycles.proofs.DigitLemmas.{digit_of-above, digit_of-below, number-within}
-use Rattle.counter_cycles.proofs.PairLemmas.{digit_of-above_width}
+use Rattle.totals.proofs.Below.counter_cycles.DigitLemmas.{digit_of-above, digit_of-below, number-within}
+use Rattle.totals.proofs.Below.counter_cycles.PairLemmas.{digit_of-above_width}
 use Rattle.std.proofs.lemmas.Nat.{div-mul-add}
-use Rattle.counter_cycles.proofs.ShownLemmas.{digits-tell}
-use Rattle.counter_cycles.specs.Acts.{digit_of}
-use Rattle.plans.specs.Plans.{Lists}
-use Rattle.card_code.specs.CardCode.{has_row}
-use Rattle.card_code.specs.Rows.{row_number}
-use Rattle.card_code.specs.declared.row.Row.{Row as CardRow}
-use Rattle.chart_rules.proofs.Laws.{AreOnCard-lawful}
-use Rattle.field_rules.specs.Fields.{field_named, fields_of}
-use Rattle.chart_rules.specs.HelperOnCard.{IsOnCard}
-use Rattle.chart_rules.specs.Rules.{IsLawful}
-use Rattle.chart_rules.specs.ValidCard.{column_of}
-use Rattle.charts.specs.Chart.{Chart, NumbersRise}
-use Rattle.charts.specs.Field.{columns_of}
-use Rattle.charts.specs.Name.{is_same_name}
-use Rattle.charts.specs.declared.statement.Field.{Field}
-use Rattle.charts.specs.declared.statement.SignRule.{SignRule}
-use Rattle.counters.specs.Counters.{Counter}
-use Rattle.counters.specs.Laws.{IsCounter}
-use Rattle.counters.specs.Numbers.{number}
-use Rattle.hub_table.specs.Ranges.{is_within}
-use Rattle.setups.specs.Wiring.{Wiring}
-use Rattle.hubs.specs.declared.hub.Group.{Group}
-use Rattle.hubs.specs.declared.hub.Hub.{Hub}
-use Rattle.hubs.specs.declared.hub.Hub.TheVariants.{GE, RO}
-use Rattle.machine.specs.Machine.{MachineState}
-use Rattle.net.specs.Cycles.{level_number}
-use Rattle.net.specs.declared.cycle.Cycle.{Cycle}
-use Rattle.net.specs.declared.cycle.Cycle.TheVariants.{Card, Prog}
-use Rattle.net.specs.declared.cycle.ProgramLevel.{ProgramLevel}
-use Rattle.net.specs.declared.cycle.Ordinal.TheVariants.{Second, Third}
-use Rattle.net.specs.declared.cycle.Point.{Point}
-use Rattle.net.specs.declared.cycle.Point.TheVariants.{C, Row}
-use Rattle.report.specs.Amounts.{digits_on, number_in}
-use Rattle.stations.specs.Punches.{is_punched_at, is_punched}
-use Rattle.whole_cycles.specs.Between.{IsIdle}
-use Rattle.wiring_table.specs.Figures.{IsAmount, IsSigned}
-use Rattle.wiring_table.proofs.Groups.{position-given, position-serves}
-use Rattle.wiring_table.proofs.Totals.{one-total}
-use Rattle.plans.specs.declared.counter.TotalCounter.{TotalCounter}
-use Rattle.plans.specs.declared.counter.TotalCounter.TheVariants as of
-use Rattle.wiring_table.specs.Parts.{HasPanelGroup, HasTotal, IsLowest, IsPlaceOf, ServesPosition, ServesTotal, StandsAt, counter_for, panel_group, top_group}
+use Rattle.totals.proofs.Below.counter_cycles.ShownLemmas.{digits-tell}
+use Rattle.totals.specs.Below.counter_cycles.Acts.{digit_of}
+use Rattle.wired_panels.specs.Below.plans.Plans.{Lists}
+use Rattle.wired_panels.specs.Below.card_code.CardCode.{has_row}
+use Rattle.wired_panels.specs.Below.card_code.Rows.{row_number}
+use Rattle.wired_panels.specs.Below.card_code.declared.row.Row.{Row as CardRow}
+use Rattle.wired_panels.proofs.Below.chart_rules.Laws.{AreOnCard-lawful}
+use Rattle.wired_panels.specs.Below.field_rules.Fields.{field_named, fields_of}
+use Rattle.wired_panels.specs.Below.chart_rules.HelperOnCard.{IsOnCard}
+use Rattle.wired_panels.specs.Below.chart_rules.Rules.{IsLawful}
+use Rattle.wired_panels.specs.Below.chart_rules.ValidCard.{column_of}
+use Rattle.wired_panels.specs.Below.charts.Chart.{Chart, NumbersRise}
+use Rattle.wired_panels.specs.Below.charts.Field.{columns_of}
+use Rattle.wired_panels.specs.Below.charts.Name.{is_same_name}
+use Rattle.wired_panels.specs.Below.charts.declared.statement.Field.{Field}
+use Rattle.wired_panels.specs.Below.charts.declared.statement.SignRule.{SignRule}
+use Rattle.totals.specs.Below.counters.Counters.{Counter}
+use Rattle.totals.specs.Below.counters.Laws.{IsCounter}
+use Rattle.totals.specs.Below.counters.Numbers.{number}
+use Rattle.wired_panels.specs.Below.hub_table.Ranges.{is_within}
+use Rattle.wired_panels.specs.Below.setups.Wiring.{Wiring}
+use Rattle.wired_panels.specs.Below.hubs.declared.hub.Group.{Group}
+use Rattle.wired_panels.specs.Below.hubs.declared.hub.Hub.{Hub}
+use Rattle.wired_panels.specs.Below.hubs.declared.hub.Hub.TheVariants.{GE, RO}
+use Rattle.wired_panels.specs.Below.machine.Machine.{MachineState}
+use Rattle.totals.specs.Below.net.Cycles.{level_number}
+use Rattle.totals.specs.Below.net.declared.cycle.Cycle.{Cycle}
+use Rattle.totals.specs.Below.net.declared.cycle.Cycle.TheVariants.{Card, Prog}
+use Rattle.totals.specs.Below.net.declared.cycle.ProgramLevel.{ProgramLevel}
+use Rattle.totals.specs.Below.net.declared.cycle.Ordinal.TheVariants.{Second, Third}
+use Rattle.totals.specs.Below.net.declared.cycle.Point.{Point}
+use Rattle.totals.specs.Below.net.declared.cycle.Point.TheVariants.{C, Row}
+use Rattle.line_places.specs.Below.report.Amounts.{digits_on, number_in}
+use Rattle.wired_panels.specs.Below.stations.Punches.{is_punched_at, is_punched}
+use Rattle.wired_panels.specs.Below.whole_cycles.Between.{IsIdle}
+use Rattle.printed_lines.specs.Below.wiring_table.Figures.{IsAmount, IsSigned}
+use Rattle.printed_lines.proofs.Below.wiring_table.Groups.{position-given, position-serves}
+use Rattle.printed_lines.proofs.Below.wiring_table.Totals.{one-total}
+use Rattle.wired_panels.specs.Below.plans.declared.counter.TotalCounter.{TotalCounter}
+use Rattle.wired_panels.specs.Below.plans.declared.counter.TotalCounter.TheVariants as of
+use Rattle.printed_lines.specs.Below.wiring_table.Parts.{HasPanelGroup, HasTotal, IsLowest, IsPlaceOf, ServesPosition, ServesTotal, StandsAt, counter_for, panel_group, top_group}
 use Rattle.wired_panels.proofs.Ways.{same_tests}
 use Rattle.panel_cycles.proofs.CounterAsksCards.{number_small, position_digit, column_row, few_digits}
 use Rattle.wired_panels.proofs.CounterAsksControls.{shut, ReadsOut, read_is}
@@ -55,7 +55,7 @@ use Rattle.wired_panels.proofs.CounterAsksRows.{ReadsDigit, Enters, enters_is, g
 use Rattle.wired_panels.proofs.CounterAsksRows.Enters.{card as enters_card, own_digit, lower_digit}
 use Rattle.wired_panels.proofs.CounterAsksTold.{IsUnder}
 use Rattle.wired_panels.proofs.CounterUnits.{at_unit, counter_there, planned_unit}
-use Rattle.charts.proofs.Listed.{found-listed}
+use Rattle.wired_panels.proofs.Below.charts.Listed.{found-listed}
 use Rattle.wired_panels.proofs.PlanOwners.{of_place}
 use Rattle.wired_panels.specs.Groups.{IsCounterOf, IsGroupOf, IsPlaceFor}
 use Rattle.wired_panels.specs.PanelCycles.{IsPanelCycle, IsCardRead}

@@ -2,28 +2,28 @@
 use Rattle.std.proofs.Common.{◌≡◌, ◌∙◌, refl, sym, ap, ℕ, ◌≤◌, ◌==◌, ◌&&◌, not, Bool, true, false, List, Some, arith, if◌then◌else◌}
 use Rattle.std.proofs.lemmas.Bool.Decides.{nat_tests}
 use Rattle.std.proofs.lemmas.Bool.{not-true, false_from_ne_true, both_ways}
-use Rattle.counter_cycles.specs.Acts.{Act, act_controls, IsControlled}
-use Rattle.counter_cycles.specs.Acts.Act.{Still}
-use Rattle.counters.specs.declared.controls.Controls.{Controls}
-use Rattle.wanted.specs.ChartTotals.{names_signed}
-use Rattle.plans.specs.Plans.{Lists}
-use Rattle.field_rules.specs.Fields.{field_named}
-use Rattle.charts.specs.Chart.{Chart, NumbersRise}
-use Rattle.charts.specs.declared.statement.Field.{Field}
-use Rattle.charts.specs.declared.statement.SignRule.{SignRule}
-use Rattle.setups.specs.Wiring.{Wiring}
-use Rattle.hub_table.specs.Ranges.{is_within}
-use Rattle.hubs.specs.declared.hub.Group.{Group}
-use Rattle.hubs.specs.declared.hub.Hub.{Hub}
-use Rattle.hubs.specs.declared.hub.Hub.TheVariants.{CC, PL, MI, RO, BT, PIC}
-use Rattle.machine.specs.Machine.{MachineState}
-use Rattle.net.specs.declared.cycle.Cycle.TheVariants.{Card}
-use Rattle.net.specs.declared.cycle.Point.{Point}
-use Rattle.net.specs.declared.cycle.Point.TheVariants.{C}
-use Rattle.report.specs.Amounts.{is_negated, is_negative_by}
+use Rattle.totals.specs.Below.counter_cycles.Acts.{Act, act_controls, IsControlled}
+use Rattle.totals.specs.Below.counter_cycles.Acts.Act.{Still}
+use Rattle.totals.specs.Below.counters.declared.controls.Controls.{Controls}
+use Rattle.wired_panels.specs.Below.wanted.ChartTotals.{names_signed}
+use Rattle.wired_panels.specs.Below.plans.Plans.{Lists}
+use Rattle.wired_panels.specs.Below.field_rules.Fields.{field_named}
+use Rattle.wired_panels.specs.Below.charts.Chart.{Chart, NumbersRise}
+use Rattle.wired_panels.specs.Below.charts.declared.statement.Field.{Field}
+use Rattle.wired_panels.specs.Below.charts.declared.statement.SignRule.{SignRule}
+use Rattle.wired_panels.specs.Below.setups.Wiring.{Wiring}
+use Rattle.wired_panels.specs.Below.hub_table.Ranges.{is_within}
+use Rattle.wired_panels.specs.Below.hubs.declared.hub.Group.{Group}
+use Rattle.wired_panels.specs.Below.hubs.declared.hub.Hub.{Hub}
+use Rattle.wired_panels.specs.Below.hubs.declared.hub.Hub.TheVariants.{CC, PL, MI, RO, BT, PIC}
+use Rattle.wired_panels.specs.Below.machine.Machine.{MachineState}
+use Rattle.totals.specs.Below.net.declared.cycle.Cycle.TheVariants.{Card}
+use Rattle.totals.specs.Below.net.declared.cycle.Point.{Point}
+use Rattle.totals.specs.Below.net.declared.cycle.Point.TheVariants.{C}
+use Rattle.line_places.specs.Below.report.Amounts.{is_negated, is_negative_by}
 use Rattle.totals.specs.Amounts.{lower, posted}
-use Rattle.wiring_table.specs.Figures.{IsAmount, IsSigned, rule_of}
-use Rattle.wiring_table.specs.Parts.{IsLowest, pilot_for, top_for}
+use Rattle.printed_lines.specs.Below.wiring_table.Figures.{IsAmount, IsSigned, rule_of}
+use Rattle.printed_lines.specs.Below.wiring_table.Parts.{IsLowest, pilot_for, top_for}
 use Rattle.panel_cycles.proofs.AmountFacts.{total_level, lowest_is, lowest_from, signed_is, unsigned_is, signed_from, unsigned_from}
 use Rattle.wired_panels.proofs.CounterAsksContacts.{pilot_within, negative_closed, positive_closed, negated_is}
 use Rattle.wired_panels.proofs.CounterAsksControls.{shut, Pluses, Minuses, ReadsOut, Tests, numbered, plus_is, minus_is, read_is, test_is}

@@ -2,28 +2,28 @@
 use Rattle.std.proofs.Common.{◌≡◌, ◌∙◌, refl, sym, ap, subst, ℕ, ◌<◌, ◌≤◌, ◌==◌, ◌&&◌, not, Bool, true, false, List, Some, option_map, arith, if◌then◌else◌}
 use Rattle.std.proofs.lemmas.Bool.{not-true, false_from_ne_true}
 use Rattle.std.proofs.lemmas.Bool.Decides.{nat_tests}
-use Rattle.counter_cycles.specs.Acts.{Act, Held, act_controls}
-use Rattle.counter_cycles.specs.Acts.Act.{Still, Test, Turn, Show}
-use Rattle.wanted.specs.ChartTotals.{names_signed}
-use Rattle.plans.specs.Plans.{Lists}
-use Rattle.field_rules.specs.Fields.{field_named}
-use Rattle.charts.specs.Chart.{Chart, NumbersRise}
-use Rattle.charts.specs.declared.statement.Field.{Field}
-use Rattle.charts.specs.declared.statement.SignRule.{SignRule}
-use Rattle.setups.specs.Wiring.{Wiring}
-use Rattle.hubs.specs.declared.hub.Group.{Group}
-use Rattle.hubs.specs.declared.hub.Hub.{Hub}
-use Rattle.hubs.specs.declared.hub.Hub.TheVariants.{BAT, PL, MI, RO, BT}
-use Rattle.machine.specs.Machine.{MachineState}
-use Rattle.net.specs.Cycles.{level_number}
-use Rattle.net.specs.declared.cycle.Cycle.{Cycle}
-use Rattle.net.specs.declared.cycle.Cycle.TheVariants.{Prog}
-use Rattle.net.specs.declared.cycle.ProgramLevel.{ProgramLevel}
-use Rattle.net.specs.declared.cycle.Ordinal.TheVariants.{First, Second, Third}
-use Rattle.net.specs.declared.cycle.Point.{Point}
-use Rattle.net.specs.declared.cycle.Point.TheVariants.{C}
+use Rattle.totals.specs.Below.counter_cycles.Acts.{Act, Held, act_controls}
+use Rattle.totals.specs.Below.counter_cycles.Acts.Act.{Still, Test, Turn, Show}
+use Rattle.wired_panels.specs.Below.wanted.ChartTotals.{names_signed}
+use Rattle.wired_panels.specs.Below.plans.Plans.{Lists}
+use Rattle.wired_panels.specs.Below.field_rules.Fields.{field_named}
+use Rattle.wired_panels.specs.Below.charts.Chart.{Chart, NumbersRise}
+use Rattle.wired_panels.specs.Below.charts.declared.statement.Field.{Field}
+use Rattle.wired_panels.specs.Below.charts.declared.statement.SignRule.{SignRule}
+use Rattle.wired_panels.specs.Below.setups.Wiring.{Wiring}
+use Rattle.wired_panels.specs.Below.hubs.declared.hub.Group.{Group}
+use Rattle.wired_panels.specs.Below.hubs.declared.hub.Hub.{Hub}
+use Rattle.wired_panels.specs.Below.hubs.declared.hub.Hub.TheVariants.{BAT, PL, MI, RO, BT}
+use Rattle.wired_panels.specs.Below.machine.Machine.{MachineState}
+use Rattle.totals.specs.Below.net.Cycles.{level_number}
+use Rattle.totals.specs.Below.net.declared.cycle.Cycle.{Cycle}
+use Rattle.totals.specs.Below.net.declared.cycle.Cycle.TheVariants.{Prog}
+use Rattle.totals.specs.Below.net.declared.cycle.ProgramLevel.{ProgramLevel}
+use Rattle.totals.specs.Below.net.declared.cycle.Ordinal.TheVariants.{First, Second, Third}
+use Rattle.totals.specs.Below.net.declared.cycle.Point.{Point}
+use Rattle.totals.specs.Below.net.declared.cycle.Point.TheVariants.{C}
 use Rattle.totals.specs.Amounts.{Amount, lower, posted}
-use Rattle.wiring_table.specs.Figures.{IsAmount, IsSigned}
+use Rattle.printed_lines.specs.Below.wiring_table.Figures.{IsAmount, IsSigned}
 use Rattle.panel_cycles.proofs.AmountFacts.{has_it, total_level, under_is, under_from, signed_is, unsigned_is, signed_from, unsigned_from}
 use Rattle.wired_panels.proofs.Contacts.{is_set}
 use Rattle.wired_panels.proofs.CounterAsksContacts.{transferred_is, normal_balance}
@@ -39,8 +39,8 @@ use Rattle.panel_cycles.specs.ChartAmounts.{amount_of}
 use Rattle.wired_panels.specs.Groups.{IsGroupOf, IsTopOf}
 use Rattle.wired_panels.specs.PanelCycles.{IsPanelCycle}
 use Rattle.panel_cycles.specs.CounterStates.{state_of}
-use Rattle.wiring_table.proofs.Groups.{counter-given, top-serves}
-use Rattle.wiring_table.specs.Parts.{top_for, top_group}
+use Rattle.printed_lines.proofs.Below.wiring_table.Groups.{counter-given, top-serves}
+use Rattle.printed_lines.specs.Below.wiring_table.Parts.{top_for, top_group}
 use Rattle.panel_cycles.proofs.CounterAsksKinds.{AreTold}
 use Rattle.panel_cycles.proofs.Counters.{top_latch}
 

@@ -2,24 +2,24 @@
 -- asked of each of its groups is asked of the counter.
 use Rattle.std.proofs.Common.{◌≡◌, ◌∙◌, refl, sym, ap, subst, ℕ, ◌+◌, ◌≤◌, ◌==◌, Bool, List, Option, Some, None, option_map, inl, inr, arith}
 use Rattle.std.proofs.lemmas.Option.{same_Some}
-use Rattle.card_code.specs.Rows.{row_number}
-use Rattle.card_code.specs.declared.row.Row.{Row as CardRow}
-use Rattle.chart_rules.specs.Rules.{IsLawful}
-use Rattle.charts.specs.Chart.{Chart}
-use Rattle.charts.specs.declared.chart.Line.{Line}
-use Rattle.counter_cycles.specs.Acts.{Act, Entered, Held, Spells, act_controls}
-use Rattle.counter_cycles.specs.Pairs.{EnteredInBoth, SpellInBoth}
-use Rattle.hubs.specs.declared.hub.Group.{Group}
-use Rattle.hubs.specs.declared.hub.Hub.{Hub}
-use Rattle.hubs.specs.declared.hub.Hub.TheVariants.{GE}
-use Rattle.machine.specs.Machine.{MachineState}
-use Rattle.net.specs.declared.cycle.Point.{Point}
-use Rattle.net.specs.declared.cycle.Point.TheVariants.{Row}
-use Rattle.plans.specs.Plans.{IsFor, Lists}
-use Rattle.plans.specs.declared.counter.TotalCounter.{TotalCounter}
-use Rattle.plans.specs.declared.counter.TotalCounter.TheVariants as of
-use Rattle.wiring_table.specs.Parts.{HasPanelGroup, IsPlaceOf, ServesPosition, StandsAt, counter_for, panel_group, top_for, top_group}
-use Rattle.wiring_table.proofs.Groups.{position-own, position-serves, serves-own}
+use Rattle.wired_panels.specs.Below.card_code.Rows.{row_number}
+use Rattle.wired_panels.specs.Below.card_code.declared.row.Row.{Row as CardRow}
+use Rattle.wired_panels.specs.Below.chart_rules.Rules.{IsLawful}
+use Rattle.wired_panels.specs.Below.charts.Chart.{Chart}
+use Rattle.wired_panels.specs.Below.charts.declared.chart.Line.{Line}
+use Rattle.totals.specs.Below.counter_cycles.Acts.{Act, Entered, Held, Spells, act_controls}
+use Rattle.totals.specs.Below.counter_cycles.Pairs.{EnteredInBoth, SpellInBoth}
+use Rattle.wired_panels.specs.Below.hubs.declared.hub.Group.{Group}
+use Rattle.wired_panels.specs.Below.hubs.declared.hub.Hub.{Hub}
+use Rattle.wired_panels.specs.Below.hubs.declared.hub.Hub.TheVariants.{GE}
+use Rattle.wired_panels.specs.Below.machine.Machine.{MachineState}
+use Rattle.totals.specs.Below.net.declared.cycle.Point.{Point}
+use Rattle.totals.specs.Below.net.declared.cycle.Point.TheVariants.{Row}
+use Rattle.wired_panels.specs.Below.plans.Plans.{IsFor, Lists}
+use Rattle.wired_panels.specs.Below.plans.declared.counter.TotalCounter.{TotalCounter}
+use Rattle.wired_panels.specs.Below.plans.declared.counter.TotalCounter.TheVariants as of
+use Rattle.printed_lines.specs.Below.wiring_table.Parts.{HasPanelGroup, IsPlaceOf, ServesPosition, StandsAt, counter_for, panel_group, top_for, top_group}
+use Rattle.printed_lines.proofs.Below.wiring_table.Groups.{position-own, position-serves, serves-own}
 use Rattle.wired_panels.specs.Groups.{IsCounterOf, IsGroupOf, IsPlaceFor, IsTopOf}
 use Rattle.panel_cycles.proofs.AmountFacts.{counter_at}
 use Rattle.panel_cycles.proofs.CounterAsksKinds.{AreTold, alone}

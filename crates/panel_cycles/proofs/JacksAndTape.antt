@@ -1,18 +1,18 @@
 -- The jacks and the tape of a panel that is wired for a chart.
 use Rattle.std.proofs.Common.{◌≡◌, ℕ, ◌≤◌, nat_le, Bool, true, List, arith}
 use Rattle.std.proofs.lemmas.Bool.Decides.{nat_tests}
-use Rattle.plans.specs.Plans.{Lists}
-use Rattle.charts.specs.Chart.{Chart}
-use Rattle.charts.specs.declared.chart.Line.{Line}
-use Rattle.setups.specs.Wiring.{Wiring, is_plugged}
-use Rattle.hubs.specs.declared.jack.Jack.{Jack}
-use Rattle.hubs.specs.declared.jack.Jack.TheVariants as jack
-use Rattle.net.specs.Printing.{printing_of}
+use Rattle.wired_panels.specs.Below.plans.Plans.{Lists}
+use Rattle.wired_panels.specs.Below.charts.Chart.{Chart}
+use Rattle.wired_panels.specs.Below.charts.declared.chart.Line.{Line}
+use Rattle.wired_panels.specs.Below.setups.Wiring.{Wiring, is_plugged}
+use Rattle.wired_panels.specs.Below.hubs.declared.jack.Jack.{Jack}
+use Rattle.wired_panels.specs.Below.hubs.declared.jack.Jack.TheVariants as jack
+use Rattle.totals.specs.Below.net.Printing.{printing_of}
 use Rattle.line_places.specs.Placing.{IsFormOf, printing_of_chart}
 use Rattle.printed_lines.specs.Shown.{HasJacksOf}
-use Rattle.report.specs.ChartForm.{heading_count, prints_details, prints_totals}
-use Rattle.wiring_table.specs.Jacks.{ChartJack}
-use Rattle.wiring_table.specs.Jacks.ChartJack.{list, total, head}
+use Rattle.line_places.specs.Below.report.ChartForm.{heading_count, prints_details, prints_totals}
+use Rattle.printed_lines.specs.Below.wiring_table.Jacks.{ChartJack}
+use Rattle.printed_lines.specs.Below.wiring_table.Jacks.ChartJack.{list, total, head}
 use Rattle.wired_panels.proofs.Ways.{same_tests}
 use Rattle.wired_panels.specs.Panel.{IsPanel}
 

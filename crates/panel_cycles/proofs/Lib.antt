@@ -1,3 +1,4 @@
+pub mod Below
 pub mod ToCarriage
 pub mod JacksAndTape
 pub mod AmountFacts

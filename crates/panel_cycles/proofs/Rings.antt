@@ -1,28 +1,28 @@
 -- The carries of counters: by which wires they come, and which counters form rings: those of signed totals.
 use Rattle.std.proofs.Common.{◌≡◌, ◌∙◌, refl, sym, ap, subst, ℕ, true, List, Option, Some, None, option_map, option_and_then, inl, inr}
-use Rattle.capacity.specs.declared.group.CounterGroup.{CounterGroup}
-use Rattle.wanted.specs.ChartTotals.{names_signed}
-use Rattle.plans.specs.Counters.{single_group}
-use Rattle.plans.specs.Plans.{Lists}
-use Rattle.plans.specs.declared.counter.TotalCounter.{TotalCounter}
-use Rattle.plans.specs.declared.counter.TotalCounter.TheVariants as of
-use Rattle.field_rules.specs.Fields.{field_named}
-use Rattle.charts.specs.Chart.{Chart, NumbersRise}
-use Rattle.charts.specs.Levels.{level_number}
-use Rattle.charts.specs.declared.chart.Line.{Line}
-use Rattle.charts.specs.declared.statement.SignRule.{SignRule}
-use Rattle.charts.specs.declared.statement.Statement.{Statement}
-use Rattle.counters.specs.Rings.{IsFedAlone}
-use Rattle.setups.proofs.WiredLemmas.{HasWire-is_wired}
-use Rattle.setups.specs.Wiring.{HasWire, Wiring, is_wired}
-use Rattle.hubs.specs.declared.hub.Group.{Group}
-use Rattle.hubs.specs.declared.hub.Hub.{Hub}
-use Rattle.hubs.specs.declared.hub.Hub.TheVariants.{CI, CO}
-use Rattle.wiring_table.specs.Figures.{IsSigned}
-use Rattle.wiring_table.specs.Parts.{HasPanelGroup, HasTotal, ServesTotal, counter_for, group_for, panel_group}
-use Rattle.wiring_table.specs.Wires.{ChartWire, LineWire}
-use Rattle.wiring_table.specs.Wires.LineWire.{carry_round, carry_up, ring}
-use Rattle.wiring_table.proofs.Groups.{pair-apart, serves-own, single-serves}
+use Rattle.wired_panels.specs.Below.capacity.declared.group.CounterGroup.{CounterGroup}
+use Rattle.wired_panels.specs.Below.wanted.ChartTotals.{names_signed}
+use Rattle.wired_panels.specs.Below.plans.Counters.{single_group}
+use Rattle.wired_panels.specs.Below.plans.Plans.{Lists}
+use Rattle.wired_panels.specs.Below.plans.declared.counter.TotalCounter.{TotalCounter}
+use Rattle.wired_panels.specs.Below.plans.declared.counter.TotalCounter.TheVariants as of
+use Rattle.wired_panels.specs.Below.field_rules.Fields.{field_named}
+use Rattle.wired_panels.specs.Below.charts.Chart.{Chart, NumbersRise}
+use Rattle.wired_panels.specs.Below.charts.Levels.{level_number}
+use Rattle.wired_panels.specs.Below.charts.declared.chart.Line.{Line}
+use Rattle.wired_panels.specs.Below.charts.declared.statement.SignRule.{SignRule}
+use Rattle.wired_panels.specs.Below.charts.declared.statement.Statement.{Statement}
+use Rattle.totals.specs.Below.counters.Rings.{IsFedAlone}
+use Rattle.wired_panels.proofs.Below.setups.WiredLemmas.{HasWire-is_wired}
+use Rattle.wired_panels.specs.Below.setups.Wiring.{HasWire, Wiring, is_wired}
+use Rattle.wired_panels.specs.Below.hubs.declared.hub.Group.{Group}
+use Rattle.wired_panels.specs.Below.hubs.declared.hub.Hub.{Hub}
+use Rattle.wired_panels.specs.Below.hubs.declared.hub.Hub.TheVariants.{CI, CO}
+use Rattle.printed_lines.specs.Below.wiring_table.Figures.{IsSigned}
+use Rattle.printed_lines.specs.Below.wiring_table.Parts.{HasPanelGroup, HasTotal, ServesTotal, counter_for, group_for, panel_group}
+use Rattle.printed_lines.specs.Below.wiring_table.Wires.{ChartWire, LineWire}
+use Rattle.printed_lines.specs.Below.wiring_table.Wires.LineWire.{carry_round, carry_up, ring}
+use Rattle.printed_lines.proofs.Below.wiring_table.Groups.{pair-apart, serves-own, single-serves}
 use Rattle.panel_cycles.proofs.AmountFacts.{signed_from, signed_is, total_field}
 use Rattle.panel_cycles.proofs.Counters.{grouped}
 use Rattle.wired_panels.proofs.Chains.{ToCarry, from_itself, from_lower, from_upper, to_carry}

@@ -1,47 +1,47 @@
 -- What the carriage of a panel is asked for: in the cycle that prints a kind of body line what the chart asks for it, and nothing in
 -- other cycles.
 use Rattle.std.proofs.Common.{◌≡◌, ◌≢◌, ◌∙◌, refl, sym, ap, subst, ℕ, zero, suc, ◌+◌, ◌≤◌, ◌<◌, Bool, true, false, List, Contains, Option, Some, None, ◌↔◌, arith, if◌then◌else◌}
-use Rattle.plans.specs.Plans.{Lists}
-use Rattle.carriage.specs.declared.asked.Asked.{Asked}
+use Rattle.wired_panels.specs.Below.plans.Plans.{Lists}
+use Rattle.line_places.specs.Below.carriage.declared.asked.Asked.{Asked}
 use Rattle.line_places.specs.CarriageCycles.{carriage_after}
-use Rattle.whole_cycles.specs.Between.{IsBetween}
-use Rattle.whole_cycles.specs.WholeCycles.{WholeCycle}
+use Rattle.wired_panels.specs.Below.whole_cycles.Between.{IsBetween}
+use Rattle.wired_panels.specs.Below.whole_cycles.WholeCycles.{WholeCycle}
 use Rattle.wired_panels.specs.Panel.{IsPanel}
 use Rattle.wired_panels.proofs.AfterCycles.{cycle-of}
-use Rattle.carriage.specs.Asked.{asked_by, nothing_asked, lowest_from, channel_asked, lines_asked}
-use Rattle.charts.specs.Chart.{Chart}
-use Rattle.charts.specs.Levels.{level_number}
-use Rattle.charts.specs.Spacings.{spacing_number}
-use Rattle.charts.specs.declared.chart.Line.{Line}
-use Rattle.charts.specs.declared.level.Level.{Level}
-use Rattle.charts.specs.declared.level.Level.TheVariants as its_level
-use Rattle.charts.specs.declared.spacing.Spacing.{Spacing}
-use Rattle.charts.specs.declared.spacing.Spacing.TheVariants as spacing
-use Rattle.charts.specs.declared.statement.After.{After}
-use Rattle.charts.specs.declared.statement.After.TheVariants as action
-use Rattle.charts.specs.declared.statement.BodyLine.{BodyLine}
-use Rattle.charts.specs.declared.statement.BodyLine.TheVariants as body
-use Rattle.charts.specs.declared.statement.Statement.{Statement}
-use Rattle.charts.specs.declared.statement.Statement.TheVariants as says
-use Rattle.setups.specs.Wiring.{Wiring}
-use Rattle.hubs.specs.declared.hub.Hub.{Hub}
-use Rattle.hubs.specs.declared.hub.Hub.TheVariants.{PX, SP, SK, RS}
-use Rattle.machine.specs.Machine.{MachineState}
-use Rattle.net.specs.Cycles as cycles
-use Rattle.net.specs.declared.cycle.Cycle.{Cycle}
-use Rattle.net.specs.declared.cycle.Cycle.TheVariants.{RunIn, Card, Prog, Head}
-use Rattle.net.specs.declared.cycle.ProgramLevel.{ProgramLevel}
-use Rattle.net.specs.declared.cycle.ProgramLevel.TheVariants.{Minor, Intermediate, Major, Final}
-use Rattle.net.specs.declared.cycle.Ordinal.TheVariants.{First, Second, Third}
-use Rattle.net.specs.declared.cycle.Point.{Point}
-use Rattle.net.specs.declared.cycle.Point.TheVariants.{C}
+use Rattle.line_places.specs.Below.carriage.Asked.{asked_by, nothing_asked, lowest_from, channel_asked, lines_asked}
+use Rattle.wired_panels.specs.Below.charts.Chart.{Chart}
+use Rattle.wired_panels.specs.Below.charts.Levels.{level_number}
+use Rattle.wired_panels.specs.Below.charts.Spacings.{spacing_number}
+use Rattle.wired_panels.specs.Below.charts.declared.chart.Line.{Line}
+use Rattle.wired_panels.specs.Below.charts.declared.level.Level.{Level}
+use Rattle.wired_panels.specs.Below.charts.declared.level.Level.TheVariants as its_level
+use Rattle.wired_panels.specs.Below.charts.declared.spacing.Spacing.{Spacing}
+use Rattle.wired_panels.specs.Below.charts.declared.spacing.Spacing.TheVariants as spacing
+use Rattle.wired_panels.specs.Below.charts.declared.statement.After.{After}
+use Rattle.wired_panels.specs.Below.charts.declared.statement.After.TheVariants as action
+use Rattle.wired_panels.specs.Below.charts.declared.statement.BodyLine.{BodyLine}
+use Rattle.wired_panels.specs.Below.charts.declared.statement.BodyLine.TheVariants as body
+use Rattle.wired_panels.specs.Below.charts.declared.statement.Statement.{Statement}
+use Rattle.wired_panels.specs.Below.charts.declared.statement.Statement.TheVariants as says
+use Rattle.wired_panels.specs.Below.setups.Wiring.{Wiring}
+use Rattle.wired_panels.specs.Below.hubs.declared.hub.Hub.{Hub}
+use Rattle.wired_panels.specs.Below.hubs.declared.hub.Hub.TheVariants.{PX, SP, SK, RS}
+use Rattle.wired_panels.specs.Below.machine.Machine.{MachineState}
+use Rattle.totals.specs.Below.net.Cycles as cycles
+use Rattle.totals.specs.Below.net.declared.cycle.Cycle.{Cycle}
+use Rattle.totals.specs.Below.net.declared.cycle.Cycle.TheVariants.{RunIn, Card, Prog, Head}
+use Rattle.totals.specs.Below.net.declared.cycle.ProgramLevel.{ProgramLevel}
+use Rattle.totals.specs.Below.net.declared.cycle.ProgramLevel.TheVariants.{Minor, Intermediate, Major, Final}
+use Rattle.totals.specs.Below.net.declared.cycle.Ordinal.TheVariants.{First, Second, Third}
+use Rattle.totals.specs.Below.net.declared.cycle.Point.{Point}
+use Rattle.totals.specs.Below.net.declared.cycle.Point.TheVariants.{C}
 use Rattle.line_places.proofs.LawfulForms.{form-lawful}
 use Rattle.line_places.specs.Placing.{kind_of, asked_of, channel_of, turns_page}
-use Rattle.report.specs.ChartForm.{kind_number, spacing_of, after_of}
-use Rattle.wiring_table.specs.Parts.{source_of}
-use Rattle.wiring_table.specs.Wires.{LineWire}
-use Rattle.wiring_table.specs.Wires.LineWire.{double_space, triple_space, page, skip}
-use Rattle.report.proofs.Said.{SaysSpace, SaysAfter, after-said, space-said}
+use Rattle.line_places.specs.Below.report.ChartForm.{kind_number, spacing_of, after_of}
+use Rattle.printed_lines.specs.Below.wiring_table.Parts.{source_of}
+use Rattle.printed_lines.specs.Below.wiring_table.Wires.{LineWire}
+use Rattle.printed_lines.specs.Below.wiring_table.Wires.LineWire.{double_space, triple_space, page, skip}
+use Rattle.line_places.proofs.Below.report.Said.{SaysSpace, SaysAfter, after-said, space-said}
 use Rattle.wired_panels.proofs.SaidOnce.{said-once, space-is, after-is}
 use Rattle.wired_panels.proofs.Straight.{at_control}
 use Rattle.wired_panels.specs.PanelCycles.{IsPanelCycle, ArrivesAtControl}

@@ -4,43 +4,43 @@ use Rattle.std.specs.List.{filter_map, cons_option}
 use Rattle.std.specs.Prelude.{slice_index_or}
 use Rattle.std.proofs.lemmas.Bool.Decides.{nat_tests}
 use Rattle.std.proofs.lemmas.Option.{get_or_from_slice_get, slice_get_within}
-use Rattle.card_code.specs.CardCode.{has_row}
-use Rattle.card_code.specs.Rows.{row_number}
-use Rattle.card_code.specs.declared.row.Row.TheVariants as row
-use Rattle.card_code.specs.declared.row.Row.{Row as CardRow}
-use Rattle.field_rules.specs.Fields.{fields_of}
-use Rattle.print_rules.specs.Items.{item_of, is_same_line}
-use Rattle.chart_rules.specs.Rules.{IsLawful}
-use Rattle.print_rules.specs.Wheels.{HasWheel, meet, overlap}
-use Rattle.print_rules.specs.declared.items.Item.{Item}
-use Rattle.print_rules.specs.declared.items.PrintedLine.{PrintedLine}
-use Rattle.print_rules.specs.declared.items.PrintedLine.TheVariants.{Heading, Body}
-use Rattle.charts.specs.Headings.{heading_number}
-use Rattle.charts.specs.Levels.{level_number as chart_number}
-use Rattle.charts.specs.declared.heading.HeadingLine.{HeadingLine}
-use Rattle.charts.specs.declared.level.Level.{Level}
-use Rattle.charts.specs.declared.statement.BodyLine.TheVariants as body
-use Rattle.net.specs.Cycles.{level_number, ordinal_number}
-use Rattle.net.specs.declared.cycle.Cycle.{Cycle}
-use Rattle.net.specs.declared.cycle.Cycle.TheVariants.{Card, Head, Prog}
-use Rattle.net.specs.declared.cycle.ProgramLevel.{ProgramLevel}
-use Rattle.net.specs.declared.cycle.Ordinal.{Ordinal}
-use Rattle.net.specs.declared.cycle.Ordinal.TheVariants.{Third}
-use Rattle.charts.specs.Chart.{Chart}
-use Rattle.charts.specs.declared.chart.Line.{Line}
-use Rattle.charts.specs.declared.statement.Statement.{Statement}
-use Rattle.setups.specs.Wiring.{Wiring}
-use Rattle.hubs.specs.declared.hub.Hub.TheVariants.{W}
-use Rattle.hubs.specs.declared.hub.Hub.{Hub}
-use Rattle.net.specs.Panel.{contact_of}
-use Rattle.net.specs.declared.cycle.Point.TheVariants.{Row}
+use Rattle.wired_panels.specs.Below.card_code.CardCode.{has_row}
+use Rattle.wired_panels.specs.Below.card_code.Rows.{row_number}
+use Rattle.wired_panels.specs.Below.card_code.declared.row.Row.TheVariants as row
+use Rattle.wired_panels.specs.Below.card_code.declared.row.Row.{Row as CardRow}
+use Rattle.wired_panels.specs.Below.field_rules.Fields.{fields_of}
+use Rattle.wired_panels.specs.Below.print_rules.Items.{item_of, is_same_line}
+use Rattle.wired_panels.specs.Below.chart_rules.Rules.{IsLawful}
+use Rattle.wired_panels.specs.Below.print_rules.Wheels.{HasWheel, meet, overlap}
+use Rattle.wired_panels.specs.Below.print_rules.declared.items.Item.{Item}
+use Rattle.wired_panels.specs.Below.print_rules.declared.items.PrintedLine.{PrintedLine}
+use Rattle.wired_panels.specs.Below.print_rules.declared.items.PrintedLine.TheVariants.{Heading, Body}
+use Rattle.wired_panels.specs.Below.charts.Headings.{heading_number}
+use Rattle.wired_panels.specs.Below.charts.Levels.{level_number as chart_number}
+use Rattle.wired_panels.specs.Below.charts.declared.heading.HeadingLine.{HeadingLine}
+use Rattle.wired_panels.specs.Below.charts.declared.level.Level.{Level}
+use Rattle.wired_panels.specs.Below.charts.declared.statement.BodyLine.TheVariants as body
+use Rattle.totals.specs.Below.net.Cycles.{level_number, ordinal_number}
+use Rattle.totals.specs.Below.net.declared.cycle.Cycle.{Cycle}
+use Rattle.totals.specs.Below.net.declared.cycle.Cycle.TheVariants.{Card, Head, Prog}
+use Rattle.totals.specs.Below.net.declared.cycle.ProgramLevel.{ProgramLevel}
+use Rattle.totals.specs.Below.net.declared.cycle.Ordinal.{Ordinal}
+use Rattle.totals.specs.Below.net.declared.cycle.Ordinal.TheVariants.{Third}
+use Rattle.wired_panels.specs.Below.charts.Chart.{Chart}
+use Rattle.wired_panels.specs.Below.charts.declared.chart.Line.{Line}
+use Rattle.wired_panels.specs.Below.charts.declared.statement.Statement.{Statement}
+use Rattle.wired_panels.specs.Below.setups.Wiring.{Wiring}
+use Rattle.wired_panels.specs.Below.hubs.declared.hub.Hub.TheVariants.{W}
+use Rattle.wired_panels.specs.Below.hubs.declared.hub.Hub.{Hub}
+use Rattle.totals.specs.Below.net.Panel.{contact_of}
+use Rattle.totals.specs.Below.net.declared.cycle.Point.TheVariants.{Row}
 use Rattle.printed_lines.specs.Shown.{Shown, set_on, sets_of, wheel_of_shown}
 use Rattle.wired_panels.proofs.Ways.{same_tests}
 use Rattle.wired_panels.specs.CycleRows.{CycleRow, is_closed}
 use Rattle.wired_panels.specs.Panel.Arrives.{straight, through}
 use Rattle.wired_panels.specs.PanelCycles.{IsPanelCycle}
 use Rattle.wired_panels.proofs.Sources.{sent}
-use Rattle.charts.proofs.Listed.{place-of}
+use Rattle.wired_panels.proofs.Below.charts.Listed.{place-of}
 use Rattle.wired_panels.proofs.SpeakersLawful.{overlaps-not}
 use Rattle.wired_panels.proofs.Straight.{row_arrives}
 use Rattle.wired_panels.proofs.ToWheels.{ArrivesThere, Emits, WireAt}

@@ -2,45 +2,45 @@
 use Rattle.std.proofs.Common.{◌≡◌, ◌≢◌, ◌∙◌, refl, sym, ap, ℕ, ◌+◌, ◌-◌, ◌<◌, ◌≤◌, ◌&&◌, not, Bool, true, false, List, Some, None, map, slice_get, arith}
 use Rattle.std.specs.Prelude.{slice_index_or}
 use Rattle.std.proofs.lemmas.Bool.Decides.{nat_tests}
-use Rattle.card_code.specs.CardCode.{has_row}
-use Rattle.card_code.specs.Rows.{row_number}
-use Rattle.field_rules.specs.Fields.{field_named}
-use Rattle.print_rules.specs.Items.{mark_shown}
-use Rattle.chart_rules.specs.ValidCard.{column_of}
-use Rattle.charts.specs.Field.{columns_of, decimals_of, is_amount, sign_column}
-use Rattle.charts.specs.Levels.{control_number}
-use Rattle.charts.specs.declared.chart.Line.{Line}
-use Rattle.charts.specs.declared.level.ControlLevel.TheVariants as control
-use Rattle.charts.specs.declared.level.ControlLevel.{ControlLevel}
-use Rattle.charts.specs.declared.statement.DetailOption.TheVariants as shown
-use Rattle.charts.specs.declared.statement.DetailOption.{DetailOption}
-use Rattle.charts.specs.declared.statement.Field.{Field}
-use Rattle.charts.specs.declared.statement.FieldKind.TheVariants as holds
-use Rattle.charts.specs.declared.statement.FieldKind.{FieldKind}
-use Rattle.charts.specs.declared.statement.Mark.{Mark}
-use Rattle.charts.specs.declared.statement.SignRule.TheVariants as sign
-use Rattle.charts.specs.declared.statement.SignRule.{SignRule}
-use Rattle.charts.specs.declared.statement.Statement.TheVariants as says
-use Rattle.charts.specs.declared.statement.Statement.{Statement}
-use Rattle.hub_table.specs.Ranges.{is_within}
-use Rattle.setups.specs.Wiring.{Wiring}
-use Rattle.hubs.specs.declared.hub.Hub.TheVariants.{CSD, IX}
-use Rattle.machine.specs.Machine.{closes}
-use Rattle.net.specs.declared.cycle.Point.TheVariants.{Row}
+use Rattle.wired_panels.specs.Below.card_code.CardCode.{has_row}
+use Rattle.wired_panels.specs.Below.card_code.Rows.{row_number}
+use Rattle.wired_panels.specs.Below.field_rules.Fields.{field_named}
+use Rattle.wired_panels.specs.Below.print_rules.Items.{mark_shown}
+use Rattle.wired_panels.specs.Below.chart_rules.ValidCard.{column_of}
+use Rattle.wired_panels.specs.Below.charts.Field.{columns_of, decimals_of, is_amount, sign_column}
+use Rattle.wired_panels.specs.Below.charts.Levels.{control_number}
+use Rattle.wired_panels.specs.Below.charts.declared.chart.Line.{Line}
+use Rattle.wired_panels.specs.Below.charts.declared.level.ControlLevel.TheVariants as control
+use Rattle.wired_panels.specs.Below.charts.declared.level.ControlLevel.{ControlLevel}
+use Rattle.wired_panels.specs.Below.charts.declared.statement.DetailOption.TheVariants as shown
+use Rattle.wired_panels.specs.Below.charts.declared.statement.DetailOption.{DetailOption}
+use Rattle.wired_panels.specs.Below.charts.declared.statement.Field.{Field}
+use Rattle.wired_panels.specs.Below.charts.declared.statement.FieldKind.TheVariants as holds
+use Rattle.wired_panels.specs.Below.charts.declared.statement.FieldKind.{FieldKind}
+use Rattle.wired_panels.specs.Below.charts.declared.statement.Mark.{Mark}
+use Rattle.wired_panels.specs.Below.charts.declared.statement.SignRule.TheVariants as sign
+use Rattle.wired_panels.specs.Below.charts.declared.statement.SignRule.{SignRule}
+use Rattle.wired_panels.specs.Below.charts.declared.statement.Statement.TheVariants as says
+use Rattle.wired_panels.specs.Below.charts.declared.statement.Statement.{Statement}
+use Rattle.wired_panels.specs.Below.hub_table.Ranges.{is_within}
+use Rattle.wired_panels.specs.Below.setups.Wiring.{Wiring}
+use Rattle.wired_panels.specs.Below.hubs.declared.hub.Hub.TheVariants.{CSD, IX}
+use Rattle.wired_panels.specs.Below.machine.Machine.{closes}
+use Rattle.totals.specs.Below.net.declared.cycle.Point.TheVariants.{Row}
 use Rattle.printed_lines.specs.Shown.Shown.{Characters}
 use Rattle.printed_lines.specs.Shown.{digit_set, card_sends}
-use Rattle.report.specs.Amounts.{columns_in, digits_on, is_negated, is_negative_by}
-use Rattle.report.specs.BodyLines.{is_shown}
-use Rattle.selectors.specs.Indicate.{is_latch_set}
-use Rattle.selectors.specs.Pilots.{is_normal, is_transferred}
-use Rattle.selectors.specs.Splits.{is_digit_row}
-use Rattle.stations.specs.Punches.{is_punched_at}
-use Rattle.wiring_table.specs.Figures.{IsText, IsAmount, IsSigned, HasPunch, HasPunchAt, rule_of, digit_wheel, point_wheel, mark_wheel, mark_text}
-use Rattle.wiring_table.specs.Parts.{pilot_for, negative_side}
+use Rattle.line_places.specs.Below.report.Amounts.{columns_in, digits_on, is_negated, is_negative_by}
+use Rattle.line_places.specs.Below.report.BodyLines.{is_shown}
+use Rattle.wired_panels.specs.Below.selectors.Indicate.{is_latch_set}
+use Rattle.wired_panels.specs.Below.selectors.Pilots.{is_normal, is_transferred}
+use Rattle.wired_panels.specs.Below.selectors.Splits.{is_digit_row}
+use Rattle.wired_panels.specs.Below.stations.Punches.{is_punched_at}
+use Rattle.printed_lines.specs.Below.wiring_table.Figures.{IsText, IsAmount, IsSigned, HasPunch, HasPunchAt, rule_of, digit_wheel, point_wheel, mark_wheel, mark_text}
+use Rattle.printed_lines.specs.Below.wiring_table.Parts.{pilot_for, negative_side}
 use Rattle.wired_panels.specs.CycleRows.{CycleRow, reads, is_closed}
 use Rattle.panel_cycles.specs.PrintedRows.{IsCardRow}
 use Rattle.wired_panels.proofs.Contacts.{closes-IX, closes-CSD, closes-PIT, closes-PIN}
-use Rattle.chart_rules.proofs.Laws.{good-field, amount-valid, one-digit}
+use Rattle.wired_panels.proofs.Below.chart_rules.Laws.{good-field, amount-valid, one-digit}
 use Rattle.panel_cycles.proofs.WheelRows.{SendsRow}
 use Rattle.panel_cycles.proofs.WheelRowsDigits.{digit-in}
 use Rattle.panel_cycles.proofs.WheelRowsField.{left-of, right-of, both-of, field-sent, text-sends, amount-sends, length-digits_on, digit-on, digit-zone, amount-shown}

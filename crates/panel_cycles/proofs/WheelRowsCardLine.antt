@@ -4,51 +4,51 @@ use Rattle.std.proofs.lemmas.Bool.{cases_lt}
 use Rattle.std.proofs.lemmas.Bool.Decides.{nat_tests}
 use Rattle.std.proofs.lemmas.Option.{slice_get_within}
 use Rattle.std.proofs.lemmas.List.{length-map}
-use Rattle.plans.specs.Plans.{IsFor, Lists}
-use Rattle.wanted.specs.Units.{is_inside}
-use Rattle.wanted.specs.Wanted.{indicate_at}
-use Rattle.card_code.specs.CardCode.{has_row}
-use Rattle.card_code.specs.Rows.{row_number}
-use Rattle.field_rules.specs.Fields.{fields_of}
-use Rattle.print_rules.specs.Items.{item_of, text_item, mark_shown, detail_item, figure_width}
-use Rattle.chart_rules.specs.Rules.{IsLawful}
-use Rattle.chart_rules.specs.ValidCard.{column_of}
-use Rattle.print_rules.specs.Wheels.{HasWheel}
-use Rattle.print_rules.specs.declared.items.Item.{Item}
-use Rattle.print_rules.specs.declared.items.PrintedLine.TheVariants.{Body}
-use Rattle.charts.specs.Chart.{Chart}
-use Rattle.charts.specs.Field.{columns_of, decimals_of, is_amount, sign_column}
-use Rattle.charts.specs.Levels.{control_number}
-use Rattle.charts.specs.declared.chart.Line.{Line}
-use Rattle.charts.specs.declared.level.ControlLevel.TheVariants as control
-use Rattle.charts.specs.declared.level.ControlLevel.{ControlLevel}
-use Rattle.charts.specs.declared.statement.BodyLine.TheVariants as body
-use Rattle.charts.specs.declared.statement.DetailOption.TheVariants as shown
-use Rattle.charts.specs.declared.statement.DetailOption.{DetailOption}
-use Rattle.charts.specs.declared.statement.Field.{Field}
-use Rattle.charts.specs.declared.statement.FieldKind.TheVariants as holds
-use Rattle.charts.specs.declared.statement.FieldKind.{FieldKind}
-use Rattle.charts.specs.declared.statement.Mark.TheVariants as mark
-use Rattle.charts.specs.declared.statement.Mark.{Mark}
-use Rattle.charts.specs.declared.statement.SignRule.{SignRule}
-use Rattle.charts.specs.declared.statement.Statement.TheVariants as says
-use Rattle.charts.specs.declared.statement.Statement.{Statement}
-use Rattle.hub_table.specs.Ranges.{is_within}
-use Rattle.setups.specs.Wiring.{Wiring}
-use Rattle.hubs.specs.declared.hub.Hub.TheVariants.{W}
-use Rattle.net.specs.declared.cycle.Cycle.TheVariants.{Card}
-use Rattle.net.specs.declared.cycle.Cycle.{Cycle}
-use Rattle.print_unit.specs.Emitters.{emitter_of}
+use Rattle.wired_panels.specs.Below.plans.Plans.{IsFor, Lists}
+use Rattle.wired_panels.specs.Below.wanted.Units.{is_inside}
+use Rattle.wired_panels.specs.Below.wanted.Wanted.{indicate_at}
+use Rattle.wired_panels.specs.Below.card_code.CardCode.{has_row}
+use Rattle.wired_panels.specs.Below.card_code.Rows.{row_number}
+use Rattle.wired_panels.specs.Below.field_rules.Fields.{fields_of}
+use Rattle.wired_panels.specs.Below.print_rules.Items.{item_of, text_item, mark_shown, detail_item, figure_width}
+use Rattle.wired_panels.specs.Below.chart_rules.Rules.{IsLawful}
+use Rattle.wired_panels.specs.Below.chart_rules.ValidCard.{column_of}
+use Rattle.wired_panels.specs.Below.print_rules.Wheels.{HasWheel}
+use Rattle.wired_panels.specs.Below.print_rules.declared.items.Item.{Item}
+use Rattle.wired_panels.specs.Below.print_rules.declared.items.PrintedLine.TheVariants.{Body}
+use Rattle.wired_panels.specs.Below.charts.Chart.{Chart}
+use Rattle.wired_panels.specs.Below.charts.Field.{columns_of, decimals_of, is_amount, sign_column}
+use Rattle.wired_panels.specs.Below.charts.Levels.{control_number}
+use Rattle.wired_panels.specs.Below.charts.declared.chart.Line.{Line}
+use Rattle.wired_panels.specs.Below.charts.declared.level.ControlLevel.TheVariants as control
+use Rattle.wired_panels.specs.Below.charts.declared.level.ControlLevel.{ControlLevel}
+use Rattle.wired_panels.specs.Below.charts.declared.statement.BodyLine.TheVariants as body
+use Rattle.wired_panels.specs.Below.charts.declared.statement.DetailOption.TheVariants as shown
+use Rattle.wired_panels.specs.Below.charts.declared.statement.DetailOption.{DetailOption}
+use Rattle.wired_panels.specs.Below.charts.declared.statement.Field.{Field}
+use Rattle.wired_panels.specs.Below.charts.declared.statement.FieldKind.TheVariants as holds
+use Rattle.wired_panels.specs.Below.charts.declared.statement.FieldKind.{FieldKind}
+use Rattle.wired_panels.specs.Below.charts.declared.statement.Mark.TheVariants as mark
+use Rattle.wired_panels.specs.Below.charts.declared.statement.Mark.{Mark}
+use Rattle.wired_panels.specs.Below.charts.declared.statement.SignRule.{SignRule}
+use Rattle.wired_panels.specs.Below.charts.declared.statement.Statement.TheVariants as says
+use Rattle.wired_panels.specs.Below.charts.declared.statement.Statement.{Statement}
+use Rattle.wired_panels.specs.Below.hub_table.Ranges.{is_within}
+use Rattle.wired_panels.specs.Below.setups.Wiring.{Wiring}
+use Rattle.wired_panels.specs.Below.hubs.declared.hub.Hub.TheVariants.{W}
+use Rattle.totals.specs.Below.net.declared.cycle.Cycle.TheVariants.{Card}
+use Rattle.totals.specs.Below.net.declared.cycle.Cycle.{Cycle}
+use Rattle.printed_lines.specs.Below.print_unit.Emitters.{emitter_of}
 use Rattle.printed_lines.specs.Shown.Shown.{Characters}
 use Rattle.printed_lines.specs.Shown.{Shown, set_of_character, digit_set, card_sends, field_sends}
-use Rattle.report.specs.Amounts.{columns_in, digits_on, is_negated}
-use Rattle.report.specs.BodyLines.{is_shown}
-use Rattle.selectors.specs.Indicate.{is_latch_set}
-use Rattle.selectors.specs.Splits.{is_digit_row}
-use Rattle.wiring_table.specs.Figures.IsFigure.{on_detail as figure_on_detail}
-use Rattle.wiring_table.specs.Figures.IsLiteral.{on_detail}
-use Rattle.wiring_table.specs.Figures.{IsText, IsAmount, IsSigned, HasPunchAt, rule_of, mark_text, digit_wheel}
-use Rattle.wiring_table.specs.Wires.LineWire.{detail_text, indicated_text_in, indicated_text_out, literal, point, detail_digit, split_digit_in, split_digit_out, detail_mark_in, detail_mark_out}
+use Rattle.line_places.specs.Below.report.Amounts.{columns_in, digits_on, is_negated}
+use Rattle.line_places.specs.Below.report.BodyLines.{is_shown}
+use Rattle.wired_panels.specs.Below.selectors.Indicate.{is_latch_set}
+use Rattle.wired_panels.specs.Below.selectors.Splits.{is_digit_row}
+use Rattle.printed_lines.specs.Below.wiring_table.Figures.IsFigure.{on_detail as figure_on_detail}
+use Rattle.printed_lines.specs.Below.wiring_table.Figures.IsLiteral.{on_detail}
+use Rattle.printed_lines.specs.Below.wiring_table.Figures.{IsText, IsAmount, IsSigned, HasPunchAt, rule_of, mark_text, digit_wheel}
+use Rattle.printed_lines.specs.Below.wiring_table.Wires.LineWire.{detail_text, indicated_text_in, indicated_text_out, literal, point, detail_digit, split_digit_in, split_digit_out, detail_mark_in, detail_mark_out}
 use Rattle.wired_panels.specs.CycleRows.{CycleRow, reads}
 use Rattle.panel_cycles.specs.PrintedRows.{IsCardRow}
 use Rattle.wired_panels.specs.Sources.EmitsAtRow.{second, emitter}
@@ -62,10 +62,10 @@ use Rattle.panel_cycles.proofs.WheelRowsField.{left-of, right-of, both-of, field
 use Rattle.panel_cycles.proofs.WheelRowsFigure.FigureSends.{digit as figure_digit, point as figure_point, marked as figure_marked}
 use Rattle.panel_cycles.proofs.WheelRowsFigure.{FigureSends, amount_shown, figure-of, length-sets}
 use Rattle.panel_cycles.proofs.WheelRowsText.{literal-of, standing, columns-sent, columns-of}
-use Rattle.wiring_table.proofs.Parts.{indicate-given, pilot-given, split-given}
-use Rattle.chart_rules.proofs.Laws.{IsGoodField, amount-valid, good-field, one-digit}
-use Rattle.field_rules.proofs.Places.{is_same_name-own}
-use Rattle.wanted.specs.Pilots.{shows}
+use Rattle.printed_lines.proofs.Below.wiring_table.Parts.{indicate-given, pilot-given, split-given}
+use Rattle.wired_panels.proofs.Below.chart_rules.Laws.{IsGoodField, amount-valid, good-field, one-digit}
+use Rattle.wired_panels.proofs.Below.field_rules.Places.{is_same_name-own}
+use Rattle.wired_panels.specs.Below.wanted.Pilots.{shows}
 
 emits-four : (cycle : Cycle) → cycle ≡ Card → emitter_of cycle ≡ Some 4
 emits-four cycle is = ap emitter_of is

@@ -6,13 +6,13 @@ use Rattle.std.proofs.lemmas.List.Sums.{sum_by-cons}
 use Rattle.std.proofs.lemmas.List.FromFn.{get_or-range_with_len}
 use Rattle.std.proofs.lemmas.Nat.Bits.{bit_at-pow_same, bit_at-pow_other}
 use Rattle.std.proofs.lemmas.Option.{slice_get-get_or, slice_get_within, get_or_from_slice_get}
-use Rattle.card_code.specs.CardCode.{has_row, rows_of, code}
-use Rattle.card_code.specs.Rows.{row_number}
-use Rattle.card_code.specs.declared.row.Row.{Row as CardRow}
-use Rattle.chart_rules.specs.ValidCard.{digit_count, digit_rows}
+use Rattle.wired_panels.specs.Below.card_code.CardCode.{has_row, rows_of, code}
+use Rattle.wired_panels.specs.Below.card_code.Rows.{row_number}
+use Rattle.wired_panels.specs.Below.card_code.declared.row.Row.{Row as CardRow}
+use Rattle.wired_panels.specs.Below.chart_rules.ValidCard.{digit_count, digit_rows}
 use Rattle.printed_lines.specs.Shown.{set_of_character, digit_set}
-use Rattle.report.specs.Amounts.{digit_in}
-use Rattle.selectors.specs.Splits.{is_digit_row}
+use Rattle.line_places.specs.Below.report.Amounts.{digit_in}
+use Rattle.wired_panels.specs.Below.selectors.Splits.{is_digit_row}
 use Rattle.panel_cycles.proofs.WheelRows.{no_rows}
 
 -- a digit has one row

@@ -2,33 +2,33 @@
 use Rattle.std.proofs.Common.{◌≡◌, ◌≢◌, ◌∙◌, refl, sym, ap, ℕ, ◌+◌, ◌-◌, ◌≤◌, ◌==◌, ◌&&◌, ◌||◌, not, Bool, true, false, cond, List, Option, Some, None, length, map, slice_get, get_or, option_map, arith}
 use Rattle.std.proofs.lemmas.Bool.Decides.{nat_tests}
 use Rattle.std.proofs.lemmas.List.FromFn.{get_or-map-range_with_len, length-map-range_with_len}
-use Rattle.card_code.specs.CardCode.{has_row}
-use Rattle.card_code.specs.Rows.{row_number}
-use Rattle.card_code.specs.declared.row.Row.TheVariants as row
-use Rattle.card_code.specs.declared.row.Row.{Row as CardRow}
-use Rattle.field_rules.specs.Fields.{field_named}
-use Rattle.print_rules.specs.Items.{mark_shown}
-use Rattle.field_rules.specs.Names.{names_amount, names_text}
-use Rattle.chart_rules.specs.Rules.{IsLawful, breaks}
-use Rattle.chart_rules.specs.ValidCard.{IsValidAmount, column_of, is_sign}
-use Rattle.chart_rules.specs.declared.rule.Rule.TheVariants as rule
-use Rattle.charts.specs.Chart.{Chart}
-use Rattle.charts.specs.Field.{columns_of, decimals_of, is_amount, sign_column}
-use Rattle.charts.specs.declared.chart.Line.{Line}
-use Rattle.charts.specs.declared.statement.DetailOption.TheVariants as shown
-use Rattle.charts.specs.declared.statement.DetailOption.{DetailOption}
-use Rattle.charts.specs.declared.statement.Field.{Field}
-use Rattle.charts.specs.declared.statement.FieldKind.TheVariants as holds
-use Rattle.charts.specs.declared.statement.FieldKind.{FieldKind}
-use Rattle.charts.specs.declared.statement.Mark.{Mark}
-use Rattle.charts.specs.declared.statement.Statement.TheVariants as says
+use Rattle.wired_panels.specs.Below.card_code.CardCode.{has_row}
+use Rattle.wired_panels.specs.Below.card_code.Rows.{row_number}
+use Rattle.wired_panels.specs.Below.card_code.declared.row.Row.TheVariants as row
+use Rattle.wired_panels.specs.Below.card_code.declared.row.Row.{Row as CardRow}
+use Rattle.wired_panels.specs.Below.field_rules.Fields.{field_named}
+use Rattle.wired_panels.specs.Below.print_rules.Items.{mark_shown}
+use Rattle.wired_panels.specs.Below.field_rules.Names.{names_amount, names_text}
+use Rattle.wired_panels.specs.Below.chart_rules.Rules.{IsLawful, breaks}
+use Rattle.wired_panels.specs.Below.chart_rules.ValidCard.{IsValidAmount, column_of, is_sign}
+use Rattle.wired_panels.specs.Below.chart_rules.declared.rule.Rule.TheVariants as rule
+use Rattle.wired_panels.specs.Below.charts.Chart.{Chart}
+use Rattle.wired_panels.specs.Below.charts.Field.{columns_of, decimals_of, is_amount, sign_column}
+use Rattle.wired_panels.specs.Below.charts.declared.chart.Line.{Line}
+use Rattle.wired_panels.specs.Below.charts.declared.statement.DetailOption.TheVariants as shown
+use Rattle.wired_panels.specs.Below.charts.declared.statement.DetailOption.{DetailOption}
+use Rattle.wired_panels.specs.Below.charts.declared.statement.Field.{Field}
+use Rattle.wired_panels.specs.Below.charts.declared.statement.FieldKind.TheVariants as holds
+use Rattle.wired_panels.specs.Below.charts.declared.statement.FieldKind.{FieldKind}
+use Rattle.wired_panels.specs.Below.charts.declared.statement.Mark.{Mark}
+use Rattle.wired_panels.specs.Below.charts.declared.statement.Statement.TheVariants as says
 use Rattle.printed_lines.specs.Shown.Shown.{Characters}
 use Rattle.printed_lines.specs.Shown.{Shown, card_sends, field_sends}
-use Rattle.report.specs.Amounts.{columns_in, digits_on, digit_in, is_negated}
-use Rattle.report.specs.BodyLines.{is_shown}
-use Rattle.selectors.specs.Splits.{is_digit_row}
-use Rattle.wiring_table.specs.Figures.{IsAmount}
-use Rattle.chart_rules.proofs.Laws.{IsGoodField}
+use Rattle.line_places.specs.Below.report.Amounts.{columns_in, digits_on, digit_in, is_negated}
+use Rattle.line_places.specs.Below.report.BodyLines.{is_shown}
+use Rattle.wired_panels.specs.Below.selectors.Splits.{is_digit_row}
+use Rattle.printed_lines.specs.Below.wiring_table.Figures.{IsAmount}
+use Rattle.wired_panels.proofs.Below.chart_rules.Laws.{IsGoodField}
 use Rattle.wired_panels.proofs.SpeakersLawful.{kept-at}
 use Rattle.panel_cycles.proofs.WheelRowsFigure.{amount_shown}
 

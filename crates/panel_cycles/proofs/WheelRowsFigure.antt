@@ -3,16 +3,16 @@ use Rattle.std.proofs.Common.{◌≡◌, ◌∙◌, refl, sym, ap, subst, ℕ, z
 use Rattle.std.proofs.lemmas.Bool.{cases_lt}
 use Rattle.std.proofs.lemmas.Bool.Decides.{nat_tests}
 use Rattle.std.proofs.lemmas.List.{length-map, get_or-map, get_or-take, get_or-drop, length-take-le, length-drop, get_or_append_left, get_or-append-add}
-use Rattle.card_code.specs.CardCode.{has_row}
-use Rattle.card_code.specs.Rows.{row_number}
-use Rattle.card_code.specs.declared.row.Row.{Row as CardRow}
-use Rattle.print_rules.specs.Items.{mark_width}
-use Rattle.charts.specs.declared.statement.Mark.TheVariants as mark
-use Rattle.charts.specs.declared.statement.Mark.{Mark}
+use Rattle.wired_panels.specs.Below.card_code.CardCode.{has_row}
+use Rattle.wired_panels.specs.Below.card_code.Rows.{row_number}
+use Rattle.wired_panels.specs.Below.card_code.declared.row.Row.{Row as CardRow}
+use Rattle.wired_panels.specs.Below.print_rules.Items.{mark_width}
+use Rattle.wired_panels.specs.Below.charts.declared.statement.Mark.TheVariants as mark
+use Rattle.wired_panels.specs.Below.charts.declared.statement.Mark.{Mark}
 use Rattle.printed_lines.specs.Shown.Shown.{Amount}
 use Rattle.printed_lines.specs.Shown.{Shown, set_of_character, digit_set, point_sets, mark_sets, sets_of, wheel_of_shown}
-use Rattle.report.specs.Edits.{mark_text}
-use Rattle.wiring_table.specs.Figures.{HasPunch, HasPunchAt, digit_wheel, point_wheel, mark_wheel, mark_text}
+use Rattle.line_places.specs.Below.report.Edits.{mark_text}
+use Rattle.printed_lines.specs.Below.wiring_table.Figures.{HasPunch, HasPunchAt, digit_wheel, point_wheel, mark_wheel, mark_text}
 use Rattle.panel_cycles.proofs.WheelRows.{stands_on, sent_on, no_rows}
 use Rattle.panel_cycles.proofs.WheelRowsText.{standing, stand, sent-at, punch-of, has-punch, punch-sent, punch-at}
 use Rattle.printed_lines.proofs.ItemWheels.{mark-sets}

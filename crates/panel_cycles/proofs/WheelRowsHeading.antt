@@ -2,29 +2,29 @@
 use Rattle.std.proofs.Common.{◌≡◌, ◌∙◌, refl, sym, ap, subst, ℕ, ◌==◌, Bool, true, false, cond, List, Contains, Some, None, length, map, arith}
 use Rattle.std.proofs.lemmas.Bool.Decides.{nat_tests}
 use Rattle.std.proofs.lemmas.List.{length-map}
-use Rattle.card_code.specs.CardCode.{has_row}
-use Rattle.card_code.specs.Rows.{row_number}
-use Rattle.field_rules.specs.Fields.{fields_of}
-use Rattle.print_rules.specs.Items.{item_of, text_item}
-use Rattle.print_rules.specs.Wheels.{HasWheel}
-use Rattle.print_rules.specs.declared.items.Item.{Item}
-use Rattle.print_rules.specs.declared.items.PrintedLine.TheVariants.{Heading}
-use Rattle.charts.specs.Chart.{Chart}
-use Rattle.charts.specs.Headings.{heading_number}
-use Rattle.charts.specs.declared.chart.Line.{Line}
-use Rattle.charts.specs.declared.heading.HeadingLine.{HeadingLine}
-use Rattle.charts.specs.declared.statement.Statement.TheVariants as says
-use Rattle.charts.specs.declared.statement.Statement.{Statement}
-use Rattle.setups.specs.Wiring.{Wiring}
-use Rattle.hubs.specs.declared.hub.Hub.TheVariants.{W}
-use Rattle.net.specs.Cycles.{ordinal_number}
-use Rattle.net.specs.declared.cycle.Cycle.TheVariants.{Head}
-use Rattle.net.specs.declared.cycle.Ordinal.{Ordinal}
-use Rattle.print_unit.specs.Emitters.{emitter_of}
+use Rattle.wired_panels.specs.Below.card_code.CardCode.{has_row}
+use Rattle.wired_panels.specs.Below.card_code.Rows.{row_number}
+use Rattle.wired_panels.specs.Below.field_rules.Fields.{fields_of}
+use Rattle.wired_panels.specs.Below.print_rules.Items.{item_of, text_item}
+use Rattle.wired_panels.specs.Below.print_rules.Wheels.{HasWheel}
+use Rattle.wired_panels.specs.Below.print_rules.declared.items.Item.{Item}
+use Rattle.wired_panels.specs.Below.print_rules.declared.items.PrintedLine.TheVariants.{Heading}
+use Rattle.wired_panels.specs.Below.charts.Chart.{Chart}
+use Rattle.wired_panels.specs.Below.charts.Headings.{heading_number}
+use Rattle.wired_panels.specs.Below.charts.declared.chart.Line.{Line}
+use Rattle.wired_panels.specs.Below.charts.declared.heading.HeadingLine.{HeadingLine}
+use Rattle.wired_panels.specs.Below.charts.declared.statement.Statement.TheVariants as says
+use Rattle.wired_panels.specs.Below.charts.declared.statement.Statement.{Statement}
+use Rattle.wired_panels.specs.Below.setups.Wiring.{Wiring}
+use Rattle.wired_panels.specs.Below.hubs.declared.hub.Hub.TheVariants.{W}
+use Rattle.totals.specs.Below.net.Cycles.{ordinal_number}
+use Rattle.totals.specs.Below.net.declared.cycle.Cycle.TheVariants.{Head}
+use Rattle.totals.specs.Below.net.declared.cycle.Ordinal.{Ordinal}
+use Rattle.printed_lines.specs.Below.print_unit.Emitters.{emitter_of}
 use Rattle.printed_lines.specs.Shown.Shown.{Characters}
 use Rattle.printed_lines.specs.Shown.{Shown, set_of_character, heading_sends}
-use Rattle.wiring_table.specs.Figures.IsLiteral.{on_heading}
-use Rattle.wiring_table.specs.Wires.LineWire.{literal}
+use Rattle.printed_lines.specs.Below.wiring_table.Figures.IsLiteral.{on_heading}
+use Rattle.printed_lines.specs.Below.wiring_table.Wires.LineWire.{literal}
 use Rattle.wired_panels.specs.CycleRows.{CycleRow}
 use Rattle.panel_cycles.specs.PrintedRows.{IsHeadingRow}
 use Rattle.wired_panels.specs.Sources.EmitsAtRow.{emitter}

@@ -1,48 +1,48 @@
 -- The print wheels of a panel receive, in each cycle that prints, what the lines of the chart send to its printed line.
 use Rattle.std.proofs.Common.{◌≡◌, ◌∙◌, refl, sym, ap, subst, ℕ, ◌+◌, ◌≤◌, true, false, List, [], Contains, Option, Some, None, map, slice_get, cond, arith}
 use Rattle.std.specs.List.{filter_map}
-use Rattle.card_code.specs.CardCode.{has_row}
-use Rattle.card_code.specs.Rows.{row_number}
-use Rattle.field_rules.specs.Fields.{fields_of}
-use Rattle.print_rules.specs.Items.{item_of}
-use Rattle.print_rules.specs.Wheels.{HasWheel}
-use Rattle.print_rules.specs.declared.items.Item.{Item}
-use Rattle.charts.specs.Chart.{NumbersRise}
-use Rattle.charts.specs.Headings.{heading_number}
-use Rattle.charts.specs.Levels.{level_number as chart_number}
-use Rattle.charts.specs.declared.chart.Line.{Line}
-use Rattle.charts.specs.declared.heading.HeadingLine.TheVariants as heading
-use Rattle.charts.specs.declared.heading.HeadingLine.{HeadingLine}
-use Rattle.charts.specs.declared.level.Level.TheVariants as chart_level
-use Rattle.charts.specs.declared.level.Level.{Level}
-use Rattle.charts.specs.declared.statement.DetailOption.TheVariants as shown
-use Rattle.charts.specs.declared.statement.SignRule.TheVariants as sign
-use Rattle.charts.specs.declared.statement.Statement.{Statement}
-use Rattle.setups.specs.Wiring.{Wiring}
-use Rattle.hubs.specs.declared.hub.Hub.TheVariants.{W}
-use Rattle.hubs.specs.declared.hub.Hub.{Hub}
-use Rattle.net.specs.Cycles.{level_number, ordinal_number}
-use Rattle.net.specs.Panel.{contact_of}
-use Rattle.net.specs.declared.cycle.Cycle.TheVariants.{RunIn, Card, Prog, Head}
-use Rattle.net.specs.declared.cycle.Cycle.{Cycle}
-use Rattle.net.specs.declared.cycle.ProgramLevel.TheVariants as cycle_level
-use Rattle.net.specs.declared.cycle.ProgramLevel.{ProgramLevel}
-use Rattle.net.specs.declared.cycle.Ordinal.TheVariants.{First, Second, Third}
-use Rattle.net.specs.declared.cycle.Ordinal.{Ordinal}
-use Rattle.net.specs.declared.cycle.Point.TheVariants.{Row}
-use Rattle.print_unit.specs.Emitters.{emitter_of}
+use Rattle.wired_panels.specs.Below.card_code.CardCode.{has_row}
+use Rattle.wired_panels.specs.Below.card_code.Rows.{row_number}
+use Rattle.wired_panels.specs.Below.field_rules.Fields.{fields_of}
+use Rattle.wired_panels.specs.Below.print_rules.Items.{item_of}
+use Rattle.wired_panels.specs.Below.print_rules.Wheels.{HasWheel}
+use Rattle.wired_panels.specs.Below.print_rules.declared.items.Item.{Item}
+use Rattle.wired_panels.specs.Below.charts.Chart.{NumbersRise}
+use Rattle.wired_panels.specs.Below.charts.Headings.{heading_number}
+use Rattle.wired_panels.specs.Below.charts.Levels.{level_number as chart_number}
+use Rattle.wired_panels.specs.Below.charts.declared.chart.Line.{Line}
+use Rattle.wired_panels.specs.Below.charts.declared.heading.HeadingLine.TheVariants as heading
+use Rattle.wired_panels.specs.Below.charts.declared.heading.HeadingLine.{HeadingLine}
+use Rattle.wired_panels.specs.Below.charts.declared.level.Level.TheVariants as chart_level
+use Rattle.wired_panels.specs.Below.charts.declared.level.Level.{Level}
+use Rattle.wired_panels.specs.Below.charts.declared.statement.DetailOption.TheVariants as shown
+use Rattle.wired_panels.specs.Below.charts.declared.statement.SignRule.TheVariants as sign
+use Rattle.wired_panels.specs.Below.charts.declared.statement.Statement.{Statement}
+use Rattle.wired_panels.specs.Below.setups.Wiring.{Wiring}
+use Rattle.wired_panels.specs.Below.hubs.declared.hub.Hub.TheVariants.{W}
+use Rattle.wired_panels.specs.Below.hubs.declared.hub.Hub.{Hub}
+use Rattle.totals.specs.Below.net.Cycles.{level_number, ordinal_number}
+use Rattle.totals.specs.Below.net.Panel.{contact_of}
+use Rattle.totals.specs.Below.net.declared.cycle.Cycle.TheVariants.{RunIn, Card, Prog, Head}
+use Rattle.totals.specs.Below.net.declared.cycle.Cycle.{Cycle}
+use Rattle.totals.specs.Below.net.declared.cycle.ProgramLevel.TheVariants as cycle_level
+use Rattle.totals.specs.Below.net.declared.cycle.ProgramLevel.{ProgramLevel}
+use Rattle.totals.specs.Below.net.declared.cycle.Ordinal.TheVariants.{First, Second, Third}
+use Rattle.totals.specs.Below.net.declared.cycle.Ordinal.{Ordinal}
+use Rattle.totals.specs.Below.net.declared.cycle.Point.TheVariants.{Row}
+use Rattle.printed_lines.specs.Below.print_unit.Emitters.{emitter_of}
 use Rattle.printed_lines.specs.Shown.Shown.{Characters}
 use Rattle.printed_lines.specs.Shown.{Printed, Shown, card_sends, heading_sends, set_of_character, set_on, total_sends}
-use Rattle.wiring_table.specs.Figures.IsFigure.{on_detail as figure_on_detail, on_total as figure_on_total}
-use Rattle.wiring_table.specs.Figures.IsLiteral.{on_heading, on_detail, on_total}
-use Rattle.wiring_table.specs.Wires.LineWire.{detail_text, indicated_text_out, literal, point, detail_digit, split_digit_out, detail_mark_out, total_digit, total_mark_out, total_text_out}
+use Rattle.printed_lines.specs.Below.wiring_table.Figures.IsFigure.{on_detail as figure_on_detail, on_total as figure_on_total}
+use Rattle.printed_lines.specs.Below.wiring_table.Figures.IsLiteral.{on_heading, on_detail, on_total}
+use Rattle.printed_lines.specs.Below.wiring_table.Wires.LineWire.{detail_text, indicated_text_out, literal, point, detail_digit, split_digit_out, detail_mark_out, total_digit, total_mark_out, total_text_out}
 use Rattle.wired_panels.specs.CycleRows.{CycleRow, is_closed}
 use Rattle.wired_panels.specs.PanelCycles.{IsPanelCycle}
 use Rattle.panel_cycles.specs.PrintedRows.{IsCardRow, IsHeadingRow, IsTotalRow}
 use Rattle.wired_panels.specs.Sources.EmitsAtRow.{second, digit, column, emitter}
 use Rattle.panel_cycles.specs.WheelLaws.{WheelsReceiveHeadings, WheelsReceiveCards, WheelsReceiveTotals}
 use Rattle.wired_panels.proofs.ReadingOut.{can_print, group-third, unit-third}
-use Rattle.charts.proofs.Listed.{place-of}
+use Rattle.wired_panels.proofs.Below.charts.Listed.{place-of}
 use Rattle.wired_panels.proofs.ToWheels.{ArrivesThere, Emits, WireAt, through_balance, through_indicate, through_pilot, through_split, silent}
 use Rattle.panel_cycles.proofs.WheelRows.{IsLineOf, SendsRow, rows-same, stands_on}
 use Rattle.panel_cycles.proofs.WheelRowsCard as card

@@ -4,16 +4,16 @@ use Rattle.std.proofs.lemmas.Bool.Decides.{nat_tests}
 use Rattle.std.proofs.lemmas.List.{length-map, get_or-map}
 use Rattle.std.proofs.lemmas.List.FromFn.{get_or-map-range_with_len, length-map-range_with_len}
 use Rattle.std.proofs.lemmas.Option.{get_or_from_slice_get, slice_get_cases, slice_get_within}
-use Rattle.card_code.specs.CardCode.{has_row, rows_of}
-use Rattle.card_code.specs.Rows.{row_number}
-use Rattle.card_code.specs.declared.row.Row.{Row as CardRow}
-use Rattle.chart_rules.specs.ValidCard.{column_of}
-use Rattle.charts.specs.Field.{columns_of}
-use Rattle.charts.specs.declared.statement.Field.{Field}
+use Rattle.wired_panels.specs.Below.card_code.CardCode.{has_row, rows_of}
+use Rattle.wired_panels.specs.Below.card_code.Rows.{row_number}
+use Rattle.wired_panels.specs.Below.card_code.declared.row.Row.{Row as CardRow}
+use Rattle.wired_panels.specs.Below.chart_rules.ValidCard.{column_of}
+use Rattle.wired_panels.specs.Below.charts.Field.{columns_of}
+use Rattle.wired_panels.specs.Below.charts.declared.statement.Field.{Field}
 use Rattle.printed_lines.specs.Shown.Shown.{Characters}
 use Rattle.printed_lines.specs.Shown.{Shown, set_of_character, sets_of, wheel_of_shown}
-use Rattle.report.specs.Amounts.{columns_in}
-use Rattle.wiring_table.specs.Figures.{HasPunch, HasPunchAt}
+use Rattle.line_places.specs.Below.report.Amounts.{columns_in}
+use Rattle.printed_lines.specs.Below.wiring_table.Figures.{HasPunch, HasPunchAt}
 use Rattle.panel_cycles.proofs.WheelRows.{stands_on, sent_on, no_rows}
 
 -- a wheel on which an item stands

@@ -2,63 +2,63 @@
 use Rattle.std.proofs.Common.{◌≡◌, ◌∙◌, refl, sym, ap, subst, ℕ, ◌+◌, ◌-◌, ◌<◌, ◌≤◌, ◌==◌, ◌&&◌, ◌||◌, not, nat_lt, Bool, true, false, cond, List, Contains, Option, Some, None, is_some, length, map, slice_get, get_or, option_map, arith, ◌^◌, inl, inr}
 use Rattle.std.proofs.lemmas.Bool.Decides.{nat_tests}
 use Rattle.std.proofs.lemmas.List.{length-map, get_or-map}
-use Rattle.counter_cycles.proofs.DigitLemmas.{digit_of-small}
-use Rattle.counter_cycles.specs.Acts.{digit_of}
-use Rattle.card_code.specs.CardCode.{has_row}
-use Rattle.card_code.specs.Rows.{row_number}
-use Rattle.field_rules.specs.Digits.{is_out_of_digits}
-use Rattle.field_rules.specs.Fields.{field_named}
-use Rattle.field_rules.specs.Names.{names_text}
-use Rattle.chart_rules.specs.Rules.{IsLawful, breaks}
-use Rattle.chart_rules.specs.ValidCard.{column_of}
-use Rattle.chart_rules.specs.declared.rule.Rule.TheVariants as rule
-use Rattle.charts.specs.Chart.{Chart}
-use Rattle.charts.specs.Field.{columns_of, decimals_of, is_amount, sign_column}
-use Rattle.charts.specs.Levels.{level_number as chart_number}
-use Rattle.charts.specs.declared.chart.Line.{Line}
-use Rattle.charts.specs.declared.level.Level.{Level}
-use Rattle.charts.specs.declared.statement.Field.{Field}
-use Rattle.charts.specs.declared.statement.Mark.{Mark}
-use Rattle.charts.specs.declared.statement.Statement.TheVariants as says
-use Rattle.charts.specs.declared.statement.Statement.{Statement}
-use Rattle.counters.specs.Counters.{Counter}
-use Rattle.hub_table.specs.Ranges.{is_within}
-use Rattle.setups.specs.Wiring.{Wiring}
-use Rattle.hubs.specs.declared.hub.Group.{Group}
-use Rattle.hubs.specs.declared.hub.Hub.TheVariants.{BAT, PX, RO, SO}
-use Rattle.net.specs.Cycles.{level_number}
-use Rattle.hubs.specs.declared.hub.Hub.{Hub}
-use Rattle.net.specs.declared.cycle.Cycle.{Cycle}
-use Rattle.net.specs.declared.cycle.Cycle.TheVariants.{Prog}
-use Rattle.net.specs.declared.cycle.ProgramLevel.{ProgramLevel}
-use Rattle.net.specs.declared.cycle.Ordinal.TheVariants.{Third}
-use Rattle.net.specs.declared.cycle.Point.TheVariants.{C, Row}
+use Rattle.totals.proofs.Below.counter_cycles.DigitLemmas.{digit_of-small}
+use Rattle.totals.specs.Below.counter_cycles.Acts.{digit_of}
+use Rattle.wired_panels.specs.Below.card_code.CardCode.{has_row}
+use Rattle.wired_panels.specs.Below.card_code.Rows.{row_number}
+use Rattle.wired_panels.specs.Below.field_rules.Digits.{is_out_of_digits}
+use Rattle.wired_panels.specs.Below.field_rules.Fields.{field_named}
+use Rattle.wired_panels.specs.Below.field_rules.Names.{names_text}
+use Rattle.wired_panels.specs.Below.chart_rules.Rules.{IsLawful, breaks}
+use Rattle.wired_panels.specs.Below.chart_rules.ValidCard.{column_of}
+use Rattle.wired_panels.specs.Below.chart_rules.declared.rule.Rule.TheVariants as rule
+use Rattle.wired_panels.specs.Below.charts.Chart.{Chart}
+use Rattle.wired_panels.specs.Below.charts.Field.{columns_of, decimals_of, is_amount, sign_column}
+use Rattle.wired_panels.specs.Below.charts.Levels.{level_number as chart_number}
+use Rattle.wired_panels.specs.Below.charts.declared.chart.Line.{Line}
+use Rattle.wired_panels.specs.Below.charts.declared.level.Level.{Level}
+use Rattle.wired_panels.specs.Below.charts.declared.statement.Field.{Field}
+use Rattle.wired_panels.specs.Below.charts.declared.statement.Mark.{Mark}
+use Rattle.wired_panels.specs.Below.charts.declared.statement.Statement.TheVariants as says
+use Rattle.wired_panels.specs.Below.charts.declared.statement.Statement.{Statement}
+use Rattle.totals.specs.Below.counters.Counters.{Counter}
+use Rattle.wired_panels.specs.Below.hub_table.Ranges.{is_within}
+use Rattle.wired_panels.specs.Below.setups.Wiring.{Wiring}
+use Rattle.wired_panels.specs.Below.hubs.declared.hub.Group.{Group}
+use Rattle.wired_panels.specs.Below.hubs.declared.hub.Hub.TheVariants.{BAT, PX, RO, SO}
+use Rattle.totals.specs.Below.net.Cycles.{level_number}
+use Rattle.wired_panels.specs.Below.hubs.declared.hub.Hub.{Hub}
+use Rattle.totals.specs.Below.net.declared.cycle.Cycle.{Cycle}
+use Rattle.totals.specs.Below.net.declared.cycle.Cycle.TheVariants.{Prog}
+use Rattle.totals.specs.Below.net.declared.cycle.ProgramLevel.{ProgramLevel}
+use Rattle.totals.specs.Below.net.declared.cycle.Ordinal.TheVariants.{Third}
+use Rattle.totals.specs.Below.net.declared.cycle.Point.TheVariants.{C, Row}
 use Rattle.printed_lines.specs.Shown.Shown.{Characters}
 use Rattle.printed_lines.specs.Shown.{Shown, Printed, digit_set, total_sends}
-use Rattle.report.specs.Amounts.{columns_in}
-use Rattle.report.specs.Edits.{last_digits}
-use Rattle.storage_units.specs.Storage.{StorageState, holds as holds_row}
-use Rattle.whole_cycles.proofs.Units.{units-by_name}
-use Rattle.counters.specs.Numbers.{number as figure}
-use Rattle.counter_cycles.proofs.DigitLemmas.{digit_of-below, number-within}
-use Rattle.counter_cycles.proofs.PairLemmas.{digit_of-above_width}
+use Rattle.line_places.specs.Below.report.Amounts.{columns_in}
+use Rattle.line_places.specs.Below.report.Edits.{last_digits}
+use Rattle.wired_panels.specs.Below.storage_units.Storage.{StorageState, holds as holds_row}
+use Rattle.wired_panels.proofs.Below.whole_cycles.Units.{units-by_name}
+use Rattle.totals.specs.Below.counters.Numbers.{number as figure}
+use Rattle.totals.proofs.Below.counter_cycles.DigitLemmas.{digit_of-below, number-within}
+use Rattle.totals.proofs.Below.counter_cycles.PairLemmas.{digit_of-above_width}
 use Rattle.std.proofs.lemmas.Nat.{div-mul-add}
 use Rattle.std.proofs.lemmas.Option.{same_Some}
-use Rattle.plans.specs.declared.counter.TotalCounter.{TotalCounter}
-use Rattle.whole_cycles.specs.Units.{IsGroup, group_at}
-use Rattle.wiring_table.specs.Figures.{IsAmount, IsText, HasPunchAt, digit_wheel, mark_wheel, mark_text}
-use Rattle.wiring_table.specs.Parts.{IsPlaceOf, ServesPosition, ServesTotal, StandsAt, counter_for, panel_group, top_for, top_group, unit_for}
+use Rattle.wired_panels.specs.Below.plans.declared.counter.TotalCounter.{TotalCounter}
+use Rattle.wired_panels.specs.Below.whole_cycles.Units.{IsGroup, group_at}
+use Rattle.printed_lines.specs.Below.wiring_table.Figures.{IsAmount, IsText, HasPunchAt, digit_wheel, mark_wheel, mark_text}
+use Rattle.printed_lines.specs.Below.wiring_table.Parts.{IsPlaceOf, ServesPosition, ServesTotal, StandsAt, counter_for, panel_group, top_for, top_group, unit_for}
 use Rattle.wired_panels.specs.Sources.{EmitsAtControl, digit_at}
 use Rattle.wired_panels.specs.Sources.EmitsAtControl.{card as emits_card, prog as emits_prog, head as emits_head}
 use Rattle.wired_panels.specs.CycleRows.{CycleRow, is_closed}
 use Rattle.panel_cycles.specs.PrintedRows.{CounterHoldsTotal, IsTotalRow, figure_in}
-use Rattle.plans.specs.declared.counter.TotalCounter.TheVariants as of
+use Rattle.wired_panels.specs.Below.plans.declared.counter.TotalCounter.TheVariants as of
 use Rattle.wired_panels.proofs.ReadingOut.{total-read, text-read}
-use Rattle.charts.proofs.Rising as rising
-use Rattle.chart_rules.proofs.Laws.{good-field}
-use Rattle.wiring_table.proofs.Groups as groups
-use Rattle.wiring_table.proofs.Parts as parts
-use Rattle.report.proofs.EditLaws.{last_digits-length}
+use Rattle.wired_panels.proofs.Below.charts.Rising as rising
+use Rattle.wired_panels.proofs.Below.chart_rules.Laws.{good-field}
+use Rattle.printed_lines.proofs.Below.wiring_table.Groups as groups
+use Rattle.printed_lines.proofs.Below.wiring_table.Parts as parts
+use Rattle.line_places.proofs.Below.report.EditLaws.{last_digits-length}
 use Rattle.wired_panels.proofs.SpeakersLawful.{kept-at}
 use Rattle.panel_cycles.proofs.WheelRows.{SendsRow}
 use Rattle.panel_cycles.proofs.WheelRowsDigits.{digit-row}

@@ -2,53 +2,53 @@
 use Rattle.std.proofs.Common.{◌≡◌, ◌∙◌, refl, sym, ap, subst, ℕ, ◌+◌, ◌<◌, ◌≤◌, ◌==◌, Bool, true, false, cond, List, Contains, Option, Some, None, length, map, slice_get, option_map, arith}
 use Rattle.std.proofs.lemmas.Bool.Decides.{nat_tests}
 use Rattle.std.proofs.lemmas.List.{length-map}
-use Rattle.counter_cycles.specs.Acts.{digit_of}
-use Rattle.card_code.specs.CardCode.{has_row}
-use Rattle.card_code.specs.Rows.{row_number}
-use Rattle.field_rules.specs.Fields.{field_named, fields_of}
-use Rattle.print_rules.specs.Items.{item_of, text_item, total_item, figure_width}
-use Rattle.print_rules.specs.Marks.{is_mismatched, is_mismatched_kind}
-use Rattle.field_rules.specs.Names.{names_amount}
-use Rattle.chart_rules.specs.Rules.{IsLawful, breaks}
-use Rattle.chart_rules.specs.ValidCard.{column_of}
-use Rattle.print_rules.specs.Wheels.{HasWheel}
-use Rattle.print_rules.specs.declared.items.Item.{Item}
-use Rattle.print_rules.specs.declared.items.PrintedLine.TheVariants.{Body}
-use Rattle.chart_rules.specs.declared.rule.Rule.TheVariants as rule
-use Rattle.charts.specs.Chart.{Chart}
-use Rattle.charts.specs.Field.{columns_of, decimals_of, is_amount}
-use Rattle.charts.specs.Levels.{level_number as chart_number}
-use Rattle.charts.specs.declared.chart.Line.{Line}
-use Rattle.charts.specs.declared.level.Level.{Level}
-use Rattle.charts.specs.declared.statement.BodyLine.TheVariants as body
-use Rattle.charts.specs.declared.statement.Field.{Field}
-use Rattle.charts.specs.declared.statement.FieldKind.TheVariants as holds
-use Rattle.charts.specs.declared.statement.FieldKind.{FieldKind}
-use Rattle.charts.specs.declared.statement.Mark.{Mark}
-use Rattle.charts.specs.declared.statement.SignRule.{SignRule}
-use Rattle.charts.specs.declared.statement.Statement.TheVariants as says
-use Rattle.charts.specs.declared.statement.Statement.{Statement}
-use Rattle.hub_table.specs.Ranges.{is_within}
-use Rattle.setups.specs.Wiring.{Wiring}
-use Rattle.hubs.specs.declared.hub.Hub.TheVariants.{EM, W, PX, RO, SO}
-use Rattle.net.specs.Cycles.{level_number}
-use Rattle.net.specs.declared.cycle.Cycle.TheVariants.{Prog}
-use Rattle.net.specs.declared.cycle.ProgramLevel.{ProgramLevel}
-use Rattle.net.specs.declared.cycle.Ordinal.TheVariants.{Third}
-use Rattle.net.specs.declared.cycle.Point.TheVariants.{C}
-use Rattle.print_unit.specs.Emitters.{emitter_of}
+use Rattle.totals.specs.Below.counter_cycles.Acts.{digit_of}
+use Rattle.wired_panels.specs.Below.card_code.CardCode.{has_row}
+use Rattle.wired_panels.specs.Below.card_code.Rows.{row_number}
+use Rattle.wired_panels.specs.Below.field_rules.Fields.{field_named, fields_of}
+use Rattle.wired_panels.specs.Below.print_rules.Items.{item_of, text_item, total_item, figure_width}
+use Rattle.wired_panels.specs.Below.print_rules.Marks.{is_mismatched, is_mismatched_kind}
+use Rattle.wired_panels.specs.Below.field_rules.Names.{names_amount}
+use Rattle.wired_panels.specs.Below.chart_rules.Rules.{IsLawful, breaks}
+use Rattle.wired_panels.specs.Below.chart_rules.ValidCard.{column_of}
+use Rattle.wired_panels.specs.Below.print_rules.Wheels.{HasWheel}
+use Rattle.wired_panels.specs.Below.print_rules.declared.items.Item.{Item}
+use Rattle.wired_panels.specs.Below.print_rules.declared.items.PrintedLine.TheVariants.{Body}
+use Rattle.wired_panels.specs.Below.chart_rules.declared.rule.Rule.TheVariants as rule
+use Rattle.wired_panels.specs.Below.charts.Chart.{Chart}
+use Rattle.wired_panels.specs.Below.charts.Field.{columns_of, decimals_of, is_amount}
+use Rattle.wired_panels.specs.Below.charts.Levels.{level_number as chart_number}
+use Rattle.wired_panels.specs.Below.charts.declared.chart.Line.{Line}
+use Rattle.wired_panels.specs.Below.charts.declared.level.Level.{Level}
+use Rattle.wired_panels.specs.Below.charts.declared.statement.BodyLine.TheVariants as body
+use Rattle.wired_panels.specs.Below.charts.declared.statement.Field.{Field}
+use Rattle.wired_panels.specs.Below.charts.declared.statement.FieldKind.TheVariants as holds
+use Rattle.wired_panels.specs.Below.charts.declared.statement.FieldKind.{FieldKind}
+use Rattle.wired_panels.specs.Below.charts.declared.statement.Mark.{Mark}
+use Rattle.wired_panels.specs.Below.charts.declared.statement.SignRule.{SignRule}
+use Rattle.wired_panels.specs.Below.charts.declared.statement.Statement.TheVariants as says
+use Rattle.wired_panels.specs.Below.charts.declared.statement.Statement.{Statement}
+use Rattle.wired_panels.specs.Below.hub_table.Ranges.{is_within}
+use Rattle.wired_panels.specs.Below.setups.Wiring.{Wiring}
+use Rattle.wired_panels.specs.Below.hubs.declared.hub.Hub.TheVariants.{EM, W, PX, RO, SO}
+use Rattle.totals.specs.Below.net.Cycles.{level_number}
+use Rattle.totals.specs.Below.net.declared.cycle.Cycle.TheVariants.{Prog}
+use Rattle.totals.specs.Below.net.declared.cycle.ProgramLevel.{ProgramLevel}
+use Rattle.totals.specs.Below.net.declared.cycle.Ordinal.TheVariants.{Third}
+use Rattle.totals.specs.Below.net.declared.cycle.Point.TheVariants.{C}
+use Rattle.printed_lines.specs.Below.print_unit.Emitters.{emitter_of}
 use Rattle.printed_lines.specs.Shown.Shown.{Characters}
 use Rattle.printed_lines.specs.Shown.{Shown, Printed, set_of_character, total_sends}
-use Rattle.report.specs.Amounts.{columns_in}
-use Rattle.report.specs.Edits.{last_digits}
-use Rattle.whole_cycles.proofs.Units.{units-by_name}
-use Rattle.whole_cycles.specs.Units.{group_at, storage_at}
-use Rattle.wiring_table.specs.Figures.IsFigure.{on_total as figure_on_total}
-use Rattle.wiring_table.specs.Figures.IsLiteral.{on_total}
-use Rattle.wiring_table.specs.Figures.{IsText, IsAmount, IsSigned, HasPunchAt, rule_of, mark_text}
-use Rattle.plans.specs.declared.counter.TotalCounter.{TotalCounter}
-use Rattle.wiring_table.specs.Parts.{ServesPosition, counter_for, top_for, top_group}
-use Rattle.wiring_table.specs.Wires.LineWire.{literal, point, total_digit, total_mark_in, total_mark_out, total_text_out}
+use Rattle.line_places.specs.Below.report.Amounts.{columns_in}
+use Rattle.line_places.specs.Below.report.Edits.{last_digits}
+use Rattle.wired_panels.proofs.Below.whole_cycles.Units.{units-by_name}
+use Rattle.wired_panels.specs.Below.whole_cycles.Units.{group_at, storage_at}
+use Rattle.printed_lines.specs.Below.wiring_table.Figures.IsFigure.{on_total as figure_on_total}
+use Rattle.printed_lines.specs.Below.wiring_table.Figures.IsLiteral.{on_total}
+use Rattle.printed_lines.specs.Below.wiring_table.Figures.{IsText, IsAmount, IsSigned, HasPunchAt, rule_of, mark_text}
+use Rattle.wired_panels.specs.Below.plans.declared.counter.TotalCounter.{TotalCounter}
+use Rattle.printed_lines.specs.Below.wiring_table.Parts.{ServesPosition, counter_for, top_for, top_group}
+use Rattle.printed_lines.specs.Below.wiring_table.Wires.LineWire.{literal, point, total_digit, total_mark_in, total_mark_out, total_text_out}
 use Rattle.wired_panels.specs.CycleRows.{CycleRow}
 use Rattle.wired_panels.specs.Groups.{IsGroupOf}
 use Rattle.panel_cycles.specs.PrintedRows.{IsTotalRow}
@@ -58,9 +58,9 @@ use Rattle.wired_panels.specs.Sources.{EmitsAtControl, digit_at}
 use Rattle.wired_panels.proofs.ReadingOut.{reads-total, reads-text}
 use Rattle.wired_panels.proofs.ToCounters.{with_group}
 use Rattle.wired_panels.proofs.ToWheels.{ArrivesThere, Emits, along, along_contact}
-use Rattle.wiring_table.proofs.Parts.{unit-given}
-use Rattle.wiring_table.proofs.Groups as groups
-use Rattle.wiring_table.proofs.Totals.{total-of}
+use Rattle.printed_lines.proofs.Below.wiring_table.Parts.{unit-given}
+use Rattle.printed_lines.proofs.Below.wiring_table.Groups as groups
+use Rattle.printed_lines.proofs.Below.wiring_table.Totals.{total-of}
 use Rattle.wired_panels.proofs.SpeakersLawful.{kept-at}
 use Rattle.panel_cycles.proofs.WheelRows.IsLineOf.{total as its_total}
 use Rattle.panel_cycles.proofs.WheelRows.{IsLineOf, SendsRow, stands_on, sent_on}
@@ -71,7 +71,7 @@ use Rattle.panel_cycles.proofs.WheelRowsFigure.{FigureSends, amount_shown, figur
 use Rattle.panel_cycles.proofs.WheelRowsText.{literal-of, standing, columns-sent, columns-of}
 use Rattle.panel_cycles.proofs.WheelRowsTotal.{total-amount, total-digits, digits-long, digit-shown, held-digit, closed-BAT}
 use Rattle.panel_cycles.proofs.WheelRowsUnits.{group-named, group-listed, counter-is, unit-listed, unit-place}
-use Rattle.report.proofs.EditLaws.{last_digits-length}
+use Rattle.line_places.proofs.Below.report.EditLaws.{last_digits-length}
 
 -- what a total line's line sends
 pub record SendsTotal (lines : List Line) (number : ℕ) (held : List ℕ → Printed) (its : Level) (wheel : ℕ) (name : List ℕ) (digits : ℕ)

@@ -5,27 +5,27 @@ use Rattle.std.proofs.lemmas.Bool.Decides.{nat_tests}
 use Rattle.std.proofs.lemmas.List.{get_or-map}
 use Rattle.std.proofs.lemmas.List.FromFn.{get_or-range_with_len}
 use Rattle.std.proofs.lemmas.List.Elements.{Contains-get_or}
-use Rattle.counter_cycles.proofs.ShownLemmas.{digits-tell}
-use Rattle.counter_cycles.specs.Acts.{digit_of}
-use Rattle.plans.specs.Plans.{Lists, IsFor}
-use Rattle.charts.specs.declared.chart.Line.{Line}
-use Rattle.counters.specs.Counters.{Counter, counter_number, counter_of}
-use Rattle.counters.specs.Laws.{IsCounter}
-use Rattle.counters.specs.Numbers.{number}
-use Rattle.hubs.specs.declared.hub.Group.{Group}
-use Rattle.machine.specs.Machine.{MachineState, group_units, storage_units}
-use Rattle.net.specs.Panel.{unit_of}
-use Rattle.report.specs.Edits.{last_digits}
-use Rattle.storage_units.specs.Storage.{StorageState, storage_number, storage_at_start}
-use Rattle.whole_cycles.proofs.Rings.{group-own as own}
-use Rattle.whole_cycles.proofs.Places.{in_units, as_many, told_at}
-use Rattle.whole_cycles.proofs.Units.{units-by_name}
-use Rattle.whole_cycles.specs.Between.{IsBetween}
-use Rattle.whole_cycles.specs.Units.{IsGroup, group_at, storage_at}
-use Rattle.wiring_table.specs.Parts.{ServesTotal}
+use Rattle.totals.proofs.Below.counter_cycles.ShownLemmas.{digits-tell}
+use Rattle.totals.specs.Below.counter_cycles.Acts.{digit_of}
+use Rattle.wired_panels.specs.Below.plans.Plans.{Lists, IsFor}
+use Rattle.wired_panels.specs.Below.charts.declared.chart.Line.{Line}
+use Rattle.totals.specs.Below.counters.Counters.{Counter, counter_number, counter_of}
+use Rattle.totals.specs.Below.counters.Laws.{IsCounter}
+use Rattle.totals.specs.Below.counters.Numbers.{number}
+use Rattle.wired_panels.specs.Below.hubs.declared.hub.Group.{Group}
+use Rattle.wired_panels.specs.Below.machine.Machine.{MachineState, group_units, storage_units}
+use Rattle.totals.specs.Below.net.Panel.{unit_of}
+use Rattle.line_places.specs.Below.report.Edits.{last_digits}
+use Rattle.wired_panels.specs.Below.storage_units.Storage.{StorageState, storage_number, storage_at_start}
+use Rattle.wired_panels.proofs.Below.whole_cycles.Rings.{group-own as own}
+use Rattle.wired_panels.proofs.Below.whole_cycles.Places.{in_units, as_many, told_at}
+use Rattle.wired_panels.proofs.Below.whole_cycles.Units.{units-by_name}
+use Rattle.wired_panels.specs.Below.whole_cycles.Between.{IsBetween}
+use Rattle.wired_panels.specs.Below.whole_cycles.Units.{IsGroup, group_at, storage_at}
+use Rattle.printed_lines.specs.Below.wiring_table.Parts.{ServesTotal}
 use Rattle.wired_panels.specs.Sources.{digit_at}
 use Rattle.wired_panels.proofs.Contacts.{is_set}
-use Rattle.wiring_table.proofs.Groups.{serves-there}
+use Rattle.printed_lines.proofs.Below.wiring_table.Groups.{serves-there}
 
 -- the units of the storage units, in order
 storage-at : (k : ℕ) → k < 4 → get_or storage_units k 0 ≡ 35 + k

@@ -1,17 +1,17 @@
 -- The amounts of a chart: at which levels an amount has a total, in how many digits, and in which counter.
 use Rattle.std.specs.Prelude.{ℕ, ◌==◌, ◌+◌, ◌&&◌, Bool, false, List, Option, Some, None, find, is_some, option_and_then}
-use Rattle.wanted.specs.ChartTotals.{names_signed}
-use Rattle.plans.specs.Plans.{Lists}
-use Rattle.plans.specs.declared.counter.TotalCounter.{TotalCounter}
-use Rattle.plans.specs.declared.counter.TotalCounter.TheVariants as of
-use Rattle.field_rules.specs.Fields.{field_named}
-use Rattle.charts.specs.Levels.{level_number}
-use Rattle.charts.specs.Name.{is_same_name}
-use Rattle.charts.specs.declared.chart.Line.{Line}
-use Rattle.charts.specs.declared.statement.Statement.{Statement}
-use Rattle.charts.specs.declared.statement.Statement.TheVariants as says
+use Rattle.wired_panels.specs.Below.wanted.ChartTotals.{names_signed}
+use Rattle.wired_panels.specs.Below.plans.Plans.{Lists}
+use Rattle.wired_panels.specs.Below.plans.declared.counter.TotalCounter.{TotalCounter}
+use Rattle.wired_panels.specs.Below.plans.declared.counter.TotalCounter.TheVariants as of
+use Rattle.wired_panels.specs.Below.field_rules.Fields.{field_named}
+use Rattle.wired_panels.specs.Below.charts.Levels.{level_number}
+use Rattle.wired_panels.specs.Below.charts.Name.{is_same_name}
+use Rattle.wired_panels.specs.Below.charts.declared.chart.Line.{Line}
+use Rattle.wired_panels.specs.Below.charts.declared.statement.Statement.{Statement}
+use Rattle.wired_panels.specs.Below.charts.declared.statement.Statement.TheVariants as says
 use Rattle.totals.specs.Amounts.{Amount}
-use Rattle.wiring_table.specs.Parts.{counter_for}
+use Rattle.printed_lines.specs.Below.wiring_table.Parts.{counter_for}
 
 -- whether a line has a total of the amount of a name at a level
 abbrev pub is_total_at : List ℕ → ℕ → Statement → Bool

@@ -1,33 +1,33 @@
 -- What the counters of a chart's totals hold and are asked, and a cycle as these totals tell it apart.
 use Rattle.std.specs.Prelude.{ℕ, ◌+◌, ◌-◌, ◌*◌, ◌^◌, Bool, false, List, Option, Some, None, map, slice_index_or}
-use Rattle.counter_cycles.specs.Acts.{Act, Asks, Held}
-use Rattle.counter_cycles.specs.Pairs.{AsksBoth}
-use Rattle.plans.specs.Plans.{Lists}
-use Rattle.plans.specs.declared.counter.TotalCounter.{TotalCounter}
-use Rattle.plans.specs.declared.counter.TotalCounter.TheVariants as of
-use Rattle.charts.specs.Chart.{Chart}
-use Rattle.charts.specs.declared.chart.Line.{Line}
-use Rattle.charts.specs.declared.statement.Field.{Field}
-use Rattle.counters.specs.Counters.{Counter}
-use Rattle.counters.specs.Numbers.{number}
-use Rattle.hubs.specs.declared.hub.Group.{Group}
-use Rattle.hubs.specs.declared.hub.Hub.{Hub}
-use Rattle.machine.specs.Machine.{MachineState}
-use Rattle.machine.specs.Steady.{balance_latches}
-use Rattle.net.specs.Cycles.{level_number}
-use Rattle.net.specs.Panel.{unit_of}
-use Rattle.net.specs.declared.cycle.Cycle.{Cycle}
-use Rattle.net.specs.declared.cycle.Cycle.TheVariants.{Card, Head, Prog, RunIn}
-use Rattle.net.specs.declared.cycle.Point.{Point}
-use Rattle.net.specs.declared.cycle.ProgramLevel.{ProgramLevel}
-use Rattle.net.specs.declared.cycle.Ordinal.{Ordinal}
-use Rattle.report.specs.Amounts.{digits_on, is_negated, number_in}
-use Rattle.selectors.specs.Contacts.{is_balance_set}
+use Rattle.totals.specs.Below.counter_cycles.Acts.{Act, Asks, Held}
+use Rattle.totals.specs.Below.counter_cycles.Pairs.{AsksBoth}
+use Rattle.wired_panels.specs.Below.plans.Plans.{Lists}
+use Rattle.wired_panels.specs.Below.plans.declared.counter.TotalCounter.{TotalCounter}
+use Rattle.wired_panels.specs.Below.plans.declared.counter.TotalCounter.TheVariants as of
+use Rattle.wired_panels.specs.Below.charts.Chart.{Chart}
+use Rattle.wired_panels.specs.Below.charts.declared.chart.Line.{Line}
+use Rattle.wired_panels.specs.Below.charts.declared.statement.Field.{Field}
+use Rattle.totals.specs.Below.counters.Counters.{Counter}
+use Rattle.totals.specs.Below.counters.Numbers.{number}
+use Rattle.wired_panels.specs.Below.hubs.declared.hub.Group.{Group}
+use Rattle.wired_panels.specs.Below.hubs.declared.hub.Hub.{Hub}
+use Rattle.wired_panels.specs.Below.machine.Machine.{MachineState}
+use Rattle.wired_panels.specs.Below.machine.Steady.{balance_latches}
+use Rattle.totals.specs.Below.net.Cycles.{level_number}
+use Rattle.totals.specs.Below.net.Panel.{unit_of}
+use Rattle.totals.specs.Below.net.declared.cycle.Cycle.{Cycle}
+use Rattle.totals.specs.Below.net.declared.cycle.Cycle.TheVariants.{Card, Head, Prog, RunIn}
+use Rattle.totals.specs.Below.net.declared.cycle.Point.{Point}
+use Rattle.totals.specs.Below.net.declared.cycle.ProgramLevel.{ProgramLevel}
+use Rattle.totals.specs.Below.net.declared.cycle.Ordinal.{Ordinal}
+use Rattle.line_places.specs.Below.report.Amounts.{digits_on, is_negated, number_in}
+use Rattle.wired_panels.specs.Below.selectors.Contacts.{is_balance_set}
 use Rattle.totals.specs.Amounts.{Kind}
 use Rattle.totals.specs.Amounts.Kind.{Entry, Other, Prog as ProgKind}
-use Rattle.wiring_table.specs.Figures.{IsAmount}
+use Rattle.printed_lines.specs.Below.wiring_table.Figures.{IsAmount}
 use Rattle.wired_panels.specs.PanelCycles.{IsCardRead}
-use Rattle.wiring_table.specs.Parts.{panel_group, top_group}
+use Rattle.printed_lines.specs.Below.wiring_table.Parts.{panel_group, top_group}
 use Rattle.panel_cycles.specs.ChartAmounts.{total_counter}
 
 -- the number in a counter group; the groups stand in the order of the units 3 to 34

@@ -1,19 +1,19 @@
 -- Laws of the counters and of the carriage of a panel that is wired for a chart.
 use Rattle.std.specs.Prelude.{◌≡◌, ℕ, Bool, List, Some, None}
-use Rattle.plans.specs.Plans.{Lists}
-use Rattle.plans.specs.declared.counter.TotalCounter.{TotalCounter}
-use Rattle.carriage.specs.Asked.{nothing_asked}
-use Rattle.charts.specs.Chart.{Chart, NumbersRise}
-use Rattle.setups.specs.Wiring.{Wiring}
-use Rattle.hubs.specs.declared.hub.Hub.{Hub}
-use Rattle.machine.specs.Machine.{MachineState}
-use Rattle.net.specs.declared.cycle.Cycle.{Cycle}
-use Rattle.net.specs.declared.cycle.Point.{Point}
+use Rattle.wired_panels.specs.Below.plans.Plans.{Lists}
+use Rattle.wired_panels.specs.Below.plans.declared.counter.TotalCounter.{TotalCounter}
+use Rattle.line_places.specs.Below.carriage.Asked.{nothing_asked}
+use Rattle.wired_panels.specs.Below.charts.Chart.{Chart, NumbersRise}
+use Rattle.wired_panels.specs.Below.setups.Wiring.{Wiring}
+use Rattle.wired_panels.specs.Below.hubs.declared.hub.Hub.{Hub}
+use Rattle.wired_panels.specs.Below.machine.Machine.{MachineState}
+use Rattle.totals.specs.Below.net.declared.cycle.Cycle.{Cycle}
+use Rattle.totals.specs.Below.net.declared.cycle.Point.{Point}
 use Rattle.line_places.specs.CarriageCycles.{carriage_after}
 use Rattle.line_places.specs.Placing.{asked_of, kind_of}
 use Rattle.totals.specs.Amounts.{IsSmall, Kind, act_of}
-use Rattle.whole_cycles.specs.Between.{IsBetween}
-use Rattle.whole_cycles.specs.WholeCycles.{WholeCycle}
+use Rattle.wired_panels.specs.Below.whole_cycles.Between.{IsBetween}
+use Rattle.wired_panels.specs.Below.whole_cycles.WholeCycles.{WholeCycle}
 use Rattle.panel_cycles.specs.ChartAmounts.{amount_of}
 use Rattle.panel_cycles.specs.CounterStates.{AsksCounter, IsKindOf, state_of}
 use Rattle.wired_panels.specs.Groups.{IsCounterOf}

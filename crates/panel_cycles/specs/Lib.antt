@@ -1,3 +1,4 @@
+pub mod Below
 pub mod ChartAmounts
 pub mod CounterStates
 pub mod PrintedRows

@@ -1,31 +1,31 @@
 -- The rows of the cycles that print, on a panel that is wired for a chart.
 use Rattle.std.specs.Prelude.{◌≡◌, ℕ, ◌<◌, ◌+◌, List, Contains, Option, Some}
-use Rattle.card_code.specs.CardCode.{has_row}
-use Rattle.card_code.specs.Rows.{row_number}
-use Rattle.field_rules.specs.Fields.{field_named}
-use Rattle.chart_rules.specs.ValidCard.{column_of}
-use Rattle.charts.specs.Chart.{NumbersRise}
-use Rattle.charts.specs.Field.{columns_of}
-use Rattle.charts.specs.Levels.{level_number as chart_number}
-use Rattle.charts.specs.declared.chart.Line.{Line}
-use Rattle.charts.specs.declared.level.Level.{Level}
-use Rattle.charts.specs.declared.statement.Field.{Field}
-use Rattle.charts.specs.declared.statement.Mark.{Mark}
-use Rattle.charts.specs.declared.statement.Statement.TheVariants as says
-use Rattle.counters.specs.Laws.{number_of_both}
-use Rattle.counters.specs.Numbers.{number}
-use Rattle.plans.specs.declared.counter.TotalCounter.{TotalCounter}
-use Rattle.plans.specs.declared.counter.TotalCounter.TheVariants as of
-use Rattle.setups.specs.Wiring.{Wiring}
-use Rattle.net.specs.Cycles.{level_number}
-use Rattle.net.specs.declared.cycle.Cycle.TheVariants.{Card, Prog, Head}
-use Rattle.net.specs.declared.cycle.ProgramLevel.{ProgramLevel}
-use Rattle.net.specs.declared.cycle.Ordinal.TheVariants.{Third}
-use Rattle.net.specs.declared.cycle.Ordinal.{Ordinal}
+use Rattle.wired_panels.specs.Below.card_code.CardCode.{has_row}
+use Rattle.wired_panels.specs.Below.card_code.Rows.{row_number}
+use Rattle.wired_panels.specs.Below.field_rules.Fields.{field_named}
+use Rattle.wired_panels.specs.Below.chart_rules.ValidCard.{column_of}
+use Rattle.wired_panels.specs.Below.charts.Chart.{NumbersRise}
+use Rattle.wired_panels.specs.Below.charts.Field.{columns_of}
+use Rattle.wired_panels.specs.Below.charts.Levels.{level_number as chart_number}
+use Rattle.wired_panels.specs.Below.charts.declared.chart.Line.{Line}
+use Rattle.wired_panels.specs.Below.charts.declared.level.Level.{Level}
+use Rattle.wired_panels.specs.Below.charts.declared.statement.Field.{Field}
+use Rattle.wired_panels.specs.Below.charts.declared.statement.Mark.{Mark}
+use Rattle.wired_panels.specs.Below.charts.declared.statement.Statement.TheVariants as says
+use Rattle.totals.specs.Below.counters.Laws.{number_of_both}
+use Rattle.totals.specs.Below.counters.Numbers.{number}
+use Rattle.wired_panels.specs.Below.plans.declared.counter.TotalCounter.{TotalCounter}
+use Rattle.wired_panels.specs.Below.plans.declared.counter.TotalCounter.TheVariants as of
+use Rattle.wired_panels.specs.Below.setups.Wiring.{Wiring}
+use Rattle.totals.specs.Below.net.Cycles.{level_number}
+use Rattle.totals.specs.Below.net.declared.cycle.Cycle.TheVariants.{Card, Prog, Head}
+use Rattle.totals.specs.Below.net.declared.cycle.ProgramLevel.{ProgramLevel}
+use Rattle.totals.specs.Below.net.declared.cycle.Ordinal.TheVariants.{Third}
+use Rattle.totals.specs.Below.net.declared.cycle.Ordinal.{Ordinal}
 use Rattle.printed_lines.specs.Shown.{Printed}
-use Rattle.storage_units.specs.Storage.{holds}
-use Rattle.whole_cycles.specs.Units.{group_at, storage_at}
-use Rattle.wiring_table.specs.Parts.{counter_for, panel_group, top_group, unit_for}
+use Rattle.wired_panels.specs.Below.storage_units.Storage.{holds}
+use Rattle.wired_panels.specs.Below.whole_cycles.Units.{group_at, storage_at}
+use Rattle.printed_lines.specs.Below.wiring_table.Parts.{counter_for, panel_group, top_group, unit_for}
 use Rattle.wired_panels.specs.CycleRows.{CycleRow}
 use Rattle.wired_panels.specs.PanelCycles.{AreSetTo, IsCardRead, IsPanelCycle}
 

@@ -1,14 +1,14 @@
 -- Laws of the print wheels on a panel that is wired for a chart: at each row of a cycle that prints, each wheel receives what the items of
 -- the cycle's line send to it.
 use Rattle.std.specs.Prelude.{◌≡◌, ℕ, List}
-use Rattle.card_code.specs.CardCode.{has_row}
-use Rattle.card_code.specs.Rows.{row_number}
-use Rattle.setups.specs.Wiring.{Wiring}
-use Rattle.hubs.specs.declared.hub.Hub.TheVariants.{W}
-use Rattle.net.specs.Cycles.{level_number, ordinal_number}
-use Rattle.net.specs.declared.cycle.ProgramLevel.{ProgramLevel}
-use Rattle.net.specs.declared.cycle.Ordinal.{Ordinal}
-use Rattle.net.specs.declared.cycle.Point.TheVariants.{Row}
+use Rattle.wired_panels.specs.Below.card_code.CardCode.{has_row}
+use Rattle.wired_panels.specs.Below.card_code.Rows.{row_number}
+use Rattle.wired_panels.specs.Below.setups.Wiring.{Wiring}
+use Rattle.wired_panels.specs.Below.hubs.declared.hub.Hub.TheVariants.{W}
+use Rattle.totals.specs.Below.net.Cycles.{level_number, ordinal_number}
+use Rattle.totals.specs.Below.net.declared.cycle.ProgramLevel.{ProgramLevel}
+use Rattle.totals.specs.Below.net.declared.cycle.Ordinal.{Ordinal}
+use Rattle.totals.specs.Below.net.declared.cycle.Point.TheVariants.{Row}
 use Rattle.printed_lines.specs.Shown.{Printed, set_on, sent_to_card, sent_to_heading, sent_to_total}
 use Rattle.wired_panels.specs.CycleRows.{CycleRow}
 use Rattle.panel_cycles.specs.PrintedRows.{IsHeadingRow, IsCardRow, IsTotalRow}

@@ -1,3 +1,4 @@
+pub mod Below
 pub mod CounterGroups
 pub mod Enough
 pub mod Numbers

@@ -1,3 +1,4 @@
+pub mod Below
 pub mod Assignments
 pub mod Counters
 pub mod Excess

@@ -1,3 +1,4 @@
+pub mod Below
 pub mod Items
 pub mod Marks
 pub mod Wheels

@@ -1,3 +1,4 @@
+pub mod Below
 pub mod Bits
 pub mod Carry
 pub mod Columns

@@ -1,3 +1,4 @@
+pub mod Below
 pub mod Emitters
 pub mod Laws
 pub mod RowSets

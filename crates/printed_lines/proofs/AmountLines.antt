@@ -2,21 +2,21 @@
 use Rattle.std.proofs.Common.{◌≡◌, ◌∙◌, refl, sym, ap, ap₂, ℕ, zero, suc, ℤ, pos, negsuc, ◌/◌, ◌^◌, ◌<◌, ◌==◌, ◌&&◌, not, if◌then◌else◌, Bool, true, false, List, [], ◌∷◌, length, map, drop, Option, Some, None, arith, unsigned_abs}
 use Rattle.std.proofs.Math.Nat.{mod-lt}
 use Rattle.std.proofs.lemmas.Bool.Decides.{nat_tests}
-use Rattle.charts.specs.Field.{columns_of, decimals_of}
-use Rattle.charts.specs.declared.statement.Field.{Field}
-use Rattle.charts.specs.declared.statement.Mark.{Mark}
-use Rattle.chart_rules.specs.ValidCard.{IsValidAmount}
-use Rattle.report.specs.Amounts.{number_in, digits_on, is_blank_on, is_negated, signed, value_of}
-use Rattle.report.specs.BodyLines.{amount_on}
-use Rattle.report.specs.Edits.{last_digits, free_digits, marked, is_below_zero, edited, edited_blank, edited_digits}
+use Rattle.wiring_table.specs.Below.charts.Field.{columns_of, decimals_of}
+use Rattle.wiring_table.specs.Below.charts.declared.statement.Field.{Field}
+use Rattle.wiring_table.specs.Below.charts.declared.statement.Mark.{Mark}
+use Rattle.wiring_table.specs.Below.chart_rules.ValidCard.{IsValidAmount}
+use Rattle.wiring_table.specs.Below.report.Amounts.{number_in, digits_on, is_blank_on, is_negated, signed, value_of}
+use Rattle.wiring_table.specs.Below.report.BodyLines.{amount_on}
+use Rattle.wiring_table.specs.Below.report.Edits.{last_digits, free_digits, marked, is_below_zero, edited, edited_blank, edited_digits}
 use Rattle.print_unit.specs.ZeroControl.{printed_from}
 use Rattle.printed_lines.specs.Held.{HoldsTotal}
 use Rattle.printed_lines.specs.Shown.{Amount, Printed}
-use Rattle.report.proofs.ReadBack.{signed-size}
+use Rattle.wiring_table.proofs.Below.report.ReadBack.{signed-size}
 use Rattle.printed_lines.proofs.AmountText.{amount_wheels, amount-edited, amount-blank}
 use Rattle.printed_lines.proofs.CardDigits.{OnCard, blank, numeral, OnCard-valid, digits-length}
 use Rattle.printed_lines.proofs.ItemText.{Spells}
-use Rattle.chart_rules.proofs.Laws.{IsGoodField}
+use Rattle.wiring_table.proofs.Below.chart_rules.Laws.{IsGoodField}
 use Rattle.printed_lines.proofs.Numbers.{value, any_above_zero, AreDigits, AreSmall-numeral, IsNumeral-digits, number_in-small, last_digits-columns, any_above_zero-number}
 
 below-signed : (negated : Bool) (number : ℕ) → is_below_zero (signed negated number) ≡ (not (number == 0) && negated)

@@ -3,12 +3,12 @@
 use Rattle.std.proofs.Common.{◌≡◌, ◌∙◌, refl, sym, ap, ap₂, ℕ, zero, suc, ◌+◌, ◌-◌, ◌≤◌, ◌==◌, ◌&&◌, ◌||◌, not, Bool, true, false, List, [], ◌∷◌, ◌++◌, length, map, take, drop, replicate, Option, Some, None, if◌then◌else◌, arith}
 use Rattle.std.proofs.lemmas.List.{take-map, drop-map, map-append, length-map, length-take, length-drop, take-append-drop, replicate-append-replicate}
 use Rattle.std.proofs.lemmas.List.Folds.{list_any-append}
-use Rattle.card_code.specs.CardCode.{print_character, deck_character, code, rows_of}
-use Rattle.print_rules.specs.Items.{mark_width}
-use Rattle.charts.specs.declared.statement.Mark.{Mark}
-use Rattle.charts.specs.declared.statement.Mark.TheVariants as mark
+use Rattle.print_unit.specs.Below.card_code.CardCode.{print_character, deck_character, code, rows_of}
+use Rattle.wiring_table.specs.Below.print_rules.Items.{mark_width}
+use Rattle.wiring_table.specs.Below.charts.declared.statement.Mark.{Mark}
+use Rattle.wiring_table.specs.Below.charts.declared.statement.Mark.TheVariants as mark
 use Rattle.print_unit.specs.ZeroControl.{Wheel, character_of, is_figure, is_zero, shown, has_significance, gives, printed_from}
-use Rattle.report.specs.Edits.{figure, without_leading_zeros, free_digits, point, marked, edited_digits, edited_blank}
+use Rattle.wiring_table.specs.Below.report.Edits.{figure, without_leading_zeros, free_digits, point, marked, edited_digits, edited_blank}
 use Rattle.printed_lines.specs.Shown.{digit_set, point_sets, mark_sets}
 use Rattle.printed_lines.proofs.Characters.{received, IsDigitSet-digit, blank-prints}
 use Rattle.printed_lines.proofs.Numbers.{value, any_above_zero, AreDigits, IsNumeral, AreBlank, IsNumeral-digits}

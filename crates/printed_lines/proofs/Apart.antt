@@ -1,9 +1,9 @@
 -- On each printed line of a lawful chart the items keep apart.
 use Rattle.std.proofs.Common.{Bool, Option}
-use Rattle.charts.specs.Chart.{Chart}
-use Rattle.charts.specs.declared.statement.Statement.{Statement}
-use Rattle.print_rules.specs.declared.items.PrintedLine.{PrintedLine}
-use Rattle.chart_rules.specs.Rules.{IsLawful}
+use Rattle.wiring_table.specs.Below.charts.Chart.{Chart}
+use Rattle.wiring_table.specs.Below.charts.declared.statement.Statement.{Statement}
+use Rattle.wiring_table.specs.Below.print_rules.declared.items.PrintedLine.{PrintedLine}
+use Rattle.wiring_table.specs.Below.chart_rules.Rules.{IsLawful}
 use Rattle.printed_lines.specs.Laws.{HasItemSets, LawfulItemsKeepApart}
 use Rattle.printed_lines.specs.Shown.{Shown, card_sends, total_sends, heading_sends}
 use Rattle.printed_lines.proofs.Cards.{on_card_line, card-sending}

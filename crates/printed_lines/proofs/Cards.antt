@@ -1,33 +1,33 @@
 -- The line of a card: what the chart's lines send to it comes from their items, and spells what the report puts there.
 use Rattle.std.proofs.Common.{◌≡◌, ◌∙◌, refl, ap, subst, ℕ, if◌then◌else◌, Bool, true, false, List, map, Contains, Option, Some, None, option_map, arith}
-use Rattle.charts.specs.Chart.{Chart}
-use Rattle.charts.specs.Field.{columns_of, decimals_of, is_amount}
-use Rattle.charts.specs.Literals.{HaveLiteralTexts, literal_in}
-use Rattle.charts.specs.declared.chart.Line.{Line}
-use Rattle.charts.specs.declared.statement.BodyLine.TheVariants as body
-use Rattle.charts.specs.declared.statement.DetailOption.{DetailOption}
-use Rattle.charts.specs.declared.statement.Field.{Field}
-use Rattle.charts.specs.declared.statement.FieldKind.{FieldKind}
-use Rattle.charts.specs.declared.statement.FieldKind.TheVariants as holds
-use Rattle.charts.specs.declared.statement.Statement.{Statement}
-use Rattle.charts.specs.declared.statement.Statement.TheVariants as says
-use Rattle.print_rules.specs.declared.items.Figure.{Figure}
-use Rattle.print_rules.specs.declared.items.PrintedLine.{PrintedLine}
-use Rattle.print_rules.specs.declared.items.PrintedLine.TheVariants.{Heading, Body}
-use Rattle.field_rules.specs.Fields.{field_named}
-use Rattle.print_rules.specs.Items.{is_same_line, mark_shown, detail_item}
-use Rattle.chart_rules.specs.Rules.{IsLawful}
-use Rattle.chart_rules.specs.ValidCard.{IsText, IsValidCard, IsValidField, IsValidKind}
-use Rattle.print_rules.specs.Wheels.{is_body}
-use Rattle.report.specs.Amounts.{digits_on, is_negated}
-use Rattle.report.specs.BodyLines.{piece_at, card_piece, field_on, amount_on, is_shown}
+use Rattle.wiring_table.specs.Below.charts.Chart.{Chart}
+use Rattle.wiring_table.specs.Below.charts.Field.{columns_of, decimals_of, is_amount}
+use Rattle.wiring_table.specs.Below.charts.Literals.{HaveLiteralTexts, literal_in}
+use Rattle.wiring_table.specs.Below.charts.declared.chart.Line.{Line}
+use Rattle.wiring_table.specs.Below.charts.declared.statement.BodyLine.TheVariants as body
+use Rattle.wiring_table.specs.Below.charts.declared.statement.DetailOption.{DetailOption}
+use Rattle.wiring_table.specs.Below.charts.declared.statement.Field.{Field}
+use Rattle.wiring_table.specs.Below.charts.declared.statement.FieldKind.{FieldKind}
+use Rattle.wiring_table.specs.Below.charts.declared.statement.FieldKind.TheVariants as holds
+use Rattle.wiring_table.specs.Below.charts.declared.statement.Statement.{Statement}
+use Rattle.wiring_table.specs.Below.charts.declared.statement.Statement.TheVariants as says
+use Rattle.wiring_table.specs.Below.print_rules.declared.items.Figure.{Figure}
+use Rattle.wiring_table.specs.Below.print_rules.declared.items.PrintedLine.{PrintedLine}
+use Rattle.wiring_table.specs.Below.print_rules.declared.items.PrintedLine.TheVariants.{Heading, Body}
+use Rattle.wiring_table.specs.Below.field_rules.Fields.{field_named}
+use Rattle.wiring_table.specs.Below.print_rules.Items.{is_same_line, mark_shown, detail_item}
+use Rattle.wiring_table.specs.Below.chart_rules.Rules.{IsLawful}
+use Rattle.wiring_table.specs.Below.chart_rules.ValidCard.{IsText, IsValidCard, IsValidField, IsValidKind}
+use Rattle.wiring_table.specs.Below.print_rules.Wheels.{is_body}
+use Rattle.wiring_table.specs.Below.report.Amounts.{digits_on, is_negated}
+use Rattle.wiring_table.specs.Below.report.BodyLines.{piece_at, card_piece, field_on, amount_on, is_shown}
 use Rattle.wiring_table.specs.Figures.{IsFigure, on_detail, detail_emitter}
 use Rattle.printed_lines.specs.Laws.{CardLinesPrint}
 use Rattle.printed_lines.specs.Shown.{Shown, Characters, Amount, card_sends, field_sends, set_of_character}
 use Rattle.printed_lines.proofs.AmountLines.{card-amount}
 use Rattle.printed_lines.proofs.CardDigits.{digits-length}
 use Rattle.printed_lines.proofs.ItemText.{Spells}
-use Rattle.chart_rules.proofs.Laws.{IsGoodField, good-field, named-valid}
+use Rattle.wiring_table.proofs.Below.chart_rules.Laws.{IsGoodField, good-field, named-valid}
 use Rattle.printed_lines.proofs.Lines.{SpellsPiece, body-line}
 use Rattle.printed_lines.proofs.Sending.{IsItems, IsSending}
 use Rattle.printed_lines.proofs.Spelled.{literal-spelled, columns-spelled, literal-item, text-item, amount-item}

@@ -3,10 +3,10 @@ use Rattle.std.proofs.Common.{◌≡◌, ◌∙◌, refl, sym, ap, ℕ, ◌+◌,
 use Rattle.std.specs.List.{list_all, range_with_len}
 use Rattle.std.proofs.lemmas.Bool.{eqb-true, and_parts}
 use Rattle.std.proofs.lemmas.List.FromFn.{get_or-range_with_len, length-range_with_len}
-use Rattle.card_code.specs.CardCode.{has_row, code, deck_character, rows_of, print_character, printed_for}
-use Rattle.card_code.specs.Rows.{row_number, rows}
-use Rattle.card_code.proofs.OneToOne.{Contains-rows, Contains-character}
-use Rattle.charts.specs.Literal.{is_printable}
+use Rattle.print_unit.specs.Below.card_code.CardCode.{has_row, code, deck_character, rows_of, print_character, printed_for}
+use Rattle.print_unit.specs.Below.card_code.Rows.{row_number, rows}
+use Rattle.print_unit.proofs.Below.card_code.OneToOne.{Contains-rows, Contains-character}
+use Rattle.wiring_table.specs.Below.charts.Literal.{is_printable}
 use Rattle.print_unit.specs.ZeroControl.{character_of, is_figure, is_zero}
 use Rattle.printed_lines.specs.Shown.{set_of_character, digit_set}
 

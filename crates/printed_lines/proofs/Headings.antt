@@ -1,16 +1,16 @@
 -- A heading line: its items are literals, and print without zero control.
 use Rattle.std.proofs.Common.{◌≡◌, refl, ap, subst, ℕ, ◌==◌, if◌then◌else◌, Bool, true, false, List, map, Contains, Some, None, arith}
 use Rattle.std.proofs.lemmas.Bool.Decides.{nat_tests}
-use Rattle.charts.specs.Chart.{Chart}
-use Rattle.charts.specs.Headings.{heading_number}
-use Rattle.charts.specs.Literals.{HaveLiteralTexts, literal_in}
-use Rattle.charts.specs.declared.chart.Line.{Line}
-use Rattle.charts.specs.declared.statement.Statement.{Statement}
-use Rattle.charts.specs.declared.statement.Statement.TheVariants as says
-use Rattle.print_rules.specs.declared.items.PrintedLine.{PrintedLine}
-use Rattle.print_rules.specs.declared.items.PrintedLine.TheVariants.{Heading, Body}
-use Rattle.print_rules.specs.Items.{is_same_line}
-use Rattle.report.specs.BodyLines.{piece_at, heading_piece}
+use Rattle.wiring_table.specs.Below.charts.Chart.{Chart}
+use Rattle.wiring_table.specs.Below.charts.Headings.{heading_number}
+use Rattle.wiring_table.specs.Below.charts.Literals.{HaveLiteralTexts, literal_in}
+use Rattle.wiring_table.specs.Below.charts.declared.chart.Line.{Line}
+use Rattle.wiring_table.specs.Below.charts.declared.statement.Statement.{Statement}
+use Rattle.wiring_table.specs.Below.charts.declared.statement.Statement.TheVariants as says
+use Rattle.wiring_table.specs.Below.print_rules.declared.items.PrintedLine.{PrintedLine}
+use Rattle.wiring_table.specs.Below.print_rules.declared.items.PrintedLine.TheVariants.{Heading, Body}
+use Rattle.wiring_table.specs.Below.print_rules.Items.{is_same_line}
+use Rattle.wiring_table.specs.Below.report.BodyLines.{piece_at, heading_piece}
 use Rattle.printed_lines.specs.Laws.{HeadingLinesPrint}
 use Rattle.printed_lines.specs.Shown.{Shown, Characters, heading_sends, set_of_character}
 use Rattle.printed_lines.proofs.Lines.{SpellsText, text-line}

@@ -1,19 +1,19 @@
 -- The jacks on the wheels of an item are those of its own line of the chart, whatever other lines plug.
 use Rattle.std.proofs.Common.{◌≡◌, ◌∙◌, refl, ap, subst, ℕ, ◌+◌, ◌<◌, ◌≤◌, true, List, Contains, Some, option_map}
-use Rattle.charts.specs.Field.{columns_of, decimals_of, is_amount}
-use Rattle.charts.specs.declared.chart.Line.{Line}
-use Rattle.charts.specs.declared.statement.BodyLine.TheVariants as body
-use Rattle.charts.specs.declared.statement.FieldKind.{FieldKind}
-use Rattle.charts.specs.declared.statement.FieldKind.TheVariants as holds
-use Rattle.charts.specs.declared.statement.Statement.{Statement}
-use Rattle.print_rules.specs.declared.items.Figure.{Figure}
-use Rattle.print_rules.specs.declared.items.PrintedLine.{PrintedLine}
-use Rattle.print_rules.specs.declared.items.PrintedLine.TheVariants.{Body}
-use Rattle.field_rules.specs.Fields.{fields_of}
-use Rattle.print_rules.specs.Items.{item_of, detail_item, total_item, figure_item, figure_width, mark_shown}
-use Rattle.print_rules.specs.Wheels.{is_body}
-use Rattle.hubs.specs.declared.jack.Jack.{Jack}
-use Rattle.hubs.specs.declared.jack.Jack.TheVariants as jack
+use Rattle.wiring_table.specs.Below.charts.Field.{columns_of, decimals_of, is_amount}
+use Rattle.wiring_table.specs.Below.charts.declared.chart.Line.{Line}
+use Rattle.wiring_table.specs.Below.charts.declared.statement.BodyLine.TheVariants as body
+use Rattle.wiring_table.specs.Below.charts.declared.statement.FieldKind.{FieldKind}
+use Rattle.wiring_table.specs.Below.charts.declared.statement.FieldKind.TheVariants as holds
+use Rattle.wiring_table.specs.Below.charts.declared.statement.Statement.{Statement}
+use Rattle.wiring_table.specs.Below.print_rules.declared.items.Figure.{Figure}
+use Rattle.wiring_table.specs.Below.print_rules.declared.items.PrintedLine.{PrintedLine}
+use Rattle.wiring_table.specs.Below.print_rules.declared.items.PrintedLine.TheVariants.{Body}
+use Rattle.wiring_table.specs.Below.field_rules.Fields.{fields_of}
+use Rattle.wiring_table.specs.Below.print_rules.Items.{item_of, detail_item, total_item, figure_item, figure_width, mark_shown}
+use Rattle.wiring_table.specs.Below.print_rules.Wheels.{is_body}
+use Rattle.print_unit.specs.Below.hubs.declared.jack.Jack.{Jack}
+use Rattle.print_unit.specs.Below.hubs.declared.jack.Jack.TheVariants as jack
 use Rattle.wiring_table.specs.Figures.{IsFigure, on_detail, on_total, mark_wheel, free_digits}
 use Rattle.wiring_table.specs.Jacks.{ChartJack, HasFigure, list, total, head, link, suppress, symbol}
 

@@ -4,32 +4,32 @@ use Rattle.std.specs.List.{position_or_len}
 use Rattle.std.proofs.lemmas.Bool.Decides.{nat_tests}
 use Rattle.std.proofs.lemmas.List.Folds.{find_at}
 use Rattle.std.proofs.lemmas.Option.{slice_get_within}
-use Rattle.charts.specs.Chart.{Chart}
-use Rattle.charts.specs.Field.{columns_of, decimals_of, sign_column}
-use Rattle.charts.specs.Name.{is_same_name}
-use Rattle.charts.specs.declared.chart.Line.{Line}
-use Rattle.charts.specs.declared.statement.DetailOption.{DetailOption}
-use Rattle.charts.specs.declared.statement.Field.{Field}
-use Rattle.charts.specs.declared.statement.FieldKind.{FieldKind}
-use Rattle.charts.specs.declared.statement.FieldKind.TheVariants as holds
-use Rattle.charts.specs.declared.statement.Mark.{Mark}
-use Rattle.charts.specs.declared.statement.Statement.{Statement}
-use Rattle.charts.specs.declared.statement.Statement.TheVariants as says
-use Rattle.print_rules.specs.declared.items.Figure.{Figure}
-use Rattle.print_rules.specs.declared.items.Item.{Item}
-use Rattle.chart_rules.specs.declared.rule.Rule.TheVariants as rule
-use Rattle.field_rules.specs.Columns.{breaks_amount_size, is_too_large}
-use Rattle.field_rules.specs.Digits.{breaks_digits_range, is_out_of_digits}
-use Rattle.field_rules.specs.Fields.{fields_of, field_named}
-use Rattle.print_rules.specs.declared.items.PrintedLine.TheVariants.{Body}
-use Rattle.charts.specs.declared.level.Level.{Level}
-use Rattle.charts.specs.declared.statement.BodyLine.TheVariants as body
-use Rattle.print_rules.specs.Items.{item_of, mark_shown, text_item, detail_item, total_item}
-use Rattle.chart_rules.specs.Rules.{IsLawful}
-use Rattle.chart_rules.specs.ValidCard.{IsValidCard, IsValidField}
-use Rattle.print_rules.specs.Wheels.{is_off_wheels}
-use Rattle.chart_rules.proofs.Laws.{IsGoodField, good-field, kept-line}
-use Rattle.field_rules.proofs.DigitsKept.{digits-kept}
+use Rattle.wiring_table.specs.Below.charts.Chart.{Chart}
+use Rattle.wiring_table.specs.Below.charts.Field.{columns_of, decimals_of, sign_column}
+use Rattle.wiring_table.specs.Below.charts.Name.{is_same_name}
+use Rattle.wiring_table.specs.Below.charts.declared.chart.Line.{Line}
+use Rattle.wiring_table.specs.Below.charts.declared.statement.DetailOption.{DetailOption}
+use Rattle.wiring_table.specs.Below.charts.declared.statement.Field.{Field}
+use Rattle.wiring_table.specs.Below.charts.declared.statement.FieldKind.{FieldKind}
+use Rattle.wiring_table.specs.Below.charts.declared.statement.FieldKind.TheVariants as holds
+use Rattle.wiring_table.specs.Below.charts.declared.statement.Mark.{Mark}
+use Rattle.wiring_table.specs.Below.charts.declared.statement.Statement.{Statement}
+use Rattle.wiring_table.specs.Below.charts.declared.statement.Statement.TheVariants as says
+use Rattle.wiring_table.specs.Below.print_rules.declared.items.Figure.{Figure}
+use Rattle.wiring_table.specs.Below.print_rules.declared.items.Item.{Item}
+use Rattle.wiring_table.specs.Below.chart_rules.declared.rule.Rule.TheVariants as rule
+use Rattle.wiring_table.specs.Below.field_rules.Columns.{breaks_amount_size, is_too_large}
+use Rattle.wiring_table.specs.Below.field_rules.Digits.{breaks_digits_range, is_out_of_digits}
+use Rattle.wiring_table.specs.Below.field_rules.Fields.{fields_of, field_named}
+use Rattle.wiring_table.specs.Below.print_rules.declared.items.PrintedLine.TheVariants.{Body}
+use Rattle.wiring_table.specs.Below.charts.declared.level.Level.{Level}
+use Rattle.wiring_table.specs.Below.charts.declared.statement.BodyLine.TheVariants as body
+use Rattle.wiring_table.specs.Below.print_rules.Items.{item_of, mark_shown, text_item, detail_item, total_item}
+use Rattle.wiring_table.specs.Below.chart_rules.Rules.{IsLawful}
+use Rattle.wiring_table.specs.Below.chart_rules.ValidCard.{IsValidCard, IsValidField}
+use Rattle.wiring_table.specs.Below.print_rules.Wheels.{is_off_wheels}
+use Rattle.wiring_table.proofs.Below.chart_rules.Laws.{IsGoodField, good-field, kept-line}
+use Rattle.wiring_table.proofs.Below.field_rules.DigitsKept.{digits-kept}
 
 -- An item stands on wheels of the machine.
 pub record IsOnWheels (item : Item) : Type 0 where

@@ -1,3 +1,4 @@
+pub mod Below
 pub mod Characters
 pub mod Numbers
 pub mod AmountText

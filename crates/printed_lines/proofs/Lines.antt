@@ -3,14 +3,14 @@ use Rattle.std.proofs.Common.{◌≡◌, ◌∙◌, refl, sym, ap, ap₂, ℕ, s
 use Rattle.std.specs.List.{filter_map, cons_option, range_with_len}
 use Rattle.std.proofs.lemmas.List.{length-map, get_or-map}
 use Rattle.std.proofs.lemmas.List.FromFn.{get_or-map-range_with_len, length-map-range_with_len}
-use Rattle.charts.specs.Chart.{Chart}
-use Rattle.charts.specs.declared.chart.Line.{Line}
-use Rattle.charts.specs.declared.statement.Statement.{Statement}
-use Rattle.print_rules.specs.declared.items.PrintedLine.{PrintedLine}
+use Rattle.wiring_table.specs.Below.charts.Chart.{Chart}
+use Rattle.wiring_table.specs.Below.charts.declared.chart.Line.{Line}
+use Rattle.wiring_table.specs.Below.charts.declared.statement.Statement.{Statement}
+use Rattle.wiring_table.specs.Below.print_rules.declared.items.PrintedLine.{PrintedLine}
 use Rattle.print_unit.specs.ZeroControl.{Wheel, character_of, is_zero, shown, printed_line}
 use Rattle.print_unit.proofs.LeftNeighbours.{printed_from-freely}
 use Rattle.print_unit.proofs.Ranges.{map-same}
-use Rattle.report.specs.BodyLines.{Piece, char_at, line_of}
+use Rattle.wiring_table.specs.Below.report.BodyLines.{Piece, char_at, line_of}
 use Rattle.printed_lines.specs.Shown.{Shown, Characters, Amount, set_on, sets_of, wheel_of_shown, wheel_with, wheels_with}
 use Rattle.printed_lines.proofs.Characters.{received, blank-prints}
 use Rattle.printed_lines.proofs.ItemText.{Spells, item-prints}

@@ -4,19 +4,19 @@ use Rattle.std.specs.List.{list_any}
 use Rattle.std.proofs.lemmas.Bool.{eqb-true, and_parts}
 use Rattle.std.proofs.lemmas.Bool.Decides.{nat_tests}
 use Rattle.std.proofs.lemmas.List.Elements.{Contains-append_right}
-use Rattle.charts.proofs.Listed.{Order, is_one, goes_before, goes_after, listed-first, listed-order, none-any}
-use Rattle.charts.specs.Chart.{Chart}
-use Rattle.charts.specs.declared.chart.Line.{Line}
-use Rattle.charts.specs.declared.statement.Mark.{Mark}
-use Rattle.charts.specs.declared.statement.Mark.TheVariants as mark
-use Rattle.print_rules.specs.declared.items.Figure.{Figure}
-use Rattle.print_rules.specs.declared.items.Item.{Item}
-use Rattle.chart_rules.specs.declared.rule.Rule.TheVariants as rule
-use Rattle.field_rules.specs.Fields.{fields_of}
-use Rattle.print_rules.specs.Items.{item_of, is_same_line}
-use Rattle.chart_rules.specs.Rules.{IsLawful}
-use Rattle.print_rules.specs.Wheels.{HasWheel, meet, overlap, clash, is_body, may_share, is_same_style, is_same_mark}
-use Rattle.chart_rules.proofs.Laws.{breaks-lawful}
+use Rattle.wiring_table.proofs.Below.charts.Listed.{Order, is_one, goes_before, goes_after, listed-first, listed-order, none-any}
+use Rattle.wiring_table.specs.Below.charts.Chart.{Chart}
+use Rattle.wiring_table.specs.Below.charts.declared.chart.Line.{Line}
+use Rattle.wiring_table.specs.Below.charts.declared.statement.Mark.{Mark}
+use Rattle.wiring_table.specs.Below.charts.declared.statement.Mark.TheVariants as mark
+use Rattle.wiring_table.specs.Below.print_rules.declared.items.Figure.{Figure}
+use Rattle.wiring_table.specs.Below.print_rules.declared.items.Item.{Item}
+use Rattle.wiring_table.specs.Below.chart_rules.declared.rule.Rule.TheVariants as rule
+use Rattle.wiring_table.specs.Below.field_rules.Fields.{fields_of}
+use Rattle.wiring_table.specs.Below.print_rules.Items.{item_of, is_same_line}
+use Rattle.wiring_table.specs.Below.chart_rules.Rules.{IsLawful}
+use Rattle.wiring_table.specs.Below.print_rules.Wheels.{HasWheel, meet, overlap, clash, is_body, may_share, is_same_style, is_same_mark}
+use Rattle.wiring_table.proofs.Below.chart_rules.Laws.{breaks-lawful}
 
 -- Two items agree where neither is an amount, or both are amounts with the same last wheel, decimals and mark.
 pub data Agree (one other : Item) : Type 0 where

@@ -1,15 +1,15 @@
 -- On the wheels of an amount its own jacks are plugged and no others, and on the wheels of a text none of zero control is.
 use Rattle.std.proofs.Common.{◌≡◌, ◌∙◌, ◌⊎◌, ◌↔◌, inl, inr, refl, sym, ap, ℕ, ◌+◌, ◌-◌, ◌<◌, ◌≤◌, nat_le, nat_lt, max, if◌then◌else◌, Bool, true, false, Contains, Some, None, arith}
 use Rattle.std.proofs.lemmas.Bool.Decides.{nat_tests}
-use Rattle.charts.specs.Chart.{Chart}
-use Rattle.charts.specs.declared.chart.Line.{Line}
-use Rattle.print_rules.specs.declared.items.Figure.{Figure}
-use Rattle.print_rules.specs.declared.items.Item.{Item}
-use Rattle.field_rules.specs.Fields.{fields_of}
-use Rattle.print_rules.specs.Items.{item_of, figure_item, figure_width, mark_width}
-use Rattle.chart_rules.specs.Rules.{IsLawful}
-use Rattle.print_rules.specs.Wheels.{HasWheel, is_body}
-use Rattle.hubs.specs.declared.jack.Jack.TheVariants as jack
+use Rattle.wiring_table.specs.Below.charts.Chart.{Chart}
+use Rattle.wiring_table.specs.Below.charts.declared.chart.Line.{Line}
+use Rattle.wiring_table.specs.Below.print_rules.declared.items.Figure.{Figure}
+use Rattle.wiring_table.specs.Below.print_rules.declared.items.Item.{Item}
+use Rattle.wiring_table.specs.Below.field_rules.Fields.{fields_of}
+use Rattle.wiring_table.specs.Below.print_rules.Items.{item_of, figure_item, figure_width, mark_width}
+use Rattle.wiring_table.specs.Below.chart_rules.Rules.{IsLawful}
+use Rattle.wiring_table.specs.Below.print_rules.Wheels.{HasWheel, is_body}
+use Rattle.print_unit.specs.Below.hubs.declared.jack.Jack.TheVariants as jack
 use Rattle.wiring_table.specs.Figures.{mark_wheel, free_digits}
 use Rattle.wiring_table.specs.Jacks.{ChartJack, HasFigure, link, suppress, symbol}
 use Rattle.printed_lines.specs.Shown.{HasJacksOf}

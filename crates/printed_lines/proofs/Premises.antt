@@ -1,18 +1,18 @@
 -- What the laws rest on, for those who use them: the totals of unsigned amounts, and the texts on total lines.
 use Rattle.std.proofs.Common.{◌≡◌, ◌∙◌, refl, sym, ap, ap₂, subst, ℕ, pos, ◌+ℤ◌, ◌+◌, false, List, [], ◌∷◌, Some, None}
 use Rattle.std.proofs.Math.IntN.{pos-+ℤ-pos}
-use Rattle.charts.specs.declared.statement.Field.{Field}
-use Rattle.charts.specs.declared.statement.FieldKind.{FieldKind}
-use Rattle.charts.specs.declared.statement.FieldKind.TheVariants as holds
-use Rattle.charts.specs.Field.{is_amount}
-use Rattle.chart_rules.specs.declared.rule.Rule.TheVariants as rule
-use Rattle.field_rules.specs.Fields.{fields_of, field_named}
-use Rattle.field_rules.specs.Names.{breaks_wrong_kind, names_amount}
-use Rattle.chart_rules.specs.ValidCard.{IsValidKind}
-use Rattle.chart_rules.proofs.Laws.{kept-line, text-valid}
-use Rattle.report.specs.Amounts.{is_negated, number_in, digits_on, signed}
-use Rattle.report.specs.Edits.{is_below_zero}
-use Rattle.report.specs.Totals.{total_of}
+use Rattle.wiring_table.specs.Below.charts.declared.statement.Field.{Field}
+use Rattle.wiring_table.specs.Below.charts.declared.statement.FieldKind.{FieldKind}
+use Rattle.wiring_table.specs.Below.charts.declared.statement.FieldKind.TheVariants as holds
+use Rattle.wiring_table.specs.Below.charts.Field.{is_amount}
+use Rattle.wiring_table.specs.Below.chart_rules.declared.rule.Rule.TheVariants as rule
+use Rattle.wiring_table.specs.Below.field_rules.Fields.{fields_of, field_named}
+use Rattle.wiring_table.specs.Below.field_rules.Names.{breaks_wrong_kind, names_amount}
+use Rattle.wiring_table.specs.Below.chart_rules.ValidCard.{IsValidKind}
+use Rattle.wiring_table.proofs.Below.chart_rules.Laws.{kept-line, text-valid}
+use Rattle.wiring_table.specs.Below.report.Amounts.{is_negated, number_in, digits_on, signed}
+use Rattle.wiring_table.specs.Below.report.Edits.{is_below_zero}
+use Rattle.wiring_table.specs.Below.report.Totals.{total_of}
 use Rattle.wiring_table.specs.Figures.{rule_of}
 use Rattle.printed_lines.specs.Laws.{UnsignedTotalsHaveNoSign, TotalTextsAreTexts}
 

@@ -1,18 +1,18 @@
 -- Wheel by wheel: what each wheel gives to its right neighbour, and that nothing is given to the first wheel of an amount.
 use Rattle.std.proofs.Common.{◌≡◌, ◌∙◌, ◌⊎◌, inl, inr, refl, sym, ap, ap₂, ℕ, zero, suc, pred, ◌+◌, ◌<◌, ◌≤◌, ◌&&◌, ◌||◌, Bool, true, false, ◌∷◌, map, length, Contains, Option, Some, arith}
 use Rattle.std.specs.List.{range_with_len}
-use Rattle.charts.specs.Chart.{Chart}
-use Rattle.charts.specs.declared.chart.Line.{Line}
-use Rattle.charts.specs.declared.statement.Statement.{Statement}
-use Rattle.print_rules.specs.declared.items.Figure.{Figure}
-use Rattle.print_rules.specs.declared.items.Item.{Item}
-use Rattle.print_rules.specs.declared.items.PrintedLine.{PrintedLine}
-use Rattle.field_rules.specs.Fields.{fields_of}
-use Rattle.print_rules.specs.Items.{item_of, figure_item, figure_width}
-use Rattle.chart_rules.specs.Rules.{IsLawful}
-use Rattle.print_rules.specs.Wheels.{HasWheel, is_body}
+use Rattle.wiring_table.specs.Below.charts.Chart.{Chart}
+use Rattle.wiring_table.specs.Below.charts.declared.chart.Line.{Line}
+use Rattle.wiring_table.specs.Below.charts.declared.statement.Statement.{Statement}
+use Rattle.wiring_table.specs.Below.print_rules.declared.items.Figure.{Figure}
+use Rattle.wiring_table.specs.Below.print_rules.declared.items.Item.{Item}
+use Rattle.wiring_table.specs.Below.print_rules.declared.items.PrintedLine.{PrintedLine}
+use Rattle.wiring_table.specs.Below.field_rules.Fields.{fields_of}
+use Rattle.wiring_table.specs.Below.print_rules.Items.{item_of, figure_item, figure_width}
+use Rattle.wiring_table.specs.Below.chart_rules.Rules.{IsLawful}
+use Rattle.wiring_table.specs.Below.print_rules.Wheels.{HasWheel, is_body}
 use Rattle.wiring_table.specs.Jacks.{ChartJack}
-use Rattle.hubs.specs.declared.jack.Jack.TheVariants as jack
+use Rattle.print_unit.specs.Below.hubs.declared.jack.Jack.TheVariants as jack
 use Rattle.print_unit.specs.ZeroControl.{is_figure, shown, printed_from}
 use Rattle.printed_lines.specs.Shown.{Shown, HasJacksOf, wheel_with, wheel_of_shown, sets_of}
 use Rattle.printed_lines.proofs.Characters.{received, blank-figure}

@@ -4,16 +4,16 @@ use Rattle.std.specs.List.{list_all, range_with_len}
 use Rattle.std.proofs.lemmas.List.{length-map}
 use Rattle.std.proofs.lemmas.List.FromFn.{length-map-range_with_len}
 use Rattle.std.proofs.lemmas.Bool.{and_parts}
-use Rattle.card_code.specs.CardCode.{deck_character, print_character}
-use Rattle.charts.specs.Field.{columns_of}
-use Rattle.charts.specs.Literal.{is_printable}
-use Rattle.charts.specs.declared.statement.Field.{Field}
-use Rattle.print_rules.specs.declared.items.Figure.{Figure}
-use Rattle.print_rules.specs.declared.items.PrintedLine.{PrintedLine}
-use Rattle.print_rules.specs.Items.{text_item, figure_item}
-use Rattle.chart_rules.specs.ValidCard.{column_of, is_printed}
+use Rattle.print_unit.specs.Below.card_code.CardCode.{deck_character, print_character}
+use Rattle.wiring_table.specs.Below.charts.Field.{columns_of}
+use Rattle.wiring_table.specs.Below.charts.Literal.{is_printable}
+use Rattle.wiring_table.specs.Below.charts.declared.statement.Field.{Field}
+use Rattle.wiring_table.specs.Below.print_rules.declared.items.Figure.{Figure}
+use Rattle.wiring_table.specs.Below.print_rules.declared.items.PrintedLine.{PrintedLine}
+use Rattle.wiring_table.specs.Below.print_rules.Items.{text_item, figure_item}
+use Rattle.wiring_table.specs.Below.chart_rules.ValidCard.{column_of, is_printed}
 use Rattle.print_unit.specs.ZeroControl.{character_of}
-use Rattle.report.specs.Amounts.{columns_in}
+use Rattle.wiring_table.specs.Below.report.Amounts.{columns_in}
 use Rattle.printed_lines.specs.Shown.{Characters, Amount, set_of_character}
 use Rattle.printed_lines.proofs.Characters.{received, prints-set, prints-literal}
 use Rattle.printed_lines.proofs.ItemText.{amount-width}

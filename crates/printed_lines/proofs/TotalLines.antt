@@ -2,32 +2,32 @@
 use Rattle.std.proofs.Common.{◌≡◌, ◌∙◌, refl, ap, subst, ℕ, ◌==◌, if◌then◌else◌, Bool, true, false, List, length, map, Contains, Option, Some, None, option_map, arith}
 use Rattle.std.proofs.lemmas.Bool.{not-false}
 use Rattle.std.proofs.lemmas.Bool.Decides.{nat_tests}
-use Rattle.charts.specs.Chart.{Chart}
-use Rattle.charts.specs.Field.{columns_of, decimals_of, is_amount}
-use Rattle.charts.specs.Levels.{level_number}
-use Rattle.charts.specs.Literals.{HaveLiteralTexts, literal_in}
-use Rattle.charts.specs.declared.chart.Line.{Line}
-use Rattle.charts.specs.declared.level.Level.{Level}
-use Rattle.charts.specs.declared.statement.BodyLine.TheVariants as body
-use Rattle.charts.specs.declared.statement.Field.{Field}
-use Rattle.charts.specs.declared.statement.Mark.{Mark}
-use Rattle.charts.specs.declared.statement.Statement.{Statement}
-use Rattle.charts.specs.declared.statement.Statement.TheVariants as says
-use Rattle.print_rules.specs.declared.items.Figure.{Figure}
-use Rattle.print_rules.specs.declared.items.PrintedLine.{PrintedLine}
-use Rattle.print_rules.specs.declared.items.PrintedLine.TheVariants.{Heading, Body}
-use Rattle.chart_rules.specs.declared.rule.Rule.TheVariants as rule
-use Rattle.field_rules.specs.Fields.{fields_of, field_named}
-use Rattle.print_rules.specs.Items.{is_same_line, text_item, total_item}
-use Rattle.field_rules.specs.Names.{breaks_wrong_kind, names_text}
-use Rattle.chart_rules.specs.Rules.{IsLawful}
-use Rattle.chart_rules.specs.ValidCard.{column_of}
-use Rattle.print_rules.specs.Wheels.{is_body}
-use Rattle.chart_rules.proofs.Laws.{good-field, kept-line}
-use Rattle.report.specs.Amounts.{columns_in}
-use Rattle.report.specs.BodyLines.{piece_at, total_piece, text_on, a_card_of}
-use Rattle.report.specs.Edits.{last_digits, edited}
-use Rattle.report.specs.Totals.{total_of}
+use Rattle.wiring_table.specs.Below.charts.Chart.{Chart}
+use Rattle.wiring_table.specs.Below.charts.Field.{columns_of, decimals_of, is_amount}
+use Rattle.wiring_table.specs.Below.charts.Levels.{level_number}
+use Rattle.wiring_table.specs.Below.charts.Literals.{HaveLiteralTexts, literal_in}
+use Rattle.wiring_table.specs.Below.charts.declared.chart.Line.{Line}
+use Rattle.wiring_table.specs.Below.charts.declared.level.Level.{Level}
+use Rattle.wiring_table.specs.Below.charts.declared.statement.BodyLine.TheVariants as body
+use Rattle.wiring_table.specs.Below.charts.declared.statement.Field.{Field}
+use Rattle.wiring_table.specs.Below.charts.declared.statement.Mark.{Mark}
+use Rattle.wiring_table.specs.Below.charts.declared.statement.Statement.{Statement}
+use Rattle.wiring_table.specs.Below.charts.declared.statement.Statement.TheVariants as says
+use Rattle.wiring_table.specs.Below.print_rules.declared.items.Figure.{Figure}
+use Rattle.wiring_table.specs.Below.print_rules.declared.items.PrintedLine.{PrintedLine}
+use Rattle.wiring_table.specs.Below.print_rules.declared.items.PrintedLine.TheVariants.{Heading, Body}
+use Rattle.wiring_table.specs.Below.chart_rules.declared.rule.Rule.TheVariants as rule
+use Rattle.wiring_table.specs.Below.field_rules.Fields.{fields_of, field_named}
+use Rattle.wiring_table.specs.Below.print_rules.Items.{is_same_line, text_item, total_item}
+use Rattle.wiring_table.specs.Below.field_rules.Names.{breaks_wrong_kind, names_text}
+use Rattle.wiring_table.specs.Below.chart_rules.Rules.{IsLawful}
+use Rattle.wiring_table.specs.Below.chart_rules.ValidCard.{column_of}
+use Rattle.wiring_table.specs.Below.print_rules.Wheels.{is_body}
+use Rattle.wiring_table.proofs.Below.chart_rules.Laws.{good-field, kept-line}
+use Rattle.wiring_table.specs.Below.report.Amounts.{columns_in}
+use Rattle.wiring_table.specs.Below.report.BodyLines.{piece_at, total_piece, text_on, a_card_of}
+use Rattle.wiring_table.specs.Below.report.Edits.{last_digits, edited}
+use Rattle.wiring_table.specs.Below.report.Totals.{total_of}
 use Rattle.wiring_table.specs.Figures.{on_total, total_emitter}
 use Rattle.printed_lines.specs.Held.{HoldsLine}
 use Rattle.printed_lines.specs.Laws.{TotalLinesPrint}

@@ -1,16 +1,16 @@
 -- What a total line rests on: what the totals and the storage units hold when a group ends.
 use Rattle.std.specs.Prelude.{◌≡◌, ℕ, ℤ, ◌<◌, ◌^◌, true, false, List, Contains, Option, Some, is_some, unsigned_abs}
-use Rattle.charts.specs.Levels.{level_number}
-use Rattle.charts.specs.declared.chart.Line.{Line}
-use Rattle.charts.specs.declared.level.Level.{Level}
-use Rattle.charts.specs.declared.statement.Field.{Field}
-use Rattle.charts.specs.declared.statement.Mark.{Mark}
-use Rattle.charts.specs.declared.statement.Statement.TheVariants as says
-use Rattle.field_rules.specs.Fields.{field_named}
-use Rattle.chart_rules.specs.ValidCard.{EachColumn, IsText, column_of}
-use Rattle.report.specs.BodyLines.{a_card_of}
-use Rattle.report.specs.Edits.{is_below_zero}
-use Rattle.report.specs.Totals.{total_of}
+use Rattle.wiring_table.specs.Below.charts.Levels.{level_number}
+use Rattle.wiring_table.specs.Below.charts.declared.chart.Line.{Line}
+use Rattle.wiring_table.specs.Below.charts.declared.level.Level.{Level}
+use Rattle.wiring_table.specs.Below.charts.declared.statement.Field.{Field}
+use Rattle.wiring_table.specs.Below.charts.declared.statement.Mark.{Mark}
+use Rattle.wiring_table.specs.Below.charts.declared.statement.Statement.TheVariants as says
+use Rattle.wiring_table.specs.Below.field_rules.Fields.{field_named}
+use Rattle.wiring_table.specs.Below.chart_rules.ValidCard.{EachColumn, IsText, column_of}
+use Rattle.wiring_table.specs.Below.report.BodyLines.{a_card_of}
+use Rattle.wiring_table.specs.Below.report.Edits.{is_below_zero}
+use Rattle.wiring_table.specs.Below.report.Totals.{total_of}
 use Rattle.printed_lines.specs.Shown.{Printed}
 
 -- What is held of a total prints it in so many digits: the total fits, the figure is its size, and where it has a mark the balance

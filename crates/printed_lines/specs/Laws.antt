@@ -1,19 +1,19 @@
 -- The laws of printed lines: what the items of a lawful chart send to their wheels prints as the lines of its reports.
 use Rattle.std.specs.Prelude.{◌≡◌, ℕ, ◌+◌, ◌-◌, ◌<◌, ◌≤◌, Bool, true, false, List, Contains, Option, Some, None, length, slice_index_or}
-use Rattle.charts.specs.Chart.{Chart}
-use Rattle.charts.specs.Literals.{HaveLiteralTexts}
-use Rattle.charts.specs.declared.chart.Line.{Line}
-use Rattle.charts.specs.declared.level.Level.{Level}
-use Rattle.charts.specs.declared.statement.Field.{Field}
-use Rattle.charts.specs.declared.statement.Statement.{Statement}
-use Rattle.charts.specs.declared.statement.Statement.TheVariants as says
-use Rattle.field_rules.specs.Fields.{field_named}
-use Rattle.chart_rules.specs.Rules.{IsLawful}
-use Rattle.chart_rules.specs.ValidCard.{IsText, IsValidCard}
+use Rattle.wiring_table.specs.Below.charts.Chart.{Chart}
+use Rattle.wiring_table.specs.Below.charts.Literals.{HaveLiteralTexts}
+use Rattle.wiring_table.specs.Below.charts.declared.chart.Line.{Line}
+use Rattle.wiring_table.specs.Below.charts.declared.level.Level.{Level}
+use Rattle.wiring_table.specs.Below.charts.declared.statement.Field.{Field}
+use Rattle.wiring_table.specs.Below.charts.declared.statement.Statement.{Statement}
+use Rattle.wiring_table.specs.Below.charts.declared.statement.Statement.TheVariants as says
+use Rattle.wiring_table.specs.Below.field_rules.Fields.{field_named}
+use Rattle.wiring_table.specs.Below.chart_rules.Rules.{IsLawful}
+use Rattle.wiring_table.specs.Below.chart_rules.ValidCard.{IsText, IsValidCard}
 use Rattle.print_unit.specs.ZeroControl.{printed_line}
-use Rattle.report.specs.BodyLines.{card_line, total_line, heading_line}
-use Rattle.report.specs.Edits.{is_below_zero}
-use Rattle.report.specs.Totals.{total_of}
+use Rattle.wiring_table.specs.Below.report.BodyLines.{card_line, total_line, heading_line}
+use Rattle.wiring_table.specs.Below.report.Edits.{is_below_zero}
+use Rattle.wiring_table.specs.Below.report.Totals.{total_of}
 use Rattle.wiring_table.specs.Figures.{rule_of}
 use Rattle.printed_lines.specs.Held.{HoldsLine}
 use Rattle.printed_lines.specs.Shown.{Shown, Printed, HasJacksOf, wheel_of_shown, sets_of, set_on, sent_to_card, sent_to_total, sent_to_heading, card_sends, total_sends, heading_sends, wheels_with}

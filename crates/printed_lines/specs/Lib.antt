@@ -1,3 +1,4 @@
+pub mod Below
 pub mod Shown
 pub mod Held
 pub mod Laws

@@ -2,27 +2,27 @@
 -- that. Sets of rows are numbers, as the card code has them.
 use Rattle.std.specs.Prelude.{◌≡◌, ◌↔◌, ℕ, ◌+◌, ◌-◌, ◌==◌, ◌≤◌, ◌&&◌, nat_le, nat_lt, zero, suc, Bool, true, List, [], ◌∷◌, ◌++◌, Option, Some, None, map, take, drop, length, option_map, slice_index_or, if◌then◌else◌}
 use Rattle.std.specs.List.{filter_map, range_with_len}
-use Rattle.card_code.specs.CardCode.{has_row, rows_of}
-use Rattle.card_code.specs.Rows.{row_number, rows}
-use Rattle.field_rules.specs.Fields.{field_named}
-use Rattle.print_rules.specs.Items.{mark_shown}
-use Rattle.chart_rules.specs.ValidCard.{column_of}
-use Rattle.print_rules.specs.declared.items.Figure.{Figure}
-use Rattle.charts.specs.Field.{columns_of, decimals_of}
-use Rattle.charts.specs.Headings.{heading_number}
-use Rattle.charts.specs.Levels.{level_number}
-use Rattle.charts.specs.declared.chart.Line.{Line}
-use Rattle.charts.specs.declared.statement.Field.{Field}
-use Rattle.charts.specs.declared.statement.FieldKind.{FieldKind}
-use Rattle.charts.specs.declared.statement.FieldKind.TheVariants as holds
-use Rattle.charts.specs.declared.statement.Mark.{Mark}
-use Rattle.charts.specs.declared.statement.Statement.{Statement}
-use Rattle.charts.specs.declared.statement.Statement.TheVariants as says
-use Rattle.hubs.specs.declared.jack.Jack.TheVariants as jack
+use Rattle.print_unit.specs.Below.card_code.CardCode.{has_row, rows_of}
+use Rattle.print_unit.specs.Below.card_code.Rows.{row_number, rows}
+use Rattle.wiring_table.specs.Below.field_rules.Fields.{field_named}
+use Rattle.wiring_table.specs.Below.print_rules.Items.{mark_shown}
+use Rattle.wiring_table.specs.Below.chart_rules.ValidCard.{column_of}
+use Rattle.wiring_table.specs.Below.print_rules.declared.items.Figure.{Figure}
+use Rattle.wiring_table.specs.Below.charts.Field.{columns_of, decimals_of}
+use Rattle.wiring_table.specs.Below.charts.Headings.{heading_number}
+use Rattle.wiring_table.specs.Below.charts.Levels.{level_number}
+use Rattle.wiring_table.specs.Below.charts.declared.chart.Line.{Line}
+use Rattle.wiring_table.specs.Below.charts.declared.statement.Field.{Field}
+use Rattle.wiring_table.specs.Below.charts.declared.statement.FieldKind.{FieldKind}
+use Rattle.wiring_table.specs.Below.charts.declared.statement.FieldKind.TheVariants as holds
+use Rattle.wiring_table.specs.Below.charts.declared.statement.Mark.{Mark}
+use Rattle.wiring_table.specs.Below.charts.declared.statement.Statement.{Statement}
+use Rattle.wiring_table.specs.Below.charts.declared.statement.Statement.TheVariants as says
+use Rattle.print_unit.specs.Below.hubs.declared.jack.Jack.TheVariants as jack
 use Rattle.print_unit.specs.ZeroControl.{Wheel}
-use Rattle.report.specs.Amounts.{columns_in, digits_on, is_negated}
-use Rattle.report.specs.BodyLines.{is_shown}
-use Rattle.report.specs.Edits.{last_digits, mark_text}
+use Rattle.wiring_table.specs.Below.report.Amounts.{columns_in, digits_on, is_negated}
+use Rattle.wiring_table.specs.Below.report.BodyLines.{is_shown}
+use Rattle.wiring_table.specs.Below.report.Edits.{last_digits, mark_text}
 use Rattle.wiring_table.specs.Jacks.{ChartJack}
 
 -- What an item sends. Characters: the set of rows of each of its wheels, from its first wheel on. An amount: the digits of its positions

@@ -1,10 +1,10 @@
 -- What the carriage is asked for in a cycle.
 use Rattle.std.proofs.Common.{ℕ, Option, Some, None}
-use Rattle.carriage.specs.Asked.{nothing_asked}
-use Rattle.carriage.specs.declared.asked.Asked.{Asked}
-use Rattle.charts.specs.Chart.{Chart}
-use Rattle.net.specs.declared.cycle.Cycle.{Cycle}
-use Rattle.line_places.specs.Placing.{asked_of, kind_of}
+use Rattle.panel_cycles.specs.Below.carriage.Asked.{nothing_asked}
+use Rattle.panel_cycles.specs.Below.carriage.declared.asked.Asked.{Asked}
+use Rattle.decks.specs.Below.charts.Chart.{Chart}
+use Rattle.panel_cycles.specs.Below.net.declared.cycle.Cycle.{Cycle}
+use Rattle.panel_cycles.specs.Below.line_places.Placing.{asked_of, kind_of}
 
 -- what the carriage is asked for where a kind of body line prints, or none
 abbrev pub asked_for : Chart → Option ℕ → Asked

@@ -1,18 +1,18 @@
 -- Decks whose totals don't all fit: the feeds up to a card are those of a machine that goes by cards, so their lines are the report's.
 use Rattle.std.proofs.Common.{ℕ, List, [], ◌∷◌}
-use Rattle.placed_lines.specs.declared.placed_line.PlacedLine.{PlacedLine}
-use Rattle.charts.specs.Chart.{Chart}
+use Rattle.decks.specs.Below.placed_lines.declared.placed_line.PlacedLine.{PlacedLine}
+use Rattle.decks.specs.Below.charts.Chart.{Chart}
 use Rattle.decks.proofs.Running.{feeds_begin_reports}
 use Rattle.decks.specs.Runner.{HasFedCards}
 use Rattle.decks.specs.Stands.{Stand}
-use Rattle.setups.specs.Wiring.{Wiring}
-use Rattle.machine.specs.Feeds.{FedLines}
-use Rattle.machine.specs.Machine.{MachineState, machine_at_start}
+use Rattle.panel_cycles.specs.Below.setups.Wiring.{Wiring}
+use Rattle.panel_cycles.specs.Below.machine.Feeds.{FedLines}
+use Rattle.panel_cycles.specs.Below.machine.Machine.{MachineState, machine_at_start}
 use Rattle.printed_reports.specs.Content.{Waits}
 use Rattle.printed_reports.proofs.Instance.{machine_goes}
 use Rattle.printed_reports.proofs.Runs.{goes_by_cards, runner}
 use Rattle.printed_reports.specs.Begun.{MachinesBeginReports}
-use Rattle.chart_rules.specs.ValidCard.{IsValidCard}
+use Rattle.decks.specs.Below.chart_rules.ValidCard.{IsValidCard}
 
 -- feeds of cards are those of a machine that goes by cards
 cards-fed :

@@ -1,20 +1,20 @@
 -- A body line in a feed: the cycle that prints it places it where the report does, or, where its kind is not printed, places nothing.
 use Rattle.std.proofs.Common.{◌≡◌, ◌∙◌, refl, sym, ap, subst, ℕ, Bool, true, false, List, [], ◌∷◌, ◌++◌, Option, Some, if◌then◌else◌}
-use Rattle.placed_lines.specs.declared.placed_line.PlacedLine.{PlacedLine}
-use Rattle.chart_rules.specs.Rules.{IsLawful}
-use Rattle.charts.specs.Chart.{Chart}
+use Rattle.decks.specs.Below.placed_lines.declared.placed_line.PlacedLine.{PlacedLine}
+use Rattle.decks.specs.Below.chart_rules.Rules.{IsLawful}
+use Rattle.decks.specs.Below.charts.Chart.{Chart}
 use Rattle.decks.specs.Left.{left_after}
-use Rattle.setups.specs.Wiring.{Wiring}
-use Rattle.machine.specs.Cycles.{CycleRun, line_of}
-use Rattle.machine.specs.Feeds.{due_in, taken}
-use Rattle.machine.specs.Machine.{MachineState}
-use Rattle.net.specs.declared.cycle.Cycle.{Cycle}
-use Rattle.line_places.proofs.BodyLines.{body-placed}
-use Rattle.line_places.proofs.UnprintedKinds.{unprinted-stays}
-use Rattle.line_places.specs.CarriageCycles.{carriage_after, line_at}
-use Rattle.line_places.specs.FormFacts.{HasGoodForm}
-use Rattle.line_places.specs.Placing.{IsCarriageOf, IsAt, asked_of, kind_of, prints_kind}
-use Rattle.report.specs.Places.{BodyText, Left, page_of, line_below, left_by, headed, placed}
+use Rattle.panel_cycles.specs.Below.setups.Wiring.{Wiring}
+use Rattle.panel_cycles.specs.Below.machine.Cycles.{CycleRun, line_of}
+use Rattle.panel_cycles.specs.Below.machine.Feeds.{due_in, taken}
+use Rattle.panel_cycles.specs.Below.machine.Machine.{MachineState}
+use Rattle.panel_cycles.specs.Below.net.declared.cycle.Cycle.{Cycle}
+use Rattle.panel_cycles.proofs.Below.line_places.BodyLines.{body-placed}
+use Rattle.panel_cycles.proofs.Below.line_places.UnprintedKinds.{unprinted-stays}
+use Rattle.panel_cycles.specs.Below.line_places.CarriageCycles.{carriage_after, line_at}
+use Rattle.panel_cycles.specs.Below.line_places.FormFacts.{HasGoodForm}
+use Rattle.panel_cycles.specs.Below.line_places.Placing.{IsCarriageOf, IsAt, asked_of, kind_of, prints_kind}
+use Rattle.decks.specs.Below.report.Places.{BodyText, Left, page_of, line_below, left_by, headed, placed}
 use Rattle.printed_reports.proofs.Headings.{IsReadyFor}
 use Rattle.printed_reports.proofs.Steps.{fed_with, GoesFrom, stepped}
 

@@ -1,20 +1,20 @@
 -- What is known of the cycles of a machine that is wired for a chart, cycle by cycle.
 use Rattle.std.proofs.Common.{◌≡◌, ℕ, ◌≤◌, ◌<◌, ◌^◌, true, false, List, unsigned_abs}
-use Rattle.counter_cycles.specs.Acts.{Held}
-use Rattle.plans.specs.Plans.{Lists}
-use Rattle.charts.specs.Chart.{Chart}
-use Rattle.charts.specs.declared.statement.Field.{Field}
-use Rattle.setups.specs.Wiring.{Wiring}
+use Rattle.panel_cycles.specs.Below.counter_cycles.Acts.{Held}
+use Rattle.panel_cycles.specs.Below.plans.Plans.{Lists}
+use Rattle.decks.specs.Below.charts.Chart.{Chart}
+use Rattle.decks.specs.Below.charts.declared.statement.Field.{Field}
+use Rattle.panel_cycles.specs.Below.setups.Wiring.{Wiring}
 use Rattle.panel_cycles.specs.ChartAmounts.{amount_of}
-use Rattle.wired_panels.specs.PanelCycles.{IsCardRead}
-use Rattle.machine.specs.Machine.{MachineState}
-use Rattle.net.specs.declared.cycle.Cycle.{Cycle}
-use Rattle.net.specs.declared.cycle.Cycle.TheVariants.{RunIn, Card, Prog, Head}
-use Rattle.line_places.specs.CarriageCycles.{carriage_after}
-use Rattle.report.specs.Edits.{is_below_zero}
-use Rattle.report.specs.Totals.{total_of}
-use Rattle.selectors.specs.Indicate.{indicate_ended}
-use Rattle.whole_cycles.specs.Between.{IsReady}
+use Rattle.panel_cycles.specs.Below.wired_panels.PanelCycles.{IsCardRead}
+use Rattle.panel_cycles.specs.Below.machine.Machine.{MachineState}
+use Rattle.panel_cycles.specs.Below.net.declared.cycle.Cycle.{Cycle}
+use Rattle.panel_cycles.specs.Below.net.declared.cycle.Cycle.TheVariants.{RunIn, Card, Prog, Head}
+use Rattle.panel_cycles.specs.Below.line_places.CarriageCycles.{carriage_after}
+use Rattle.decks.specs.Below.report.Edits.{is_below_zero}
+use Rattle.decks.specs.Below.report.Totals.{total_of}
+use Rattle.panel_cycles.specs.Below.selectors.Indicate.{indicate_ended}
+use Rattle.panel_cycles.specs.Below.whole_cycles.Between.{IsReady}
 use Rattle.printed_reports.proofs.Asked.{asked_in}
 
 -- A cycle leaves the machine ready and the cards where they were, and the carriage was asked for what the chart asks in it.

@@ -1,29 +1,29 @@
 -- What the rules of a chart say of its amounts, and what the totals hold before the first card.
 use Rattle.std.proofs.Common.{◌≡◌, ◌∙◌, refl, sym, ap, subst, ℕ, zero, suc, ◌-◌, ◌<◌, ◌^◌, true, false, List, [], ◌∷◌, Option, Some, None, map, replicate, slice_index_or, is_some, arith, unsigned_abs, ◌+◌, ◌*◌}
-use Rattle.wanted.specs.ChartTotals.{names_signed}
-use Rattle.plans.specs.Plans.{Lists}
-use Rattle.field_rules.proofs.Places.{is_same_name-equal}
-use Rattle.field_rules.specs.Fields.{field_named}
-use Rattle.chart_rules.specs.Rules.{IsLawful}
-use Rattle.charts.specs.Chart.{Chart}
-use Rattle.charts.specs.Field.{sign_column}
-use Rattle.charts.specs.declared.statement.Field.{Field}
-use Rattle.charts.specs.declared.statement.FieldKind.{FieldKind}
-use Rattle.charts.specs.declared.statement.FieldKind.TheVariants as holds
-use Rattle.counters.specs.Counters.{Counter, counter_at_start}
-use Rattle.counters.specs.Numbers.{number}
-use Rattle.setups.specs.Wiring.{Wiring}
-use Rattle.plans.specs.declared.counter.TotalCounter.{TotalCounter}
-use Rattle.plans.specs.declared.counter.TotalCounter.TheVariants as of
-use Rattle.wiring_table.specs.Parts.{panel_group}
+use Rattle.panel_cycles.specs.Below.wanted.ChartTotals.{names_signed}
+use Rattle.panel_cycles.specs.Below.plans.Plans.{Lists}
+use Rattle.panel_cycles.proofs.Below.field_rules.Places.{is_same_name-equal}
+use Rattle.panel_cycles.specs.Below.field_rules.Fields.{field_named}
+use Rattle.decks.specs.Below.chart_rules.Rules.{IsLawful}
+use Rattle.decks.specs.Below.charts.Chart.{Chart}
+use Rattle.decks.specs.Below.charts.Field.{sign_column}
+use Rattle.decks.specs.Below.charts.declared.statement.Field.{Field}
+use Rattle.decks.specs.Below.charts.declared.statement.FieldKind.{FieldKind}
+use Rattle.decks.specs.Below.charts.declared.statement.FieldKind.TheVariants as holds
+use Rattle.panel_cycles.specs.Below.counters.Counters.{Counter, counter_at_start}
+use Rattle.panel_cycles.specs.Below.counters.Numbers.{number}
+use Rattle.panel_cycles.specs.Below.setups.Wiring.{Wiring}
+use Rattle.panel_cycles.specs.Below.plans.declared.counter.TotalCounter.{TotalCounter}
+use Rattle.panel_cycles.specs.Below.plans.declared.counter.TotalCounter.TheVariants as of
+use Rattle.panel_cycles.specs.Below.wiring_table.Parts.{panel_group}
 use Rattle.panel_cycles.proofs.AmountFacts.{digits_are, has_from}
 use Rattle.panel_cycles.specs.ChartAmounts.{amount_of, total_counter}
 use Rattle.panel_cycles.specs.CounterStates.{held_in}
-use Rattle.machine.specs.Machine.{group_units, machine_at_start}
-use Rattle.net.specs.Panel.{unit_of}
-use Rattle.report.specs.Amounts.{is_negated}
-use Rattle.report.specs.Totals.{GroupFits, total_of}
-use Rattle.wiring_table.specs.Figures.{IsAmount}
+use Rattle.panel_cycles.specs.Below.machine.Machine.{group_units, machine_at_start}
+use Rattle.panel_cycles.specs.Below.net.Panel.{unit_of}
+use Rattle.decks.specs.Below.report.Amounts.{is_negated}
+use Rattle.decks.specs.Below.report.Totals.{GroupFits, total_of}
+use Rattle.panel_cycles.specs.Below.wiring_table.Figures.{IsAmount}
 use Rattle.printed_reports.specs.Content.{held}
 
 -- an amount without a sign rule is never negated

@@ -1,63 +1,63 @@
 -- What a cycle leaves of the totals of an amount: each holds what its act makes of what it held.
 use Rattle.std.proofs.Common.{◌≡◌, ◌∙◌, refl, sym, ap, subst, ℕ, ◌≤◌, Bool, true, false, List, Contains, Option, Some, None, is_some, option_and_then, if◌then◌else◌, arith, ◌+◌, ◌*◌, ◌^◌, length, inl, inr}
 use Rattle.std.proofs.lemmas.List.Elements.{All-contains}
-use Rattle.counter_cycles.proofs.ActLemmas.{acts-done}
-use Rattle.counter_cycles.specs.Acts.{Act, Asks, Held, IsWithinGroup, held_after, held_by}
-use Rattle.counter_cycles.specs.Acts.Act.{Still}
-use Rattle.plans.specs.Plans.{Lists}
-use Rattle.charts.specs.Chart.{Chart, NumbersRise}
-use Rattle.charts.specs.Levels.{level_number}
-use Rattle.charts.specs.declared.chart.Line.{Line}
-use Rattle.charts.specs.declared.level.Level.{Level as ChartLevel}
-use Rattle.charts.specs.declared.level.Level.TheVariants as chart_level
-use Rattle.charts.specs.declared.statement.Field.{Field}
-use Rattle.counters.specs.Counters.{Counter, wheels_in}
-use Rattle.counters.specs.Numbers.{number}
-use Rattle.counters.specs.Rings.{CarryThrough, IsFedAlone}
-use Rattle.counters.specs.WholeCycles.{ComesRound, after_cycle, after_its_points}
-use Rattle.setups.specs.Wiring.{LeadsToEntries, Wiring, is_wired}
-use Rattle.hubs.specs.declared.hub.Group.{Group}
-use Rattle.hubs.specs.declared.hub.Hub.TheVariants.{CO, CI}
+use Rattle.panel_cycles.proofs.Below.counter_cycles.ActLemmas.{acts-done}
+use Rattle.panel_cycles.specs.Below.counter_cycles.Acts.{Act, Asks, Held, IsWithinGroup, held_after, held_by}
+use Rattle.panel_cycles.specs.Below.counter_cycles.Acts.Act.{Still}
+use Rattle.panel_cycles.specs.Below.plans.Plans.{Lists}
+use Rattle.decks.specs.Below.charts.Chart.{Chart, NumbersRise}
+use Rattle.decks.specs.Below.charts.Levels.{level_number}
+use Rattle.decks.specs.Below.charts.declared.chart.Line.{Line}
+use Rattle.decks.specs.Below.charts.declared.level.Level.{Level as ChartLevel}
+use Rattle.decks.specs.Below.charts.declared.level.Level.TheVariants as chart_level
+use Rattle.decks.specs.Below.charts.declared.statement.Field.{Field}
+use Rattle.panel_cycles.specs.Below.counters.Counters.{Counter, wheels_in}
+use Rattle.panel_cycles.specs.Below.counters.Numbers.{number}
+use Rattle.panel_cycles.specs.Below.counters.Rings.{CarryThrough, IsFedAlone}
+use Rattle.panel_cycles.specs.Below.counters.WholeCycles.{ComesRound, after_cycle, after_its_points}
+use Rattle.panel_cycles.specs.Below.setups.Wiring.{LeadsToEntries, Wiring, is_wired}
+use Rattle.panel_cycles.specs.Below.hubs.declared.hub.Group.{Group}
+use Rattle.panel_cycles.specs.Below.hubs.declared.hub.Hub.TheVariants.{CO, CI}
 use Rattle.panel_cycles.proofs.AmountFacts.{counter_at, has_from}
 use Rattle.panel_cycles.proofs.Counters.{held_at}
 use Rattle.panel_cycles.proofs.CounterAsks.{asks_card, asks_heading, asks_run_in, asks_step}
 use Rattle.panel_cycles.proofs.AmountsLawful.{lawful_amount}
 use Rattle.panel_cycles.proofs.Rings.{fed_lower, fed_single, fed_upper, goes_through, ring_pair, ring_single}
 use Rattle.panel_cycles.proofs.WheelRowsUnits.{group-own}
-use Rattle.wired_panels.proofs.Ways.{leads}
-use Rattle.wired_panels.proofs.CounterUnits.{at_unit, counter_there, planned_unit}
-use Rattle.wired_panels.proofs.AfterCycles.{cycle-of}
+use Rattle.panel_cycles.proofs.Below.wired_panels.Ways.{leads}
+use Rattle.panel_cycles.proofs.Below.wired_panels.CounterUnits.{at_unit, counter_there, planned_unit}
+use Rattle.panel_cycles.proofs.Below.wired_panels.AfterCycles.{cycle-of}
 use Rattle.panel_cycles.specs.ChartAmounts.{amount_of, positions_of, total_counter, total_line}
 use Rattle.panel_cycles.specs.CounterStates.{AsksCounter, held_in, number_at}
-use Rattle.wired_panels.proofs.Contacts.{is_set}
-use Rattle.wired_panels.specs.Groups.{IsCounterOf}
-use Rattle.wanted.specs.ChartTotals.{names_signed}
-use Rattle.field_rules.specs.Fields.{field_named}
-use Rattle.plans.specs.declared.counter.TotalCounter.{TotalCounter}
-use Rattle.plans.specs.declared.counter.TotalCounter.TheVariants as of
-use Rattle.counter_cycles.proofs.PairLemmas.{pairs-done}
-use Rattle.counter_cycles.specs.Pairs.{AsksBoth, held_by_both}
-use Rattle.counters.specs.Laws.{IsCounter, number_of_both}
-use Rattle.net.specs.declared.cycle.Point.{Point}
-use Rattle.net.specs.declared.cycle.Point.TheVariants.{K}
-use Rattle.hubs.specs.declared.hub.Hub.{Hub}
-use Rattle.wiring_table.proofs.Groups.{counter-given}
-use Rattle.charts.proofs.Listed.{listed-map}
-use Rattle.wired_panels.specs.Panel.{IsPanel}
-use Rattle.machine.specs.Cycles.{CycleRun}
-use Rattle.machine.specs.Machine.{MachineState}
-use Rattle.net.specs.Panel.{unit_of}
-use Rattle.net.specs.declared.cycle.Cycle.{Cycle}
-use Rattle.net.specs.declared.cycle.Cycle.TheVariants.{RunIn, Card, Prog, Head}
-use Rattle.totals.proofs.Passing.{have_room}
-use Rattle.totals.specs.Amounts.{IsSmall, act_of, state_after, total_act}
-use Rattle.whole_cycles.proofs.Carries.{carries-come}
-use Rattle.whole_cycles.proofs.Ready.{machines-ready}
-use Rattle.whole_cycles.specs.Between.{IsBetween, IsIdle, IsReady}
-use Rattle.whole_cycles.specs.Units.{group_at}
-use Rattle.whole_cycles.specs.WholeCycles.{WholeCycle}
-use Rattle.wiring_table.specs.Figures.{IsAmount}
-use Rattle.wiring_table.specs.Parts.{counter_for, panel_group}
+use Rattle.panel_cycles.proofs.Below.wired_panels.Contacts.{is_set}
+use Rattle.panel_cycles.specs.Below.wired_panels.Groups.{IsCounterOf}
+use Rattle.panel_cycles.specs.Below.wanted.ChartTotals.{names_signed}
+use Rattle.panel_cycles.specs.Below.field_rules.Fields.{field_named}
+use Rattle.panel_cycles.specs.Below.plans.declared.counter.TotalCounter.{TotalCounter}
+use Rattle.panel_cycles.specs.Below.plans.declared.counter.TotalCounter.TheVariants as of
+use Rattle.panel_cycles.proofs.Below.counter_cycles.PairLemmas.{pairs-done}
+use Rattle.panel_cycles.specs.Below.counter_cycles.Pairs.{AsksBoth, held_by_both}
+use Rattle.panel_cycles.specs.Below.counters.Laws.{IsCounter, number_of_both}
+use Rattle.panel_cycles.specs.Below.net.declared.cycle.Point.{Point}
+use Rattle.panel_cycles.specs.Below.net.declared.cycle.Point.TheVariants.{K}
+use Rattle.panel_cycles.specs.Below.hubs.declared.hub.Hub.{Hub}
+use Rattle.panel_cycles.proofs.Below.wiring_table.Groups.{counter-given}
+use Rattle.decks.proofs.Below.charts.Listed.{listed-map}
+use Rattle.panel_cycles.specs.Below.wired_panels.Panel.{IsPanel}
+use Rattle.panel_cycles.specs.Below.machine.Cycles.{CycleRun}
+use Rattle.panel_cycles.specs.Below.machine.Machine.{MachineState}
+use Rattle.panel_cycles.specs.Below.net.Panel.{unit_of}
+use Rattle.panel_cycles.specs.Below.net.declared.cycle.Cycle.{Cycle}
+use Rattle.panel_cycles.specs.Below.net.declared.cycle.Cycle.TheVariants.{RunIn, Card, Prog, Head}
+use Rattle.panel_cycles.proofs.Below.totals.Passing.{have_room}
+use Rattle.panel_cycles.specs.Below.totals.Amounts.{IsSmall, act_of, state_after, total_act}
+use Rattle.panel_cycles.proofs.Below.whole_cycles.Carries.{carries-come}
+use Rattle.panel_cycles.proofs.Below.whole_cycles.Ready.{machines-ready}
+use Rattle.panel_cycles.specs.Below.whole_cycles.Between.{IsBetween, IsIdle, IsReady}
+use Rattle.panel_cycles.specs.Below.whole_cycles.Units.{group_at}
+use Rattle.panel_cycles.specs.Below.whole_cycles.WholeCycles.{WholeCycle}
+use Rattle.panel_cycles.specs.Below.wiring_table.Figures.{IsAmount}
+use Rattle.panel_cycles.specs.Below.wiring_table.Parts.{counter_for, panel_group}
 use Rattle.printed_reports.specs.Content.{held, kind_for}
 use Rattle.printed_reports.proofs.Facts.{IsRead}
 use Rattle.printed_reports.proofs.FromCycles.{whole}

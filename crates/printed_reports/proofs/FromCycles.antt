@@ -1,18 +1,18 @@
 -- What whole cycles leave of the units that know no chart.
 use Rattle.std.proofs.Common.{◌≡◌, ◌∙◌, refl, ap, Bool, false}
-use Rattle.setups.specs.Wiring.{Wiring}
-use Rattle.machine.specs.Cycles.{CycleRun}
-use Rattle.machine.specs.Machine.{MachineState}
-use Rattle.net.specs.declared.cycle.Cycle.{Cycle}
-use Rattle.net.specs.declared.cycle.Cycle.TheVariants.{RunIn, Card, Prog, Head}
-use Rattle.net.specs.declared.cycle.Point.TheVariants.{K}
-use Rattle.hubs.specs.declared.hub.Hub.{Hub}
-use Rattle.program_unit.specs.Program.{ProgramState, program_ended, program_sensed}
-use Rattle.program_unit.specs.declared.stage.Stage.TheVariants.{RanCard}
-use Rattle.whole_cycles.proofs.Wholes.{cycles-whole}
-use Rattle.whole_cycles.specs.Between.{IsReady}
-use Rattle.whole_cycles.specs.WholeCycles.{WholeCycle}
-use Rattle.wired_panels.proofs.Contacts.{is_card_cycle}
+use Rattle.panel_cycles.specs.Below.setups.Wiring.{Wiring}
+use Rattle.panel_cycles.specs.Below.machine.Cycles.{CycleRun}
+use Rattle.panel_cycles.specs.Below.machine.Machine.{MachineState}
+use Rattle.panel_cycles.specs.Below.net.declared.cycle.Cycle.{Cycle}
+use Rattle.panel_cycles.specs.Below.net.declared.cycle.Cycle.TheVariants.{RunIn, Card, Prog, Head}
+use Rattle.panel_cycles.specs.Below.net.declared.cycle.Point.TheVariants.{K}
+use Rattle.panel_cycles.specs.Below.hubs.declared.hub.Hub.{Hub}
+use Rattle.panel_cycles.specs.Below.program_unit.Program.{ProgramState, program_ended, program_sensed}
+use Rattle.panel_cycles.specs.Below.program_unit.declared.stage.Stage.TheVariants.{RanCard}
+use Rattle.panel_cycles.proofs.Below.whole_cycles.Wholes.{cycles-whole}
+use Rattle.panel_cycles.specs.Below.whole_cycles.Between.{IsReady}
+use Rattle.panel_cycles.specs.Below.whole_cycles.WholeCycles.{WholeCycle}
+use Rattle.panel_cycles.proofs.Below.wired_panels.Contacts.{is_card_cycle}
 
 -- a cycle of a machine that is ready, as a whole
 pub whole : (wiring : Wiring) (cycle : Cycle) (old new : MachineState) → IsReady wiring old → CycleRun wiring cycle old new

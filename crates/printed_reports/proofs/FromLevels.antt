@@ -1,70 +1,70 @@
 -- The third program cycle of a level, put together: what the groups and units hold, and the line that they print.
 use Rattle.std.proofs.Common.{◌≡◌, ◌∙◌, refl, sym, ap, subst, ℕ, ◌+◌, ◌≤◌, ◌<◌, ◌^◌, ◌==◌, nat_lt, Bool, true, false, List, Contains, Option, Some, None, length, is_some, arith, unsigned_abs, inl, inr}
 use Rattle.std.proofs.lemmas.Bool.Decides.{nat_tests}
-use Rattle.wanted.specs.ChartTotals.{names_signed}
-use Rattle.counters.specs.Laws.{IsCounter}
-use Rattle.plans.specs.Plans.{Lists}
-use Rattle.plans.specs.declared.counter.TotalCounter.{TotalCounter}
-use Rattle.plans.specs.declared.counter.TotalCounter.TheVariants as of
-use Rattle.card_code.specs.declared.row.Row.{Row as CardRow}
-use Rattle.field_rules.specs.Fields.{field_named, fields_of}
-use Rattle.print_rules.specs.Marks.{breaks_mark_mismatch, is_mismatched, is_mismatched_kind}
-use Rattle.field_rules.specs.Names.{breaks_wrong_kind, names_amount}
-use Rattle.chart_rules.specs.ValidCard.{IsValidCard, column_of, is_printed}
-use Rattle.card_code.specs.CardCode.{deck_character, has_row}
-use Rattle.card_code.specs.Rows.{row_number}
-use Rattle.storage_units.specs.Storage.{holds as holds_column}
-use Rattle.chart_rules.specs.declared.rule.Rule.TheVariants as rule
-use Rattle.charts.specs.Chart.{Chart, NumbersRise}
-use Rattle.charts.specs.Field.{columns_of, is_amount, sign_column}
-use Rattle.charts.specs.Levels as levels
-use Rattle.charts.specs.Literals.{HaveLiteralTexts}
-use Rattle.charts.specs.declared.chart.Line.{Line}
-use Rattle.charts.specs.declared.level.Level.{Level}
-use Rattle.charts.specs.declared.statement.Field.{Field}
-use Rattle.charts.specs.declared.statement.FieldKind.{FieldKind}
-use Rattle.charts.specs.declared.statement.FieldKind.TheVariants as holds
-use Rattle.charts.specs.declared.statement.Mark.{Mark}
-use Rattle.charts.specs.declared.statement.Statement.TheVariants as says
+use Rattle.panel_cycles.specs.Below.wanted.ChartTotals.{names_signed}
+use Rattle.panel_cycles.specs.Below.counters.Laws.{IsCounter}
+use Rattle.panel_cycles.specs.Below.plans.Plans.{Lists}
+use Rattle.panel_cycles.specs.Below.plans.declared.counter.TotalCounter.{TotalCounter}
+use Rattle.panel_cycles.specs.Below.plans.declared.counter.TotalCounter.TheVariants as of
+use Rattle.decks.specs.Below.card_code.declared.row.Row.{Row as CardRow}
+use Rattle.panel_cycles.specs.Below.field_rules.Fields.{field_named, fields_of}
+use Rattle.panel_cycles.specs.Below.print_rules.Marks.{breaks_mark_mismatch, is_mismatched, is_mismatched_kind}
+use Rattle.panel_cycles.specs.Below.field_rules.Names.{breaks_wrong_kind, names_amount}
+use Rattle.decks.specs.Below.chart_rules.ValidCard.{IsValidCard, column_of, is_printed}
+use Rattle.decks.specs.Below.card_code.CardCode.{deck_character, has_row}
+use Rattle.decks.specs.Below.card_code.Rows.{row_number}
+use Rattle.panel_cycles.specs.Below.storage_units.Storage.{holds as holds_column}
+use Rattle.decks.specs.Below.chart_rules.declared.rule.Rule.TheVariants as rule
+use Rattle.decks.specs.Below.charts.Chart.{Chart, NumbersRise}
+use Rattle.decks.specs.Below.charts.Field.{columns_of, is_amount, sign_column}
+use Rattle.decks.specs.Below.charts.Levels as levels
+use Rattle.decks.specs.Below.charts.Literals.{HaveLiteralTexts}
+use Rattle.decks.specs.Below.charts.declared.chart.Line.{Line}
+use Rattle.decks.specs.Below.charts.declared.level.Level.{Level}
+use Rattle.decks.specs.Below.charts.declared.statement.Field.{Field}
+use Rattle.decks.specs.Below.charts.declared.statement.FieldKind.{FieldKind}
+use Rattle.decks.specs.Below.charts.declared.statement.FieldKind.TheVariants as holds
+use Rattle.decks.specs.Below.charts.declared.statement.Mark.{Mark}
+use Rattle.decks.specs.Below.charts.declared.statement.Statement.TheVariants as says
 use Rattle.decks.specs.Alike.{AlikeWith}
-use Rattle.setups.specs.Wiring.{Wiring}
-use Rattle.hubs.specs.declared.hub.Group.{Group}
+use Rattle.panel_cycles.specs.Below.setups.Wiring.{Wiring}
+use Rattle.panel_cycles.specs.Below.hubs.declared.hub.Group.{Group}
 use Rattle.panel_cycles.proofs.AmountFacts.{digits_are, has_it, total_field}
 use Rattle.panel_cycles.proofs.Counters.{counter_held}
 use Rattle.panel_cycles.specs.CounterStates.{held_in}
-use Rattle.wired_panels.specs.Groups.{IsCounterOf}
+use Rattle.panel_cycles.specs.Below.wired_panels.Groups.{IsCounterOf}
 use Rattle.panel_cycles.proofs.JacksAndTape.{wheel_jacks-are}
-use Rattle.plans.proofs.Numbers.{number-stands}
-use Rattle.field_rules.proofs.Places.{is_same_name-own}
-use Rattle.chart_rules.proofs.Laws.{kept-line}
-use Rattle.wired_panels.proofs.ToCounters.{IsLine, on_line}
+use Rattle.panel_cycles.proofs.Below.plans.Numbers.{number-stands}
+use Rattle.panel_cycles.proofs.Below.field_rules.Places.{is_same_name-own}
+use Rattle.decks.proofs.Below.chart_rules.Laws.{kept-line}
+use Rattle.panel_cycles.proofs.Below.wired_panels.ToCounters.{IsLine, on_line}
 use Rattle.panel_cycles.proofs.WheelRowsLaws.{wheels-totals}
 use Rattle.panel_cycles.proofs.WheelRowsUnits.{counter-is, group-listed, group-named, unit-listed, unit-place}
 use Rattle.panel_cycles.specs.ChartAmounts.{amount_of}
-use Rattle.wired_panels.specs.Panel.{IsPanel}
-use Rattle.wired_panels.specs.PanelCycles.{UnitsHold}
+use Rattle.panel_cycles.specs.Below.wired_panels.Panel.{IsPanel}
+use Rattle.panel_cycles.specs.Below.wired_panels.PanelCycles.{UnitsHold}
 use Rattle.panel_cycles.specs.PrintedRows as rows
 use Rattle.panel_cycles.specs.PrintedRows.{IsTotalRow}
-use Rattle.machine.specs.Cycles.{CycleRun}
-use Rattle.machine.specs.Machine.{MachineState}
-use Rattle.net.specs.Cycles.{level_number}
-use Rattle.net.specs.declared.cycle.Cycle.TheVariants.{Prog}
-use Rattle.net.specs.declared.cycle.ProgramLevel.{ProgramLevel}
-use Rattle.net.specs.declared.cycle.Ordinal.TheVariants.{Third}
-use Rattle.printed_lines.proofs.Premises.{total_texts}
-use Rattle.printed_lines.proofs.TotalLines.{total_lines}
-use Rattle.printed_lines.specs.Held as printed
-use Rattle.printed_lines.specs.Held.{HoldsLine}
-use Rattle.printed_lines.specs.Shown.{Printed, sent_to_total, set_on}
-use Rattle.report.specs.BodyLines.{total_line}
-use Rattle.report.specs.Breaks.{taking}
-use Rattle.report.specs.Totals.{total_of}
-use Rattle.whole_cycles.proofs.Units.{units-by_name}
-use Rattle.whole_cycles.specs.Between.{IsReady}
-use Rattle.whole_cycles.specs.Units.{group_at, storage_at}
-use Rattle.whole_cycles.specs.WholeCycles.{WholeCycle}
-use Rattle.wiring_table.specs.Figures.{IsAmount, IsText}
-use Rattle.wiring_table.specs.Parts.{HasTotal, ServesTotal, counter_for, panel_group, unit_for}
+use Rattle.panel_cycles.specs.Below.machine.Cycles.{CycleRun}
+use Rattle.panel_cycles.specs.Below.machine.Machine.{MachineState}
+use Rattle.panel_cycles.specs.Below.net.Cycles.{level_number}
+use Rattle.panel_cycles.specs.Below.net.declared.cycle.Cycle.TheVariants.{Prog}
+use Rattle.panel_cycles.specs.Below.net.declared.cycle.ProgramLevel.{ProgramLevel}
+use Rattle.panel_cycles.specs.Below.net.declared.cycle.Ordinal.TheVariants.{Third}
+use Rattle.panel_cycles.proofs.Below.printed_lines.Premises.{total_texts}
+use Rattle.panel_cycles.proofs.Below.printed_lines.TotalLines.{total_lines}
+use Rattle.panel_cycles.specs.Below.printed_lines.Held as printed
+use Rattle.panel_cycles.specs.Below.printed_lines.Held.{HoldsLine}
+use Rattle.panel_cycles.specs.Below.printed_lines.Shown.{Printed, sent_to_total, set_on}
+use Rattle.decks.specs.Below.report.BodyLines.{total_line}
+use Rattle.decks.specs.Below.report.Breaks.{taking}
+use Rattle.decks.specs.Below.report.Totals.{total_of}
+use Rattle.panel_cycles.proofs.Below.whole_cycles.Units.{units-by_name}
+use Rattle.panel_cycles.specs.Below.whole_cycles.Between.{IsReady}
+use Rattle.panel_cycles.specs.Below.whole_cycles.Units.{group_at, storage_at}
+use Rattle.panel_cycles.specs.Below.whole_cycles.WholeCycles.{WholeCycle}
+use Rattle.panel_cycles.specs.Below.wiring_table.Figures.{IsAmount, IsText}
+use Rattle.panel_cycles.specs.Below.wiring_table.Parts.{HasTotal, ServesTotal, counter_for, panel_group, unit_for}
 use Rattle.printed_reports.specs.Content.{held}
 use Rattle.printed_reports.proofs.Facts.{ShowsTotal}
 use Rattle.printed_reports.proofs.FromCounters.{held_pair, held_there, pair_there}

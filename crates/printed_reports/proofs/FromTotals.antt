@@ -5,29 +5,29 @@ use Rattle.std.proofs.lemmas.Bool.Decides.{nat_tests}
 use Rattle.std.proofs.lemmas.List.Elements.{All-contains, All-head}
 use Rattle.std.proofs.lemmas.List.Sums.{AllPass-from_list_all}
 use Rattle.std.specs.List.{list_all, range_with_len}
-use Rattle.field_rules.proofs.Places.{is_same_name-equal}
-use Rattle.field_rules.specs.Control.{breaks_total_text_not_control, controls_by, is_controlled_by}
-use Rattle.field_rules.specs.Fields.{field_named}
-use Rattle.chart_rules.specs.Rules.{IsLawful}
-use Rattle.chart_rules.specs.ValidCard.{column_of}
-use Rattle.chart_rules.specs.declared.rule.Rule.TheVariants as rule
-use Rattle.charts.specs.Chart.{Chart}
-use Rattle.charts.specs.Field.{columns_of}
-use Rattle.charts.specs.Levels.{control_number, level_number}
-use Rattle.charts.specs.Name.{is_same_name}
-use Rattle.charts.specs.declared.chart.Line.{Line}
-use Rattle.charts.specs.declared.level.ControlLevel.{ControlLevel}
-use Rattle.charts.specs.declared.level.ControlLevel.TheVariants as control
-use Rattle.charts.specs.declared.level.Level.{Level as ChartLevel}
-use Rattle.charts.specs.declared.statement.Field.{Field}
-use Rattle.charts.specs.declared.statement.Statement.{Statement}
-use Rattle.charts.specs.declared.statement.Statement.TheVariants as says
+use Rattle.panel_cycles.proofs.Below.field_rules.Places.{is_same_name-equal}
+use Rattle.panel_cycles.specs.Below.field_rules.Control.{breaks_total_text_not_control, controls_by, is_controlled_by}
+use Rattle.panel_cycles.specs.Below.field_rules.Fields.{field_named}
+use Rattle.decks.specs.Below.chart_rules.Rules.{IsLawful}
+use Rattle.decks.specs.Below.chart_rules.ValidCard.{column_of}
+use Rattle.decks.specs.Below.chart_rules.declared.rule.Rule.TheVariants as rule
+use Rattle.decks.specs.Below.charts.Chart.{Chart}
+use Rattle.decks.specs.Below.charts.Field.{columns_of}
+use Rattle.decks.specs.Below.charts.Levels.{control_number, level_number}
+use Rattle.decks.specs.Below.charts.Name.{is_same_name}
+use Rattle.decks.specs.Below.charts.declared.chart.Line.{Line}
+use Rattle.decks.specs.Below.charts.declared.level.ControlLevel.{ControlLevel}
+use Rattle.decks.specs.Below.charts.declared.level.ControlLevel.TheVariants as control
+use Rattle.decks.specs.Below.charts.declared.level.Level.{Level as ChartLevel}
+use Rattle.decks.specs.Below.charts.declared.statement.Field.{Field}
+use Rattle.decks.specs.Below.charts.declared.statement.Statement.{Statement}
+use Rattle.decks.specs.Below.charts.declared.statement.Statement.TheVariants as says
 use Rattle.decks.specs.Alike.{AlikeWith}
-use Rattle.charts.proofs.Listed.{any-passing, listed-given}
-use Rattle.chart_rules.proofs.Laws.{kept-line}
-use Rattle.report.specs.BodyLines.{a_card_of}
-use Rattle.report.specs.Breaks.{taking}
-use Rattle.report.specs.Groups.{control_fields, control_field, is_same_at, is_same_on}
+use Rattle.decks.proofs.Below.charts.Listed.{any-passing, listed-given}
+use Rattle.decks.proofs.Below.chart_rules.Laws.{kept-line}
+use Rattle.decks.specs.Below.report.BodyLines.{a_card_of}
+use Rattle.decks.specs.Below.report.Breaks.{taking}
+use Rattle.decks.specs.Below.report.Groups.{control_fields, control_field, is_same_at, is_same_on}
 
 -- cards that are the same on a field have the same columns in it
 columns_same : (field : Field) (one card : List ℕ) → is_same_on field one card ≡ true → (column : ℕ) → field.first ≤ column

@@ -2,34 +2,34 @@
 -- ready for the line.
 use Rattle.std.proofs.Common.{◌≡◌, ◌∙◌, refl, sym, ap, subst, ℕ, zero, suc, ◌≤◌, ◌<◌, ◌^◌, Bool, true, List, [], ◌++◌, Option, Some, None, arith}
 use Rattle.std.proofs.lemmas.List.{append_assoc}
-use Rattle.carriage.specs.Asked.{nothing_asked}
-use Rattle.carriage.specs.Carriage.{CarriageState}
-use Rattle.placed_lines.specs.declared.placed_line.PlacedLine.{PlacedLine}
-use Rattle.charts.specs.Chart.{Chart}
-use Rattle.setups.specs.Wiring.{Wiring}
-use Rattle.machine.specs.Cycles.{line_of}
-use Rattle.machine.specs.Feeds.{due_in}
-use Rattle.machine.specs.Machine.{MachineState}
-use Rattle.machine.specs.Runs.{has_more}
-use Rattle.net.specs.Printing.{prints}
-use Rattle.net.specs.declared.cycle.Cycle.{Cycle}
-use Rattle.net.specs.declared.cycle.Cycle.TheVariants.{Head}
-use Rattle.net.specs.declared.cycle.Ordinal.{Ordinal}
-use Rattle.net.specs.declared.cycle.Ordinal.TheVariants.{First, Second, Third}
-use Rattle.line_places.proofs.CyclesDue.{headings-come}
-use Rattle.line_places.proofs.DueCycles.{due}
-use Rattle.line_places.proofs.HeadingLines.{headings-placed}
-use Rattle.line_places.proofs.Placements.{ready-within}
-use Rattle.line_places.specs.CarriageCycles.{begun_by, carriage_after, line_at, heading_cycles, lines_placed}
-use Rattle.line_places.specs.FormFacts.{HasGoodForm}
-use Rattle.line_places.specs.Laws.{AreHeadingTexts}
-use Rattle.line_places.specs.Placing.{IsCarriageOf, IsAt, AwaitsBody}
-use Rattle.program_unit.specs.CycleOrder.{headed as headed_by, after_heading}
-use Rattle.program_unit.specs.Program.{ProgramState, stage_ended}
-use Rattle.program_unit.specs.declared.stage.Stage.{Stage}
-use Rattle.report.specs.BodyLines.{heading_line}
-use Rattle.report.specs.ChartForm.{heading_count}
-use Rattle.report.specs.Places.{Left, headed}
+use Rattle.panel_cycles.specs.Below.carriage.Asked.{nothing_asked}
+use Rattle.panel_cycles.specs.Below.carriage.Carriage.{CarriageState}
+use Rattle.decks.specs.Below.placed_lines.declared.placed_line.PlacedLine.{PlacedLine}
+use Rattle.decks.specs.Below.charts.Chart.{Chart}
+use Rattle.panel_cycles.specs.Below.setups.Wiring.{Wiring}
+use Rattle.panel_cycles.specs.Below.machine.Cycles.{line_of}
+use Rattle.panel_cycles.specs.Below.machine.Feeds.{due_in}
+use Rattle.panel_cycles.specs.Below.machine.Machine.{MachineState}
+use Rattle.panel_cycles.specs.Below.machine.Runs.{has_more}
+use Rattle.panel_cycles.specs.Below.net.Printing.{prints}
+use Rattle.panel_cycles.specs.Below.net.declared.cycle.Cycle.{Cycle}
+use Rattle.panel_cycles.specs.Below.net.declared.cycle.Cycle.TheVariants.{Head}
+use Rattle.panel_cycles.specs.Below.net.declared.cycle.Ordinal.{Ordinal}
+use Rattle.panel_cycles.specs.Below.net.declared.cycle.Ordinal.TheVariants.{First, Second, Third}
+use Rattle.panel_cycles.proofs.Below.line_places.CyclesDue.{headings-come}
+use Rattle.panel_cycles.proofs.Below.line_places.DueCycles.{due}
+use Rattle.panel_cycles.proofs.Below.line_places.HeadingLines.{headings-placed}
+use Rattle.panel_cycles.proofs.Below.line_places.Placements.{ready-within}
+use Rattle.panel_cycles.specs.Below.line_places.CarriageCycles.{begun_by, carriage_after, line_at, heading_cycles, lines_placed}
+use Rattle.panel_cycles.specs.Below.line_places.FormFacts.{HasGoodForm}
+use Rattle.panel_cycles.specs.Below.line_places.Laws.{AreHeadingTexts}
+use Rattle.panel_cycles.specs.Below.line_places.Placing.{IsCarriageOf, IsAt, AwaitsBody}
+use Rattle.panel_cycles.specs.Below.program_unit.CycleOrder.{headed as headed_by, after_heading}
+use Rattle.panel_cycles.specs.Below.program_unit.Program.{ProgramState, stage_ended}
+use Rattle.panel_cycles.specs.Below.program_unit.declared.stage.Stage.{Stage}
+use Rattle.decks.specs.Below.report.BodyLines.{heading_line}
+use Rattle.decks.specs.Below.report.ChartForm.{heading_count}
+use Rattle.decks.specs.Below.report.Places.{Left, headed}
 use Rattle.printed_reports.proofs.Steps.{fed_with, GoesFrom, Stepped, stepped}
 use Rattle.printed_reports.specs.Goes.{HeadsKeep}
 use Rattle.printed_reports.specs.Steps.{Heads}

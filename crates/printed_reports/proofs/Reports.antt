@@ -1,11 +1,11 @@
 -- The floors put together: a machine that is wired for a chart places the lines of the chart's report.
-use Rattle.chart_rules.specs.ValidCard.{IsValidCard}
+use Rattle.decks.specs.Below.chart_rules.ValidCard.{IsValidCard}
 use Rattle.decks.proofs.Running.{runs_follow_decks}
-use Rattle.machine.specs.Machine.{machine_at_start}
+use Rattle.panel_cycles.specs.Below.machine.Machine.{machine_at_start}
 use Rattle.printed_reports.specs.Content.{Waits}
 use Rattle.printed_reports.specs.Laws.{MachinesPrintReports}
 use Rattle.printed_reports.proofs.Instance.{machine_goes}
-use Rattle.machine.proofs.RunsInFeeds.{run-in-feeds}
+use Rattle.panel_cycles.proofs.Below.machine.RunsInFeeds.{run-in-feeds}
 use Rattle.printed_reports.proofs.Runs.{goes_by_cards, lines-run, runner}
 
 pub machine_prints_reports : MachinesPrintReports

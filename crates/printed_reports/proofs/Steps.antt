@@ -1,11 +1,11 @@
 -- The steps of a feed: the cycle that is due, and what follows it.
 use Rattle.std.proofs.Common.{◌≡◌, subst, ℕ, Bool, List, [], ◌∷◌, ◌++◌, Option, Some, None}
-use Rattle.placed_lines.specs.declared.placed_line.PlacedLine.{PlacedLine}
-use Rattle.setups.specs.Wiring.{Wiring}
-use Rattle.machine.specs.Cycles.{CycleRun, line_of}
-use Rattle.machine.specs.Feeds.{Fed, FeedStep, FeedRuns, due_in, taken}
-use Rattle.machine.specs.Machine.{MachineState}
-use Rattle.net.specs.declared.cycle.Cycle.{Cycle}
+use Rattle.decks.specs.Below.placed_lines.declared.placed_line.PlacedLine.{PlacedLine}
+use Rattle.panel_cycles.specs.Below.setups.Wiring.{Wiring}
+use Rattle.panel_cycles.specs.Below.machine.Cycles.{CycleRun, line_of}
+use Rattle.panel_cycles.specs.Below.machine.Feeds.{Fed, FeedStep, FeedRuns, due_in, taken}
+use Rattle.panel_cycles.specs.Below.machine.Machine.{MachineState}
+use Rattle.panel_cycles.specs.Below.net.declared.cycle.Cycle.{Cycle}
 
 -- a machine in a feed
 abbrev pub fed_with : MachineState → Bool → Option (List ℕ) → Fed

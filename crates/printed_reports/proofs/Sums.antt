@@ -3,20 +3,20 @@
 use Rattle.std.proofs.Common.{◌≡◌, ◌∙◌, refl, sym, ap, subst, ℕ, zero, suc, ◌≤◌, ◌<◌, ◌^◌, nat_le, ℤ, pos, negsuc, neg_ℤ, ◌+ℤ◌, Bool, true, false, List, [], ◌∷◌, ◌++◌, if◌then◌else◌, arith, unsigned_abs}
 use Rattle.std.proofs.lemmas.Bool.Decides.{nat_tests}
 use Rattle.std.proofs.lemmas.Int.{ints}
-use Rattle.counter_cycles.specs.Acts.{Held}
-use Rattle.charts.specs.declared.statement.Field.{Field}
-use Rattle.net.specs.declared.cycle.Ordinal.TheVariants.{First, Second, Third}
-use Rattle.report.specs.Amounts.{digits_on, is_negated, number_in, value_of}
-use Rattle.report.specs.Breaks.{cleared, taking}
-use Rattle.report.specs.Totals.{total_of}
-use Rattle.totals.proofs.Cards.{equal_sums, card_goes}
-use Rattle.totals.proofs.GroupEnds.{total_shows, empty_ends}
-use Rattle.totals.proofs.Passing.{empty_passes}
-use Rattle.totals.specs.Amounts.{Amount, HasGroups, IsOnCard, state_after}
-use Rattle.totals.specs.Amounts.Kind.{Entry, Prog}
-use Rattle.totals.specs.Laws.{IsGroupEnd, ready}
-use Rattle.totals.specs.Standing.{StandsAll}
-use Rattle.totals.specs.Sums as sums
+use Rattle.panel_cycles.specs.Below.counter_cycles.Acts.{Held}
+use Rattle.decks.specs.Below.charts.declared.statement.Field.{Field}
+use Rattle.panel_cycles.specs.Below.net.declared.cycle.Ordinal.TheVariants.{First, Second, Third}
+use Rattle.decks.specs.Below.report.Amounts.{digits_on, is_negated, number_in, value_of}
+use Rattle.decks.specs.Below.report.Breaks.{cleared, taking}
+use Rattle.decks.specs.Below.report.Totals.{total_of}
+use Rattle.panel_cycles.proofs.Below.totals.Cards.{equal_sums, card_goes}
+use Rattle.panel_cycles.proofs.Below.totals.GroupEnds.{total_shows, empty_ends}
+use Rattle.panel_cycles.proofs.Below.totals.Passing.{empty_passes}
+use Rattle.panel_cycles.specs.Below.totals.Amounts.{Amount, HasGroups, IsOnCard, state_after}
+use Rattle.panel_cycles.specs.Below.totals.Amounts.Kind.{Entry, Prog}
+use Rattle.panel_cycles.specs.Below.totals.Laws.{IsGroupEnd, ready}
+use Rattle.panel_cycles.specs.Below.totals.Standing.{StandsAll}
+use Rattle.panel_cycles.specs.Below.totals.Sums as sums
 use Rattle.printed_reports.specs.Content.{sums_of}
 
 -- the total of cards and one more

@@ -1,16 +1,16 @@
 -- The law of decks whose totals don't all fit.
 use Rattle.std.specs.Prelude.{◌≡◌, ℕ, ◌≤◌, List, ◌∷◌, ◌++◌, All, length}
-use Rattle.plans.specs.Plans.{Lists}
-use Rattle.placed_lines.specs.declared.placed_line.PlacedLine.{PlacedLine}
-use Rattle.chart_rules.specs.ValidCard.{IsValidCard}
-use Rattle.charts.specs.Chart.{Chart, NumbersRise}
-use Rattle.charts.specs.Literals.{HaveLiteralTexts}
+use Rattle.panel_cycles.specs.Below.plans.Plans.{Lists}
+use Rattle.decks.specs.Below.placed_lines.declared.placed_line.PlacedLine.{PlacedLine}
+use Rattle.decks.specs.Below.chart_rules.ValidCard.{IsValidCard}
+use Rattle.decks.specs.Below.charts.Chart.{Chart, NumbersRise}
+use Rattle.decks.specs.Below.charts.Literals.{HaveLiteralTexts}
 use Rattle.decks.specs.FitBefore.{FitBefore}
 use Rattle.decks.specs.Stands.{report_before}
-use Rattle.setups.specs.Wiring.{Wiring}
-use Rattle.wired_panels.specs.Panel.{IsPanel}
-use Rattle.machine.specs.Feeds.{FedLines}
-use Rattle.machine.specs.Machine.{MachineState, machine_at_start}
+use Rattle.panel_cycles.specs.Below.setups.Wiring.{Wiring}
+use Rattle.panel_cycles.specs.Below.wired_panels.Panel.{IsPanel}
+use Rattle.panel_cycles.specs.Below.machine.Feeds.{FedLines}
+use Rattle.panel_cycles.specs.Below.machine.Machine.{MachineState, machine_at_start}
 
 -- Where the totals of a deck don't all fit, the lines that the machine places before those of the first card at which one doesn't are the
 -- lines of the report that stand before that card's. In full: for every chart that breaks no rule, every setup that is wired for it by a

@@ -1,3 +1,4 @@
+pub mod Below
 pub mod Steps
 pub mod Laws
 pub mod Begun

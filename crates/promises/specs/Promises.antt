@@ -1,19 +1,19 @@
 -- What it is for a setup to print a chart's reports, and to begin them.
 use Rattle.std.specs.Prelude.{◌≡◌, ℕ, ◌≤◌, List, ◌∷◌, ◌++◌, length, All}
-use Rattle.card_code.specs.MostCards.{most_cards}
-use Rattle.placed_lines.specs.declared.placed_line.PlacedLine.{PlacedLine}
-use Rattle.chart_rules.specs.ValidCard.{IsValidCard}
-use Rattle.charts.specs.Chart.{Chart}
+use Rattle.decks.specs.Below.card_code.MostCards.{most_cards}
+use Rattle.decks.specs.Below.placed_lines.declared.placed_line.PlacedLine.{PlacedLine}
+use Rattle.decks.specs.Below.chart_rules.ValidCard.{IsValidCard}
+use Rattle.decks.specs.Below.charts.Chart.{Chart}
 use Rattle.decks.specs.FitBefore.{FitBefore}
 use Rattle.decks.specs.Stands.{report_before}
-use Rattle.setups.specs.Wiring.{Wiring}
+use Rattle.machine.specs.Below.setups.Wiring.{Wiring}
 use Rattle.machine.specs.Feeds.{FedLines}
 use Rattle.machine.specs.Machine.{MachineState, machine_at_start}
 use Rattle.machine.specs.Runs.{MachineLines}
-use Rattle.page_text.specs.Pages.{Pages}
-use Rattle.report.specs.ChartForm.{form_of}
-use Rattle.report.specs.Report.{Report}
-use Rattle.report.specs.Totals.{Fits}
+use Rattle.decks.specs.Below.page_text.Pages.{Pages}
+use Rattle.decks.specs.Below.report.ChartForm.{form_of}
+use Rattle.decks.specs.Below.report.Report.{Report}
+use Rattle.decks.specs.Below.report.Totals.{Fits}
 
 -- a deck that can be run: valid cards, at most 999,999 of them
 pub record IsDeck (chart : Chart) (cards : List (List ℕ)) : Type 0 where

@@ -2,9 +2,9 @@
 use Rattle.std.proofs.Common.{◌≡◌, ◌∙◌, refl, ap, ℕ, zero, suc, ◌+◌, ◌-◌, ◌≤◌, ◌==◌, Bool, true, false, nat_lt, min, List, [], ◌∷◌, ◌++◌, Option, Some, None, length, map, take, drop, replicate, if◌then◌else◌, arith, unsigned_abs}
 use Rattle.std.proofs.lemmas.Bool.Decides.{nat_tests}
 use Rattle.std.proofs.lemmas.List.{length-map, length-append, length-drop, length-replicate, length-take}
-use Rattle.charts.specs.declared.statement.Mark.{Mark}
-use Rattle.charts.specs.declared.statement.Mark.TheVariants as mark
-use Rattle.print_rules.specs.Items.{figure_width, mark_width}
+use Rattle.chart_rules.specs.Below.charts.declared.statement.Mark.{Mark}
+use Rattle.chart_rules.specs.Below.charts.declared.statement.Mark.TheVariants as mark
+use Rattle.chart_rules.specs.Below.print_rules.Items.{figure_width, mark_width}
 use Rattle.report.specs.Edits.{last_digits, figure, without_leading_zeros, free_digits, point, marked, is_below_zero, edited_digits, edited_blank}
 use Rattle.report.specs.Laws.{EditsFillTheirItems}
 

@@ -1,7 +1,7 @@
 -- How many lines an outline has, and how many body lines a report: at most five for each card.
 use Rattle.std.proofs.Common.{◌≡◌, refl, ap, ℕ, zero, suc, ◌*◌, ◌≤◌, Bool, true, false, Option, Some, None, List, [], ◌∷◌, length, if◌then◌else◌, length-append, arith}
 use Rattle.std.specs.List.{flat_map}
-use Rattle.charts.specs.declared.chart.Line.{Line}
+use Rattle.chart_rules.specs.Below.charts.declared.chart.Line.{Line}
 use Rattle.report.specs.Breaks.{ended_after, no_cards, taking, cleared, totals_to, chunk_of, flat}
 use Rattle.report.specs.ChartForm.{prints_details, prints_totals}
 use Rattle.report.specs.Outline.{OutlineLine, Detail, Total, outline_of}

@@ -2,10 +2,10 @@
 use Rattle.std.proofs.Common.{◌≡◌, refl, subst, ℕ, zero, suc, ◌+◌, ◌≤◌, List, [], ◌∷◌, length, arith}
 use Rattle.std.specs.List.{All}
 use Rattle.std.proofs.lemmas.List.Elements.{All-nil, All-cons, All-head, All-tail}
-use Rattle.charts.specs.Levels.{level_number}
-use Rattle.charts.specs.declared.chart.Line.{Line}
-use Rattle.charts.specs.declared.level.Level.{Level}
-use Rattle.charts.specs.declared.level.Level.TheVariants as level
+use Rattle.chart_rules.specs.Below.charts.Levels.{level_number}
+use Rattle.chart_rules.specs.Below.charts.declared.chart.Line.{Line}
+use Rattle.chart_rules.specs.Below.charts.declared.level.Level.{Level}
+use Rattle.chart_rules.specs.Below.charts.declared.level.Level.TheVariants as level
 use Rattle.report.specs.Groups.{groups_in}
 use Rattle.report.specs.Laws.{FitWithoutMisfits}
 use Rattle.report.specs.Misfits.{Misfit, misfits}

@@ -3,13 +3,13 @@ use Rattle.std.proofs.Common.{◌≡◌, ◌∙◌, refl, sym, ap, ℕ, suc, ◌
 use Rattle.std.specs.List.{All, Contains, cons_option, filter_map}
 use Rattle.std.proofs.lemmas.Bool.Decides.{nat_tests}
 use Rattle.std.proofs.lemmas.List.Elements.{All-nil, All-cons, All-contains}
-use Rattle.charts.specs.Levels.{level_number}
-use Rattle.charts.specs.declared.chart.Line.{Line}
-use Rattle.charts.specs.declared.level.Level.{Level}
-use Rattle.charts.specs.declared.statement.Field.{Field}
-use Rattle.charts.specs.declared.statement.Statement.{Statement}
-use Rattle.charts.specs.declared.statement.Statement.TheVariants as says
-use Rattle.field_rules.specs.Fields.{field_named}
+use Rattle.chart_rules.specs.Below.charts.Levels.{level_number}
+use Rattle.chart_rules.specs.Below.charts.declared.chart.Line.{Line}
+use Rattle.chart_rules.specs.Below.charts.declared.level.Level.{Level}
+use Rattle.chart_rules.specs.Below.charts.declared.statement.Field.{Field}
+use Rattle.chart_rules.specs.Below.charts.declared.statement.Statement.{Statement}
+use Rattle.chart_rules.specs.Below.charts.declared.statement.Statement.TheVariants as says
+use Rattle.chart_rules.specs.Below.field_rules.Fields.{field_named}
 use Rattle.report.specs.Misfits.{Misfit, fits_in, misfit_of, misfit_on, misfits_in}
 use Rattle.report.specs.Totals.{GroupFits, total_of}
 

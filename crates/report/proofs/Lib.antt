@@ -1,3 +1,4 @@
+pub mod Below
 pub mod GroupLaws
 pub mod EditLaws
 pub mod ReadBack

@@ -3,15 +3,15 @@
 use Rattle.std.proofs.Common.{◌≡◌, ◌∙◌, refl, sym, ap, ℕ, ◌≤◌, ◌==◌, ◌||◌, ◌⊎◌, inl, inr, Bool, true, false, List, [], ◌∷◌, Some, if◌then◌else◌, arith}
 use Rattle.std.specs.List.{Contains, list_any}
 use Rattle.std.proofs.lemmas.Bool.Decides.{nat_tests}
-use Rattle.charts.specs.Spacings.{spacing_number}
-use Rattle.charts.specs.declared.chart.Line.{Line}
-use Rattle.charts.specs.declared.spacing.Spacing.{Spacing}
-use Rattle.charts.specs.declared.statement.After.{After}
-use Rattle.charts.specs.declared.statement.BodyLine.{BodyLine}
-use Rattle.charts.specs.declared.statement.Statement.{Statement}
-use Rattle.charts.specs.declared.statement.Statement.TheVariants as says
-use Rattle.charts.proofs.Listed.{listed-first, listed-after, any-passing}
-use Rattle.print_rules.specs.Forms.{has_form, is_form}
+use Rattle.chart_rules.specs.Below.charts.Spacings.{spacing_number}
+use Rattle.chart_rules.specs.Below.charts.declared.chart.Line.{Line}
+use Rattle.chart_rules.specs.Below.charts.declared.spacing.Spacing.{Spacing}
+use Rattle.chart_rules.specs.Below.charts.declared.statement.After.{After}
+use Rattle.chart_rules.specs.Below.charts.declared.statement.BodyLine.{BodyLine}
+use Rattle.chart_rules.specs.Below.charts.declared.statement.Statement.{Statement}
+use Rattle.chart_rules.specs.Below.charts.declared.statement.Statement.TheVariants as says
+use Rattle.chart_rules.proofs.Below.charts.Listed.{listed-first, listed-after, any-passing}
+use Rattle.chart_rules.specs.Below.print_rules.Forms.{has_form, is_form}
 use Rattle.report.specs.ChartForm.{after_from, after_of, form_from, form_of, kind_number, spacing_from, spacing_of, stops_from, stops_of}
 
 -- A line of a chart gives the kind of body line with a number a spacing of so many lines.

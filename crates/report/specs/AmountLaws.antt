@@ -1,11 +1,11 @@
 -- Laws of amounts: what is printed can be read again, and where a value is below 0.
 use Rattle.std.specs.Prelude.{◌≡◌, ◌↔◌, ℕ, ℤ, ◌+◌, ◌-◌, ◌*◌, ◌^◌, ◌<◌, ◌≤◌, ◌==◌, ◌&&◌, ◌||◌, Bool, true, false, nat_le, List, [], ◌∷◌, Option, Some, is_some, if◌then◌else◌, unsigned_abs}
 use Rattle.std.specs.List.{list_any}
-use Rattle.card_code.specs.CardCode.{has_row}
-use Rattle.charts.specs.declared.statement.Field.{Field}
-use Rattle.charts.specs.declared.statement.FieldKind.TheVariants as holds
-use Rattle.charts.specs.declared.statement.Mark.{Mark}
-use Rattle.charts.specs.declared.statement.SignRule.TheVariants as sign
+use Rattle.chart_rules.specs.Below.card_code.CardCode.{has_row}
+use Rattle.chart_rules.specs.Below.charts.declared.statement.Field.{Field}
+use Rattle.chart_rules.specs.Below.charts.declared.statement.FieldKind.TheVariants as holds
+use Rattle.chart_rules.specs.Below.charts.declared.statement.Mark.{Mark}
+use Rattle.chart_rules.specs.Below.charts.declared.statement.SignRule.TheVariants as sign
 use Rattle.chart_rules.specs.ValidCard.{column_of}
 use Rattle.report.specs.Amounts.{digits_on, number_in, signed, value_of}
 use Rattle.report.specs.Edits.{edited, is_below_zero}

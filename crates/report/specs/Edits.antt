@@ -2,9 +2,9 @@
 -- decimals; the point and the decimals always stand; the mark stands after them exactly where the number is below 0.
 use Rattle.std.specs.Prelude.{ℕ, ◌+◌, ◌-◌, ◌^◌, ◌/◌, ◌%◌, ◌==◌, zero, suc, max, Bool, List, [], ◌∷◌, ◌++◌, Option, Some, None, length, map, take, drop, replicate, codes, if◌then◌else◌, unsigned_abs}
 use Rattle.std.specs.Prelude.{ℤ, pos, negsuc, true, false}
-use Rattle.charts.specs.declared.statement.Mark.{Mark}
-use Rattle.charts.specs.declared.statement.Mark.TheVariants as mark
-use Rattle.print_rules.specs.Items.{mark_width}
+use Rattle.chart_rules.specs.Below.charts.declared.statement.Mark.{Mark}
+use Rattle.chart_rules.specs.Below.charts.declared.statement.Mark.TheVariants as mark
+use Rattle.chart_rules.specs.Below.print_rules.Items.{mark_width}
 
 -- whether a number is below 0
 abbrev pub is_below_zero : ℤ → Bool

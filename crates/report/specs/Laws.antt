@@ -1,10 +1,10 @@
 -- Laws of reports, by which a reader can check what a report is.
 use Rattle.std.specs.Prelude.{◌≡◌, ◌↔◌, ℕ, ℤ, pos, ◌+ℤ◌, ◌≤◌, List, [], ◌∷◌, length}
-use Rattle.charts.specs.Chart.{Chart}
-use Rattle.charts.specs.declared.chart.Line.{Line}
-use Rattle.charts.specs.declared.statement.Field.{Field}
-use Rattle.print_rules.specs.Items.{figure_width}
-use Rattle.print_rules.specs.declared.items.Figure.{Figure}
+use Rattle.chart_rules.specs.Below.charts.Chart.{Chart}
+use Rattle.chart_rules.specs.Below.charts.declared.chart.Line.{Line}
+use Rattle.chart_rules.specs.Below.charts.declared.statement.Field.{Field}
+use Rattle.chart_rules.specs.Below.print_rules.Items.{figure_width}
+use Rattle.chart_rules.specs.Below.print_rules.declared.items.Figure.{Figure}
 use Rattle.report.specs.BodyLines.{Piece, line_of}
 use Rattle.report.specs.Edits.{edited, edited_blank}
 use Rattle.report.specs.Groups.{cards_of, groups_of, groups_within}

@@ -1,3 +1,4 @@
+pub mod Below
 pub mod Amounts
 pub mod Edits
 pub mod Groups

@@ -1,10 +1,10 @@
 -- Laws of pages: what the lines of a report are made of, and what the bytes of pages are.
 use Rattle.std.specs.Prelude.{◌≡◌, ℕ, ◌+◌, ◌*◌, ◌==◌, List, [], ◌∷◌, if◌then◌else◌}
 use Rattle.std.specs.List.{All, AllPass}
-use Rattle.placed_lines.specs.declared.placed_line.PlacedLine.{PlacedLine}
-use Rattle.charts.specs.Chart.{Chart}
-use Rattle.charts.specs.Literal.{is_printable}
-use Rattle.charts.specs.Literals.{HaveLiteralTexts}
+use Rattle.page_text.specs.Below.placed_lines.declared.placed_line.PlacedLine.{PlacedLine}
+use Rattle.chart_rules.specs.Below.charts.Chart.{Chart}
+use Rattle.chart_rules.specs.Below.charts.Literal.{is_printable}
+use Rattle.chart_rules.specs.Below.charts.Literals.{HaveLiteralTexts}
 use Rattle.page_text.specs.Pages.{page_bytes, last_page}
 use Rattle.report.specs.ChartForm.{form_of}
 use Rattle.report.specs.Report.{Report, report_lines}

@@ -3,10 +3,10 @@
 -- first body line of a page stands below the last heading line, or below the form's first line where there is none.
 use Rattle.std.specs.Prelude.{ℕ, ◌+◌, ◌-◌, List, [], ◌∷◌, ◌++◌, Option, Some, None, map, max, nat_le, nat_lt, if◌then◌else◌}
 use Rattle.std.specs.List.{find, range_with_len}
-use Rattle.placed_lines.specs.declared.placed_line.PlacedLine.{PlacedLine}
-use Rattle.charts.specs.declared.chart.Line.{Line}
-use Rattle.charts.specs.declared.statement.After.{After}
-use Rattle.charts.specs.declared.statement.After.TheVariants as action
+use Rattle.page_text.specs.Below.placed_lines.declared.placed_line.PlacedLine.{PlacedLine}
+use Rattle.chart_rules.specs.Below.charts.declared.chart.Line.{Line}
+use Rattle.chart_rules.specs.Below.charts.declared.statement.After.{After}
+use Rattle.chart_rules.specs.Below.charts.declared.statement.After.TheVariants as action
 use Rattle.report.specs.BodyLines.{heading_line}
 use Rattle.report.specs.ChartForm.{form_of, heading_count, spacing_of, after_of, stops_of}
 

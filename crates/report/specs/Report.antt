@@ -2,9 +2,9 @@
 -- their places, as the bytes of pages.
 use Rattle.std.specs.Prelude.{ℕ, List, [], ◌∷◌, if◌then◌else◌}
 use Rattle.std.specs.List.{flat_map}
-use Rattle.placed_lines.specs.declared.placed_line.PlacedLine.{PlacedLine}
-use Rattle.charts.specs.Chart.{Chart}
-use Rattle.charts.specs.declared.chart.Line.{Line}
+use Rattle.page_text.specs.Below.placed_lines.declared.placed_line.PlacedLine.{PlacedLine}
+use Rattle.chart_rules.specs.Below.charts.Chart.{Chart}
+use Rattle.chart_rules.specs.Below.charts.declared.chart.Line.{Line}
 use Rattle.page_text.specs.Pages.{Pages}
 use Rattle.report.specs.BodyLines.{card_line, total_line}
 use Rattle.report.specs.ChartForm.{form_of, prints_details, prints_totals}

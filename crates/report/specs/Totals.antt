@@ -2,13 +2,13 @@
 -- each total that a total line shows has no more digits than the line gives it, for each group of the line's level.
 use Rattle.std.specs.Prelude.{◌≡◌, ℕ, ℤ, pos, ◌+ℤ◌, ◌^◌, ◌<◌, List, [], ◌∷◌, Option, Some, unsigned_abs}
 use Rattle.std.specs.List.{All, Contains}
-use Rattle.charts.specs.Levels.{level_number}
-use Rattle.charts.specs.declared.chart.Line.{Line}
-use Rattle.charts.specs.declared.level.Level.{Level}
-use Rattle.charts.specs.declared.statement.Field.{Field}
-use Rattle.charts.specs.declared.statement.Mark.{Mark}
-use Rattle.charts.specs.declared.statement.Statement.TheVariants as says
-use Rattle.field_rules.specs.Fields.{field_named}
+use Rattle.chart_rules.specs.Below.charts.Levels.{level_number}
+use Rattle.chart_rules.specs.Below.charts.declared.chart.Line.{Line}
+use Rattle.chart_rules.specs.Below.charts.declared.level.Level.{Level}
+use Rattle.chart_rules.specs.Below.charts.declared.statement.Field.{Field}
+use Rattle.chart_rules.specs.Below.charts.declared.statement.Mark.{Mark}
+use Rattle.chart_rules.specs.Below.charts.declared.statement.Statement.TheVariants as says
+use Rattle.chart_rules.specs.Below.field_rules.Fields.{field_named}
 use Rattle.report.specs.Amounts.{value_of}
 use Rattle.report.specs.Groups.{groups_of}
 

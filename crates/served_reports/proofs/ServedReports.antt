@@ -2,7 +2,7 @@
 use Rattle.compile407.proofs.Headline.{wired_setups_print_reports}
 use Rattle.served_reports.specs.ServedReports.{ServedSetupsPrintTheirReports, WiredSetupsPrintReportsServed}
 use Rattle.served_runs.proofs.Running.{served_lines}
-use Rattle.served_units.proofs.ServedRuns.{served_runs_print}
+use Rattle.served_runs.proofs.Below.served_units.ServedRuns.{served_runs_print}
 
 pub served_setups_print : ServedSetupsPrintTheirReports
 served_setups_print chart wiring prints = record {

@@ -1,19 +1,19 @@
 -- The pages of served runs of a setup that is wired for a chart are the chart's reports.
 use Rattle.std.specs.Prelude.{◌≡◌, ℕ, List}
-use Rattle.charts.specs.Chart.{Chart}
+use Rattle.compile407.specs.Below.charts.Chart.{Chart}
 use Rattle.compile407.specs.Headline.{IsSound}
-use Rattle.page_text.specs.Pages.{Pages}
-use Rattle.placed_lines.specs.declared.placed_line.PlacedLine.{PlacedLine}
-use Rattle.plans.specs.Plans.{Lists, IsFor}
-use Rattle.promises.specs.Promises.{IsDeck, PrintsReport}
-use Rattle.report.specs.ChartForm.{form_of}
-use Rattle.report.specs.Report.{Report}
-use Rattle.report.specs.Totals.{Fits}
+use Rattle.compile407.specs.Below.page_text.Pages.{Pages}
+use Rattle.served_runs.specs.Below.placed_lines.declared.placed_line.PlacedLine.{PlacedLine}
+use Rattle.compile407.specs.Below.plans.Plans.{Lists, IsFor}
+use Rattle.compile407.specs.Below.promises.Promises.{IsDeck, PrintsReport}
+use Rattle.compile407.specs.Below.report.ChartForm.{form_of}
+use Rattle.compile407.specs.Below.report.Report.{Report}
+use Rattle.compile407.specs.Below.report.Totals.{Fits}
 use Rattle.served_runs.specs.Runs.{IsServedRun}
 use Rattle.served_runs.specs.declared.counts.Counts.{Counts}
-use Rattle.served_units.specs.Runs.{ServedLines}
-use Rattle.setups.specs.Wiring.{Wiring}
-use Rattle.wiring_table.specs.WiredFor.{WiredFor}
+use Rattle.served_runs.specs.Below.served_units.Runs.{ServedLines}
+use Rattle.served_runs.specs.Below.setups.Wiring.{Wiring}
+use Rattle.compile407.specs.Below.wiring_table.WiredFor.{WiredFor}
 
 -- Where the units run ahead of one another: for every deck that can be run and whose totals fit there is a run by schedules, and the pages
 -- of the lines that any such run places are the report, byte by byte; so are those of any run that is served by the orders of a service.

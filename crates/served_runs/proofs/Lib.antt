@@ -1,3 +1,4 @@
+pub mod Below
 pub mod Dispatch
 pub mod LastUnits
 pub mod Sensing

@@ -1,3 +1,4 @@
+pub mod Below
 pub mod Fields
 pub mod Units
 pub mod Contacts

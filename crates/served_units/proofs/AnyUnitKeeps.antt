@@ -1,9 +1,9 @@
 -- The units of the machine, as one kind, keep to their own hubs.
 use Rattle.std.proofs.Common.{◌≡◌, ap, Bool, true}
-use Rattle.hubs.specs.declared.hub.Hub.{Hub}
-use Rattle.net.specs.Panel.{owner_of}
-use Rattle.net.specs.declared.cycle.Cycle.{Cycle}
-use Rattle.net.specs.declared.cycle.Point.{Point}
+use Rattle.machine.specs.Below.hubs.declared.hub.Hub.{Hub}
+use Rattle.machine.specs.Below.net.Panel.{owner_of}
+use Rattle.machine.specs.Below.net.declared.cycle.Cycle.{Cycle}
+use Rattle.machine.specs.Below.net.declared.cycle.Point.{Point}
 use Rattle.served.specs.Units.{AgreeOnEntries, KeepsToItsOwn}
 use Rattle.served_units.proofs.Carriage.{carriage_keeps}
 use Rattle.served_units.proofs.Counters.{counters_keep}

@@ -1,13 +1,13 @@
 -- The carriage keeps to its own hubs.
 use Rattle.std.proofs.Common.{◌≡◌, refl, ℕ, zero, suc, Bool, Some, if◌then◌else◌}
-use Rattle.carriage.specs.Asked.{channel_asked, lowest_from}
-use Rattle.carriage.specs.Carriage.{CarriageState, carriage_sensed}
-use Rattle.hubs.specs.declared.hub.Hub.{Hub}
-use Rattle.hubs.specs.declared.hub.Hub.TheVariants.{RS, SK, SP}
-use Rattle.net.specs.Panel.{reader_of}
-use Rattle.net.specs.declared.cycle.Cycle.{Cycle}
-use Rattle.net.specs.declared.cycle.Point.{Point}
-use Rattle.net.specs.declared.cycle.Point.TheVariants.{C, Row, K}
+use Rattle.machine.specs.Below.carriage.Asked.{channel_asked, lowest_from}
+use Rattle.machine.specs.Below.carriage.Carriage.{CarriageState, carriage_sensed}
+use Rattle.machine.specs.Below.hubs.declared.hub.Hub.{Hub}
+use Rattle.machine.specs.Below.hubs.declared.hub.Hub.TheVariants.{RS, SK, SP}
+use Rattle.machine.specs.Below.net.Panel.{reader_of}
+use Rattle.machine.specs.Below.net.declared.cycle.Cycle.{Cycle}
+use Rattle.machine.specs.Below.net.declared.cycle.Point.{Point}
+use Rattle.machine.specs.Below.net.declared.cycle.Point.TheVariants.{C, Row, K}
 use Rattle.served.specs.Units.{KeepsToItsOwn}
 use Rattle.served_units.specs.Kinds.{carriage_kind}
 

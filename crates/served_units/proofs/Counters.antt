@@ -1,11 +1,11 @@
 -- Counter groups keep to their own hubs.
 use Rattle.std.proofs.Common.{◌≡◌, refl, Bool}
-use Rattle.hubs.specs.declared.hub.Hub.{Hub}
-use Rattle.net.specs.declared.cycle.Cycle.{Cycle}
-use Rattle.net.specs.declared.cycle.Point.{Point}
-use Rattle.net.specs.declared.cycle.Point.TheVariants.{C, Row, K}
-use Rattle.counters.proofs.OwnHubs.{counters-keep}
-use Rattle.counters.specs.Counters.{Counter, counter_number, counter_sensed}
+use Rattle.machine.specs.Below.hubs.declared.hub.Hub.{Hub}
+use Rattle.machine.specs.Below.net.declared.cycle.Cycle.{Cycle}
+use Rattle.machine.specs.Below.net.declared.cycle.Point.{Point}
+use Rattle.machine.specs.Below.net.declared.cycle.Point.TheVariants.{C, Row, K}
+use Rattle.machine.proofs.Below.counters.OwnHubs.{counters-keep}
+use Rattle.machine.specs.Below.counters.Counters.{Counter, counter_number, counter_sensed}
 use Rattle.served.specs.Units.{KeepsToItsOwn}
 use Rattle.served_units.specs.Kinds.{counter_kind}
 

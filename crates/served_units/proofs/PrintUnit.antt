@@ -1,18 +1,18 @@
 -- The emitters and the print wheels keep to their own hubs.
 use Rattle.std.proofs.Common.{◌≡◌, ap, refl, sym, ℕ, ◌+◌, Bool, true, List, [], ◌∷◌, Option, Some, None}
-use Rattle.card_code.specs.Rows.{row_number}
-use Rattle.card_code.specs.declared.row.Row.{Row as CardRow}
-use Rattle.hubs.specs.declared.hub.Hub.{Hub}
-use Rattle.hubs.specs.declared.hub.Hub.TheVariants.{EM, W}
-use Rattle.net.proofs.Rows.{is_hub-same}
-use Rattle.net.specs.Panel.{owner_of, reader_of}
-use Rattle.net.specs.declared.cycle.Cycle.{Cycle}
-use Rattle.net.specs.declared.cycle.Point.{Point}
-use Rattle.net.specs.declared.cycle.Point.TheVariants.{C, Row, K}
-use Rattle.print_unit.specs.Emitters.{emits_row, emitter_of, emitters_emit}
-use Rattle.print_unit.specs.Wheels.{WheelsState, collected, wheel_sensed, wheels_sensed}
-use Rattle.print_unit.specs.ZeroControl.{Wheel}
-use Rattle.print_unit.specs.declared.emitters.Emitters.{Emitters}
+use Rattle.machine.specs.Below.card_code.Rows.{row_number}
+use Rattle.machine.specs.Below.card_code.declared.row.Row.{Row as CardRow}
+use Rattle.machine.specs.Below.hubs.declared.hub.Hub.{Hub}
+use Rattle.machine.specs.Below.hubs.declared.hub.Hub.TheVariants.{EM, W}
+use Rattle.machine.proofs.Below.net.Rows.{is_hub-same}
+use Rattle.machine.specs.Below.net.Panel.{owner_of, reader_of}
+use Rattle.machine.specs.Below.net.declared.cycle.Cycle.{Cycle}
+use Rattle.machine.specs.Below.net.declared.cycle.Point.{Point}
+use Rattle.machine.specs.Below.net.declared.cycle.Point.TheVariants.{C, Row, K}
+use Rattle.machine.specs.Below.print_unit.Emitters.{emits_row, emitter_of, emitters_emit}
+use Rattle.machine.specs.Below.print_unit.Wheels.{WheelsState, collected, wheel_sensed, wheels_sensed}
+use Rattle.machine.specs.Below.print_unit.ZeroControl.{Wheel}
+use Rattle.machine.specs.Below.print_unit.declared.emitters.Emitters.{Emitters}
 use Rattle.served.specs.Units.{KeepsToItsOwn}
 use Rattle.served_units.specs.Kinds.{emitters_kind, wheels_kind}
 

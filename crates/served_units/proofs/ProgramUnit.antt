@@ -1,16 +1,16 @@
 -- The program unit keeps to its own hubs.
 use Rattle.std.proofs.Common.{◌≡◌, ap, refl, sym, Bool, true, Some, None, if◌then◌else◌}
-use Rattle.hubs.specs.declared.hub.Hub.{Hub}
-use Rattle.hubs.specs.declared.hub.Hub.TheVariants.{CC, HX, PX, ST}
-use Rattle.net.proofs.Rows.{is_hub-same}
-use Rattle.net.specs.Cycles.{level_number, ordinal_number}
-use Rattle.net.specs.Panel.{owner_of, reader_of}
-use Rattle.net.specs.declared.cycle.Cycle.{Cycle}
-use Rattle.net.specs.declared.cycle.Cycle.TheVariants.{RunIn, Card, Prog, Head}
-use Rattle.net.specs.declared.cycle.ProgramLevel.TheVariants.{Minor, Intermediate, Major}
-use Rattle.net.specs.declared.cycle.Point.{Point}
-use Rattle.net.specs.declared.cycle.Point.TheVariants.{C, Row, K}
-use Rattle.program_unit.specs.Program.{ProgramState, program_emits, program_number, program_sensed, tells}
+use Rattle.machine.specs.Below.hubs.declared.hub.Hub.{Hub}
+use Rattle.machine.specs.Below.hubs.declared.hub.Hub.TheVariants.{CC, HX, PX, ST}
+use Rattle.machine.proofs.Below.net.Rows.{is_hub-same}
+use Rattle.machine.specs.Below.net.Cycles.{level_number, ordinal_number}
+use Rattle.machine.specs.Below.net.Panel.{owner_of, reader_of}
+use Rattle.machine.specs.Below.net.declared.cycle.Cycle.{Cycle}
+use Rattle.machine.specs.Below.net.declared.cycle.Cycle.TheVariants.{RunIn, Card, Prog, Head}
+use Rattle.machine.specs.Below.net.declared.cycle.ProgramLevel.TheVariants.{Minor, Intermediate, Major}
+use Rattle.machine.specs.Below.net.declared.cycle.Point.{Point}
+use Rattle.machine.specs.Below.net.declared.cycle.Point.TheVariants.{C, Row, K}
+use Rattle.machine.specs.Below.program_unit.Program.{ProgramState, program_emits, program_number, program_sensed, tells}
 use Rattle.served.specs.Units.{KeepsToItsOwn}
 use Rattle.served_units.specs.Kinds.{program_kind}
 

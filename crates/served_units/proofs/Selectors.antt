@@ -1,16 +1,16 @@
 -- The pilots, group indication and the column splits keep to their own hubs.
 use Rattle.std.proofs.Common.{◌≡◌, ap, refl, ◌&&◌, Bool, true, List, if◌then◌else◌}
-use Rattle.hubs.specs.declared.hub.Hub.{Hub}
-use Rattle.hubs.specs.declared.hub.Hub.TheVariants.{CSD, CSZ, IX, PIN, PIT, PIX}
-use Rattle.net.specs.Panel.{owner_of, reader_of}
-use Rattle.net.specs.declared.cycle.Cycle.{Cycle}
-use Rattle.net.specs.declared.cycle.Cycle.TheVariants.{Card}
-use Rattle.net.specs.declared.cycle.Point.{Point}
-use Rattle.net.specs.declared.cycle.Point.TheVariants.{Row}
-use Rattle.selectors.specs.Indicate.{Latches, indicate_closes}
-use Rattle.selectors.specs.Numbered.{tests_to}
-use Rattle.selectors.specs.Pilots.{PilotStates, is_pickup_point, moves_pilots, pickups, pilots_closes, pilots_sensed}
-use Rattle.selectors.specs.Splits.{split_closes}
+use Rattle.machine.specs.Below.hubs.declared.hub.Hub.{Hub}
+use Rattle.machine.specs.Below.hubs.declared.hub.Hub.TheVariants.{CSD, CSZ, IX, PIN, PIT, PIX}
+use Rattle.machine.specs.Below.net.Panel.{owner_of, reader_of}
+use Rattle.machine.specs.Below.net.declared.cycle.Cycle.{Cycle}
+use Rattle.machine.specs.Below.net.declared.cycle.Cycle.TheVariants.{Card}
+use Rattle.machine.specs.Below.net.declared.cycle.Point.{Point}
+use Rattle.machine.specs.Below.net.declared.cycle.Point.TheVariants.{Row}
+use Rattle.machine.specs.Below.selectors.Indicate.{Latches, indicate_closes}
+use Rattle.machine.specs.Below.selectors.Numbered.{tests_to}
+use Rattle.machine.specs.Below.selectors.Pilots.{PilotStates, is_pickup_point, moves_pilots, pickups, pilots_closes, pilots_sensed}
+use Rattle.machine.specs.Below.selectors.Splits.{split_closes}
 use Rattle.served.specs.Units.{KeepsToItsOwn}
 use Rattle.served_units.specs.Kinds.{indicate_kind, pilots_kind, splits_kind}
 

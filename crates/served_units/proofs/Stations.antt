@@ -2,7 +2,7 @@
 use Rattle.std.proofs.Common.{refl}
 use Rattle.served.specs.Units.{KeepsToItsOwn}
 use Rattle.served_units.specs.Kinds.{comparing_kind, stations_kind}
-use Rattle.stations.proofs.Own.{keeps_to_own}
+use Rattle.machine.proofs.Below.stations.Own.{keeps_to_own}
 
 pub stations_keep : KeepsToItsOwn stations_kind
 stations_keep = record {

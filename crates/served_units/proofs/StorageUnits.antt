@@ -1,13 +1,13 @@
 -- Storage units keep to their own hubs.
 use Rattle.std.proofs.Common.{◌≡◌, refl, Bool}
-use Rattle.hubs.specs.declared.hub.Hub.{Hub}
-use Rattle.net.specs.declared.cycle.Cycle.{Cycle}
-use Rattle.net.specs.declared.cycle.Point.{Point}
-use Rattle.net.specs.declared.cycle.Point.TheVariants.{C, Row, K}
+use Rattle.machine.specs.Below.hubs.declared.hub.Hub.{Hub}
+use Rattle.machine.specs.Below.net.declared.cycle.Cycle.{Cycle}
+use Rattle.machine.specs.Below.net.declared.cycle.Point.{Point}
+use Rattle.machine.specs.Below.net.declared.cycle.Point.TheVariants.{C, Row, K}
 use Rattle.served.specs.Units.{KeepsToItsOwn}
 use Rattle.served_units.specs.Kinds.{storage_kind}
-use Rattle.storage_units.proofs.OwnHubs.{storage_units_keep}
-use Rattle.storage_units.specs.Storage.{StorageState, storage_number, storage_sensed}
+use Rattle.machine.proofs.Below.storage_units.OwnHubs.{storage_units_keep}
+use Rattle.machine.specs.Below.storage_units.Storage.{StorageState, storage_number, storage_sensed}
 
 number-kept : (storage : StorageState) (cycle : Cycle) (point : Point) (picture : Hub → Bool)
     → storage_number (storage_sensed storage cycle point picture) ≡ storage_number storage

@@ -1,19 +1,19 @@
 -- Each of the machine's types of units as a kind of units.
 use Rattle.served.specs.Units.{Kind}
-use Rattle.carriage.specs.Carriage.{CarriageState, carriage_ended, carriage_number, carriage_sensed}
-use Rattle.counters.specs.Counters.{Counter, counter_closes, counter_emits, counter_ended, counter_number, counter_sensed}
-use Rattle.net.specs.Nothing.{closes_nothing, emits_nothing, ends_unchanged, senses_nothing}
-use Rattle.print_unit.specs.Emitters.{emitters_emit, emitters_number}
-use Rattle.print_unit.specs.Wheels.{WheelsState, wheels_ended, wheels_number, wheels_sensed}
-use Rattle.print_unit.specs.declared.emitters.Emitters.{Emitters}
-use Rattle.program_unit.specs.Program.{ProgramState, program_emits, program_ended, program_number, program_sensed}
-use Rattle.selectors.specs.Indicate.{Latches, indicate_closes, indicate_ended, indicate_number}
-use Rattle.selectors.specs.Pilots.{PilotStates, pilots_closes, pilots_ended, pilots_number, pilots_sensed}
-use Rattle.selectors.specs.Splits.{splits_closes, splits_number}
-use Rattle.selectors.specs.declared.splits.Splits.{Splits}
-use Rattle.stations.specs.Comparing.{Compared, comparing_emits, comparing_ended, comparing_number, comparing_sensed}
-use Rattle.stations.specs.Stations.{StationCards, stations_emits, stations_ended, stations_number}
-use Rattle.storage_units.specs.Storage.{StorageState, storage_emits, storage_ended, storage_number, storage_sensed}
+use Rattle.machine.specs.Below.carriage.Carriage.{CarriageState, carriage_ended, carriage_number, carriage_sensed}
+use Rattle.machine.specs.Below.counters.Counters.{Counter, counter_closes, counter_emits, counter_ended, counter_number, counter_sensed}
+use Rattle.machine.specs.Below.net.Nothing.{closes_nothing, emits_nothing, ends_unchanged, senses_nothing}
+use Rattle.machine.specs.Below.print_unit.Emitters.{emitters_emit, emitters_number}
+use Rattle.machine.specs.Below.print_unit.Wheels.{WheelsState, wheels_ended, wheels_number, wheels_sensed}
+use Rattle.machine.specs.Below.print_unit.declared.emitters.Emitters.{Emitters}
+use Rattle.machine.specs.Below.program_unit.Program.{ProgramState, program_emits, program_ended, program_number, program_sensed}
+use Rattle.machine.specs.Below.selectors.Indicate.{Latches, indicate_closes, indicate_ended, indicate_number}
+use Rattle.machine.specs.Below.selectors.Pilots.{PilotStates, pilots_closes, pilots_ended, pilots_number, pilots_sensed}
+use Rattle.machine.specs.Below.selectors.Splits.{splits_closes, splits_number}
+use Rattle.machine.specs.Below.selectors.declared.splits.Splits.{Splits}
+use Rattle.machine.specs.Below.stations.Comparing.{Compared, comparing_emits, comparing_ended, comparing_number, comparing_sensed}
+use Rattle.machine.specs.Below.stations.Stations.{StationCards, stations_emits, stations_ended, stations_number}
+use Rattle.machine.specs.Below.storage_units.Storage.{StorageState, storage_emits, storage_ended, storage_number, storage_sensed}
 
 -- the reading stations, unit 1
 abbrev pub stations_kind : Kind StationCards

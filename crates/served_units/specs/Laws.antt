@@ -3,11 +3,11 @@ use Rattle.std.specs.Prelude.{◌↔◌, ℕ, List}
 use Rattle.machine.specs.Cycles.{CycleRun}
 use Rattle.machine.specs.Machine.{MachineState}
 use Rattle.machine.specs.Runs.{MachineLines}
-use Rattle.net.specs.declared.cycle.Cycle.{Cycle}
-use Rattle.placed_lines.specs.declared.placed_line.PlacedLine.{PlacedLine}
+use Rattle.machine.specs.Below.net.declared.cycle.Cycle.{Cycle}
+use Rattle.machine.specs.Below.placed_lines.declared.placed_line.PlacedLine.{PlacedLine}
 use Rattle.served_units.specs.AnyUnit.{AreInOrder}
 use Rattle.served_units.specs.Runs.{ServedCycle, ServedLines}
-use Rattle.setups.specs.Wiring.{Wiring}
+use Rattle.machine.specs.Below.setups.Wiring.{Wiring}
 
 -- The cycles by schedules are the cycles of the machine in which all units act at once.
 abbrev pub ServedCyclesAreCycles : Type 0

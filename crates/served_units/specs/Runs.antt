@@ -2,12 +2,12 @@
 use Rattle.std.specs.Prelude.{◌≡◌, ℕ, List, map}
 use Rattle.machine.specs.Machine.{MachineState}
 use Rattle.machine.specs.Runs.{RunsBy, run_at_start}
-use Rattle.net.specs.declared.cycle.Cycle.{Cycle}
-use Rattle.placed_lines.specs.declared.placed_line.PlacedLine.{PlacedLine}
+use Rattle.machine.specs.Below.net.declared.cycle.Cycle.{Cycle}
+use Rattle.machine.specs.Below.placed_lines.declared.placed_line.PlacedLine.{PlacedLine}
 use Rattle.served.specs.Laws.{GoesBySteps}
 use Rattle.served.specs.Orders.{unit_count}
 use Rattle.served_units.specs.AnyUnit.{any_ended, any_kind, unit_at, unit_numbers, units_of}
-use Rattle.setups.specs.Wiring.{Wiring}
+use Rattle.machine.specs.Below.setups.Wiring.{Wiring}
 
 -- A cycle by a schedule: its steps are taken one after another until all units have sensed at the closing point, and then each unit
 -- ends the cycle.

@@ -1,3 +1,4 @@
+pub mod Below
 pub mod CarryWires
 pub mod Fields
 pub mod Rows

@@ -1,3 +1,4 @@
+pub mod Below
 pub mod Causes
 pub mod HelperStanding
 pub mod Laws

@@ -10,7 +10,7 @@ use Rattle.plans.specs.declared.counter.TotalCounter.{TotalCounter}
 use Rattle.plans.specs.declared.counter.TotalCounter.TheVariants as of
 use Rattle.setups.specs.Wiring.{Wiring}
 use Rattle.total_wires.specs.HelperCounters.{EachGroup, entry_of, exit_of}
-use Rattle.wiring_table.specs.Parts.{panel_group}
+use Rattle.line_wires.specs.Below.wiring_table.Parts.{panel_group}
 
 pub same-exit : {at other : Group × ℕ} → at ≡ other → GX at.0 at.1 ≡ exit_of other
 same-exit e = ap exit_of e

@@ -16,7 +16,7 @@ use Rattle.line_wires.proofs.Steps.{adds-as, adds-none}
 use Rattle.charts.proofs.Listed.{found-listed, none-found}
 use Rattle.line_wires.specs.HelperAdds.{Adds}
 use Rattle.total_wires.specs.HelperLevels.{OfNext, next, is_total_of, total_at}
-use Rattle.wiring_table.specs.Parts.{HasTotal, IsLowest, IsNextHigher}
+use Rattle.line_wires.specs.Below.wiring_table.Parts.{HasTotal, IsLowest, IsNextHigher}
 
 -- a line that passes the test is such a total
 pub total-passes : (lines : List Line) (name : List ℕ) (level : ℕ) (line : Line) → Contains lines line

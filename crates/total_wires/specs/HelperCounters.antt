@@ -3,14 +3,14 @@ use Rattle.std.specs.Prelude.{◌≡◌, ℕ, ◌+◌, ◌-◌, ◌≤◌, nat_l
 use Rattle.capacity.specs.declared.group.CounterGroup.{CounterGroup}
 use Rattle.plans.specs.declared.counter.TotalCounter.{TotalCounter}
 use Rattle.plans.specs.declared.counter.TotalCounter.TheVariants as of
-use Rattle.hub_table.specs.Places.{is_width}
+use Rattle.hubs.specs.Below.hub_table.Places.{is_width}
 use Rattle.hubs.specs.declared.hub.Group.{Group}
 use Rattle.hubs.specs.declared.hub.Hub.{Hub}
 use Rattle.hubs.specs.declared.hub.Hub.TheVariants.{GX, CO, GE, CI}
 use Rattle.line_wires.specs.HelperAdds.{One, Both}
 use Rattle.line_wires.specs.HelperItems.{NoWires}
 use Rattle.line_wires.specs.HelperRows.{Wires}
-use Rattle.wiring_table.specs.Parts.{panel_group}
+use Rattle.line_wires.specs.Below.wiring_table.Parts.{panel_group}
 
 -- the panel has a counter group
 pub record IsOnPanel (group : Group) : Type 0 where

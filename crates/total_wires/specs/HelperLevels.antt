@@ -14,7 +14,7 @@ use Rattle.line_wires.specs.HelperAdds.{OfSome}
 use Rattle.total_wires.specs.HelperCounters.{IsCounterOnPanel, positions_of}
 use Rattle.total_wires.specs.HelperTotalRows.{TransferWires}
 use Rattle.line_wires.specs.HelperRows.{Wires}
-use Rattle.wiring_table.specs.Parts.{IsNextHigher, counter_for}
+use Rattle.line_wires.specs.Below.wiring_table.Parts.{IsNextHigher, counter_for}
 
 -- whether a line is a total of the amount of a name, at a level
 abbrev pub is_total_of : List ℕ → ℕ → Statement → Bool

@@ -10,10 +10,10 @@ use Rattle.charts.specs.declared.statement.Mark.{Mark}
 use Rattle.charts.specs.declared.statement.SignRule.{SignRule}
 use Rattle.hubs.specs.declared.hub.Group.{Group}
 use Rattle.hubs.specs.declared.hub.Hub.TheVariants.{SR, GX, BAN, BAT, SX, CC, PX, GE, PL, MI, RO, BT, BAC, PIC, SE, SI, SO, W}
-use Rattle.wiring_table.specs.Figures.{rule_of, digit_wheel, mark_text, total_emitter}
+use Rattle.line_wires.specs.Below.wiring_table.Figures.{rule_of, digit_wheel, mark_text, total_emitter}
 use Rattle.line_wires.specs.HelperAdds.{One, Both, Upto, OfSome}
 use Rattle.total_wires.specs.HelperCounters.{ControlWires, EachGroup, RingWires, entry_of, exit_of, place_of}
-use Rattle.wiring_table.specs.Parts.{pilot_for, negative_side, positive_side, top_group}
+use Rattle.line_wires.specs.Below.wiring_table.Parts.{pilot_for, negative_side, positive_side, top_group}
 use Rattle.line_wires.specs.HelperRows.{MarkWires, Wires}
 
 -- the columns of an amount to the positions of a counter

@@ -9,13 +9,13 @@ use Rattle.charts.specs.declared.chart.Line.{Line}
 use Rattle.charts.specs.declared.level.Level.{Level}
 use Rattle.charts.specs.declared.statement.Field.{Field}
 use Rattle.charts.specs.declared.statement.Mark.{Mark}
-use Rattle.wiring_table.specs.Figures.{mark_wheel, rule_of, total_emitter}
+use Rattle.line_wires.specs.Below.wiring_table.Figures.{mark_wheel, rule_of, total_emitter}
 use Rattle.line_wires.specs.HelperAdds.{Both, OfSome, Where}
 use Rattle.total_wires.specs.HelperCounters.{CarryUpWires}
 use Rattle.total_wires.specs.HelperLevels.{HasCounterFor, NextWires}
 use Rattle.line_wires.specs.HelperRows.{Wires, PointWires}
 use Rattle.total_wires.specs.HelperTotalRows.{EntryWires, ReadOutWires, SignedTotal}
-use Rattle.wiring_table.specs.Parts.{IsLowest, IsNextHigher}
+use Rattle.line_wires.specs.Below.wiring_table.Parts.{IsLowest, IsNextHigher}
 use Rattle.line_wires.specs.HelperItems.{HasFigureWheels}
 
 -- the wires of a total

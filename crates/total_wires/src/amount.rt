@@ -9,7 +9,7 @@ ghost use Rattle.line_wires.specs.HelperRanges.{HasWheelsForMark};
 ghost use Rattle.total_wires.specs.HelperCounters.{IsCounterOnPanel, positions_of};
 ghost use Rattle.total_wires.specs.HelperTotalRows.{EntryWires, SignedTotal};
 ghost use Rattle.total_wires.specs.HelperTotals.{IsGoodTotal, TotalWires};
-ghost use Rattle.wiring_table.specs.Parts.{IsLowest, counter_for};
+ghost use Rattle.line_wires.specs.Below.wiring_table.Parts.{IsLowest, counter_for};
 
 use crate::counter::wire_carry_up;
 use crate::entry::wire_entry;

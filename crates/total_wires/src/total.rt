@@ -1,7 +1,7 @@
 //! Totals: their read-out and the sign conversion.
 
 ghost use Rattle.std.specs.Prelude.{◌≡◌, ◌+◌, ◌≤◌, OnOk, length};
-ghost use Rattle.wiring_table.specs.Figures.{mark_text, mark_wheel};
+ghost use Rattle.line_wires.specs.Below.wiring_table.Figures.{mark_text, mark_wheel};
 ghost use Rattle.line_wires.specs.HelperAdds.{Adds};
 ghost use Rattle.line_wires.specs.HelperRanges.{HasWheelsForMark};
 ghost use Rattle.total_wires.specs.HelperCounters.{EachGroup, IsCounterOnPanel, IsOnPanel, positions_of};

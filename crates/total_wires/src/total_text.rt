@@ -5,7 +5,7 @@ ghost use Rattle.chart_rules.specs.HelperOnCard.{IsOnCard};
 ghost use Rattle.charts.specs.Field.{columns_of};
 ghost use Rattle.line_wires.specs.HelperAdds.{Adds, OfSome};
 ghost use Rattle.total_wires.specs.HelperTotalRows.{StoredColumns, TotalTextWires};
-ghost use Rattle.wiring_table.specs.Parts.{unit_for};
+ghost use Rattle.line_wires.specs.Below.wiring_table.Parts.{unit_for};
 
 use charts::{Field, Level};
 use hubs::Hub;

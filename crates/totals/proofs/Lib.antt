@@ -1,3 +1,4 @@
+pub mod Below
 pub mod Counting
 pub mod Figures
 pub mod Levels

@@ -1,3 +1,4 @@
+pub mod Below
 pub mod Amounts
 pub mod Sums
 pub mod Standing

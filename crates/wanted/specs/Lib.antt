@@ -1,3 +1,4 @@
+pub mod Below
 pub mod ChartTotals
 pub mod Totals
 pub mod Pilots

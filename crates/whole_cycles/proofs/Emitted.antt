@@ -1,26 +1,26 @@
 -- What is emitted, and which contacts are closed, at each point of a cycle, by the state before the cycle.
 use Rattle.std.proofs.Common.{◌≡◌, ◌∙◌, ap, sym, refl, Bool, true, false, ◌||◌, List, [], ◌∷◌, map}
 use Rattle.std.specs.List.{list_any}
-use Rattle.card_code.specs.Rows.{rows}
-use Rattle.card_code.specs.declared.row.Row.{Row as CardRow}
-use Rattle.counters.specs.Counters.{Counter, counter_closes, counter_emits, counter_sensed}
-use Rattle.hubs.specs.declared.hub.Hub.{Hub}
-use Rattle.hubs.specs.declared.hub.Hub.TheVariants.{CX, SX}
-use Rattle.net.specs.Cycles.{is_closing}
-use Rattle.net.specs.declared.cycle.Cycle.{Cycle}
-use Rattle.net.specs.declared.cycle.Cycle.TheVariants.{RunIn, Card}
-use Rattle.net.specs.declared.cycle.Point.{Point}
-use Rattle.net.specs.declared.cycle.Point.TheVariants.{C, Row, K}
-use Rattle.print_unit.specs.Emitters.{emitters_emit}
-use Rattle.program_unit.specs.Program.{tells}
-use Rattle.selectors.proofs.LawLemmas.{pilots_stand}
-use Rattle.selectors.specs.Indicate.{indicate_closes}
-use Rattle.selectors.specs.Pilots.{PilotStates, pilots_closes}
-use Rattle.selectors.specs.Splits.{splits_closes}
-use Rattle.stations.proofs.Own.{tells_differences}
-use Rattle.stations.specs.Comparing.{Compared, comparing_at_start, comparing_emits}
-use Rattle.stations.specs.Stations.{StationCards, stations_emits}
-use Rattle.storage_units.specs.Storage.{StorageState, storage_emits, storage_sensed}
+use Rattle.machine.specs.Below.card_code.Rows.{rows}
+use Rattle.machine.specs.Below.card_code.declared.row.Row.{Row as CardRow}
+use Rattle.machine.specs.Below.counters.Counters.{Counter, counter_closes, counter_emits, counter_sensed}
+use Rattle.machine.specs.Below.hubs.declared.hub.Hub.{Hub}
+use Rattle.machine.specs.Below.hubs.declared.hub.Hub.TheVariants.{CX, SX}
+use Rattle.machine.specs.Below.net.Cycles.{is_closing}
+use Rattle.machine.specs.Below.net.declared.cycle.Cycle.{Cycle}
+use Rattle.machine.specs.Below.net.declared.cycle.Cycle.TheVariants.{RunIn, Card}
+use Rattle.machine.specs.Below.net.declared.cycle.Point.{Point}
+use Rattle.machine.specs.Below.net.declared.cycle.Point.TheVariants.{C, Row, K}
+use Rattle.machine.specs.Below.print_unit.Emitters.{emitters_emit}
+use Rattle.machine.specs.Below.program_unit.Program.{tells}
+use Rattle.machine.proofs.Below.selectors.LawLemmas.{pilots_stand}
+use Rattle.machine.specs.Below.selectors.Indicate.{indicate_closes}
+use Rattle.machine.specs.Below.selectors.Pilots.{PilotStates, pilots_closes}
+use Rattle.machine.specs.Below.selectors.Splits.{splits_closes}
+use Rattle.machine.proofs.Below.stations.Own.{tells_differences}
+use Rattle.machine.specs.Below.stations.Comparing.{Compared, comparing_at_start, comparing_emits}
+use Rattle.machine.specs.Below.stations.Stations.{StationCards, stations_emits}
+use Rattle.machine.specs.Below.storage_units.Storage.{StorageState, storage_emits, storage_sensed}
 use Rattle.machine.specs.Machine.{MachineState, emits, closes, sensed}
 use Rattle.machine.proofs.ClosedContacts.{closes-steady, none-of}
 use Rattle.whole_cycles.specs.WholeCycles.{all_closing_emits, before_closing, carry_emits, closing_closes, control_emits, row_emits, closing_emits, group_reads_out, storage_reads_out}

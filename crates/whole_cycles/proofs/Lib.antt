@@ -1,3 +1,4 @@
+pub mod Below
 pub mod Sources
 pub mod Contacts
 pub mod Walks

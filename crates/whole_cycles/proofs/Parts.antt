@@ -1,15 +1,15 @@
 -- The machine after some points, unit by unit.
 use Rattle.std.proofs.Common.{◌≡◌, ◌∙◌, sym, ap, refl, Bool, List, [], ◌∷◌, map}
-use Rattle.counters.specs.Counters.{Counter, counter_sensed}
-use Rattle.hubs.specs.declared.hub.Hub.{Hub}
-use Rattle.net.specs.declared.cycle.Cycle.{Cycle}
-use Rattle.net.specs.declared.cycle.Point.{Point}
-use Rattle.carriage.specs.Carriage.{CarriageState, carriage_sensed}
-use Rattle.print_unit.specs.Wheels.{WheelsState, wheels_sensed}
-use Rattle.program_unit.specs.Program.{ProgramState, program_sensed}
-use Rattle.selectors.specs.Pilots.{PilotStates, pilots_sensed}
-use Rattle.stations.specs.Comparing.{Compared, comparing_sensed}
-use Rattle.storage_units.specs.Storage.{StorageState, storage_sensed}
+use Rattle.machine.specs.Below.counters.Counters.{Counter, counter_sensed}
+use Rattle.machine.specs.Below.hubs.declared.hub.Hub.{Hub}
+use Rattle.machine.specs.Below.net.declared.cycle.Cycle.{Cycle}
+use Rattle.machine.specs.Below.net.declared.cycle.Point.{Point}
+use Rattle.machine.specs.Below.carriage.Carriage.{CarriageState, carriage_sensed}
+use Rattle.machine.specs.Below.print_unit.Wheels.{WheelsState, wheels_sensed}
+use Rattle.machine.specs.Below.program_unit.Program.{ProgramState, program_sensed}
+use Rattle.machine.specs.Below.selectors.Pilots.{PilotStates, pilots_sensed}
+use Rattle.machine.specs.Below.stations.Comparing.{Compared, comparing_sensed}
+use Rattle.machine.specs.Below.storage_units.Storage.{StorageState, storage_sensed}
 use Rattle.machine.specs.Machine.{MachineState, sensed}
 use Rattle.whole_cycles.proofs.Walks.{after}
 

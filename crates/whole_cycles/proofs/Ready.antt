@@ -1,16 +1,16 @@
 -- A machine starts ready, and stays so from cycle to cycle and from feed to feed.
 use Rattle.std.proofs.Common.{◌≡◌, ◌∙◌, sym, ap, refl, ℕ, Bool, true, false, List, [], ◌∷◌, Option, map, subst, if◌then◌else◌}
 use Rattle.std.specs.List.{range_with_len}
-use Rattle.carriage.specs.Carriage.{CarriageState}
-use Rattle.placed_lines.specs.declared.placed_line.PlacedLine.{PlacedLine}
-use Rattle.setups.specs.Wiring.{Wiring}
-use Rattle.hubs.specs.declared.hub.Hub.{Hub}
-use Rattle.net.specs.declared.cycle.Cycle.{Cycle}
-use Rattle.net.specs.declared.cycle.Cycle.TheVariants.{RunIn, Card, Prog, Head}
-use Rattle.net.specs.declared.cycle.Point.TheVariants.{K}
-use Rattle.print_unit.specs.Wheels.{emptied, wheel_at_start}
-use Rattle.program_unit.specs.CycleOrder.{is_fresh}
-use Rattle.program_unit.specs.Program.{ProgramState, program_ended, program_sensed}
+use Rattle.machine.specs.Below.carriage.Carriage.{CarriageState}
+use Rattle.machine.specs.Below.placed_lines.declared.placed_line.PlacedLine.{PlacedLine}
+use Rattle.machine.specs.Below.setups.Wiring.{Wiring}
+use Rattle.machine.specs.Below.hubs.declared.hub.Hub.{Hub}
+use Rattle.machine.specs.Below.net.declared.cycle.Cycle.{Cycle}
+use Rattle.machine.specs.Below.net.declared.cycle.Cycle.TheVariants.{RunIn, Card, Prog, Head}
+use Rattle.machine.specs.Below.net.declared.cycle.Point.TheVariants.{K}
+use Rattle.machine.specs.Below.print_unit.Wheels.{emptied, wheel_at_start}
+use Rattle.machine.specs.Below.program_unit.CycleOrder.{is_fresh}
+use Rattle.machine.specs.Below.program_unit.Program.{ProgramState, program_ended, program_sensed}
 use Rattle.machine.specs.Cycles.{CycleRun}
 use Rattle.machine.specs.Feeds.{Fed, FeedRuns, FeedStep, begun, taken}
 use Rattle.machine.specs.Machine.{MachineState, machine_at_start}

@@ -4,28 +4,28 @@ use Rattle.std.specs.List.{All, range_with_len}
 use Rattle.std.proofs.lemmas.List.{length-map, length-set}
 use Rattle.std.proofs.lemmas.List.Elements.{All-from_get_or, All-map, All-same}
 use Rattle.std.proofs.lemmas.List.FromFn.{get_or-range_with_len, length-map-range_with_len}
-use Rattle.card_code.specs.Rows.{passing_place}
-use Rattle.card_code.specs.declared.row.Row.TheVariants.{Eleven}
-use Rattle.counters.proofs.EarliestRows.{points-stay}
-use Rattle.counters.proofs.Staying.{counters-stay}
-use Rattle.counters.specs.Counters.{Counter, counter_at_start, counter_number, counter_sensed}
-use Rattle.counters.specs.WholeCycles as counters
-use Rattle.setups.specs.Wiring.{Wiring}
-use Rattle.hubs.specs.declared.hub.Hub.{Hub}
-use Rattle.hubs.specs.declared.hub.Hub.TheVariants.{PIX}
-use Rattle.net.specs.Cycles.{points}
-use Rattle.net.specs.WholeCycles.{after_points}
-use Rattle.net.specs.declared.cycle.Cycle.{Cycle}
-use Rattle.net.specs.declared.cycle.Cycle.TheVariants.{RunIn, Card, Prog, Head}
-use Rattle.net.specs.declared.cycle.Point.{Point}
-use Rattle.net.specs.declared.cycle.Point.TheVariants.{C, Row, K}
-use Rattle.print_unit.specs.Wheels.{emptied, wheel_at_start}
-use Rattle.print_unit.specs.ZeroControl.{Wheel}
-use Rattle.selectors.specs.Numbered.{tests_to}
-use Rattle.selectors.specs.Pilots.{PilotStates, no_pilots, pickups}
-use Rattle.selectors.specs.WholeCycles as selectors
-use Rattle.storage_units.specs.Storage.{StorageState, columns_in, storage_at_start, storage_number, storage_sensed}
-use Rattle.storage_units.specs.WholeCycles as columns
+use Rattle.machine.specs.Below.card_code.Rows.{passing_place}
+use Rattle.machine.specs.Below.card_code.declared.row.Row.TheVariants.{Eleven}
+use Rattle.machine.proofs.Below.counters.EarliestRows.{points-stay}
+use Rattle.machine.proofs.Below.counters.Staying.{counters-stay}
+use Rattle.machine.specs.Below.counters.Counters.{Counter, counter_at_start, counter_number, counter_sensed}
+use Rattle.machine.specs.Below.counters.WholeCycles as counters
+use Rattle.machine.specs.Below.setups.Wiring.{Wiring}
+use Rattle.machine.specs.Below.hubs.declared.hub.Hub.{Hub}
+use Rattle.machine.specs.Below.hubs.declared.hub.Hub.TheVariants.{PIX}
+use Rattle.machine.specs.Below.net.Cycles.{points}
+use Rattle.machine.specs.Below.net.WholeCycles.{after_points}
+use Rattle.machine.specs.Below.net.declared.cycle.Cycle.{Cycle}
+use Rattle.machine.specs.Below.net.declared.cycle.Cycle.TheVariants.{RunIn, Card, Prog, Head}
+use Rattle.machine.specs.Below.net.declared.cycle.Point.{Point}
+use Rattle.machine.specs.Below.net.declared.cycle.Point.TheVariants.{C, Row, K}
+use Rattle.machine.specs.Below.print_unit.Wheels.{emptied, wheel_at_start}
+use Rattle.machine.specs.Below.print_unit.ZeroControl.{Wheel}
+use Rattle.machine.specs.Below.selectors.Numbered.{tests_to}
+use Rattle.machine.specs.Below.selectors.Pilots.{PilotStates, no_pilots, pickups}
+use Rattle.machine.specs.Below.selectors.WholeCycles as selectors
+use Rattle.machine.specs.Below.storage_units.Storage.{StorageState, columns_in, storage_at_start, storage_number, storage_sensed}
+use Rattle.machine.specs.Below.storage_units.WholeCycles as columns
 use Rattle.machine.specs.Machine.{MachineState, machine_at_start, group_units, storage_units}
 use Rattle.whole_cycles.specs.Between.{HasAllRows, IsBetween, IsEmpty, IsIdle}
 use Rattle.whole_cycles.specs.Laws.{MachinesStayBetween}

@@ -3,15 +3,15 @@
 -- called until a card cycle replaces it.
 use Rattle.std.specs.Prelude.{◌≡◌, false, All, length, replicate, map}
 use Rattle.std.specs.List.{range_with_len}
-use Rattle.counters.specs.Counters.{Counter, no_controls}
-use Rattle.counters.specs.Laws.{IsCounter}
-use Rattle.setups.specs.Wiring.{Wiring}
-use Rattle.net.specs.Printing.{printing_of}
-use Rattle.print_unit.specs.Wheels.{wheel_at_start}
-use Rattle.print_unit.specs.ZeroControl.{Wheel}
-use Rattle.selectors.specs.Pilots.{no_pilots}
-use Rattle.stations.specs.Comparing.{comparing_at_start}
-use Rattle.storage_units.specs.Storage.{StorageState, storage_number}
+use Rattle.machine.specs.Below.counters.Counters.{Counter, no_controls}
+use Rattle.machine.specs.Below.counters.Laws.{IsCounter}
+use Rattle.machine.specs.Below.setups.Wiring.{Wiring}
+use Rattle.machine.specs.Below.net.Printing.{printing_of}
+use Rattle.machine.specs.Below.print_unit.Wheels.{wheel_at_start}
+use Rattle.machine.specs.Below.print_unit.ZeroControl.{Wheel}
+use Rattle.machine.specs.Below.selectors.Pilots.{no_pilots}
+use Rattle.machine.specs.Below.stations.Comparing.{comparing_at_start}
+use Rattle.machine.specs.Below.storage_units.Storage.{StorageState, storage_number}
 use Rattle.machine.specs.Fields.{AreInUnitOrder}
 use Rattle.machine.specs.Machine.{MachineState, storage_units}
 

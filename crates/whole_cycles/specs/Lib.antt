@@ -1,3 +1,4 @@
+pub mod Below
 pub mod WholeCycles
 pub mod Between
 pub mod Carries

@@ -1,23 +1,23 @@
 -- Runs in which carries are no impulses: in each cycle every counter group turns by itself, as a ring where it is wired to itself, and
 -- no carry is seen at any hub. Setups in which no two groups are joined run so.
 use Rattle.std.specs.Prelude.{◌≡◌, ◌↔◌, ℕ, Bool, List, map}
-use Rattle.card_code.specs.declared.row.Row.{Row as CardRow}
-use Rattle.carriage.specs.Carriage.{carriage_sensed, carriage_ended}
-use Rattle.placed_lines.specs.declared.placed_line.PlacedLine.{PlacedLine}
-use Rattle.setups.specs.Wiring.{LeadsToEntries, Wiring, is_wired}
-use Rattle.hubs.specs.declared.hub.Hub.{Hub}
-use Rattle.hubs.specs.declared.hub.Hub.TheVariants.{CI, CO}
-use Rattle.net.specs.Impulsed.{IsPicture}
-use Rattle.net.specs.declared.cycle.Cycle.{Cycle}
-use Rattle.net.specs.declared.cycle.Point.{Point}
-use Rattle.net.specs.declared.cycle.Point.TheVariants.{C, Row, K}
-use Rattle.print_unit.specs.Wheels.{emptied}
-use Rattle.print_unit.specs.ZeroControl.{printed_line, has_zero_control}
-use Rattle.program_unit.specs.Program.{program_sensed, program_ended}
-use Rattle.selectors.specs.Indicate.{indicate_ended}
-use Rattle.selectors.specs.WholeCycles as selectors
-use Rattle.stations.specs.Comparing.{comparing_at_start}
-use Rattle.storage_units.specs.WholeCycles as storage_units
+use Rattle.machine.specs.Below.card_code.declared.row.Row.{Row as CardRow}
+use Rattle.machine.specs.Below.carriage.Carriage.{carriage_sensed, carriage_ended}
+use Rattle.machine.specs.Below.placed_lines.declared.placed_line.PlacedLine.{PlacedLine}
+use Rattle.machine.specs.Below.setups.Wiring.{LeadsToEntries, Wiring, is_wired}
+use Rattle.machine.specs.Below.hubs.declared.hub.Hub.{Hub}
+use Rattle.machine.specs.Below.hubs.declared.hub.Hub.TheVariants.{CI, CO}
+use Rattle.machine.specs.Below.net.Impulsed.{IsPicture}
+use Rattle.machine.specs.Below.net.declared.cycle.Cycle.{Cycle}
+use Rattle.machine.specs.Below.net.declared.cycle.Point.{Point}
+use Rattle.machine.specs.Below.net.declared.cycle.Point.TheVariants.{C, Row, K}
+use Rattle.machine.specs.Below.print_unit.Wheels.{emptied}
+use Rattle.machine.specs.Below.print_unit.ZeroControl.{printed_line, has_zero_control}
+use Rattle.machine.specs.Below.program_unit.Program.{program_sensed, program_ended}
+use Rattle.machine.specs.Below.selectors.Indicate.{indicate_ended}
+use Rattle.machine.specs.Below.selectors.WholeCycles as selectors
+use Rattle.machine.specs.Below.stations.Comparing.{comparing_at_start}
+use Rattle.machine.specs.Below.storage_units.WholeCycles as storage_units
 use Rattle.machine.specs.Cycles.{CycleRun}
 use Rattle.machine.specs.Machine.{MachineState, closes}
 use Rattle.machine.specs.Runs.{RunsBy, run_at_start}

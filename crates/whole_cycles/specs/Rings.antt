@@ -1,16 +1,16 @@
 -- Setups in which carries go round single groups alone. There each group that is wired to itself turns as a ring by itself, every
 -- other one on the line, and no carry is seen anywhere else.
 use Rattle.std.specs.Prelude.{◌≡◌, ◌↔◌, Bool, true, false, map, if◌then◌else◌}
-use Rattle.counters.specs.Counters.{Counter, counter_ended, top_is_nine, wheels_in}
-use Rattle.counters.specs.Wheels.{turned_round}
-use Rattle.setups.specs.Wiring.{HasWire, LeadsToEntries, Wiring, is_wired}
-use Rattle.hubs.specs.Hubs.{keeps_ring}
-use Rattle.hubs.specs.declared.hub.Hub.{Hub}
-use Rattle.hubs.specs.declared.hub.Hub.TheVariants.{CI, CO}
-use Rattle.net.specs.Impulsed.{IsImpulsed}
-use Rattle.net.specs.declared.cycle.Cycle.{Cycle}
-use Rattle.net.specs.declared.cycle.Point.{Point}
-use Rattle.net.specs.declared.cycle.Point.TheVariants.{K}
+use Rattle.machine.specs.Below.counters.Counters.{Counter, counter_ended, top_is_nine, wheels_in}
+use Rattle.machine.specs.Below.counters.Wheels.{turned_round}
+use Rattle.machine.specs.Below.setups.Wiring.{HasWire, LeadsToEntries, Wiring, is_wired}
+use Rattle.machine.specs.Below.hubs.Hubs.{keeps_ring}
+use Rattle.machine.specs.Below.hubs.declared.hub.Hub.{Hub}
+use Rattle.machine.specs.Below.hubs.declared.hub.Hub.TheVariants.{CI, CO}
+use Rattle.machine.specs.Below.net.Impulsed.{IsImpulsed}
+use Rattle.machine.specs.Below.net.declared.cycle.Cycle.{Cycle}
+use Rattle.machine.specs.Below.net.declared.cycle.Point.{Point}
+use Rattle.machine.specs.Below.net.declared.cycle.Point.TheVariants.{K}
 use Rattle.machine.specs.Machine.{MachineState, closes}
 use Rattle.whole_cycles.specs.Between.{IsBetween}
 use Rattle.whole_cycles.specs.Carries.{but_carries, is_carry}

@@ -1,3 +1,4 @@
+pub mod Below
 mod Gains
 mod HubRanges
 mod JackGains

@@ -1,3 +1,4 @@
+pub mod Below
 pub mod Laws
 pub mod Parts
 pub mod Writing

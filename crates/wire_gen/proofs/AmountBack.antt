@@ -2,24 +2,24 @@
 use Rattle.std.proofs.Common.{ℕ, ◌+◌, ◌-◌, List, Option, Some, None, refl, sym, ap, subst, ◌∙◌}
 use Rattle.std.proofs.lemmas.Option.{slice_get_within, same_Some}
 use Rattle.plans.specs.Plans.{Lists}
-use Rattle.field_rules.specs.Fields.{field_named}
+use Rattle.chart_rules.specs.Below.field_rules.Fields.{field_named}
 use Rattle.charts.specs.Field.{columns_of, decimals_of}
 use Rattle.charts.specs.declared.chart.Line.{Line}
 use Rattle.charts.specs.declared.level.Level.{Level}
 use Rattle.charts.specs.declared.statement.Mark.{Mark}
 use Rattle.charts.specs.declared.statement.Statement.TheVariants as says
-use Rattle.hubs.specs.declared.hub.Hub.{Hub}
-use Rattle.hubs.specs.declared.hub.Hub.TheVariants.{BAC, BAN, BAT, BT, CC, EM, GE, GX, MI, PL, PX, RO, SR, W}
-use Rattle.wiring_table.specs.Figures.{IsText, IsAmount, IsSigned, IsUnsigned, IsLiteral, on_heading, on_detail, on_total, IsFigure, HasPunch, HasPunchAt, rule_of, digit_wheel, point_wheel, mark_wheel, mark_text, detail_emitter, heading_emitter, total_emitter}
-use Rattle.wiring_table.specs.Figures as figures
+use Rattle.setups.specs.Below.hubs.declared.hub.Hub.{Hub}
+use Rattle.setups.specs.Below.hubs.declared.hub.Hub.TheVariants.{BAC, BAN, BAT, BT, CC, EM, GE, GX, MI, PL, PX, RO, SR, W}
+use Rattle.line_wires.specs.Below.wiring_table.Figures.{IsText, IsAmount, IsSigned, IsUnsigned, IsLiteral, on_heading, on_detail, on_total, IsFigure, HasPunch, HasPunchAt, rule_of, digit_wheel, point_wheel, mark_wheel, mark_text, detail_emitter, heading_emitter, total_emitter}
+use Rattle.line_wires.specs.Below.wiring_table.Figures as figures
 use Rattle.line_wires.specs.HelperAdds.{One, one, first, second, below, some, given, punched}
 use Rattle.total_wires.specs.HelperTotals.{IsGoodTotal}
 use Rattle.wire_gen.specs.HelperKnown.{IsNamed}
 use Rattle.total_wires.specs.HelperLevels.{next}
 use Rattle.wire_gen.specs.HelperLines.{StatementWires}
-use Rattle.wiring_table.specs.Wires.{LineWire}
-use Rattle.wiring_table.specs.Wires as table
-use Rattle.wiring_table.specs.Parts.{negative_side, positive_side, top_group}
+use Rattle.line_wires.specs.Below.wiring_table.Wires.{LineWire}
+use Rattle.line_wires.specs.Below.wiring_table.Wires as table
+use Rattle.line_wires.specs.Below.wiring_table.Parts.{negative_side, positive_side, top_group}
 use Rattle.total_wires.specs.HelperCounters.{CarryUpWires, RingWires, entry_of, exit_of, place_of}
 use Rattle.total_wires.specs.HelperTotalRows.{FeedbackWires}
 use Rattle.charts.specs.Levels.{level_number}

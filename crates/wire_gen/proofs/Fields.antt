@@ -7,9 +7,9 @@ use Rattle.charts.specs.declared.statement.FieldKind.TheVariants as holds
 use Rattle.charts.specs.declared.statement.Mark.{Mark}
 use Rattle.charts.specs.declared.statement.Mark.TheVariants as marks
 use Rattle.charts.specs.declared.statement.SignRule.{SignRule}
-use Rattle.wiring_table.specs.Figures.{HasPunchAt, rule_of, mark_text}
+use Rattle.line_wires.specs.Below.wiring_table.Figures.{HasPunchAt, rule_of, mark_text}
 use Rattle.wire_gen.specs.HelperKnown.{IsNamed}
-use Rattle.card_code.specs.CardCode.{code, rows_of, set_of}
+use Rattle.charts.specs.Below.card_code.CardCode.{code, rows_of, set_of}
 
 -- a field with a sign rule is an amount
 pub ruled-amount : (kind : FieldKind) (rule : SignRule) → rule_of kind ≡ Some rule → is_amount kind ≡ true

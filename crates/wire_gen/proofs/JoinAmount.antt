@@ -5,7 +5,7 @@ use Rattle.plans.specs.Counters.{single_group}
 use Rattle.plans.specs.Plans.{Lists}
 use Rattle.plans.specs.declared.counter.TotalCounter.{TotalCounter}
 use Rattle.plans.specs.declared.counter.TotalCounter.TheVariants as of
-use Rattle.field_rules.specs.Fields.{field_named}
+use Rattle.chart_rules.specs.Below.field_rules.Fields.{field_named}
 use Rattle.charts.specs.Field.{decimals_of}
 use Rattle.charts.specs.Levels.{level_number}
 use Rattle.charts.specs.declared.chart.Line.{Line}
@@ -14,12 +14,12 @@ use Rattle.charts.specs.declared.statement.Field.{Field}
 use Rattle.charts.specs.declared.statement.Mark.{Mark}
 use Rattle.charts.specs.declared.statement.SignRule.{SignRule}
 use Rattle.charts.specs.declared.statement.Statement.TheVariants as says
-use Rattle.hubs.specs.declared.hub.Group.{Group}
-use Rattle.hubs.specs.declared.hub.Hub.{Hub}
-use Rattle.hubs.specs.declared.hub.Hub.TheVariants.{BAN, BAT, CC, MI, PL, PX, RO}
+use Rattle.setups.specs.Below.hubs.declared.hub.Group.{Group}
+use Rattle.setups.specs.Below.hubs.declared.hub.Hub.{Hub}
+use Rattle.setups.specs.Below.hubs.declared.hub.Hub.TheVariants.{BAN, BAT, CC, MI, PL, PX, RO}
 use Rattle.line_wires.specs.HelperRows.{Wires}
-use Rattle.wiring_table.specs.Figures.{IsText, IsAmount, IsSigned, IsUnsigned, IsLiteral, on_heading, on_detail, on_total, IsFigure, HasPunch, HasPunchAt, rule_of, digit_wheel, point_wheel, mark_wheel, mark_text, detail_emitter, heading_emitter, total_emitter}
-use Rattle.wiring_table.specs.Figures as figures
+use Rattle.line_wires.specs.Below.wiring_table.Figures.{IsText, IsAmount, IsSigned, IsUnsigned, IsLiteral, on_heading, on_detail, on_total, IsFigure, HasPunch, HasPunchAt, rule_of, digit_wheel, point_wheel, mark_wheel, mark_text, detail_emitter, heading_emitter, total_emitter}
+use Rattle.line_wires.specs.Below.wiring_table.Figures as figures
 use Rattle.line_wires.specs.HelperAdds.{first, second, below, some, given, punched}
 use Rattle.total_wires.specs.HelperTotals.{IsGoodTotal, TotalWires}
 use Rattle.wire_gen.specs.HelperKnown.{IsNamed}
@@ -27,9 +27,9 @@ use Rattle.total_wires.specs.HelperCounters.{CarryUpWires, IsCounterOnPanel, Rin
 use Rattle.total_wires.specs.HelperLevels.{HasCounterFor, next}
 use Rattle.wire_gen.specs.HelperLines.{StatementWires}
 use Rattle.total_wires.specs.HelperTotalRows.{EntrySense, FeedbackWires, SignedTotal, TotalMark, TransferSense}
-use Rattle.wiring_table.specs.Parts.{HasPanelGroup, IsLowest, IsNextHigher, ServesPosition, counter_for, negative_side, panel_group, positive_side, top_group}
-use Rattle.wiring_table.specs.Wires.{LineWire}
-use Rattle.wiring_table.specs.Wires as table
+use Rattle.line_wires.specs.Below.wiring_table.Parts.{HasPanelGroup, IsLowest, IsNextHigher, ServesPosition, counter_for, negative_side, panel_group, positive_side, top_group}
+use Rattle.line_wires.specs.Below.wiring_table.Wires.{LineWire}
+use Rattle.line_wires.specs.Below.wiring_table.Wires as table
 use Rattle.wire_gen.proofs.CounterWires.{controls-there, each-there, position-there, serves-there, top-there}
 use Rattle.wire_gen.proofs.Fields.{mark-punch, named-field, named-has}
 use Rattle.wire_gen.proofs.JoinLines.{by-one}

@@ -2,8 +2,8 @@
 use Rattle.std.proofs.Common.{◌≡◌, ℕ, ◌+◌, ◌-◌, ◌≤◌, true, false, List, Some, refl, sym, ap, ◌∙◌, subst, arith}
 use Rattle.std.proofs.lemmas.Option.{slice_get_within, same_Some}
 use Rattle.plans.specs.Plans.{Lists}
-use Rattle.field_rules.specs.Fields.{field_named}
-use Rattle.print_rules.specs.Items.{mark_shown}
+use Rattle.chart_rules.specs.Below.field_rules.Fields.{field_named}
+use Rattle.chart_rules.specs.Below.print_rules.Items.{mark_shown}
 use Rattle.charts.specs.Field.{columns_of, decimals_of, is_amount, sign_column}
 use Rattle.charts.specs.declared.chart.Line.{Line}
 use Rattle.charts.specs.declared.statement.DetailOption.{DetailOption}
@@ -14,16 +14,16 @@ use Rattle.charts.specs.declared.statement.FieldKind.TheVariants as holds
 use Rattle.charts.specs.declared.statement.Mark.{Mark}
 use Rattle.charts.specs.declared.statement.SignRule.{SignRule}
 use Rattle.charts.specs.declared.statement.Statement.TheVariants as says
-use Rattle.hubs.specs.declared.hub.Hub.{Hub}
-use Rattle.wiring_table.specs.Figures.{IsText, IsAmount, IsSigned, IsUnsigned, IsLiteral, on_heading, on_detail, on_total, IsFigure, HasPunch, HasPunchAt, rule_of, digit_wheel, point_wheel, mark_wheel, mark_text, detail_emitter, heading_emitter, total_emitter}
-use Rattle.wiring_table.specs.Figures as figures
+use Rattle.setups.specs.Below.hubs.declared.hub.Hub.{Hub}
+use Rattle.line_wires.specs.Below.wiring_table.Figures.{IsText, IsAmount, IsSigned, IsUnsigned, IsLiteral, on_heading, on_detail, on_total, IsFigure, HasPunch, HasPunchAt, rule_of, digit_wheel, point_wheel, mark_wheel, mark_text, detail_emitter, heading_emitter, total_emitter}
+use Rattle.line_wires.specs.Below.wiring_table.Figures as figures
 use Rattle.line_wires.specs.HelperAdds.{one, first, second, below, OfSome, some, given, punched}
 use Rattle.line_wires.specs.HelperItems.{DetailAmount, DetailMarks, DetailText, DetailWires}
 use Rattle.wire_gen.specs.HelperLines.{StatementWires}
 use Rattle.line_wires.specs.HelperRows.{DetailMark, DigitWires}
-use Rattle.wiring_table.specs.Parts.{pilot_for}
-use Rattle.wiring_table.specs.Wires.{LineWire}
-use Rattle.wiring_table.specs.Wires as table
+use Rattle.line_wires.specs.Below.wiring_table.Parts.{pilot_for}
+use Rattle.line_wires.specs.Below.wiring_table.Wires.{LineWire}
+use Rattle.line_wires.specs.Below.wiring_table.Wires as table
 use Rattle.wire_gen.proofs.Fields.{mark-punch, ruled-amount}
 use Rattle.wire_gen.proofs.JoinLines.{at-position, by-one}
 

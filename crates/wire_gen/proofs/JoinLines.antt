@@ -19,14 +19,14 @@ use Rattle.charts.specs.declared.statement.FieldKind.TheVariants as holds
 use Rattle.charts.specs.declared.statement.SignRule.{SignRule}
 use Rattle.charts.specs.declared.statement.Statement.{Statement}
 use Rattle.charts.specs.declared.statement.Statement.TheVariants as says
-use Rattle.hubs.specs.declared.hub.Hub.{Hub}
-use Rattle.hubs.specs.declared.hub.Hub.TheVariants.{FR, EM, PIX, W}
-use Rattle.wiring_table.specs.Figures.{IsLiteral, on_heading, on_detail, on_total, HasPunchAt, rule_of, detail_emitter, heading_emitter, total_emitter}
+use Rattle.setups.specs.Below.hubs.declared.hub.Hub.{Hub}
+use Rattle.setups.specs.Below.hubs.declared.hub.Hub.TheVariants.{FR, EM, PIX, W}
+use Rattle.line_wires.specs.Below.wiring_table.Figures.{IsLiteral, on_heading, on_detail, on_total, HasPunchAt, rule_of, detail_emitter, heading_emitter, total_emitter}
 use Rattle.line_wires.specs.HelperAdds.{One, one, first, second, Upto, below, some, given, punched}
 use Rattle.wire_gen.specs.HelperLines.{StatementWires}
 use Rattle.line_wires.specs.HelperRows.{AfterWires, LiteralWires, PickupWires, SpaceWires, Wires}
-use Rattle.wiring_table.specs.Wires.{LineWire}
-use Rattle.wiring_table.specs.Wires as table
+use Rattle.line_wires.specs.Below.wiring_table.Wires.{LineWire}
+use Rattle.line_wires.specs.Below.wiring_table.Wires as table
 
 -- the places of a text as positions from 1
 pub at-position : (at : ℕ → Wires) (bound position : ℕ) {exit to : Hub} → 1 ≤ position → position ≤ bound

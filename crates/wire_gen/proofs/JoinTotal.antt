@@ -1,16 +1,16 @@
 -- The wires that the code adds for a total are those of the table.
 use Rattle.std.proofs.Common.{ℕ, List}
 use Rattle.plans.specs.Plans.{Lists}
-use Rattle.field_rules.specs.Fields.{field_named}
+use Rattle.chart_rules.specs.Below.field_rules.Fields.{field_named}
 use Rattle.charts.specs.declared.chart.Line.{Line}
 use Rattle.charts.specs.declared.level.Level.{Level}
 use Rattle.charts.specs.declared.statement.Statement.TheVariants as says
-use Rattle.hubs.specs.declared.hub.Hub.{Hub}
+use Rattle.setups.specs.Below.hubs.declared.hub.Hub.{Hub}
 use Rattle.line_wires.specs.HelperAdds.{one, first, second, below, some}
 use Rattle.wire_gen.specs.HelperKnown.{IsGoodTotalText, IsNamed}
 use Rattle.wire_gen.specs.HelperLines.{StatementWires}
-use Rattle.wiring_table.specs.Wires.{LineWire}
-use Rattle.wiring_table.specs.Wires as table
+use Rattle.line_wires.specs.Below.wiring_table.Wires.{LineWire}
+use Rattle.line_wires.specs.Below.wiring_table.Wires as table
 use Rattle.wire_gen.proofs.Fields.{named-field, named-has}
 use Rattle.wire_gen.proofs.JoinLines.{by-one}
 

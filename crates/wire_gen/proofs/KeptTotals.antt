@@ -1,11 +1,11 @@
 -- The counters of the totals of a chart.
 use Rattle.std.proofs.Common.{◌≡◌, ℕ, ◌≤◌, inl, inr, List, Some, refl, arith}
 use Rattle.std.proofs.lemmas.Bool.Decides.{nat_tests}
-use Rattle.capacity.specs.Capacities.{HasGroup, standard}
+use Rattle.plans.specs.Below.capacity.Capacities.{HasGroup, standard}
 use Rattle.charts.specs.Chart.{NumbersRise}
 use Rattle.charts.specs.declared.chart.Line.{Line}
-use Rattle.field_rules.specs.Fields.{field_named}
-use Rattle.hubs.specs.declared.hub.Group.{Group}
+use Rattle.chart_rules.specs.Below.field_rules.Fields.{field_named}
+use Rattle.setups.specs.Below.hubs.declared.hub.Group.{Group}
 use Rattle.plans.proofs.CounterGroups.{width-cases}
 use Rattle.plans.specs.Counters.{IsEnoughFor}
 use Rattle.plans.specs.Plans.{Lists, IsFor}
@@ -13,9 +13,9 @@ use Rattle.plans.specs.declared.counter.TotalCounter.{TotalCounter}
 use Rattle.plans.specs.declared.counter.TotalCounter.TheVariants as of
 use Rattle.total_wires.specs.HelperCounters.{IsCounterOnPanel, IsOnPanel, positions_of}
 use Rattle.total_wires.specs.HelperLevels.{HasCounterFor}
-use Rattle.wanted.specs.ChartTotals.{need_of}
-use Rattle.wiring_table.proofs.Groups.{counter-enough, counter-given, serves-there}
-use Rattle.wiring_table.specs.Parts.{HasTotal, counter_for, panel_group}
+use Rattle.plans.specs.Below.wanted.ChartTotals.{need_of}
+use Rattle.line_wires.proofs.Below.wiring_table.Groups.{counter-enough, counter-given, serves-there}
+use Rattle.line_wires.specs.Below.wiring_table.Parts.{HasTotal, counter_for, panel_group}
 
 on-panel : (group : Group) → HasGroup standard (record { width = group.width; number = group.number }) → IsOnPanel group
 on-panel group has =

@@ -4,13 +4,13 @@ use Rattle.plans.specs.Plans.{Lists}
 use Rattle.charts.specs.declared.chart.Line.{Line}
 use Rattle.setups.specs.Tapes.{CarriageTape}
 use Rattle.setups.specs.Wiring.{Wiring, HasWire, is_plugged}
-use Rattle.hubs.specs.declared.hub.Hub.{Hub}
-use Rattle.hubs.specs.declared.jack.Jack.{Jack}
+use Rattle.setups.specs.Below.hubs.declared.hub.Hub.{Hub}
+use Rattle.setups.specs.Below.hubs.declared.jack.Jack.{Jack}
 use Rattle.std.proofs.Common.{false}
 use Rattle.line_wires.specs.HelperAdds.{Adds}
 use Rattle.jacks_and_tape.specs.HelperJacks.{Plugs}
 use Rattle.jacks_and_tape.specs.OfLine.{IsTapeOfLine, LineJack}
-use Rattle.wiring_table.specs.Wires.{LineWire}
+use Rattle.line_wires.specs.Below.wiring_table.Wires.{LineWire}
 use Rattle.wire_gen.specs.OfLine.{IsSetupOfLine}
 
 pub whole-line : (lines : List Line) (plan : Lists) (line : Line) (tape : CarriageTape) (bare plugged wired : Wiring)

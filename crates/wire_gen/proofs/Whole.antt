@@ -4,13 +4,13 @@ use Rattle.plans.specs.Plans.{Lists}
 use Rattle.charts.specs.declared.chart.Line.{Line}
 use Rattle.setups.specs.Tapes.{CarriageTape}
 use Rattle.setups.specs.Wiring.{Wiring, HasWire, is_plugged}
-use Rattle.hubs.specs.declared.hub.Hub.{Hub}
-use Rattle.hubs.specs.declared.jack.Jack.{Jack}
+use Rattle.setups.specs.Below.hubs.declared.hub.Hub.{Hub}
+use Rattle.setups.specs.Below.hubs.declared.jack.Jack.{Jack}
 use Rattle.line_wires.specs.HelperAdds.{Adds}
 use Rattle.jacks_and_tape.specs.HelperJacks.{Plugs}
-use Rattle.wiring_table.specs.Jacks.{ChartJack}
-use Rattle.wiring_table.specs.Wires.{ChartWire}
-use Rattle.wiring_table.specs.WiredFor.{IsTapeOf, WiredFor}
+use Rattle.line_wires.specs.Below.wiring_table.Jacks.{ChartJack}
+use Rattle.line_wires.specs.Below.wiring_table.Wires.{ChartWire}
+use Rattle.line_wires.specs.Below.wiring_table.WiredFor.{IsTapeOf, WiredFor}
 
 pub whole : (lines : List Line) (plan : Lists) (tape : CarriageTape) (bare plugged wired : Wiring) → IsTapeOf lines tape
     → ((exit entry : Hub) → ¬ HasWire bare exit entry) → ((jack : Jack) → is_plugged bare jack ≡ false) → bare.tape ≡ tape

@@ -7,17 +7,17 @@ use Rattle.charts.specs.Levels.{level_number}
 use Rattle.charts.specs.declared.chart.Line.{Line}
 use Rattle.charts.specs.declared.statement.Statement.{Statement}
 use Rattle.charts.specs.declared.statement.Statement.TheVariants as says
-use Rattle.hubs.specs.declared.hub.Hub.{Hub}
-use Rattle.wiring_table.specs.Figures.{IsText, IsAmount, IsSigned, IsUnsigned, IsLiteral, on_heading, on_detail, on_total, IsFigure, HasPunch, HasPunchAt, rule_of, digit_wheel, point_wheel, mark_wheel, mark_text, detail_emitter, heading_emitter, total_emitter}
-use Rattle.wiring_table.specs.Figures as figures
+use Rattle.setups.specs.Below.hubs.declared.hub.Hub.{Hub}
+use Rattle.line_wires.specs.Below.wiring_table.Figures.{IsText, IsAmount, IsSigned, IsUnsigned, IsLiteral, on_heading, on_detail, on_total, IsFigure, HasPunch, HasPunchAt, rule_of, digit_wheel, point_wheel, mark_wheel, mark_text, detail_emitter, heading_emitter, total_emitter}
+use Rattle.line_wires.specs.Below.wiring_table.Figures as figures
 use Rattle.line_wires.specs.HelperAdds.{below, some}
 use Rattle.wire_gen.specs.HelperKnown.{IsGood}
 use Rattle.wire_gen.specs.HelperLines.{StatementWires, WiresBefore}
-use Rattle.wiring_table.specs.Wires.{LineWire}
-use Rattle.wiring_table.specs.Wires as table
+use Rattle.line_wires.specs.Below.wiring_table.Wires.{LineWire}
+use Rattle.line_wires.specs.Below.wiring_table.Wires as table
 use Rattle.setups.specs.Wiring.{Wiring}
 use Rattle.line_wires.specs.HelperAdds.{Adds}
-use Rattle.wiring_table.specs.Wires.{ChartWire}
+use Rattle.line_wires.specs.Below.wiring_table.Wires.{ChartWire}
 use Rattle.wire_gen.proofs.AmountBack.{total-back}
 use Rattle.wire_gen.proofs.JoinAmount.{total-there}
 use Rattle.wire_gen.proofs.JoinDetail.{detail-there, detail-back}

@@ -1,20 +1,20 @@
 -- A helper of the code: the wires of a line of the chart as the code adds them.
 use Rattle.std.specs.Prelude.{ℕ, List, slice_get}
 use Rattle.plans.specs.Plans.{Lists}
-use Rattle.field_rules.specs.Fields.{field_named}
+use Rattle.chart_rules.specs.Below.field_rules.Fields.{field_named}
 use Rattle.charts.specs.Headings.{heading_number}
 use Rattle.charts.specs.Levels.{level_number}
 use Rattle.charts.specs.declared.chart.Line.{Line}
 use Rattle.charts.specs.declared.statement.Statement.{Statement}
 use Rattle.charts.specs.declared.statement.Statement.TheVariants as says
-use Rattle.wiring_table.specs.Figures.{detail_emitter, heading_emitter, total_emitter}
+use Rattle.line_wires.specs.Below.wiring_table.Figures.{detail_emitter, heading_emitter, total_emitter}
 use Rattle.line_wires.specs.HelperAdds.{OfSome, Upto}
 use Rattle.line_wires.specs.HelperItems.{DetailWires, NoWires}
 use Rattle.total_wires.specs.HelperTotals.{TotalWires}
 use Rattle.line_wires.specs.HelperRows.{AfterWires, ComparedWires, LiteralWires, PickupWires, SpaceWires, Wires}
 use Rattle.total_wires.specs.HelperTotalRows.{TotalTextWires}
-use Rattle.wiring_table.specs.Parts.{counter_for, unit_for}
-use Rattle.wiring_table.specs.Wires.{LineWire}
+use Rattle.line_wires.specs.Below.wiring_table.Parts.{counter_for, unit_for}
+use Rattle.line_wires.specs.Below.wiring_table.Wires.{LineWire}
 
 -- the wires that a line of the chart gives, by its number and what it says
 abbrev pub StatementWires : List Line → Lists → ℕ → Statement → Wires

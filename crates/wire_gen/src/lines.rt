@@ -1,7 +1,7 @@
 //! The lines of a chart, one by one.
 
 ghost use Rattle.std.specs.Prelude.{◌≡◌, ℕ, OnOk, Some, slice_get, length};
-ghost use Rattle.field_rules.specs.Fields.{field_named};
+ghost use Rattle.chart_rules.specs.Below.field_rules.Fields.{field_named};
 ghost use Rattle.chart_rules.specs.HelperOnCard.{IsOnCard};
 ghost use Rattle.charts.specs.declared.chart.Line.{Line};
 ghost use Rattle.line_wires.specs.HelperAdds.{Adds, OfSome};
@@ -11,8 +11,8 @@ ghost use Rattle.wire_gen.specs.HelperKnown.{IsGood, IsGoodTotalText, IsNamed};
 ghost use Rattle.wire_gen.specs.HelperLines.{StatementWires, WiresBefore};
 ghost use Rattle.line_wires.specs.HelperRows.{ComparedWires};
 ghost use Rattle.total_wires.specs.HelperTotalRows.{TotalTextWires};
-ghost use Rattle.wiring_table.specs.Parts.{counter_for, unit_for};
-ghost use Rattle.wiring_table.specs.Wires.{LineWire};
+ghost use Rattle.line_wires.specs.Below.wiring_table.Parts.{counter_for, unit_for};
+ghost use Rattle.line_wires.specs.Below.wiring_table.Wires.{LineWire};
 
 use chart_rules::Chart;
 use charts::{ControlLevel, DetailOption, Level, Line, Mark, Name, Statement};

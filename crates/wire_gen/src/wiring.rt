@@ -2,7 +2,7 @@
 
 ghost use Rattle.std.specs.Prelude.{IfOk};
 ghost use Rattle.plans.specs.Plans.{IsFor};
-ghost use Rattle.wiring_table.specs.WiredFor.{WiredFor};
+ghost use Rattle.line_wires.specs.Below.wiring_table.WiredFor.{WiredFor};
 
 use crate::lines::wire_lines;
 use chart_rules::Chart;

@@ -3,18 +3,18 @@ use Rattle.std.proofs.Common.{◌≡◌, ◌∙◌, refl, sym, ap, subst, ℕ, �
 use Rattle.std.proofs.lemmas.Bool.{and_parts}
 use Rattle.std.proofs.lemmas.Bool.Decides.{nat_tests}
 use Rattle.std.proofs.lemmas.Option.{same_Some}
-use Rattle.capacity.specs.declared.group.CounterGroup.{CounterGroup}
-use Rattle.charts.specs.declared.chart.Line.{Line}
-use Rattle.charts.specs.declared.statement.Statement.{Statement}
-use Rattle.hubs.specs.Carries.{are_alike, do_groups_agree, do_wires_agree, is_one_group, keeps_carry, may_carry}
-use Rattle.hubs.specs.Hubs.{carry_into, carry_out_of}
-use Rattle.hubs.specs.declared.hub.Group.{Group}
-use Rattle.hubs.specs.declared.hub.Hub.{Hub}
-use Rattle.hubs.specs.declared.hub.Hub.TheVariants.{CI, CO}
-use Rattle.plans.specs.Counters.{ServesAsPair, single_group}
-use Rattle.plans.specs.Plans.{Lists, IsFor}
-use Rattle.plans.specs.declared.counter.TotalCounter.TheVariants as of
-use Rattle.setups.specs.Wiring.{CanJoin, HasWire, Wiring}
+use Rattle.wiring_table.specs.Below.capacity.declared.group.CounterGroup.{CounterGroup}
+use Rattle.wiring_table.specs.Below.charts.declared.chart.Line.{Line}
+use Rattle.wiring_table.specs.Below.charts.declared.statement.Statement.{Statement}
+use Rattle.whole_cycles.specs.Below.hubs.Carries.{are_alike, do_groups_agree, do_wires_agree, is_one_group, keeps_carry, may_carry}
+use Rattle.whole_cycles.specs.Below.hubs.Hubs.{carry_into, carry_out_of}
+use Rattle.whole_cycles.specs.Below.hubs.declared.hub.Group.{Group}
+use Rattle.whole_cycles.specs.Below.hubs.declared.hub.Hub.{Hub}
+use Rattle.whole_cycles.specs.Below.hubs.declared.hub.Hub.TheVariants.{CI, CO}
+use Rattle.wiring_table.specs.Below.plans.Counters.{ServesAsPair, single_group}
+use Rattle.wiring_table.specs.Below.plans.Plans.{Lists, IsFor}
+use Rattle.wiring_table.specs.Below.plans.declared.counter.TotalCounter.TheVariants as of
+use Rattle.wiring_table.specs.Below.setups.Wiring.{CanJoin, HasWire, Wiring}
 use Rattle.wired_panels.proofs.Chains.{ToCarry, carry_kept, from_itself, from_lower, from_upper, to_carry}
 use Rattle.wiring_table.proofs.Groups.{is-served, serves-own, single-serves}
 use Rattle.wiring_table.specs.Parts.{ServesTotal, counter_for, group_for, panel_group}

@@ -1,21 +1,21 @@
 -- What holds of each wire of a chart: it leads from an exit to an entry, and no second contact stands after a contact.
 use Rattle.std.proofs.Common.{◌≡◌, sym, refl, ℕ, ◌&&◌, ◌||◌, not, Bool, true, false, List, Option, Some, None, ap, is_some}
-use Rattle.plans.specs.Plans.{Lists}
-use Rattle.charts.specs.declared.chart.Line.{Line}
-use Rattle.charts.specs.declared.statement.BodyLine.TheVariants as body
-use Rattle.charts.specs.declared.statement.SignRule.{SignRule}
-use Rattle.charts.specs.declared.statement.SignRule.TheVariants as sign
-use Rattle.charts.specs.declared.statement.Statement.{Statement}
-use Rattle.hub_table.specs.HubTable.{row_of}
-use Rattle.hubs.specs.Hubs.{carry_into, carry_out_of, letters_of}
-use Rattle.hubs.specs.declared.hub.Group.{Group}
-use Rattle.hubs.specs.declared.hub.Hub.{Hub}
-use Rattle.hubs.specs.declared.hub.Hub.TheVariants.{CA, CB, CI, CO, PIX, SE, SI, SO, ST, SP, SK, RS}
-use Rattle.net.specs.Panel.{contact_of}
+use Rattle.wiring_table.specs.Below.plans.Plans.{Lists}
+use Rattle.wiring_table.specs.Below.charts.declared.chart.Line.{Line}
+use Rattle.wiring_table.specs.Below.charts.declared.statement.BodyLine.TheVariants as body
+use Rattle.wiring_table.specs.Below.charts.declared.statement.SignRule.{SignRule}
+use Rattle.wiring_table.specs.Below.charts.declared.statement.SignRule.TheVariants as sign
+use Rattle.wiring_table.specs.Below.charts.declared.statement.Statement.{Statement}
+use Rattle.whole_cycles.specs.Below.hub_table.HubTable.{row_of}
+use Rattle.whole_cycles.specs.Below.hubs.Hubs.{carry_into, carry_out_of, letters_of}
+use Rattle.whole_cycles.specs.Below.hubs.declared.hub.Group.{Group}
+use Rattle.whole_cycles.specs.Below.hubs.declared.hub.Hub.{Hub}
+use Rattle.whole_cycles.specs.Below.hubs.declared.hub.Hub.TheVariants.{CA, CB, CI, CO, PIX, SE, SI, SO, ST, SP, SK, RS}
+use Rattle.whole_cycles.specs.Below.net.Panel.{contact_of}
 use Rattle.whole_cycles.specs.Carries.{is_carry}
 use Rattle.whole_cycles.specs.OneContactDeep.{is_common}
-use Rattle.capacity.specs.declared.group.CounterGroup.{CounterGroup}
-use Rattle.plans.specs.declared.counter.TotalCounter.TheVariants as of
+use Rattle.wiring_table.specs.Below.capacity.declared.group.CounterGroup.{CounterGroup}
+use Rattle.wiring_table.specs.Below.plans.declared.counter.TotalCounter.TheVariants as of
 use Rattle.wiring_table.specs.Figures.{IsSigned}
 use Rattle.wiring_table.specs.Parts.{counter_for, group_for, panel_group}
 use Rattle.wiring_table.specs.Wires.{LineWire}

@@ -1,22 +1,22 @@
 -- Which contacts are closed in a cycle, by the states before it.
 use Rattle.std.proofs.Common.{◌≡◌, ◌∙◌, refl, ℕ, ◌&&◌, ◌||◌, not, Bool, true, false}
-use Rattle.card_code.specs.declared.row.Row.{Row as CardRow}
-use Rattle.hub_table.specs.Ranges.{is_within}
-use Rattle.hubs.specs.declared.hub.Group.{Group}
-use Rattle.hubs.specs.declared.hub.Hub.{Hub}
-use Rattle.hubs.specs.declared.hub.Hub.TheVariants.{BAN, BAT, PIN, PIT, IX, CSD}
-use Rattle.machine.proofs.ClosedContacts.{closes-joined}
-use Rattle.machine.specs.Fields.{AreInUnitOrder}
-use Rattle.machine.specs.Machine.{MachineState, closes}
-use Rattle.machine.specs.Steady.{balance_latches}
-use Rattle.net.specs.declared.cycle.Cycle.{Cycle}
-use Rattle.net.specs.declared.cycle.Cycle.TheVariants.{RunIn, Card, Prog, Head}
-use Rattle.net.specs.declared.cycle.Point.{Point}
-use Rattle.net.specs.declared.cycle.Point.TheVariants.{C, Row, K}
-use Rattle.selectors.specs.Contacts.{has_balance, is_balance_set}
-use Rattle.selectors.specs.Indicate.{is_latch_set, indicate_closes}
-use Rattle.selectors.specs.Pilots.{is_normal, is_transferred}
-use Rattle.selectors.specs.Splits.{is_digit_row, split_closes}
+use Rattle.whole_cycles.specs.Below.card_code.declared.row.Row.{Row as CardRow}
+use Rattle.whole_cycles.specs.Below.hub_table.Ranges.{is_within}
+use Rattle.whole_cycles.specs.Below.hubs.declared.hub.Group.{Group}
+use Rattle.whole_cycles.specs.Below.hubs.declared.hub.Hub.{Hub}
+use Rattle.whole_cycles.specs.Below.hubs.declared.hub.Hub.TheVariants.{BAN, BAT, PIN, PIT, IX, CSD}
+use Rattle.whole_cycles.proofs.Below.machine.ClosedContacts.{closes-joined}
+use Rattle.whole_cycles.specs.Below.machine.Fields.{AreInUnitOrder}
+use Rattle.whole_cycles.specs.Below.machine.Machine.{MachineState, closes}
+use Rattle.whole_cycles.specs.Below.machine.Steady.{balance_latches}
+use Rattle.whole_cycles.specs.Below.net.declared.cycle.Cycle.{Cycle}
+use Rattle.whole_cycles.specs.Below.net.declared.cycle.Cycle.TheVariants.{RunIn, Card, Prog, Head}
+use Rattle.whole_cycles.specs.Below.net.declared.cycle.Point.{Point}
+use Rattle.whole_cycles.specs.Below.net.declared.cycle.Point.TheVariants.{C, Row, K}
+use Rattle.whole_cycles.specs.Below.selectors.Contacts.{has_balance, is_balance_set}
+use Rattle.whole_cycles.specs.Below.selectors.Indicate.{is_latch_set, indicate_closes}
+use Rattle.whole_cycles.specs.Below.selectors.Pilots.{is_normal, is_transferred}
+use Rattle.whole_cycles.specs.Below.selectors.Splits.{is_digit_row, split_closes}
 
 -- whether the balance latch of a counter group is set
 abbrev pub is_set : MachineState → Group → Bool

@@ -2,20 +2,20 @@
 use Rattle.std.proofs.Common.{◌≡◌, ◌∙◌, refl, sym, ap, ℕ, ◌+◌, ◌<◌, ◌==◌, ◌&&◌, Bool, true, false, List, [], ◌∷◌, Contains, Option, Some, arith, if◌then◌else◌}
 use Rattle.std.proofs.lemmas.Bool.Decides.{nat_tests}
 use Rattle.std.specs.List.{list_all}
-use Rattle.card_code.specs.CardCode.{code, character_in, deck_character}
-use Rattle.card_code.specs.Rows.{is_row_set}
-use Rattle.field_rules.specs.Fields.{field_named}
-use Rattle.field_rules.specs.Names.{names_amount}
-use Rattle.chart_rules.specs.Rules.{IsLawful, breaks}
-use Rattle.chart_rules.specs.ValidCard.{IsValidCard, IsText, column_of, is_printed}
-use Rattle.chart_rules.specs.declared.rule.Rule.TheVariants as rule
-use Rattle.charts.specs.Chart.{Chart}
-use Rattle.charts.specs.Field.{columns_of}
-use Rattle.charts.specs.declared.chart.Line.{Line}
-use Rattle.charts.specs.declared.level.ControlLevel.{ControlLevel}
-use Rattle.charts.specs.declared.statement.Field.{Field}
-use Rattle.charts.specs.declared.statement.Statement.TheVariants as says
-use Rattle.chart_rules.proofs.Laws.{kept-line, text-valid}
+use Rattle.whole_cycles.specs.Below.card_code.CardCode.{code, character_in, deck_character}
+use Rattle.whole_cycles.specs.Below.card_code.Rows.{is_row_set}
+use Rattle.wiring_table.specs.Below.field_rules.Fields.{field_named}
+use Rattle.wiring_table.specs.Below.field_rules.Names.{names_amount}
+use Rattle.wiring_table.specs.Below.chart_rules.Rules.{IsLawful, breaks}
+use Rattle.wiring_table.specs.Below.chart_rules.ValidCard.{IsValidCard, IsText, column_of, is_printed}
+use Rattle.wiring_table.specs.Below.chart_rules.declared.rule.Rule.TheVariants as rule
+use Rattle.wiring_table.specs.Below.charts.Chart.{Chart}
+use Rattle.wiring_table.specs.Below.charts.Field.{columns_of}
+use Rattle.wiring_table.specs.Below.charts.declared.chart.Line.{Line}
+use Rattle.wiring_table.specs.Below.charts.declared.level.ControlLevel.{ControlLevel}
+use Rattle.wiring_table.specs.Below.charts.declared.statement.Field.{Field}
+use Rattle.wiring_table.specs.Below.charts.declared.statement.Statement.TheVariants as says
+use Rattle.wiring_table.proofs.Below.chart_rules.Laws.{kept-line, text-valid}
 
 -- a set with a print character is the set of the first pair, or has its character further on
 one-passes : (pair : ℕ × ℕ) (rest : Option ℕ) (set : ℕ) (b : Bool) → (pair.1 == set) ≡ b → is_row_set pair.1 ≡ true

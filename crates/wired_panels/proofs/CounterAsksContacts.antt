@@ -2,25 +2,25 @@
 use Rattle.std.proofs.Common.{◌≡◌, ◌∙◌, refl, ap, ℕ, ◌+◌, ◌-◌, ◌≤◌, nat_le, ◌&&◌, not, Bool, true, false, List, Some, None, option_map, arith, if◌then◌else◌}
 use Rattle.std.proofs.lemmas.Bool.Decides.{nat_tests}
 use Rattle.std.specs.Prelude.{slice_index_or}
-use Rattle.card_code.specs.CardCode.{has_row}
-use Rattle.chart_rules.specs.ValidCard.{column_of}
-use Rattle.charts.specs.Field.{column_of_rule}
-use Rattle.charts.specs.declared.statement.FieldKind.{FieldKind}
-use Rattle.charts.specs.declared.statement.FieldKind.TheVariants as holds
-use Rattle.charts.specs.declared.statement.SignRule.{SignRule}
-use Rattle.charts.specs.declared.statement.SignRule.TheVariants as sign
-use Rattle.hubs.specs.Hubs.{number_of}
-use Rattle.hub_table.specs.Places.{part_place, up_to}
-use Rattle.hub_table.specs.Ranges.{is_within}
-use Rattle.hubs.specs.declared.hub.Group.{Group}
-use Rattle.hubs.specs.declared.hub.Hub.TheVariants.{BAN, BAT, PIC}
-use Rattle.machine.specs.Fields.{AreInUnitOrder}
-use Rattle.machine.specs.Machine.{MachineState}
-use Rattle.net.specs.Panel.{unit_of}
-use Rattle.net.specs.declared.cycle.Cycle.{Cycle}
-use Rattle.net.specs.declared.cycle.Point.TheVariants.{C}
-use Rattle.report.specs.Amounts.{is_negated, is_negative_by}
-use Rattle.selectors.specs.Pilots.{PilotStates, is_transferred, is_normal}
+use Rattle.whole_cycles.specs.Below.card_code.CardCode.{has_row}
+use Rattle.wiring_table.specs.Below.chart_rules.ValidCard.{column_of}
+use Rattle.wiring_table.specs.Below.charts.Field.{column_of_rule}
+use Rattle.wiring_table.specs.Below.charts.declared.statement.FieldKind.{FieldKind}
+use Rattle.wiring_table.specs.Below.charts.declared.statement.FieldKind.TheVariants as holds
+use Rattle.wiring_table.specs.Below.charts.declared.statement.SignRule.{SignRule}
+use Rattle.wiring_table.specs.Below.charts.declared.statement.SignRule.TheVariants as sign
+use Rattle.whole_cycles.specs.Below.hubs.Hubs.{number_of}
+use Rattle.whole_cycles.specs.Below.hub_table.Places.{part_place, up_to}
+use Rattle.whole_cycles.specs.Below.hub_table.Ranges.{is_within}
+use Rattle.whole_cycles.specs.Below.hubs.declared.hub.Group.{Group}
+use Rattle.whole_cycles.specs.Below.hubs.declared.hub.Hub.TheVariants.{BAN, BAT, PIC}
+use Rattle.whole_cycles.specs.Below.machine.Fields.{AreInUnitOrder}
+use Rattle.whole_cycles.specs.Below.machine.Machine.{MachineState}
+use Rattle.whole_cycles.specs.Below.net.Panel.{unit_of}
+use Rattle.whole_cycles.specs.Below.net.declared.cycle.Cycle.{Cycle}
+use Rattle.whole_cycles.specs.Below.net.declared.cycle.Point.TheVariants.{C}
+use Rattle.wiring_table.specs.Below.report.Amounts.{is_negated, is_negative_by}
+use Rattle.whole_cycles.specs.Below.selectors.Pilots.{PilotStates, is_transferred, is_normal}
 use Rattle.wiring_table.specs.Figures.{rule_of}
 use Rattle.wiring_table.specs.Parts.{negative_side, positive_side}
 use Rattle.wired_panels.proofs.Contacts.{closes-BAT, closes-BAN, closes-PIT, closes-PIN, is_set}

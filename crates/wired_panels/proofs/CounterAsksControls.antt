@@ -1,19 +1,19 @@
 -- What impulses the control hubs of a counter group of a total.
 use Rattle.std.proofs.Common.{◌≡◌, ◌∙◌, refl, sym, subst, ℕ, Bool, true, List, Some, ◌⊎◌, inl, inr, arith}
-use Rattle.plans.specs.Plans.{Lists}
-use Rattle.charts.specs.Chart.{Chart, NumbersRise}
-use Rattle.charts.specs.declared.chart.Line.{Line}
-use Rattle.charts.specs.declared.statement.SignRule.{SignRule}
-use Rattle.charts.specs.declared.statement.SignRule.TheVariants as sign
-use Rattle.setups.specs.Wiring.{Wiring, HasWire}
-use Rattle.hubs.specs.declared.hub.Group.{Group}
-use Rattle.hubs.specs.declared.hub.Hub.{Hub}
-use Rattle.hubs.specs.declared.hub.Hub.TheVariants.{BAN, BAT, PL, MI, RO, BT, BAC, PIC}
-use Rattle.machine.specs.Machine.{MachineState, closes}
-use Rattle.net.specs.Panel.{contact_of}
-use Rattle.net.specs.declared.cycle.Cycle.{Cycle}
-use Rattle.net.specs.declared.cycle.Point.{Point}
-use Rattle.net.specs.declared.cycle.Point.TheVariants.{C}
+use Rattle.wiring_table.specs.Below.plans.Plans.{Lists}
+use Rattle.wiring_table.specs.Below.charts.Chart.{Chart, NumbersRise}
+use Rattle.wiring_table.specs.Below.charts.declared.chart.Line.{Line}
+use Rattle.wiring_table.specs.Below.charts.declared.statement.SignRule.{SignRule}
+use Rattle.wiring_table.specs.Below.charts.declared.statement.SignRule.TheVariants as sign
+use Rattle.wiring_table.specs.Below.setups.Wiring.{Wiring, HasWire}
+use Rattle.whole_cycles.specs.Below.hubs.declared.hub.Group.{Group}
+use Rattle.whole_cycles.specs.Below.hubs.declared.hub.Hub.{Hub}
+use Rattle.whole_cycles.specs.Below.hubs.declared.hub.Hub.TheVariants.{BAN, BAT, PL, MI, RO, BT, BAC, PIC}
+use Rattle.whole_cycles.specs.Below.machine.Machine.{MachineState, closes}
+use Rattle.whole_cycles.specs.Below.net.Panel.{contact_of}
+use Rattle.whole_cycles.specs.Below.net.declared.cycle.Cycle.{Cycle}
+use Rattle.whole_cycles.specs.Below.net.declared.cycle.Point.{Point}
+use Rattle.whole_cycles.specs.Below.net.declared.cycle.Point.TheVariants.{C}
 use Rattle.whole_cycles.specs.WholeCycles.{control_emits}
 use Rattle.wiring_table.specs.Figures.{IsSigned, IsUnsigned}
 use Rattle.wiring_table.specs.Parts.{IsLowest, pilot_for, negative_side, positive_side, top_for}

@@ -1,20 +1,20 @@
 -- What adds, subtracts, reads out and tests impulses the control hubs of a counter group of a total.
 use Rattle.std.proofs.Common.{◌≡◌, refl, sym, subst, ℕ, Bool, true, List, Option, Some}
-use Rattle.plans.specs.Plans.{Lists}
-use Rattle.charts.specs.Chart.{Chart, NumbersRise}
-use Rattle.charts.specs.Levels.{level_number as chart_level}
-use Rattle.charts.specs.declared.level.Level.{Level as ChartLevel}
-use Rattle.charts.specs.declared.statement.Mark.{Mark}
-use Rattle.charts.specs.declared.statement.SignRule.{SignRule}
-use Rattle.charts.specs.declared.statement.Statement.TheVariants as says
-use Rattle.setups.specs.Wiring.{Wiring}
-use Rattle.hubs.specs.declared.hub.Group.{Group}
-use Rattle.hubs.specs.declared.hub.Hub.{Hub}
-use Rattle.hubs.specs.declared.hub.Hub.TheVariants.{BAN, BAT, CC, PX, PL, MI, RO, BT, BAC, PIC}
-use Rattle.machine.specs.Machine.{MachineState}
-use Rattle.net.specs.declared.cycle.Cycle.{Cycle}
-use Rattle.net.specs.declared.cycle.Point.{Point}
-use Rattle.net.specs.declared.cycle.Point.TheVariants.{C}
+use Rattle.wiring_table.specs.Below.plans.Plans.{Lists}
+use Rattle.wiring_table.specs.Below.charts.Chart.{Chart, NumbersRise}
+use Rattle.wiring_table.specs.Below.charts.Levels.{level_number as chart_level}
+use Rattle.wiring_table.specs.Below.charts.declared.level.Level.{Level as ChartLevel}
+use Rattle.wiring_table.specs.Below.charts.declared.statement.Mark.{Mark}
+use Rattle.wiring_table.specs.Below.charts.declared.statement.SignRule.{SignRule}
+use Rattle.wiring_table.specs.Below.charts.declared.statement.Statement.TheVariants as says
+use Rattle.wiring_table.specs.Below.setups.Wiring.{Wiring}
+use Rattle.whole_cycles.specs.Below.hubs.declared.hub.Group.{Group}
+use Rattle.whole_cycles.specs.Below.hubs.declared.hub.Hub.{Hub}
+use Rattle.whole_cycles.specs.Below.hubs.declared.hub.Hub.TheVariants.{BAN, BAT, CC, PX, PL, MI, RO, BT, BAC, PIC}
+use Rattle.whole_cycles.specs.Below.machine.Machine.{MachineState}
+use Rattle.whole_cycles.specs.Below.net.declared.cycle.Cycle.{Cycle}
+use Rattle.whole_cycles.specs.Below.net.declared.cycle.Point.{Point}
+use Rattle.whole_cycles.specs.Below.net.declared.cycle.Point.TheVariants.{C}
 use Rattle.whole_cycles.specs.WholeCycles.{control_emits}
 use Rattle.wiring_table.specs.Figures.{IsSigned}
 use Rattle.wiring_table.specs.Parts.{HasTotal, IsLowest, IsNextHigher, pilot_for, negative_side, positive_side, top_for}

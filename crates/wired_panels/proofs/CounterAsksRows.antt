@@ -1,25 +1,25 @@
 -- What enters the places of the counter groups of a total at the rows.
 use Rattle.std.proofs.Common.{◌≡◌, ◌∙◌, refl, sym, ap, subst, ℕ, ◌+◌, ◌-◌, ◌≤◌, Bool, true, List, Contains, Some, length, arith}
-use Rattle.plans.specs.Plans.{Lists}
-use Rattle.card_code.specs.Rows.{row_number}
-use Rattle.card_code.specs.declared.row.Row.{Row as CardRow}
-use Rattle.charts.specs.Chart.{Chart, NumbersRise}
-use Rattle.charts.specs.Field.{columns_of}
-use Rattle.charts.specs.declared.chart.Line.{Line}
-use Rattle.charts.specs.declared.statement.Field.{Field}
-use Rattle.charts.specs.declared.statement.SignRule.{SignRule}
-use Rattle.counters.specs.Counters.{Counter}
-use Rattle.setups.specs.Wiring.{Wiring}
-use Rattle.hubs.specs.declared.hub.Group.{Group}
-use Rattle.hubs.specs.declared.hub.Hub.{Hub}
-use Rattle.hubs.specs.declared.hub.Hub.TheVariants.{SR, GX, GE, RO}
-use Rattle.machine.specs.Machine.{MachineState, closes}
-use Rattle.net.specs.Panel.{contact_of}
-use Rattle.net.specs.declared.cycle.Cycle.{Cycle}
-use Rattle.net.specs.declared.cycle.Cycle.TheVariants.{Card}
-use Rattle.net.specs.declared.cycle.Point.{Point}
-use Rattle.net.specs.declared.cycle.Point.TheVariants.{C, Row}
-use Rattle.stations.specs.Punches.{is_punched_at}
+use Rattle.wiring_table.specs.Below.plans.Plans.{Lists}
+use Rattle.whole_cycles.specs.Below.card_code.Rows.{row_number}
+use Rattle.whole_cycles.specs.Below.card_code.declared.row.Row.{Row as CardRow}
+use Rattle.wiring_table.specs.Below.charts.Chart.{Chart, NumbersRise}
+use Rattle.wiring_table.specs.Below.charts.Field.{columns_of}
+use Rattle.wiring_table.specs.Below.charts.declared.chart.Line.{Line}
+use Rattle.wiring_table.specs.Below.charts.declared.statement.Field.{Field}
+use Rattle.wiring_table.specs.Below.charts.declared.statement.SignRule.{SignRule}
+use Rattle.whole_cycles.specs.Below.counters.Counters.{Counter}
+use Rattle.wiring_table.specs.Below.setups.Wiring.{Wiring}
+use Rattle.whole_cycles.specs.Below.hubs.declared.hub.Group.{Group}
+use Rattle.whole_cycles.specs.Below.hubs.declared.hub.Hub.{Hub}
+use Rattle.whole_cycles.specs.Below.hubs.declared.hub.Hub.TheVariants.{SR, GX, GE, RO}
+use Rattle.whole_cycles.specs.Below.machine.Machine.{MachineState, closes}
+use Rattle.whole_cycles.specs.Below.net.Panel.{contact_of}
+use Rattle.whole_cycles.specs.Below.net.declared.cycle.Cycle.{Cycle}
+use Rattle.whole_cycles.specs.Below.net.declared.cycle.Cycle.TheVariants.{Card}
+use Rattle.whole_cycles.specs.Below.net.declared.cycle.Point.{Point}
+use Rattle.whole_cycles.specs.Below.net.declared.cycle.Point.TheVariants.{C, Row}
+use Rattle.whole_cycles.specs.Below.stations.Punches.{is_punched_at}
 use Rattle.whole_cycles.specs.WholeCycles.{row_emits}
 use Rattle.wiring_table.specs.Figures.{IsAmount, IsSigned}
 use Rattle.wiring_table.specs.Parts.{IsLowest, IsNextHigher, ServesPosition}

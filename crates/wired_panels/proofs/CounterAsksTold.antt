@@ -1,20 +1,20 @@
 -- Cycles as the control hubs of counter groups tell them apart, and wires from the lines of totals.
 use Rattle.std.proofs.Common.{◌≡◌, ◌∙◌, refl, sym, ap, subst, ℕ, ◌<◌, Bool, true, false, List, Option, Some}
-use Rattle.plans.specs.Plans.{Lists, IsFor}
-use Rattle.field_rules.proofs.Places.{is_same_name-equal}
-use Rattle.charts.specs.Chart.{Chart, NumbersRise}
-use Rattle.charts.specs.Levels.{level_number as chart_level}
-use Rattle.charts.specs.declared.chart.Line.{Line}
-use Rattle.charts.specs.declared.level.Level.{Level as ChartLevel}
-use Rattle.charts.specs.declared.statement.Mark.{Mark}
-use Rattle.charts.specs.declared.statement.Statement.TheVariants as says
-use Rattle.hubs.specs.Hubs.{number_of}
-use Rattle.hubs.specs.declared.hub.Group.{Group}
-use Rattle.hubs.specs.declared.hub.Hub.{Hub}
-use Rattle.hubs.specs.declared.hub.Hub.TheVariants.{CC, PX, HX}
-use Rattle.net.specs.Cycles.{level_number, ordinal_number}
-use Rattle.net.specs.declared.cycle.Cycle.{Cycle}
-use Rattle.net.specs.declared.cycle.Cycle.TheVariants.{RunIn, Card, Prog, Head}
+use Rattle.wiring_table.specs.Below.plans.Plans.{Lists, IsFor}
+use Rattle.wiring_table.proofs.Below.field_rules.Places.{is_same_name-equal}
+use Rattle.wiring_table.specs.Below.charts.Chart.{Chart, NumbersRise}
+use Rattle.wiring_table.specs.Below.charts.Levels.{level_number as chart_level}
+use Rattle.wiring_table.specs.Below.charts.declared.chart.Line.{Line}
+use Rattle.wiring_table.specs.Below.charts.declared.level.Level.{Level as ChartLevel}
+use Rattle.wiring_table.specs.Below.charts.declared.statement.Mark.{Mark}
+use Rattle.wiring_table.specs.Below.charts.declared.statement.Statement.TheVariants as says
+use Rattle.whole_cycles.specs.Below.hubs.Hubs.{number_of}
+use Rattle.whole_cycles.specs.Below.hubs.declared.hub.Group.{Group}
+use Rattle.whole_cycles.specs.Below.hubs.declared.hub.Hub.{Hub}
+use Rattle.whole_cycles.specs.Below.hubs.declared.hub.Hub.TheVariants.{CC, PX, HX}
+use Rattle.whole_cycles.specs.Below.net.Cycles.{level_number, ordinal_number}
+use Rattle.whole_cycles.specs.Below.net.declared.cycle.Cycle.{Cycle}
+use Rattle.whole_cycles.specs.Below.net.declared.cycle.Cycle.TheVariants.{RunIn, Card, Prog, Head}
 use Rattle.whole_cycles.specs.WholeCycles.{control_emits}
 use Rattle.wiring_table.specs.Parts.{HasTotal, IsNextHigher}
 use Rattle.wiring_table.specs.Wires.{LineWire, ChartWire}

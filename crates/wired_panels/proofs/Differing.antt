@@ -5,18 +5,18 @@ use Rattle.std.proofs.lemmas.List.Folds.{list_all_at}
 use Rattle.std.proofs.lemmas.List.FromFn.{length-range_with_len, get_or-range_with_len}
 use Rattle.std.specs.List.{cons_option, filter_map, list_all, range_with_len}
 use Rattle.std.proofs.lemmas.Bool.{and_right}
-use Rattle.field_rules.specs.Fields.{field_named}
-use Rattle.chart_rules.specs.ValidCard.{column_of}
-use Rattle.charts.specs.Field.{columns_of}
-use Rattle.charts.specs.Levels.{control_number}
-use Rattle.charts.specs.declared.chart.Line.{Line}
-use Rattle.charts.specs.declared.level.ControlLevel.{ControlLevel}
-use Rattle.charts.specs.declared.statement.Field.{Field}
-use Rattle.charts.specs.declared.statement.Statement.{Statement}
-use Rattle.charts.specs.declared.statement.Statement.TheVariants as says
-use Rattle.report.specs.Groups.{control_field, is_same_on, is_same_at}
+use Rattle.wiring_table.specs.Below.field_rules.Fields.{field_named}
+use Rattle.wiring_table.specs.Below.chart_rules.ValidCard.{column_of}
+use Rattle.wiring_table.specs.Below.charts.Field.{columns_of}
+use Rattle.wiring_table.specs.Below.charts.Levels.{control_number}
+use Rattle.wiring_table.specs.Below.charts.declared.chart.Line.{Line}
+use Rattle.wiring_table.specs.Below.charts.declared.level.ControlLevel.{ControlLevel}
+use Rattle.wiring_table.specs.Below.charts.declared.statement.Field.{Field}
+use Rattle.wiring_table.specs.Below.charts.declared.statement.Statement.{Statement}
+use Rattle.wiring_table.specs.Below.charts.declared.statement.Statement.TheVariants as says
+use Rattle.wiring_table.specs.Below.report.Groups.{control_field, is_same_on, is_same_at}
 use Rattle.wired_panels.specs.PanelCycles.{Differs}
-use Rattle.charts.proofs.Listed.{listed-after}
+use Rattle.wiring_table.proofs.Below.charts.Listed.{listed-after}
 
 -- A column of a row of them that fails a test.
 record Fails (test : ℕ → Bool) (first many : ℕ) : Type 0 where

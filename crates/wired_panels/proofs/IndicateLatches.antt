@@ -2,13 +2,13 @@
 -- level's latch.
 use Rattle.std.proofs.Common.{◌≡◌, ◌∙◌, refl, ℕ, zero, suc, ◌≢◌, ◌+◌, ◌≤◌, ◌==◌, nat_le, Bool, true, false, arith, if◌then◌else◌}
 use Rattle.std.proofs.lemmas.Bool.Decides.{nat_tests}
-use Rattle.net.specs.Cycles.{level_number}
-use Rattle.net.specs.declared.cycle.Cycle.TheVariants.{RunIn, Card, Prog, Head}
-use Rattle.net.specs.declared.cycle.ProgramLevel.{ProgramLevel}
-use Rattle.net.specs.declared.cycle.ProgramLevel.TheVariants.{Minor, Intermediate, Major, Final}
-use Rattle.net.specs.declared.cycle.Ordinal.{Ordinal}
-use Rattle.net.specs.declared.cycle.Ordinal.TheVariants.{First, Second, Third}
-use Rattle.selectors.specs.Indicate.{Latches, indicate_at_start, indicate_ended}
+use Rattle.whole_cycles.specs.Below.net.Cycles.{level_number}
+use Rattle.whole_cycles.specs.Below.net.declared.cycle.Cycle.TheVariants.{RunIn, Card, Prog, Head}
+use Rattle.whole_cycles.specs.Below.net.declared.cycle.ProgramLevel.{ProgramLevel}
+use Rattle.whole_cycles.specs.Below.net.declared.cycle.ProgramLevel.TheVariants.{Minor, Intermediate, Major, Final}
+use Rattle.whole_cycles.specs.Below.net.declared.cycle.Ordinal.{Ordinal}
+use Rattle.whole_cycles.specs.Below.net.declared.cycle.Ordinal.TheVariants.{First, Second, Third}
+use Rattle.whole_cycles.specs.Below.selectors.Indicate.{Latches, indicate_at_start, indicate_ended}
 use Rattle.wired_panels.specs.PanelCycles.{AreSetTo}
 
 -- the latches by their levels

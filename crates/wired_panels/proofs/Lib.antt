@@ -1,3 +1,4 @@
+pub mod Below
 pub mod Chains
 mod CarriesAgree
 pub mod Ways

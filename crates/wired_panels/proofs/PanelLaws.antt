@@ -1,7 +1,7 @@
 -- The laws of the other units, from what reaches them: an impulse passes one contact at most, and units emit at exits of theirs alone.
 use Rattle.std.proofs.Common.{◌≡◌, ◌≢◌, refl, false}
-use Rattle.net.specs.declared.cycle.Cycle.{Cycle}
-use Rattle.net.specs.declared.cycle.Cycle.TheVariants.{RunIn, Card, Prog, Head}
+use Rattle.whole_cycles.specs.Below.net.declared.cycle.Cycle.{Cycle}
+use Rattle.whole_cycles.specs.Below.net.declared.cycle.Cycle.TheVariants.{RunIn, Card, Prog, Head}
 use Rattle.wired_panels.specs.PanelLaws.{BreaksCallLevels, PilotsTellTheNextCard, UnitsHoldTheCard}
 use Rattle.wired_panels.proofs.AfterCycles.{pilots-after, pilots-after-other, program-after, units-after, units-after-other}
 use Rattle.wired_panels.proofs.Contacts.{is_card_cycle}

@@ -1,18 +1,18 @@
 -- Which counter groups read out in a cycle.
 use Rattle.std.proofs.Common.{◌≡◌, ◌∙◌, refl, sym, ap, subst, ℕ, Bool, true, List, Some, option_map, ◌↔◌, arith}
-use Rattle.plans.specs.Plans.{Lists}
-use Rattle.charts.specs.Chart.{Chart, NumbersRise}
-use Rattle.setups.specs.Wiring.{Wiring}
-use Rattle.hubs.specs.declared.hub.Group.{Group}
-use Rattle.hubs.specs.declared.hub.Hub.{Hub}
-use Rattle.hubs.specs.declared.hub.Hub.TheVariants.{BAT, RO}
-use Rattle.machine.specs.Machine.{MachineState}
-use Rattle.net.specs.Cycles.{level_number}
-use Rattle.net.specs.declared.cycle.Cycle.{Cycle}
-use Rattle.net.specs.declared.cycle.Cycle.TheVariants.{Card, Head, Prog, RunIn}
-use Rattle.net.specs.declared.cycle.Ordinal.TheVariants.{First, Second, Third}
-use Rattle.net.specs.declared.cycle.Point.{Point}
-use Rattle.net.specs.declared.cycle.Point.TheVariants.{C}
+use Rattle.wiring_table.specs.Below.plans.Plans.{Lists}
+use Rattle.wiring_table.specs.Below.charts.Chart.{Chart, NumbersRise}
+use Rattle.wiring_table.specs.Below.setups.Wiring.{Wiring}
+use Rattle.whole_cycles.specs.Below.hubs.declared.hub.Group.{Group}
+use Rattle.whole_cycles.specs.Below.hubs.declared.hub.Hub.{Hub}
+use Rattle.whole_cycles.specs.Below.hubs.declared.hub.Hub.TheVariants.{BAT, RO}
+use Rattle.whole_cycles.specs.Below.machine.Machine.{MachineState}
+use Rattle.whole_cycles.specs.Below.net.Cycles.{level_number}
+use Rattle.whole_cycles.specs.Below.net.declared.cycle.Cycle.{Cycle}
+use Rattle.whole_cycles.specs.Below.net.declared.cycle.Cycle.TheVariants.{Card, Head, Prog, RunIn}
+use Rattle.whole_cycles.specs.Below.net.declared.cycle.Ordinal.TheVariants.{First, Second, Third}
+use Rattle.whole_cycles.specs.Below.net.declared.cycle.Point.{Point}
+use Rattle.whole_cycles.specs.Below.net.declared.cycle.Point.TheVariants.{C}
 use Rattle.wiring_table.proofs.Groups.{top-serves}
 use Rattle.wiring_table.specs.Parts.{top_for, top_group}
 use Rattle.wiring_table.specs.Wires.{ChartWire}

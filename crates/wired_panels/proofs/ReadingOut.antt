@@ -1,18 +1,18 @@
 -- Which counter groups and storage units read out in the cycles that print: those of a level's totals and texts in its third program
 -- cycle, and none in other cycles.
 use Rattle.std.proofs.Common.{◌≡◌, refl, sym, ap, subst, ℕ, Bool, true, false, List, ◌↔◌}
-use Rattle.setups.specs.Wiring.{Wiring}
-use Rattle.charts.specs.Chart.{NumbersRise}
-use Rattle.charts.specs.Levels.{level_number as chart_number}
-use Rattle.hubs.specs.declared.hub.Group.{Group}
-use Rattle.hubs.specs.declared.hub.Hub.{Hub}
-use Rattle.hubs.specs.declared.hub.Hub.TheVariants.{PX, RO, SO}
-use Rattle.net.specs.Cycles.{level_number}
-use Rattle.net.specs.declared.cycle.Cycle.{Cycle}
-use Rattle.net.specs.declared.cycle.Cycle.TheVariants.{RunIn, Card, Prog, Head}
-use Rattle.net.specs.declared.cycle.ProgramLevel.{ProgramLevel}
-use Rattle.net.specs.declared.cycle.Ordinal.TheVariants.{First, Second, Third}
-use Rattle.net.specs.declared.cycle.Point.TheVariants.{C}
+use Rattle.wiring_table.specs.Below.setups.Wiring.{Wiring}
+use Rattle.wiring_table.specs.Below.charts.Chart.{NumbersRise}
+use Rattle.wiring_table.specs.Below.charts.Levels.{level_number as chart_number}
+use Rattle.whole_cycles.specs.Below.hubs.declared.hub.Group.{Group}
+use Rattle.whole_cycles.specs.Below.hubs.declared.hub.Hub.{Hub}
+use Rattle.whole_cycles.specs.Below.hubs.declared.hub.Hub.TheVariants.{PX, RO, SO}
+use Rattle.whole_cycles.specs.Below.net.Cycles.{level_number}
+use Rattle.whole_cycles.specs.Below.net.declared.cycle.Cycle.{Cycle}
+use Rattle.whole_cycles.specs.Below.net.declared.cycle.Cycle.TheVariants.{RunIn, Card, Prog, Head}
+use Rattle.whole_cycles.specs.Below.net.declared.cycle.ProgramLevel.{ProgramLevel}
+use Rattle.whole_cycles.specs.Below.net.declared.cycle.Ordinal.TheVariants.{First, Second, Third}
+use Rattle.whole_cycles.specs.Below.net.declared.cycle.Point.TheVariants.{C}
 use Rattle.wired_panels.proofs.ReadingGroups.{reading}
 use Rattle.wired_panels.proofs.ToStorage.{unit-reads_out}
 use Rattle.wired_panels.specs.CycleRows.{CycleRow}

@@ -2,26 +2,26 @@
 use Rattle.std.proofs.Common.{◌≡◌, ◌∙◌, refl, sym, ap, ℕ, zero, suc, ◌==◌, Bool, true, false, List, [], ◌∷◌, ◌++◌, Contains, Some, arith, append_assoc}
 use Rattle.std.proofs.lemmas.Bool.Decides.{nat_tests}
 use Rattle.std.specs.List.{list_any}
-use Rattle.chart_rules.proofs.Laws.{breaks-lawful}
-use Rattle.field_rules.specs.Repeats.{repeats, is_same_body}
-use Rattle.chart_rules.specs.Rules.{IsLawful}
-use Rattle.chart_rules.specs.declared.rule.Rule.TheVariants as rule
-use Rattle.charts.specs.Chart.{Chart}
-use Rattle.charts.specs.Levels.{level_number}
-use Rattle.charts.specs.Spacings.{spacing_number}
-use Rattle.charts.specs.declared.chart.Line.{Line}
-use Rattle.charts.specs.declared.level.Level.{Level}
-use Rattle.charts.specs.declared.level.Level.TheVariants as level
-use Rattle.charts.specs.declared.spacing.Spacing.{Spacing}
-use Rattle.charts.specs.declared.statement.After.{After}
-use Rattle.charts.specs.declared.statement.BodyLine.{BodyLine}
-use Rattle.charts.specs.declared.statement.BodyLine.TheVariants as body
-use Rattle.charts.specs.declared.statement.Statement.{Statement}
-use Rattle.charts.specs.declared.statement.Statement.TheVariants as says
-use Rattle.report.specs.ChartForm.{kind_number, spacing_of, spacing_from, after_of, after_from}
+use Rattle.wiring_table.proofs.Below.chart_rules.Laws.{breaks-lawful}
+use Rattle.wiring_table.specs.Below.field_rules.Repeats.{repeats, is_same_body}
+use Rattle.wiring_table.specs.Below.chart_rules.Rules.{IsLawful}
+use Rattle.wiring_table.specs.Below.chart_rules.declared.rule.Rule.TheVariants as rule
+use Rattle.wiring_table.specs.Below.charts.Chart.{Chart}
+use Rattle.wiring_table.specs.Below.charts.Levels.{level_number}
+use Rattle.wiring_table.specs.Below.charts.Spacings.{spacing_number}
+use Rattle.wiring_table.specs.Below.charts.declared.chart.Line.{Line}
+use Rattle.wiring_table.specs.Below.charts.declared.level.Level.{Level}
+use Rattle.wiring_table.specs.Below.charts.declared.level.Level.TheVariants as level
+use Rattle.wiring_table.specs.Below.charts.declared.spacing.Spacing.{Spacing}
+use Rattle.wiring_table.specs.Below.charts.declared.statement.After.{After}
+use Rattle.wiring_table.specs.Below.charts.declared.statement.BodyLine.{BodyLine}
+use Rattle.wiring_table.specs.Below.charts.declared.statement.BodyLine.TheVariants as body
+use Rattle.wiring_table.specs.Below.charts.declared.statement.Statement.{Statement}
+use Rattle.wiring_table.specs.Below.charts.declared.statement.Statement.TheVariants as says
+use Rattle.wiring_table.specs.Below.report.ChartForm.{kind_number, spacing_of, spacing_from, after_of, after_from}
 use Rattle.std.proofs.lemmas.List.Elements.{Contains-append_right}
-use Rattle.report.proofs.Said.{SaysAfter, SaysSpace}
-use Rattle.charts.proofs.Listed.{listed-first, none-any}
+use Rattle.wiring_table.proofs.Below.report.Said.{SaysAfter, SaysSpace}
+use Rattle.wiring_table.proofs.Below.charts.Listed.{listed-first, none-any}
 
 -- no line of a list says again what another before it says
 abbrev pub IsSaidOnce : List Line → Type 0

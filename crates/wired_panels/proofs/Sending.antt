@@ -1,31 +1,31 @@
 -- What sends at a point emits there: the other way from exits to sources.
 use Rattle.std.proofs.Common.{◌≡◌, ◌∙◌, refl, sym, ap, ℕ, suc, ◌+◌, ◌-◌, ◌≤◌, ◌==◌, ◌&&◌, ◌||◌, Bool, true, false, List, [], ◌∷◌, Some, length, slice_index, arith}
 use Rattle.std.proofs.lemmas.Bool.Decides.{nat_tests}
-use Rattle.card_code.specs.Rows.{row_number}
-use Rattle.card_code.specs.declared.row.Row.{Row as CardRow}
-use Rattle.counters.specs.Counters.{shows}
-use Rattle.hubs.specs.Hubs.{number_of}
-use Rattle.hubs.specs.declared.hub.Group.{Group}
-use Rattle.hubs.specs.declared.hub.Hub.{Hub}
-use Rattle.hubs.specs.declared.hub.Hub.TheVariants.{FR, SR, GX, SX, EM, PX, HX, RO, SO}
-use Rattle.machine.specs.Machine.{MachineState}
-use Rattle.net.proofs.Rows.{is_hub-own}
-use Rattle.net.specs.Cycles.{level_number, ordinal_number}
-use Rattle.net.specs.HubSets.{is_hub}
-use Rattle.net.specs.declared.cycle.Cycle.{Cycle}
-use Rattle.net.specs.declared.cycle.Cycle.TheVariants.{Card}
-use Rattle.net.specs.declared.cycle.Point.{Point}
-use Rattle.net.specs.declared.cycle.Point.TheVariants.{C, Row}
-use Rattle.print_unit.specs.Emitters.{emits_row}
-use Rattle.stations.specs.Punches.{is_punched_at}
-use Rattle.stations.specs.Stations.{stations_emits}
-use Rattle.storage_units.specs.Storage.{holds}
+use Rattle.whole_cycles.specs.Below.card_code.Rows.{row_number}
+use Rattle.whole_cycles.specs.Below.card_code.declared.row.Row.{Row as CardRow}
+use Rattle.whole_cycles.specs.Below.counters.Counters.{shows}
+use Rattle.whole_cycles.specs.Below.hubs.Hubs.{number_of}
+use Rattle.whole_cycles.specs.Below.hubs.declared.hub.Group.{Group}
+use Rattle.whole_cycles.specs.Below.hubs.declared.hub.Hub.{Hub}
+use Rattle.whole_cycles.specs.Below.hubs.declared.hub.Hub.TheVariants.{FR, SR, GX, SX, EM, PX, HX, RO, SO}
+use Rattle.whole_cycles.specs.Below.machine.Machine.{MachineState}
+use Rattle.whole_cycles.proofs.Below.net.Rows.{is_hub-own}
+use Rattle.whole_cycles.specs.Below.net.Cycles.{level_number, ordinal_number}
+use Rattle.whole_cycles.specs.Below.net.HubSets.{is_hub}
+use Rattle.whole_cycles.specs.Below.net.declared.cycle.Cycle.{Cycle}
+use Rattle.whole_cycles.specs.Below.net.declared.cycle.Cycle.TheVariants.{Card}
+use Rattle.whole_cycles.specs.Below.net.declared.cycle.Point.{Point}
+use Rattle.whole_cycles.specs.Below.net.declared.cycle.Point.TheVariants.{C, Row}
+use Rattle.whole_cycles.specs.Below.print_unit.Emitters.{emits_row}
+use Rattle.whole_cycles.specs.Below.stations.Punches.{is_punched_at}
+use Rattle.whole_cycles.specs.Below.stations.Stations.{stations_emits}
+use Rattle.whole_cycles.specs.Below.storage_units.Storage.{holds}
 use Rattle.whole_cycles.specs.WholeCycles.{control_emits, row_emits, group_reads_out, storage_reads_out}
 use Rattle.wired_panels.specs.Sources.{EmitsAtControl, EmitsAtRow, ReadsFirst, digit_at}
 use Rattle.wired_panels.specs.Sources.ReadsFirst.{run_in, card as card_reads}
 use Rattle.wired_panels.specs.Sources.EmitsAtControl.{card as tells_card, prog as tells_prog, head as tells_head}
 use Rattle.wired_panels.specs.Sources.EmitsAtRow.{first, second, digit, column, emitter}
-use Rattle.charts.proofs.Listed.{any-listed}
+use Rattle.wiring_table.proofs.Below.charts.Listed.{any-listed}
 
 -- a hub of the panel is itself
 pub own : (hub : Hub) (n : ℕ) → number_of hub ≡ Some n → is_hub hub hub ≡ true

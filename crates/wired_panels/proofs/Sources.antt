@@ -2,30 +2,30 @@
 use Rattle.std.proofs.Common.{◌≡◌, ◌∙◌, refl, sym, ap, subst, ℕ, ◌+◌, ◌-◌, ◌≤◌, ◌==◌, ◌&&◌, ◌||◌, Bool, true, false, List, [], ◌∷◌, Contains, Option, Some, None, length, slice_index, ◌⊎◌, inl, inr, arith, suc}
 use Rattle.std.proofs.lemmas.Bool.Decides.{nat_tests}
 use Rattle.std.specs.List.{list_any}
-use Rattle.card_code.specs.Rows.{row_number}
-use Rattle.card_code.specs.declared.row.Row.{Row as CardRow}
-use Rattle.counters.specs.Counters.{Counter, shows}
-use Rattle.hubs.specs.declared.hub.Group.{Group}
-use Rattle.hubs.specs.declared.hub.Hub.{Hub}
-use Rattle.hubs.specs.declared.hub.Hub.TheVariants.{FR, SR, GX, SX, EM, CC, PX, HX, RO, SO}
-use Rattle.machine.specs.Machine.{MachineState}
-use Rattle.net.proofs.Rows.{is_hub-same}
-use Rattle.net.specs.Cycles.{level_number, ordinal_number}
-use Rattle.net.specs.HubSets.{is_hub}
-use Rattle.net.specs.declared.cycle.Cycle.{Cycle}
-use Rattle.net.specs.declared.cycle.Cycle.TheVariants.{RunIn, Card, Prog, Head}
-use Rattle.net.specs.declared.cycle.Point.{Point}
-use Rattle.net.specs.declared.cycle.Point.TheVariants.{C, Row}
-use Rattle.print_unit.specs.Emitters.{emitter_of, emits_row, emitters_emit}
-use Rattle.stations.specs.Punches.{is_punched_at}
-use Rattle.stations.specs.Stations.{first_emits, second_emits, stations_emits}
-use Rattle.storage_units.specs.Storage.{StorageState, holds}
+use Rattle.whole_cycles.specs.Below.card_code.Rows.{row_number}
+use Rattle.whole_cycles.specs.Below.card_code.declared.row.Row.{Row as CardRow}
+use Rattle.whole_cycles.specs.Below.counters.Counters.{Counter, shows}
+use Rattle.whole_cycles.specs.Below.hubs.declared.hub.Group.{Group}
+use Rattle.whole_cycles.specs.Below.hubs.declared.hub.Hub.{Hub}
+use Rattle.whole_cycles.specs.Below.hubs.declared.hub.Hub.TheVariants.{FR, SR, GX, SX, EM, CC, PX, HX, RO, SO}
+use Rattle.whole_cycles.specs.Below.machine.Machine.{MachineState}
+use Rattle.whole_cycles.proofs.Below.net.Rows.{is_hub-same}
+use Rattle.whole_cycles.specs.Below.net.Cycles.{level_number, ordinal_number}
+use Rattle.whole_cycles.specs.Below.net.HubSets.{is_hub}
+use Rattle.whole_cycles.specs.Below.net.declared.cycle.Cycle.{Cycle}
+use Rattle.whole_cycles.specs.Below.net.declared.cycle.Cycle.TheVariants.{RunIn, Card, Prog, Head}
+use Rattle.whole_cycles.specs.Below.net.declared.cycle.Point.{Point}
+use Rattle.whole_cycles.specs.Below.net.declared.cycle.Point.TheVariants.{C, Row}
+use Rattle.whole_cycles.specs.Below.print_unit.Emitters.{emitter_of, emits_row, emitters_emit}
+use Rattle.whole_cycles.specs.Below.stations.Punches.{is_punched_at}
+use Rattle.whole_cycles.specs.Below.stations.Stations.{first_emits, second_emits, stations_emits}
+use Rattle.whole_cycles.specs.Below.storage_units.Storage.{StorageState, holds}
 use Rattle.whole_cycles.specs.WholeCycles.{control_emits, row_emits, group_reads_out, storage_reads_out}
 use Rattle.wired_panels.specs.Sources.{EmitsAtControl, EmitsAtRow, digit_at}
 use Rattle.wired_panels.specs.Sources.EmitsAtControl.{card as tells_card, prog as tells_prog, head as tells_head}
 use Rattle.wired_panels.specs.Sources.ReadsFirst.{run_in as reads_run_in, card as reads_card}
 use Rattle.wired_panels.specs.Sources.EmitsAtRow.{first, second, digit, column, emitter}
-use Rattle.charts.proofs.Listed.{any-passing}
+use Rattle.wiring_table.proofs.Below.charts.Listed.{any-passing}
 
 -- the exit that emits at the control point tells of the cycle
 pub told : (cycle : Cycle) (hub : Hub) → control_emits cycle hub ≡ true → EmitsAtControl cycle hub

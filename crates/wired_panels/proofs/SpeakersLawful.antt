@@ -4,18 +4,18 @@ use Rattle.std.specs.List.{list_any}
 use Rattle.std.proofs.lemmas.Bool.{or_parts}
 use Rattle.std.proofs.Math.Seq.{split_at}
 use Rattle.std.proofs.lemmas.Option.{slice_get_within, get_or_from_slice_get}
-use Rattle.chart_rules.proofs.Laws.{breaks-lawful, said-once}
-use Rattle.field_rules.proofs.Places.{is_same_name-own}
-use Rattle.field_rules.specs.Fields.{fields_of}
-use Rattle.print_rules.specs.Items.{item_of}
-use Rattle.chart_rules.specs.Rules.{IsLawful, breaks}
-use Rattle.print_rules.specs.Wheels.{overlap}
-use Rattle.chart_rules.specs.declared.rule.Rule.TheVariants as rule
-use Rattle.chart_rules.specs.declared.rule.Rule.{Rule}
-use Rattle.charts.specs.Chart.{Chart}
-use Rattle.charts.specs.declared.chart.Line.{Line}
-use Rattle.charts.specs.declared.statement.DetailOption.{DetailOption}
-use Rattle.charts.specs.declared.statement.Statement.TheVariants as says
+use Rattle.wiring_table.proofs.Below.chart_rules.Laws.{breaks-lawful, said-once}
+use Rattle.wiring_table.proofs.Below.field_rules.Places.{is_same_name-own}
+use Rattle.wiring_table.specs.Below.field_rules.Fields.{fields_of}
+use Rattle.wiring_table.specs.Below.print_rules.Items.{item_of}
+use Rattle.wiring_table.specs.Below.chart_rules.Rules.{IsLawful, breaks}
+use Rattle.wiring_table.specs.Below.print_rules.Wheels.{overlap}
+use Rattle.wiring_table.specs.Below.chart_rules.declared.rule.Rule.TheVariants as rule
+use Rattle.wiring_table.specs.Below.chart_rules.declared.rule.Rule.{Rule}
+use Rattle.wiring_table.specs.Below.charts.Chart.{Chart}
+use Rattle.wiring_table.specs.Below.charts.declared.chart.Line.{Line}
+use Rattle.wiring_table.specs.Below.charts.declared.statement.DetailOption.{DetailOption}
+use Rattle.wiring_table.specs.Below.charts.declared.statement.Statement.TheVariants as says
 
 -- a line of a lawful chart breaks no rule
 pub kept-at :

@@ -3,34 +3,34 @@
 use Rattle.std.proofs.Common.{◌≡◌, ◌∙◌, refl, sym, ap, subst, ℕ, ◌+◌, ◌<◌, ◌==◌, not, Bool, true, false, List, Contains, Some, None, ◌↔◌, arith, if◌then◌else◌}
 use Rattle.std.proofs.lemmas.Bool.Decides.{nat_tests}
 use Rattle.std.proofs.lemmas.Bool.{not-true, and_parts}
-use Rattle.plans.specs.Plans.{Lists}
-use Rattle.card_code.specs.CardCode.{has_row}
-use Rattle.card_code.specs.Rows.{rows, row_number}
-use Rattle.card_code.specs.declared.row.Row.{Row as CardRow}
-use Rattle.field_rules.specs.Fields.{field_named}
-use Rattle.chart_rules.specs.ValidCard.{IsValidCard, column_of}
-use Rattle.charts.specs.Chart.{Chart}
-use Rattle.charts.specs.Field.{columns_of}
-use Rattle.charts.specs.Levels.{control_number}
-use Rattle.charts.specs.declared.chart.Line.{Line}
-use Rattle.charts.specs.declared.level.ControlLevel.{ControlLevel}
-use Rattle.charts.specs.declared.statement.Field.{Field}
-use Rattle.charts.specs.declared.statement.Statement.{Statement}
-use Rattle.charts.specs.declared.statement.Statement.TheVariants as says
-use Rattle.hub_table.specs.Ranges.{is_within}
-use Rattle.setups.specs.Wiring.{Wiring}
-use Rattle.hubs.specs.declared.hub.Hub.{Hub}
-use Rattle.hubs.specs.declared.hub.Hub.TheVariants.{FR, SR, CX, CA, CB, ST}
-use Rattle.machine.specs.Machine.{MachineState}
-use Rattle.net.specs.declared.cycle.Cycle.TheVariants.{Card}
-use Rattle.net.specs.declared.cycle.ProgramLevel.TheVariants.{Minor, Intermediate, Major}
-use Rattle.net.specs.declared.cycle.Point.{Point}
-use Rattle.net.specs.declared.cycle.Point.TheVariants.{Row, K}
-use Rattle.program_unit.specs.CycleOrder.{levels_to}
-use Rattle.program_unit.specs.Program.{called_for}
-use Rattle.report.specs.Breaks.{highest}
-use Rattle.report.specs.Groups.{is_same_at}
-use Rattle.stations.specs.Comparing.{are_unlike}
+use Rattle.wiring_table.specs.Below.plans.Plans.{Lists}
+use Rattle.whole_cycles.specs.Below.card_code.CardCode.{has_row}
+use Rattle.whole_cycles.specs.Below.card_code.Rows.{rows, row_number}
+use Rattle.whole_cycles.specs.Below.card_code.declared.row.Row.{Row as CardRow}
+use Rattle.wiring_table.specs.Below.field_rules.Fields.{field_named}
+use Rattle.wiring_table.specs.Below.chart_rules.ValidCard.{IsValidCard, column_of}
+use Rattle.wiring_table.specs.Below.charts.Chart.{Chart}
+use Rattle.wiring_table.specs.Below.charts.Field.{columns_of}
+use Rattle.wiring_table.specs.Below.charts.Levels.{control_number}
+use Rattle.wiring_table.specs.Below.charts.declared.chart.Line.{Line}
+use Rattle.wiring_table.specs.Below.charts.declared.level.ControlLevel.{ControlLevel}
+use Rattle.wiring_table.specs.Below.charts.declared.statement.Field.{Field}
+use Rattle.wiring_table.specs.Below.charts.declared.statement.Statement.{Statement}
+use Rattle.wiring_table.specs.Below.charts.declared.statement.Statement.TheVariants as says
+use Rattle.whole_cycles.specs.Below.hub_table.Ranges.{is_within}
+use Rattle.wiring_table.specs.Below.setups.Wiring.{Wiring}
+use Rattle.whole_cycles.specs.Below.hubs.declared.hub.Hub.{Hub}
+use Rattle.whole_cycles.specs.Below.hubs.declared.hub.Hub.TheVariants.{FR, SR, CX, CA, CB, ST}
+use Rattle.whole_cycles.specs.Below.machine.Machine.{MachineState}
+use Rattle.whole_cycles.specs.Below.net.declared.cycle.Cycle.TheVariants.{Card}
+use Rattle.whole_cycles.specs.Below.net.declared.cycle.ProgramLevel.TheVariants.{Minor, Intermediate, Major}
+use Rattle.whole_cycles.specs.Below.net.declared.cycle.Point.{Point}
+use Rattle.whole_cycles.specs.Below.net.declared.cycle.Point.TheVariants.{Row, K}
+use Rattle.whole_cycles.specs.Below.program_unit.CycleOrder.{levels_to}
+use Rattle.whole_cycles.specs.Below.program_unit.Program.{called_for}
+use Rattle.wiring_table.specs.Below.report.Breaks.{highest}
+use Rattle.wiring_table.specs.Below.report.Groups.{is_same_at}
+use Rattle.whole_cycles.specs.Below.stations.Comparing.{are_unlike}
 use Rattle.whole_cycles.specs.WholeCycles.{IsClosingPicture, closing_emits, compares_unlike}
 use Rattle.wiring_table.specs.Parts.{comparing_for}
 use Rattle.wiring_table.specs.Wires.{LineWire, ChartWire}
@@ -38,7 +38,7 @@ use Rattle.wiring_table.specs.Wires.LineWire.{compared_first, compared_second, l
 use Rattle.wired_panels.proofs.ControlTexts.{control-set}
 use Rattle.wired_panels.proofs.Differing.{differs-where, where-differs}
 use Rattle.wired_panels.proofs.Ways.{same_tests}
-use Rattle.charts.proofs.Listed.{any-passing, none-any}
+use Rattle.wiring_table.proofs.Below.charts.Listed.{any-passing, none-any}
 use Rattle.wiring_table.proofs.Parts.{comparing-given, comparing-own}
 use Rattle.wired_panels.proofs.SameColumns.{row-listed, same-sets}
 use Rattle.wired_panels.proofs.Straight.{at_row, at_closing}

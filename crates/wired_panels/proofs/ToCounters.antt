@@ -1,25 +1,25 @@
 -- The wires to the entries of counter groups, each with the total that it serves, and what tells of a cycle at their other ends.
 use Rattle.std.proofs.Common.{◌≡◌, refl, ℕ, ◌+◌, ◌-◌, ◌≤◌, List, Contains, Option, Some}
-use Rattle.plans.specs.Plans.{Lists}
-use Rattle.charts.specs.Field.{columns_of}
-use Rattle.charts.specs.Levels.{level_number}
-use Rattle.charts.specs.declared.chart.Line.{Line}
-use Rattle.charts.specs.declared.level.Level.{Level as ChartLevel}
-use Rattle.charts.specs.declared.statement.Field.{Field}
-use Rattle.charts.specs.declared.statement.Mark.{Mark}
-use Rattle.charts.specs.declared.statement.SignRule.{SignRule}
-use Rattle.charts.specs.declared.statement.Statement.{Statement}
-use Rattle.charts.specs.declared.statement.Statement.TheVariants as says
-use Rattle.hubs.specs.declared.hub.Group.{Group}
-use Rattle.hubs.specs.declared.hub.Hub.{Hub}
-use Rattle.hubs.specs.declared.hub.Hub.TheVariants.{SR, GX, BAN, BAT, CC, PX, EM, GE, PL, MI, RO, BT, BAC, PIC}
+use Rattle.wiring_table.specs.Below.plans.Plans.{Lists}
+use Rattle.wiring_table.specs.Below.charts.Field.{columns_of}
+use Rattle.wiring_table.specs.Below.charts.Levels.{level_number}
+use Rattle.wiring_table.specs.Below.charts.declared.chart.Line.{Line}
+use Rattle.wiring_table.specs.Below.charts.declared.level.Level.{Level as ChartLevel}
+use Rattle.wiring_table.specs.Below.charts.declared.statement.Field.{Field}
+use Rattle.wiring_table.specs.Below.charts.declared.statement.Mark.{Mark}
+use Rattle.wiring_table.specs.Below.charts.declared.statement.SignRule.{SignRule}
+use Rattle.wiring_table.specs.Below.charts.declared.statement.Statement.{Statement}
+use Rattle.wiring_table.specs.Below.charts.declared.statement.Statement.TheVariants as says
+use Rattle.whole_cycles.specs.Below.hubs.declared.hub.Group.{Group}
+use Rattle.whole_cycles.specs.Below.hubs.declared.hub.Hub.{Hub}
+use Rattle.whole_cycles.specs.Below.hubs.declared.hub.Hub.TheVariants.{SR, GX, BAN, BAT, CC, PX, EM, GE, PL, MI, RO, BT, BAC, PIC}
 use Rattle.wiring_table.specs.Figures.{IsAmount, IsSigned, IsUnsigned}
 use Rattle.wiring_table.specs.Parts.{HasTotal, IsLowest, IsNextHigher, ServesPosition, ServesTotal, pilot_for, negative_side, positive_side, top_for}
 use Rattle.wiring_table.proofs.Groups.{position-serves}
 use Rattle.wiring_table.specs.Wires.{LineWire}
 use Rattle.wiring_table.specs.Wires.LineWire.{detail_mark_in, entry, entry_adds, entry_sign, entry_plus, entry_minus, read_out, balance_test, conversion, conversion_read_out, conversion_minus, feedback, total_mark_in, transfer, transfer_adds, transfer_sign, transfer_plus, transfer_minus}
 use Rattle.wired_panels.specs.Groups.{IsGroupOf, IsPlaceFor, IsTopOf}
-use Rattle.field_rules.proofs.Places.{is_same_name-own}
+use Rattle.wiring_table.proofs.Below.field_rules.Places.{is_same_name-own}
 
 -- the total that a line says
 pub the_total :

@@ -1,30 +1,30 @@
 -- How the pilots of a panel stand after a cycle that reads the card at first reading: by the sign columns of that card.
 use Rattle.std.proofs.Common.{◌≡◌, ◌∙◌, refl, sym, ap, subst, ℕ, ◌-◌, ◌&&◌, Bool, true, false, List, Contains, Option, Some, None, option_map, ◌↔◌, if◌then◌else◌, slice_index, ◌+◌}
-use Rattle.plans.specs.Plans.{Lists}
-use Rattle.card_code.specs.CardCode.{has_row}
-use Rattle.card_code.specs.declared.row.Row.{Row as CardRow}
-use Rattle.card_code.specs.declared.row.Row.TheVariants.{Eleven}
-use Rattle.field_rules.specs.Fields.{field_named}
-use Rattle.chart_rules.specs.ValidCard.{column_of}
-use Rattle.charts.specs.Chart.{Chart}
-use Rattle.charts.specs.Field.{column_of_rule}
-use Rattle.charts.specs.declared.chart.Line.{Line}
-use Rattle.charts.specs.declared.statement.Field.{Field}
-use Rattle.charts.specs.declared.statement.SignRule.{SignRule}
-use Rattle.charts.specs.declared.statement.Statement.{Statement}
-use Rattle.hub_table.specs.Ranges.{is_within}
-use Rattle.setups.specs.Wiring.{Wiring}
-use Rattle.hubs.specs.declared.hub.Hub.{Hub}
-use Rattle.hubs.specs.declared.hub.Hub.TheVariants.{FR, SR, PIX}
-use Rattle.machine.specs.Machine.{MachineState}
-use Rattle.net.specs.declared.cycle.Cycle.{Cycle}
-use Rattle.net.specs.declared.cycle.Cycle.TheVariants.{RunIn, Card, Prog, Head}
-use Rattle.net.specs.declared.cycle.Point.{Point}
-use Rattle.net.specs.declared.cycle.Point.TheVariants.{Row}
-use Rattle.selectors.proofs.LawLemmas.{pilots_moved, pilots_left}
-use Rattle.selectors.specs.Pilots.{is_transferred, moves_pilots}
-use Rattle.selectors.specs.WholeCycles.{after_cycle}
-use Rattle.stations.specs.Punches.{is_punched_at}
+use Rattle.wiring_table.specs.Below.plans.Plans.{Lists}
+use Rattle.whole_cycles.specs.Below.card_code.CardCode.{has_row}
+use Rattle.whole_cycles.specs.Below.card_code.declared.row.Row.{Row as CardRow}
+use Rattle.whole_cycles.specs.Below.card_code.declared.row.Row.TheVariants.{Eleven}
+use Rattle.wiring_table.specs.Below.field_rules.Fields.{field_named}
+use Rattle.wiring_table.specs.Below.chart_rules.ValidCard.{column_of}
+use Rattle.wiring_table.specs.Below.charts.Chart.{Chart}
+use Rattle.wiring_table.specs.Below.charts.Field.{column_of_rule}
+use Rattle.wiring_table.specs.Below.charts.declared.chart.Line.{Line}
+use Rattle.wiring_table.specs.Below.charts.declared.statement.Field.{Field}
+use Rattle.wiring_table.specs.Below.charts.declared.statement.SignRule.{SignRule}
+use Rattle.wiring_table.specs.Below.charts.declared.statement.Statement.{Statement}
+use Rattle.whole_cycles.specs.Below.hub_table.Ranges.{is_within}
+use Rattle.wiring_table.specs.Below.setups.Wiring.{Wiring}
+use Rattle.whole_cycles.specs.Below.hubs.declared.hub.Hub.{Hub}
+use Rattle.whole_cycles.specs.Below.hubs.declared.hub.Hub.TheVariants.{FR, SR, PIX}
+use Rattle.whole_cycles.specs.Below.machine.Machine.{MachineState}
+use Rattle.whole_cycles.specs.Below.net.declared.cycle.Cycle.{Cycle}
+use Rattle.whole_cycles.specs.Below.net.declared.cycle.Cycle.TheVariants.{RunIn, Card, Prog, Head}
+use Rattle.whole_cycles.specs.Below.net.declared.cycle.Point.{Point}
+use Rattle.whole_cycles.specs.Below.net.declared.cycle.Point.TheVariants.{Row}
+use Rattle.whole_cycles.proofs.Below.selectors.LawLemmas.{pilots_moved, pilots_left}
+use Rattle.whole_cycles.specs.Below.selectors.Pilots.{is_transferred, moves_pilots}
+use Rattle.whole_cycles.specs.Below.selectors.WholeCycles.{after_cycle}
+use Rattle.whole_cycles.specs.Below.stations.Punches.{is_punched_at}
 use Rattle.wiring_table.specs.Figures.{rule_of}
 use Rattle.wiring_table.specs.Parts.{pilot_for}
 use Rattle.wiring_table.specs.Wires.{LineWire, ChartWire}
@@ -32,7 +32,7 @@ use Rattle.wiring_table.specs.Wires.LineWire.{pickup}
 use Rattle.wired_panels.proofs.ChartLines.{field-own}
 use Rattle.wired_panels.proofs.Ways.{same_tests}
 use Rattle.wiring_table.proofs.Parts.{pilot-own}
-use Rattle.chart_rules.proofs.Laws.{field-line}
+use Rattle.wiring_table.proofs.Below.chart_rules.Laws.{field-line}
 use Rattle.wired_panels.proofs.Straight.{at_row}
 use Rattle.wired_panels.specs.PanelCycles.{IsPanelCycle, ArrivesAtRow, PilotsTellSigns, has_sign}
 use Rattle.wired_panels.specs.Sources.{EmitsAtRow, ReadsFirst}

@@ -1,43 +1,43 @@
 -- What the storage units of a panel hold after a card cycle, and in which cycles they read out.
 use Rattle.std.proofs.Common.{◌≡◌, ◌∙◌, refl, sym, ap, subst, ℕ, ◌+◌, ◌-◌, ◌<◌, ◌&&◌, Bool, true, false, List, [], ◌∷◌, Contains, Option, Some, None, option_map, ◌↔◌, if◌then◌else◌, slice_index, zero, suc, arith, map}
-use Rattle.plans.specs.Plans.{Lists}
-use Rattle.card_code.specs.CardCode.{has_row}
-use Rattle.card_code.specs.Rows.{row_number}
-use Rattle.card_code.specs.declared.row.Row.{Row as CardRow}
-use Rattle.field_rules.specs.Fields.{field_named}
-use Rattle.chart_rules.specs.ValidCard.{column_of}
-use Rattle.charts.specs.Chart.{Chart, NumbersRise}
-use Rattle.charts.specs.Field.{columns_of}
-use Rattle.charts.specs.Levels.{level_number}
-use Rattle.charts.specs.declared.chart.Line.{Line}
-use Rattle.charts.specs.declared.level.Level.{Level}
-use Rattle.charts.specs.declared.statement.Field.{Field}
-use Rattle.charts.specs.declared.statement.Statement.{Statement}
-use Rattle.charts.specs.declared.statement.Statement.TheVariants as says
-use Rattle.hub_table.specs.Places.{part_place}
-use Rattle.hub_table.specs.Ranges.{is_within}
-use Rattle.setups.specs.Wiring.{Wiring}
-use Rattle.hubs.specs.declared.hub.Hub.{Hub}
-use Rattle.hubs.specs.declared.hub.Hub.TheVariants.{SR, CC, PX, SE, SI, SO}
-use Rattle.machine.specs.Machine.{MachineState}
-use Rattle.net.specs.declared.cycle.Cycle.{Cycle}
-use Rattle.net.specs.declared.cycle.Cycle.TheVariants.{Card}
-use Rattle.net.specs.declared.cycle.Point.{Point}
-use Rattle.net.specs.declared.cycle.Point.TheVariants.{C, Row}
-use Rattle.stations.specs.Punches.{is_punched_at}
-use Rattle.storage_units.proofs.CycleLemmas.{reads_in_whole, keeps_held}
-use Rattle.storage_units.specs.Storage.{StorageState, holds}
-use Rattle.storage_units.specs.WholeCycles.{after_cycle}
+use Rattle.wiring_table.specs.Below.plans.Plans.{Lists}
+use Rattle.whole_cycles.specs.Below.card_code.CardCode.{has_row}
+use Rattle.whole_cycles.specs.Below.card_code.Rows.{row_number}
+use Rattle.whole_cycles.specs.Below.card_code.declared.row.Row.{Row as CardRow}
+use Rattle.wiring_table.specs.Below.field_rules.Fields.{field_named}
+use Rattle.wiring_table.specs.Below.chart_rules.ValidCard.{column_of}
+use Rattle.wiring_table.specs.Below.charts.Chart.{Chart, NumbersRise}
+use Rattle.wiring_table.specs.Below.charts.Field.{columns_of}
+use Rattle.wiring_table.specs.Below.charts.Levels.{level_number}
+use Rattle.wiring_table.specs.Below.charts.declared.chart.Line.{Line}
+use Rattle.wiring_table.specs.Below.charts.declared.level.Level.{Level}
+use Rattle.wiring_table.specs.Below.charts.declared.statement.Field.{Field}
+use Rattle.wiring_table.specs.Below.charts.declared.statement.Statement.{Statement}
+use Rattle.wiring_table.specs.Below.charts.declared.statement.Statement.TheVariants as says
+use Rattle.whole_cycles.specs.Below.hub_table.Places.{part_place}
+use Rattle.whole_cycles.specs.Below.hub_table.Ranges.{is_within}
+use Rattle.wiring_table.specs.Below.setups.Wiring.{Wiring}
+use Rattle.whole_cycles.specs.Below.hubs.declared.hub.Hub.{Hub}
+use Rattle.whole_cycles.specs.Below.hubs.declared.hub.Hub.TheVariants.{SR, CC, PX, SE, SI, SO}
+use Rattle.whole_cycles.specs.Below.machine.Machine.{MachineState}
+use Rattle.whole_cycles.specs.Below.net.declared.cycle.Cycle.{Cycle}
+use Rattle.whole_cycles.specs.Below.net.declared.cycle.Cycle.TheVariants.{Card}
+use Rattle.whole_cycles.specs.Below.net.declared.cycle.Point.{Point}
+use Rattle.whole_cycles.specs.Below.net.declared.cycle.Point.TheVariants.{C, Row}
+use Rattle.whole_cycles.specs.Below.stations.Punches.{is_punched_at}
+use Rattle.whole_cycles.proofs.Below.storage_units.CycleLemmas.{reads_in_whole, keeps_held}
+use Rattle.whole_cycles.specs.Below.storage_units.Storage.{StorageState, holds}
+use Rattle.whole_cycles.specs.Below.storage_units.WholeCycles.{after_cycle}
 use Rattle.wiring_table.specs.Figures.{IsText}
 use Rattle.wiring_table.specs.Parts.{unit_for}
 use Rattle.wiring_table.specs.Wires.{LineWire, ChartWire}
 use Rattle.wiring_table.specs.Wires.LineWire.{total_text_in, total_text_taken, total_text_given}
-use Rattle.charts.proofs.Rising.{one-line}
+use Rattle.wiring_table.proofs.Below.charts.Rising.{one-line}
 use Rattle.wired_panels.proofs.Contacts.{is_card_cycle}
 use Rattle.wired_panels.proofs.Ways.{same_tests}
 use Rattle.wired_panels.proofs.Straight.{at_control, at_row}
 use Rattle.wiring_table.proofs.Parts.{unit-own}
-use Rattle.charts.proofs.Listed.{listed-after}
+use Rattle.wiring_table.proofs.Below.charts.Listed.{listed-after}
 use Rattle.wired_panels.proofs.ToPilots.{sends-second, column-there}
 use Rattle.wired_panels.specs.PanelCycles.{IsPanelCycle, ArrivesAtControl, ArrivesAtRow, UnitsHold, IsTextPrinted}
 use Rattle.wired_panels.specs.Sources.{EmitsAtRow, EmitsAtControl}

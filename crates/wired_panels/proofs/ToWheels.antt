@@ -1,35 +1,35 @@
 -- What arrives at a row of a cycle after the contacts on the way to print wheels: who feeds a position of group indication, a split, a
 -- pilot's and a group's marks. And the wires of a line, followed from an exit that emits.
 use Rattle.std.proofs.Common.{◌≡◌, ◌∙◌, refl, sym, ap, subst, ℕ, ◌+◌, ◌-◌, Bool, true, false, Contains, Option, Some, arith, List}
-use Rattle.card_code.specs.Rows.{row_number}
-use Rattle.card_code.specs.declared.row.Row.{Row as CardRow}
-use Rattle.field_rules.specs.Fields.{field_named}
-use Rattle.charts.specs.Chart.{NumbersRise}
-use Rattle.charts.specs.Field.{sign_column}
-use Rattle.charts.specs.Levels.{control_number, level_number}
-use Rattle.charts.specs.declared.chart.Line.{Line}
-use Rattle.charts.specs.declared.level.ControlLevel.TheVariants as control
-use Rattle.charts.specs.declared.level.ControlLevel.{ControlLevel}
-use Rattle.charts.specs.declared.level.Level.{Level}
-use Rattle.charts.specs.declared.statement.DetailOption.TheVariants as shown
-use Rattle.charts.specs.declared.statement.DetailOption.{DetailOption}
-use Rattle.charts.specs.declared.statement.Field.{Field}
-use Rattle.charts.specs.declared.statement.Mark.{Mark}
-use Rattle.charts.specs.declared.statement.SignRule.TheVariants as sign
-use Rattle.charts.specs.declared.statement.SignRule.{SignRule}
-use Rattle.charts.specs.declared.statement.Statement.TheVariants as says
-use Rattle.charts.specs.declared.statement.Statement.{Statement}
-use Rattle.setups.specs.Wiring.{Wiring}
-use Rattle.hubs.specs.declared.hub.Group.{Group}
-use Rattle.hubs.specs.declared.hub.Hub.TheVariants.{FR, SR, GX, SX, EM, BAC, PIC, IE, CSE}
-use Rattle.hubs.specs.declared.hub.Hub.{Hub}
-use Rattle.machine.specs.Machine.{MachineState, closes}
-use Rattle.net.specs.Panel.{contact_of}
-use Rattle.net.specs.declared.cycle.Cycle.TheVariants.{Card}
-use Rattle.net.specs.declared.cycle.Cycle.{Cycle}
-use Rattle.net.specs.declared.cycle.Point.TheVariants.{Row}
-use Rattle.net.specs.declared.cycle.Point.{Point}
-use Rattle.print_unit.specs.Emitters.{emitter_of}
+use Rattle.whole_cycles.specs.Below.card_code.Rows.{row_number}
+use Rattle.whole_cycles.specs.Below.card_code.declared.row.Row.{Row as CardRow}
+use Rattle.wiring_table.specs.Below.field_rules.Fields.{field_named}
+use Rattle.wiring_table.specs.Below.charts.Chart.{NumbersRise}
+use Rattle.wiring_table.specs.Below.charts.Field.{sign_column}
+use Rattle.wiring_table.specs.Below.charts.Levels.{control_number, level_number}
+use Rattle.wiring_table.specs.Below.charts.declared.chart.Line.{Line}
+use Rattle.wiring_table.specs.Below.charts.declared.level.ControlLevel.TheVariants as control
+use Rattle.wiring_table.specs.Below.charts.declared.level.ControlLevel.{ControlLevel}
+use Rattle.wiring_table.specs.Below.charts.declared.level.Level.{Level}
+use Rattle.wiring_table.specs.Below.charts.declared.statement.DetailOption.TheVariants as shown
+use Rattle.wiring_table.specs.Below.charts.declared.statement.DetailOption.{DetailOption}
+use Rattle.wiring_table.specs.Below.charts.declared.statement.Field.{Field}
+use Rattle.wiring_table.specs.Below.charts.declared.statement.Mark.{Mark}
+use Rattle.wiring_table.specs.Below.charts.declared.statement.SignRule.TheVariants as sign
+use Rattle.wiring_table.specs.Below.charts.declared.statement.SignRule.{SignRule}
+use Rattle.wiring_table.specs.Below.charts.declared.statement.Statement.TheVariants as says
+use Rattle.wiring_table.specs.Below.charts.declared.statement.Statement.{Statement}
+use Rattle.wiring_table.specs.Below.setups.Wiring.{Wiring}
+use Rattle.whole_cycles.specs.Below.hubs.declared.hub.Group.{Group}
+use Rattle.whole_cycles.specs.Below.hubs.declared.hub.Hub.TheVariants.{FR, SR, GX, SX, EM, BAC, PIC, IE, CSE}
+use Rattle.whole_cycles.specs.Below.hubs.declared.hub.Hub.{Hub}
+use Rattle.whole_cycles.specs.Below.machine.Machine.{MachineState, closes}
+use Rattle.whole_cycles.specs.Below.net.Panel.{contact_of}
+use Rattle.whole_cycles.specs.Below.net.declared.cycle.Cycle.TheVariants.{Card}
+use Rattle.whole_cycles.specs.Below.net.declared.cycle.Cycle.{Cycle}
+use Rattle.whole_cycles.specs.Below.net.declared.cycle.Point.TheVariants.{Row}
+use Rattle.whole_cycles.specs.Below.net.declared.cycle.Point.{Point}
+use Rattle.whole_cycles.specs.Below.print_unit.Emitters.{emitter_of}
 use Rattle.whole_cycles.specs.WholeCycles.{row_emits}
 use Rattle.wiring_table.specs.Figures.{IsAmount, HasPunchAt, mark_text, detail_emitter, total_emitter}
 use Rattle.wiring_table.specs.Parts.{top_for, pilot_for, indicate_for, split_for, negative_side}
@@ -41,7 +41,7 @@ use Rattle.wired_panels.specs.Panel.{Arrives}
 use Rattle.wired_panels.specs.PanelCycles.{IsPanelCycle}
 use Rattle.wired_panels.specs.Sources.EmitsAtRow.{first, second, digit, column, emitter}
 use Rattle.wired_panels.specs.Sources.{EmitsAtRow}
-use Rattle.charts.proofs.Rising.{one-line}
+use Rattle.wiring_table.proofs.Below.charts.Rising.{one-line}
 use Rattle.wiring_table.proofs.Groups.{serves-own, top-serves}
 use Rattle.wiring_table.proofs.Parts.{indicate-own, pilot-own, split-own}
 use Rattle.wired_panels.proofs.SpeakersLawful.{detail-same}

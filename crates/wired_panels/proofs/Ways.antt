@@ -1,13 +1,13 @@
 -- The ways of impulses to the entries of a panel that is wired for a chart.
 use Rattle.std.proofs.Common.{◌≡◌, refl, sym, ap, Bool, true, false, Some, None, is_some, ◌↔◌}
-use Rattle.plans.specs.Plans.{Lists}
-use Rattle.charts.specs.Chart.{Chart}
-use Rattle.hubs.specs.Hubs.{is_hub_in_range, number_of}
-use Rattle.setups.specs.Wiring.{Wiring, LeadsToEntries}
-use Rattle.hubs.specs.declared.hub.Hub.{Hub}
+use Rattle.wiring_table.specs.Below.plans.Plans.{Lists}
+use Rattle.wiring_table.specs.Below.charts.Chart.{Chart}
+use Rattle.whole_cycles.specs.Below.hubs.Hubs.{is_hub_in_range, number_of}
+use Rattle.wiring_table.specs.Below.setups.Wiring.{Wiring, LeadsToEntries}
+use Rattle.whole_cycles.specs.Below.hubs.declared.hub.Hub.{Hub}
 use Rattle.whole_cycles.specs.Carries.{CarriesLeadToCarries}
-use Rattle.net.specs.Impulsed.{IsImpulsed}
-use Rattle.net.specs.Panel.{contact_of}
+use Rattle.whole_cycles.specs.Below.net.Impulsed.{IsImpulsed}
+use Rattle.whole_cycles.specs.Below.net.Panel.{contact_of}
 use Rattle.whole_cycles.proofs.Contacts.{contacts-one_deep}
 use Rattle.whole_cycles.proofs.Sources.{emit_at_sources}
 use Rattle.whole_cycles.specs.OneContactDeep.{AreCarriesOpen, IsOneContactDeep, IsWithinOneContact, SourcesAloneEmit, is_source}

@@ -1,14 +1,14 @@
 -- A row of a cycle, with all that it hangs on.
 use Rattle.std.specs.Prelude.{ℕ, Bool}
-use Rattle.plans.specs.Plans.{Lists}
-use Rattle.card_code.specs.declared.row.Row.{Row as CardRow}
-use Rattle.charts.specs.Chart.{Chart}
-use Rattle.hubs.specs.declared.hub.Hub.{Hub}
-use Rattle.machine.specs.Machine.{MachineState, closes}
-use Rattle.net.specs.declared.cycle.Cycle.{Cycle}
-use Rattle.net.specs.declared.cycle.Point.{Point}
-use Rattle.net.specs.declared.cycle.Point.TheVariants.{Row}
-use Rattle.stations.specs.Punches.{is_punched_at}
+use Rattle.wiring_table.specs.Below.plans.Plans.{Lists}
+use Rattle.whole_cycles.specs.Below.card_code.declared.row.Row.{Row as CardRow}
+use Rattle.wiring_table.specs.Below.charts.Chart.{Chart}
+use Rattle.whole_cycles.specs.Below.hubs.declared.hub.Hub.{Hub}
+use Rattle.whole_cycles.specs.Below.machine.Machine.{MachineState, closes}
+use Rattle.whole_cycles.specs.Below.net.declared.cycle.Cycle.{Cycle}
+use Rattle.whole_cycles.specs.Below.net.declared.cycle.Point.{Point}
+use Rattle.whole_cycles.specs.Below.net.declared.cycle.Point.TheVariants.{Row}
+use Rattle.whole_cycles.specs.Below.stations.Punches.{is_punched_at}
 
 -- A row of a cycle: a chart and its plan, the machine before the cycle, the cycle with the pictures of its points, and the
 -- row.

@@ -1,21 +1,21 @@
 -- The counter groups that serve the totals of a chart, and those that read out in a cycle.
 use Rattle.std.specs.Prelude.{◌≡◌, ℕ, true, List, Some}
-use Rattle.plans.specs.Plans.{Lists}
-use Rattle.charts.specs.Chart.{Chart}
-use Rattle.charts.specs.declared.chart.Line.{Line}
-use Rattle.charts.specs.declared.statement.SignRule.{SignRule}
-use Rattle.hubs.specs.declared.hub.Group.{Group}
-use Rattle.machine.specs.Machine.{MachineState}
-use Rattle.machine.specs.Steady.{balance_latches}
-use Rattle.net.specs.Cycles.{level_number}
-use Rattle.net.specs.declared.cycle.Cycle.{Cycle}
-use Rattle.net.specs.declared.cycle.Cycle.TheVariants.{Prog}
-use Rattle.net.specs.declared.cycle.ProgramLevel.{ProgramLevel}
-use Rattle.net.specs.declared.cycle.Ordinal.TheVariants.{Second, Third}
-use Rattle.selectors.specs.Contacts.{is_balance_set}
+use Rattle.wiring_table.specs.Below.plans.Plans.{Lists}
+use Rattle.wiring_table.specs.Below.charts.Chart.{Chart}
+use Rattle.wiring_table.specs.Below.charts.declared.chart.Line.{Line}
+use Rattle.wiring_table.specs.Below.charts.declared.statement.SignRule.{SignRule}
+use Rattle.whole_cycles.specs.Below.hubs.declared.hub.Group.{Group}
+use Rattle.whole_cycles.specs.Below.machine.Machine.{MachineState}
+use Rattle.whole_cycles.specs.Below.machine.Steady.{balance_latches}
+use Rattle.whole_cycles.specs.Below.net.Cycles.{level_number}
+use Rattle.whole_cycles.specs.Below.net.declared.cycle.Cycle.{Cycle}
+use Rattle.whole_cycles.specs.Below.net.declared.cycle.Cycle.TheVariants.{Prog}
+use Rattle.whole_cycles.specs.Below.net.declared.cycle.ProgramLevel.{ProgramLevel}
+use Rattle.whole_cycles.specs.Below.net.declared.cycle.Ordinal.TheVariants.{Second, Third}
+use Rattle.whole_cycles.specs.Below.selectors.Contacts.{is_balance_set}
 use Rattle.wiring_table.specs.Figures.{IsSigned}
 use Rattle.wiring_table.specs.Parts.{HasTotal, ServesPosition, ServesTotal, counter_for, top_for}
-use Rattle.plans.specs.declared.counter.TotalCounter.{TotalCounter}
+use Rattle.wiring_table.specs.Below.plans.declared.counter.TotalCounter.{TotalCounter}
 
 -- A counter is that of the total of an amount at a level.
 pub record IsCounterOf (lines : List Line) (plan : Lists) (name : List ℕ) (level : ℕ) (counter : TotalCounter) : Type 0 where

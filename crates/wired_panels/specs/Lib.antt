@@ -1,3 +1,4 @@
+pub mod Below
 pub mod Panel
 pub mod Sources
 pub mod Groups

@@ -1,31 +1,31 @@
 -- A cycle of a panel that is wired for a chart, by the pictures of its points: what arrives at its entries, and what its units hold.
 use Rattle.std.specs.Prelude.{◌≡◌, ℕ, ◌≤◌, ◌+◌, ◌<◌, nat_le, Bool, true, false, List, Contains, Option, Some, None, ◌==◌}
-use Rattle.plans.specs.Plans.{Lists}
-use Rattle.card_code.specs.CardCode.{has_row}
-use Rattle.card_code.specs.Rows.{row_number}
-use Rattle.card_code.specs.declared.row.Row.{Row as CardRow}
-use Rattle.field_rules.specs.Fields.{field_named}
-use Rattle.chart_rules.specs.ValidCard.{column_of, IsValidCard}
-use Rattle.charts.specs.Chart.{Chart}
-use Rattle.charts.specs.Field.{column_of_rule, columns_of}
-use Rattle.charts.specs.Levels.{control_number, level_number}
-use Rattle.charts.specs.declared.chart.Line.{Line}
-use Rattle.charts.specs.declared.level.ControlLevel.{ControlLevel}
-use Rattle.charts.specs.declared.level.Level.{Level}
-use Rattle.charts.specs.declared.statement.Field.{Field}
-use Rattle.charts.specs.declared.statement.SignRule.{SignRule}
-use Rattle.charts.specs.declared.statement.Statement.TheVariants as says
-use Rattle.setups.specs.Wiring.{Wiring}
-use Rattle.hubs.specs.declared.hub.Hub.{Hub}
-use Rattle.hubs.specs.declared.hub.Hub.TheVariants.{PX}
-use Rattle.machine.specs.Machine.{MachineState, closes}
-use Rattle.net.specs.Impulsed.{IsPicture}
-use Rattle.net.specs.declared.cycle.Cycle.{Cycle}
-use Rattle.net.specs.declared.cycle.Point.{Point}
-use Rattle.net.specs.declared.cycle.Point.TheVariants.{C, Row}
-use Rattle.selectors.specs.Indicate.{Latches, is_latch_set}
-use Rattle.selectors.specs.Pilots.{PilotStates, is_transferred}
-use Rattle.storage_units.specs.Storage.{StorageState, holds}
+use Rattle.wiring_table.specs.Below.plans.Plans.{Lists}
+use Rattle.whole_cycles.specs.Below.card_code.CardCode.{has_row}
+use Rattle.whole_cycles.specs.Below.card_code.Rows.{row_number}
+use Rattle.whole_cycles.specs.Below.card_code.declared.row.Row.{Row as CardRow}
+use Rattle.wiring_table.specs.Below.field_rules.Fields.{field_named}
+use Rattle.wiring_table.specs.Below.chart_rules.ValidCard.{column_of, IsValidCard}
+use Rattle.wiring_table.specs.Below.charts.Chart.{Chart}
+use Rattle.wiring_table.specs.Below.charts.Field.{column_of_rule, columns_of}
+use Rattle.wiring_table.specs.Below.charts.Levels.{control_number, level_number}
+use Rattle.wiring_table.specs.Below.charts.declared.chart.Line.{Line}
+use Rattle.wiring_table.specs.Below.charts.declared.level.ControlLevel.{ControlLevel}
+use Rattle.wiring_table.specs.Below.charts.declared.level.Level.{Level}
+use Rattle.wiring_table.specs.Below.charts.declared.statement.Field.{Field}
+use Rattle.wiring_table.specs.Below.charts.declared.statement.SignRule.{SignRule}
+use Rattle.wiring_table.specs.Below.charts.declared.statement.Statement.TheVariants as says
+use Rattle.wiring_table.specs.Below.setups.Wiring.{Wiring}
+use Rattle.whole_cycles.specs.Below.hubs.declared.hub.Hub.{Hub}
+use Rattle.whole_cycles.specs.Below.hubs.declared.hub.Hub.TheVariants.{PX}
+use Rattle.whole_cycles.specs.Below.machine.Machine.{MachineState, closes}
+use Rattle.whole_cycles.specs.Below.net.Impulsed.{IsPicture}
+use Rattle.whole_cycles.specs.Below.net.declared.cycle.Cycle.{Cycle}
+use Rattle.whole_cycles.specs.Below.net.declared.cycle.Point.{Point}
+use Rattle.whole_cycles.specs.Below.net.declared.cycle.Point.TheVariants.{C, Row}
+use Rattle.whole_cycles.specs.Below.selectors.Indicate.{Latches, is_latch_set}
+use Rattle.whole_cycles.specs.Below.selectors.Pilots.{PilotStates, is_transferred}
+use Rattle.whole_cycles.specs.Below.storage_units.Storage.{StorageState, holds}
 use Rattle.whole_cycles.specs.Between.{IsBetween}
 use Rattle.whole_cycles.specs.WholeCycles.{control_emits, row_emits, closing_emits}
 use Rattle.wiring_table.specs.Figures.{IsText, rule_of}

@@ -1,15 +1,15 @@
 -- Laws of the units of a panel that is wired for a chart: what a cycle leaves in the pilots, the storage units and the program unit.
 use Rattle.std.specs.Prelude.{◌≡◌, ◌≢◌, ℕ, true, false, List, Option, Some}
-use Rattle.plans.specs.Plans.{Lists}
-use Rattle.chart_rules.specs.ValidCard.{IsValidCard}
-use Rattle.charts.specs.Chart.{Chart, NumbersRise}
-use Rattle.setups.specs.Wiring.{Wiring}
-use Rattle.machine.specs.Machine.{MachineState}
-use Rattle.net.specs.declared.cycle.Cycle.{Cycle}
-use Rattle.net.specs.declared.cycle.Cycle.TheVariants.{Card}
-use Rattle.program_unit.specs.CycleOrder.{levels_to}
-use Rattle.report.specs.Breaks.{highest}
-use Rattle.selectors.specs.Pilots.{moves_pilots}
+use Rattle.wiring_table.specs.Below.plans.Plans.{Lists}
+use Rattle.wiring_table.specs.Below.chart_rules.ValidCard.{IsValidCard}
+use Rattle.wiring_table.specs.Below.charts.Chart.{Chart, NumbersRise}
+use Rattle.wiring_table.specs.Below.setups.Wiring.{Wiring}
+use Rattle.whole_cycles.specs.Below.machine.Machine.{MachineState}
+use Rattle.whole_cycles.specs.Below.net.declared.cycle.Cycle.{Cycle}
+use Rattle.whole_cycles.specs.Below.net.declared.cycle.Cycle.TheVariants.{Card}
+use Rattle.whole_cycles.specs.Below.program_unit.CycleOrder.{levels_to}
+use Rattle.wiring_table.specs.Below.report.Breaks.{highest}
+use Rattle.whole_cycles.specs.Below.selectors.Pilots.{moves_pilots}
 use Rattle.whole_cycles.specs.Between.{IsBetween}
 use Rattle.whole_cycles.specs.WholeCycles.{WholeCycle}
 use Rattle.wired_panels.specs.Panel.{IsPanel}

@@ -1,21 +1,21 @@
 -- What emits at a point of a whole cycle, told by exits.
 use Rattle.std.specs.Prelude.{◌≡◌, ℕ, ◌≤◌, ◌-◌, Bool, true, List, Contains, Some, length, slice_index}
-use Rattle.card_code.specs.Rows.{row_number}
-use Rattle.card_code.specs.declared.row.Row.{Row as CardRow}
-use Rattle.counters.specs.Counters.{Counter}
-use Rattle.hubs.specs.declared.hub.Hub.{Hub}
-use Rattle.hubs.specs.declared.hub.Hub.TheVariants.{FR, SR, GX, SX, EM, CC, PX, HX, RO, SO}
-use Rattle.machine.specs.Machine.{MachineState}
-use Rattle.net.specs.Cycles.{level_number, ordinal_number}
-use Rattle.net.specs.declared.cycle.Cycle.{Cycle}
-use Rattle.net.specs.declared.cycle.Cycle.TheVariants.{RunIn, Card, Prog, Head}
-use Rattle.net.specs.declared.cycle.ProgramLevel.{ProgramLevel}
-use Rattle.net.specs.declared.cycle.Ordinal.{Ordinal}
-use Rattle.net.specs.declared.cycle.Point.{Point}
-use Rattle.net.specs.declared.cycle.Point.TheVariants.{C}
-use Rattle.print_unit.specs.Emitters.{emitter_of}
-use Rattle.stations.specs.Punches.{is_punched_at}
-use Rattle.storage_units.specs.Storage.{StorageState, holds}
+use Rattle.whole_cycles.specs.Below.card_code.Rows.{row_number}
+use Rattle.whole_cycles.specs.Below.card_code.declared.row.Row.{Row as CardRow}
+use Rattle.whole_cycles.specs.Below.counters.Counters.{Counter}
+use Rattle.whole_cycles.specs.Below.hubs.declared.hub.Hub.{Hub}
+use Rattle.whole_cycles.specs.Below.hubs.declared.hub.Hub.TheVariants.{FR, SR, GX, SX, EM, CC, PX, HX, RO, SO}
+use Rattle.whole_cycles.specs.Below.machine.Machine.{MachineState}
+use Rattle.whole_cycles.specs.Below.net.Cycles.{level_number, ordinal_number}
+use Rattle.whole_cycles.specs.Below.net.declared.cycle.Cycle.{Cycle}
+use Rattle.whole_cycles.specs.Below.net.declared.cycle.Cycle.TheVariants.{RunIn, Card, Prog, Head}
+use Rattle.whole_cycles.specs.Below.net.declared.cycle.ProgramLevel.{ProgramLevel}
+use Rattle.whole_cycles.specs.Below.net.declared.cycle.Ordinal.{Ordinal}
+use Rattle.whole_cycles.specs.Below.net.declared.cycle.Point.{Point}
+use Rattle.whole_cycles.specs.Below.net.declared.cycle.Point.TheVariants.{C}
+use Rattle.whole_cycles.specs.Below.print_unit.Emitters.{emitter_of}
+use Rattle.whole_cycles.specs.Below.stations.Punches.{is_punched_at}
+use Rattle.whole_cycles.specs.Below.storage_units.Storage.{StorageState, holds}
 
 -- The exit that emits at the control point of a cycle.
 pub data EmitsAtControl : Cycle → Hub → Type 0 where

@@ -1,3 +1,4 @@
+pub mod Below
 pub mod Groups
 pub mod Parts
 pub mod Totals

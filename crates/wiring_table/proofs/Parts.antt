@@ -3,28 +3,28 @@ use Rattle.std.proofs.Common.{◌≡◌, ◌∙◌, refl, sym, ap, subst, ℕ, �
 use Rattle.std.specs.List.{Contains, flat_map, range_with_len}
 use Rattle.std.proofs.lemmas.Bool.{and_parts}
 use Rattle.std.proofs.lemmas.Bool.Decides.{nat_tests}
-use Rattle.charts.specs.Field.{columns_of, sign_column}
-use Rattle.charts.specs.Levels.{control_number}
-use Rattle.charts.specs.Name.{is_same_name}
-use Rattle.charts.specs.declared.chart.Line.{Line}
-use Rattle.charts.specs.declared.level.ControlLevel.{ControlLevel}
-use Rattle.charts.specs.declared.level.ControlLevel.TheVariants as control
-use Rattle.charts.specs.declared.level.Level.{Level}
-use Rattle.charts.specs.declared.statement.DetailOption.{DetailOption}
-use Rattle.charts.specs.declared.statement.DetailOption.TheVariants as shown
-use Rattle.charts.specs.declared.statement.Field.{Field}
-use Rattle.charts.specs.declared.statement.Statement.TheVariants as says
-use Rattle.charts.proofs.Listed.{any-listed, listed-filter, listed-map, listed-parts, listed-range}
-use Rattle.chart_rules.proofs.Laws.{field-line}
-use Rattle.field_rules.proofs.Places.{is_same_name-equal, is_same_name-own}
-use Rattle.field_rules.specs.Fields.{field_named, fields_of}
+use Rattle.plans.specs.Below.charts.Field.{columns_of, sign_column}
+use Rattle.plans.specs.Below.charts.Levels.{control_number}
+use Rattle.plans.specs.Below.charts.Name.{is_same_name}
+use Rattle.plans.specs.Below.charts.declared.chart.Line.{Line}
+use Rattle.plans.specs.Below.charts.declared.level.ControlLevel.{ControlLevel}
+use Rattle.plans.specs.Below.charts.declared.level.ControlLevel.TheVariants as control
+use Rattle.plans.specs.Below.charts.declared.level.Level.{Level}
+use Rattle.plans.specs.Below.charts.declared.statement.DetailOption.{DetailOption}
+use Rattle.plans.specs.Below.charts.declared.statement.DetailOption.TheVariants as shown
+use Rattle.plans.specs.Below.charts.declared.statement.Field.{Field}
+use Rattle.plans.specs.Below.charts.declared.statement.Statement.TheVariants as says
+use Rattle.plans.proofs.Below.charts.Listed.{any-listed, listed-filter, listed-map, listed-parts, listed-range}
+use Rattle.plans.proofs.Below.chart_rules.Laws.{field-line}
+use Rattle.report.proofs.Below.field_rules.Places.{is_same_name-equal, is_same_name-own}
+use Rattle.report.specs.Below.field_rules.Fields.{field_named, fields_of}
 use Rattle.plans.proofs.Numbers.{HasNumber, both-stand, number-given}
 use Rattle.plans.specs.Plans.{Lists, IsFor, number_where}
-use Rattle.wanted.specs.Pilots.{prints_name, pilots_of, shows, wants_pilot}
-use Rattle.wanted.specs.Positions.{compared_field, field_used, indicated_field, is_same_position, positions_for}
-use Rattle.wanted.specs.Units.{has_inside_sign, is_inside, is_of_kind, is_split_amount, is_total_text}
-use Rattle.wanted.specs.Wanted.{Parts, indicate_at}
-use Rattle.wanted.specs.declared.position.Position.{Position}
+use Rattle.plans.specs.Below.wanted.Pilots.{prints_name, pilots_of, shows, wants_pilot}
+use Rattle.plans.specs.Below.wanted.Positions.{compared_field, field_used, indicated_field, is_same_position, positions_for}
+use Rattle.plans.specs.Below.wanted.Units.{has_inside_sign, is_inside, is_of_kind, is_split_amount, is_total_text}
+use Rattle.plans.specs.Below.wanted.Wanted.{Parts, indicate_at}
+use Rattle.plans.specs.Below.wanted.declared.position.Position.{Position}
 use Rattle.wiring_table.specs.Parts.{column_on, comparing_for, indicate_for, pilot_for, split_for, unit_for}
 
 -- a storage unit or a split serves one line

@@ -2,25 +2,25 @@
 use Rattle.std.proofs.Common.{◌≡◌, ◌∙◌, refl, sym, ap, ℕ, ◌<◌, ◌≤◌, ◌==◌, nat_lt, Bool, true, false, List, Option, Some, arith}
 use Rattle.std.proofs.lemmas.Bool.{both_ways}
 use Rattle.std.proofs.lemmas.Bool.Decides.{nat_tests}
-use Rattle.charts.specs.Chart.{Chart}
-use Rattle.charts.specs.Levels.{level_number}
-use Rattle.charts.specs.Name.{is_same_name}
-use Rattle.charts.specs.declared.chart.Line.{Line}
-use Rattle.charts.specs.declared.level.Level.{Level}
-use Rattle.charts.specs.declared.statement.Field.{Field}
-use Rattle.charts.specs.declared.statement.Mark.{Mark}
-use Rattle.charts.specs.declared.statement.Statement.TheVariants as says
+use Rattle.plans.specs.Below.charts.Chart.{Chart}
+use Rattle.plans.specs.Below.charts.Levels.{level_number}
+use Rattle.plans.specs.Below.charts.Name.{is_same_name}
+use Rattle.plans.specs.Below.charts.declared.chart.Line.{Line}
+use Rattle.plans.specs.Below.charts.declared.level.Level.{Level}
+use Rattle.plans.specs.Below.charts.declared.statement.Field.{Field}
+use Rattle.plans.specs.Below.charts.declared.statement.Mark.{Mark}
+use Rattle.plans.specs.Below.charts.declared.statement.Statement.TheVariants as says
 use Rattle.std.specs.List.{Contains}
-use Rattle.charts.proofs.Listed.{none-any}
-use Rattle.field_rules.proofs.DigitsKept.{AreGoodDigits, digits-kept}
-use Rattle.field_rules.proofs.Places.{is_same_name-equal, is_same_name-own}
-use Rattle.field_rules.specs.Digits.{is_out_of_digits}
-use Rattle.field_rules.specs.Fields.{field_named}
-use Rattle.field_rules.specs.Repeats.{repeats}
-use Rattle.field_rules.specs.Shrink.{is_wider_below}
-use Rattle.chart_rules.proofs.Laws.{kept-line, said-once}
-use Rattle.chart_rules.specs.Rules.{IsLawful, breaks}
-use Rattle.chart_rules.specs.declared.rule.Rule.TheVariants as rule
+use Rattle.plans.proofs.Below.charts.Listed.{none-any}
+use Rattle.report.proofs.Below.field_rules.DigitsKept.{AreGoodDigits, digits-kept}
+use Rattle.report.proofs.Below.field_rules.Places.{is_same_name-equal, is_same_name-own}
+use Rattle.report.specs.Below.field_rules.Digits.{is_out_of_digits}
+use Rattle.report.specs.Below.field_rules.Fields.{field_named}
+use Rattle.report.specs.Below.field_rules.Repeats.{repeats}
+use Rattle.report.specs.Below.field_rules.Shrink.{is_wider_below}
+use Rattle.plans.proofs.Below.chart_rules.Laws.{kept-line, said-once}
+use Rattle.plans.specs.Below.chart_rules.Rules.{IsLawful, breaks}
+use Rattle.plans.specs.Below.chart_rules.declared.rule.Rule.TheVariants as rule
 use Rattle.wiring_table.specs.Parts.{HasTotal}
 
 -- the total on a line

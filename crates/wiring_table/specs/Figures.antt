@@ -1,21 +1,21 @@
 -- Where the items of a chart stand on their wheels: the characters of a literal, and of an amount its digits, its point and its
 -- mark. Position 1 of an amount is the units; the point stands left of the decimals, and the mark after the units.
 use Rattle.std.specs.Prelude.{◌≡◌, ℕ, ◌+◌, ◌-◌, nat_lt, true, false, List, Option, Some, None, slice_get, if◌then◌else◌}
-use Rattle.card_code.specs.CardCode.{has_row, rows_of}
-use Rattle.field_rules.specs.Fields.{field_named}
-use Rattle.print_rules.specs.Items.{mark_shown}
-use Rattle.print_rules.specs.declared.items.Figure.{Figure}
-use Rattle.charts.specs.Field.{columns_of, decimals_of, is_amount}
-use Rattle.charts.specs.Headings.{heading_number}
-use Rattle.charts.specs.Levels.{level_number}
-use Rattle.charts.specs.declared.chart.Line.{Line}
-use Rattle.charts.specs.declared.statement.Field.{Field}
-use Rattle.charts.specs.declared.statement.FieldKind.{FieldKind}
-use Rattle.charts.specs.declared.statement.FieldKind.TheVariants as holds
-use Rattle.charts.specs.declared.statement.Mark.{Mark}
-use Rattle.charts.specs.declared.statement.SignRule.{SignRule}
-use Rattle.charts.specs.declared.statement.Statement.{Statement}
-use Rattle.charts.specs.declared.statement.Statement.TheVariants as says
+use Rattle.report.specs.Below.card_code.CardCode.{has_row, rows_of}
+use Rattle.report.specs.Below.field_rules.Fields.{field_named}
+use Rattle.report.specs.Below.print_rules.Items.{mark_shown}
+use Rattle.report.specs.Below.print_rules.declared.items.Figure.{Figure}
+use Rattle.plans.specs.Below.charts.Field.{columns_of, decimals_of, is_amount}
+use Rattle.plans.specs.Below.charts.Headings.{heading_number}
+use Rattle.plans.specs.Below.charts.Levels.{level_number}
+use Rattle.plans.specs.Below.charts.declared.chart.Line.{Line}
+use Rattle.plans.specs.Below.charts.declared.statement.Field.{Field}
+use Rattle.plans.specs.Below.charts.declared.statement.FieldKind.{FieldKind}
+use Rattle.plans.specs.Below.charts.declared.statement.FieldKind.TheVariants as holds
+use Rattle.plans.specs.Below.charts.declared.statement.Mark.{Mark}
+use Rattle.plans.specs.Below.charts.declared.statement.SignRule.{SignRule}
+use Rattle.plans.specs.Below.charts.declared.statement.Statement.{Statement}
+use Rattle.plans.specs.Below.charts.declared.statement.Statement.TheVariants as says
 pub use Rattle.report.specs.Edits.{free_digits, mark_text}
 
 -- The emitter of a printed line: that of its number for a heading line, 4 for the line of a card, 4 more than its level for a total

@@ -1,10 +1,10 @@
 -- The jacks of a chart: which cycles print, and zero control on the wheels of amounts.
 use Rattle.std.specs.Prelude.{◌≡◌, ℕ, ◌+◌, ◌<◌, ◌≤◌, List, Contains, true}
-use Rattle.print_rules.specs.Items.{figure_width}
-use Rattle.print_rules.specs.declared.items.Figure.{Figure}
-use Rattle.charts.specs.declared.chart.Line.{Line}
-use Rattle.hubs.specs.declared.jack.Jack.{Jack}
-use Rattle.hubs.specs.declared.jack.Jack.TheVariants as jack
+use Rattle.report.specs.Below.print_rules.Items.{figure_width}
+use Rattle.report.specs.Below.print_rules.declared.items.Figure.{Figure}
+use Rattle.plans.specs.Below.charts.declared.chart.Line.{Line}
+use Rattle.setups.specs.Below.hubs.declared.jack.Jack.{Jack}
+use Rattle.setups.specs.Below.hubs.declared.jack.Jack.TheVariants as jack
 use Rattle.report.specs.ChartForm.{heading_count, prints_details, prints_totals}
 use Rattle.wiring_table.specs.Figures.{IsFigure, mark_wheel, free_digits}
 

@@ -1,3 +1,4 @@
+pub mod Below
 pub mod Figures
 pub mod Parts
 pub mod Wires

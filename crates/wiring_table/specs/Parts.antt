@@ -1,27 +1,27 @@
 -- Which parts of the machine serve what of a chart, by its plan, and which totals of an amount come one above the other.
 use Rattle.std.specs.Prelude.{◌≡◌, ℕ, ◌+◌, ◌<◌, ◌≤◌, ◌==◌, List, Contains, Option, Some, option_and_then, option_map, true, ◌⊎◌}
-use Rattle.wanted.specs.ChartTotals.{totals_of}
+use Rattle.plans.specs.Below.wanted.ChartTotals.{totals_of}
 use Rattle.plans.specs.Counters.{single_group}
 use Rattle.plans.specs.Plans.{Lists, counter_on, number_where}
 use Rattle.plans.specs.declared.counter.TotalCounter.{TotalCounter}
 use Rattle.plans.specs.declared.counter.TotalCounter.TheVariants as of
-use Rattle.wanted.specs.Positions.{is_same_position}
-use Rattle.wanted.specs.Wanted.{indicate_at}
-use Rattle.wanted.specs.declared.position.Position.{Position}
-use Rattle.capacity.specs.declared.group.CounterGroup.{CounterGroup}
-use Rattle.charts.specs.Levels.{level_number}
-use Rattle.charts.specs.Name.{is_same_name}
-use Rattle.charts.specs.declared.chart.Line.{Line}
-use Rattle.charts.specs.declared.level.ControlLevel.{ControlLevel}
-use Rattle.charts.specs.declared.level.Level.{Level}
-use Rattle.charts.specs.declared.statement.BodyLine.{BodyLine}
-use Rattle.charts.specs.declared.statement.BodyLine.TheVariants as body
-use Rattle.charts.specs.declared.statement.SignRule.{SignRule}
-use Rattle.charts.specs.declared.statement.SignRule.TheVariants as sign
-use Rattle.charts.specs.declared.statement.Statement.TheVariants as says
-use Rattle.hubs.specs.declared.hub.Group.{Group}
-use Rattle.hubs.specs.declared.hub.Hub.{Hub}
-use Rattle.hubs.specs.declared.hub.Hub.TheVariants.{CC, PIN, PIT, PX}
+use Rattle.plans.specs.Below.wanted.Positions.{is_same_position}
+use Rattle.plans.specs.Below.wanted.Wanted.{indicate_at}
+use Rattle.plans.specs.Below.wanted.declared.position.Position.{Position}
+use Rattle.plans.specs.Below.capacity.declared.group.CounterGroup.{CounterGroup}
+use Rattle.plans.specs.Below.charts.Levels.{level_number}
+use Rattle.plans.specs.Below.charts.Name.{is_same_name}
+use Rattle.plans.specs.Below.charts.declared.chart.Line.{Line}
+use Rattle.plans.specs.Below.charts.declared.level.ControlLevel.{ControlLevel}
+use Rattle.plans.specs.Below.charts.declared.level.Level.{Level}
+use Rattle.plans.specs.Below.charts.declared.statement.BodyLine.{BodyLine}
+use Rattle.plans.specs.Below.charts.declared.statement.BodyLine.TheVariants as body
+use Rattle.plans.specs.Below.charts.declared.statement.SignRule.{SignRule}
+use Rattle.plans.specs.Below.charts.declared.statement.SignRule.TheVariants as sign
+use Rattle.plans.specs.Below.charts.declared.statement.Statement.TheVariants as says
+use Rattle.setups.specs.Below.hubs.declared.hub.Group.{Group}
+use Rattle.setups.specs.Below.hubs.declared.hub.Hub.{Hub}
+use Rattle.setups.specs.Below.hubs.declared.hub.Hub.TheVariants.{CC, PIN, PIT, PX}
 
 -- a counter group of the plan as a group of the panel
 abbrev pub panel_group : CounterGroup → Group

@@ -1,6 +1,6 @@
 use Rattle.std.proofs.Common.{ap, ◌∙◌}
 use Rattle.page_text.specs.Pages.{Pages}
-use Rattle.report.specs.Report.{report_lines}
+use Rattle.misfits.specs.Below.report.Report.{report_lines}
 use Rattle.compile407.proofs.Headline.{compiled_lines, compiled_deck}
 use Rattle.compile407.proofs.running.run.Goals as goal
 

@@ -1,7 +1,7 @@
 use Rattle.std.proofs.Common.{◌∙◌, ap, sym, subst}
-use Rattle.charts.specs.Chart.{Chart}
-use Rattle.promises.specs.Promises.{BeginsReport, PrintsReport}
-use Rattle.report.specs.ChartForm.{form_of}
+use Rattle.chart_text.specs.Below.charts.Chart.{Chart}
+use Rattle.streamed_runs.specs.Below.promises.Promises.{BeginsReport, PrintsReport}
+use Rattle.misfits.specs.Below.report.ChartForm.{form_of}
 use Rattle.setups.specs.Wiring.{Wiring}
 use Rattle.compile407.proofs.Headline.{wired_setups_begin_reports, wired_setups_print_reports}
 use Rattle.compile407.proofs.streaming.run_stream.Goals as goal

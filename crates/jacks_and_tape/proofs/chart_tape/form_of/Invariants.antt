@@ -1,4 +1,4 @@
-use Rattle.report.specs.ChartForm.{form_of}
+use Rattle.wiring_table.specs.Below.report.ChartForm.{form_of}
 use Rattle.std.proofs.Common.{drop, ◌≡◌}
 use Rattle.jacks_and_tape.proofs.chart_tape.form_of.Given as goal
 

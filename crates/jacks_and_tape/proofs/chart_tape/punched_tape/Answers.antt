@@ -1,5 +1,5 @@
 use Rattle.setups.specs.Tapes.{HasStops}
-use Rattle.report.specs.ChartForm.{form_of, stops_of}
+use Rattle.wiring_table.specs.Below.report.ChartForm.{form_of, stops_of}
 use Rattle.std.proofs.Common.{ap, arith, subst, ◌∙◌, ◌≡◌}
 use Rattle.std.specs.Prelude.{IfOk}
 use Rattle.jacks_and_tape.proofs.TapeStops.{channels-more, channels-none, stops-within, tape-whole}

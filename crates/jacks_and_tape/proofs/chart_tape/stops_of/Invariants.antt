@@ -1,4 +1,4 @@
-use Rattle.report.specs.ChartForm.{stops_of}
+use Rattle.wiring_table.specs.Below.report.ChartForm.{stops_of}
 use Rattle.std.proofs.Common.{drop, ◌≡◌}
 use Rattle.jacks_and_tape.proofs.chart_tape.stops_of.Given as goal
 

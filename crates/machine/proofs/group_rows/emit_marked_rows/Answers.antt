@@ -1,6 +1,6 @@
 use Rattle.std.proofs.Common.{◌∙◌, sym, ap, ◌||◌, arith}
 use Rattle.std.proofs.Math.Bool.{or-false}
-use Rattle.bit_sets.proofs.BitLemmas.{lowest_bit, taken_lower}
+use Rattle.net.proofs.Below.bit_sets.BitLemmas.{lowest_bit, taken_lower}
 use Rattle.card_code.specs.Rows.{passing_place}
 use Rattle.counters.specs.Counters.{counter_emits}
 use Rattle.net.specs.Links.{has_row_at}

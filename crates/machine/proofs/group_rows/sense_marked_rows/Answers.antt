@@ -1,5 +1,5 @@
 use Rattle.std.proofs.Common.{◌∙◌, sym, arith}
-use Rattle.bit_sets.proofs.BitLemmas.{lowest_bit, taken_lower}
+use Rattle.net.proofs.Below.bit_sets.BitLemmas.{lowest_bit, taken_lower}
 use Rattle.counters.specs.Counters.{Counter, counter_sensed}
 use Rattle.net.specs.RowSets.{after_rows, pictures_of}
 use Rattle.machine.proofs.Marks.{changed-none, changed-past, changed-taken, is_taken}

@@ -1,6 +1,6 @@
 use Rattle.std.proofs.Common.{◌∙◌, sym, ap, ◌||◌, arith}
 use Rattle.std.proofs.Math.Bool.{or-false}
-use Rattle.bit_sets.proofs.BitLemmas.{lowest_bit, taken_lower}
+use Rattle.net.proofs.Below.bit_sets.BitLemmas.{lowest_bit, taken_lower}
 use Rattle.net.specs.HubSets.{has_hub}
 use Rattle.machine.proofs.Marks.{any-none, any-past, any-taken, emitted-more, is_taken}
 use Rattle.machine.proofs.marked.emit_marked.Goals as goal

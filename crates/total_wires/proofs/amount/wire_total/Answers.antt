@@ -2,7 +2,7 @@ use Rattle.charts.specs.Field.{decimals_of}
 use Rattle.charts.specs.Levels.{level_number}
 use Rattle.std.proofs.Common.{ap, sym, ◌+◌, ◌∙◌}
 use Rattle.line_wires.proofs.Steps.{adds-both, adds-by, adds-some}
-use Rattle.wiring_table.specs.Figures.{mark_wheel}
+use Rattle.line_wires.specs.Below.wiring_table.Figures.{mark_wheel}
 use Rattle.line_wires.specs.HelperAdds.{OfSome}
 use Rattle.total_wires.specs.HelperLevels.{NextWires}
 use Rattle.line_wires.specs.HelperRows.{PointWires}

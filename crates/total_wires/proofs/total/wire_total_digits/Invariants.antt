@@ -1,6 +1,6 @@
 use Rattle.hubs.specs.declared.hub.Hub.TheVariants.{W}
 use Rattle.std.proofs.Common.{◌+◌}
-use Rattle.wiring_table.specs.Figures.{digit_wheel}
+use Rattle.line_wires.specs.Below.wiring_table.Figures.{digit_wheel}
 use Rattle.line_wires.specs.HelperAdds.{Adds, One, Upto}
 use Rattle.total_wires.specs.HelperCounters.{exit_of, place_of}
 use Rattle.total_wires.proofs.total.wire_total_digits.Given as goal

@@ -2,7 +2,7 @@ use Rattle.hubs.specs.declared.hub.Hub.TheVariants.{BAC, BAT}
 use Rattle.std.proofs.Common.{arith, ◌+◌}
 use Rattle.std.proofs.lemmas.Option.{slice_get-get_or}
 use Rattle.line_wires.proofs.Steps.{adds-both, adds-by, adds-some, upto-all, upto-more, upto-none}
-use Rattle.wiring_table.specs.Figures.{mark_text}
+use Rattle.line_wires.specs.Below.wiring_table.Figures.{mark_text}
 use Rattle.line_wires.specs.HelperRows.{MarkWires}
 use Rattle.total_wires.proofs.total.wire_total_mark.Goals as goal
 

@@ -1,6 +1,6 @@
 use Rattle.charts.specs.Levels.{level_number}
 use Rattle.std.proofs.Common.{ℕ, ◌<◌}
-use Rattle.wiring_table.specs.Parts.{HasTotal}
+use Rattle.line_wires.specs.Below.wiring_table.Parts.{HasTotal}
 use Rattle.total_wires.proofs.transfer.next_higher.Given as goal
 
 abbrev pub invariant-loop-higher : goal.invariant-loop-higher

@@ -1,0 +1,1 @@
+pub use Rattle.hub_table.proofs as hub_table

@@ -1,0 +1,1 @@
+pub use Rattle.hub_table.specs as hub_table

@@ -1,0 +1,1 @@
+pub use Rattle.report.proofs as report

@@ -1,0 +1,13 @@
+pub use Rattle.card_code.specs as card_code
+pub use Rattle.carriage.specs as carriage
+pub use Rattle.counters.specs as counters
+pub use Rattle.hubs.specs.Below.hub_table
+pub use Rattle.hubs.specs as hubs
+pub use Rattle.net.specs as net
+pub use Rattle.placed_lines.specs as placed_lines
+pub use Rattle.print_unit.specs as print_unit
+pub use Rattle.program_unit.specs as program_unit
+pub use Rattle.selectors.specs as selectors
+pub use Rattle.setups.specs as setups
+pub use Rattle.stations.specs as stations
+pub use Rattle.storage_units.specs as storage_units

@@ -1,0 +1,1 @@
+pub use Rattle.report.specs as report

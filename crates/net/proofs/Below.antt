@@ -1,0 +1,1 @@
+pub use Rattle.bit_sets.proofs as bit_sets

@@ -1,0 +1,1 @@
+pub use Rattle.placed_lines.specs as placed_lines

@@ -1,0 +1,1 @@
+pub use Rattle.field_rules.specs as field_rules

@@ -1,0 +1,1 @@
+pub use Rattle.card_code.proofs as card_code

@@ -1,0 +1,1 @@
+pub use Rattle.panel_cycles.specs.Below.wiring_table

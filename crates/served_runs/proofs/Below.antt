@@ -1,0 +1,1 @@
+pub use Rattle.served_units.proofs as served_units

@@ -1,0 +1,1 @@
+pub use Rattle.hubs.specs as hubs

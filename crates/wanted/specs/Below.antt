@@ -1,0 +1,1 @@
+pub use Rattle.chart_rules.specs as chart_rules

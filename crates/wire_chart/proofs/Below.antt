@@ -1,0 +1,1 @@
+pub use Rattle.wiring_reader.proofs as wiring_reader

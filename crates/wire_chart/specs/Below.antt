@@ -1,0 +1,1 @@
+pub use Rattle.wiring_text.specs as wiring_text
