@@ -2,3 +2,4 @@ pub mod Helper
 pub mod Laws
 pub mod Legend
 pub mod Rows
+pub mod LineSetups
