@@ -24,7 +24,7 @@ pub record HasFed (wiring : Wiring) (deck : List (List ℕ)) (page line : ℕ) (
   pub goes_on : running.is_ended ≡ false
   pub whole : running.is_spoiled ≡ false
 
-fed-none : (wiring : Wiring) (start now : MachineState) → now ≡ start → FedLines wiring start [] now []
+pub fed-none : (wiring : Wiring) (start now : MachineState) → now ≡ start → FedLines wiring start [] now []
 unfolding FedLines
 fed-none wiring start now same = (same, refl)
 
@@ -41,7 +41,7 @@ HasFed-none wiring deck page line running started = record {
 }
 
 -- one feed more
-fed-more : (wiring : Wiring) (old : MachineState) (cards : List (List ℕ)) (mid : MachineState) (lines : List PlacedLine)
+pub fed-more : (wiring : Wiring) (old : MachineState) (cards : List (List ℕ)) (mid : MachineState) (lines : List PlacedLine)
     (next : List ℕ) (new : MachineState) (more : List PlacedLine) → FedLines wiring old cards mid lines → Feeds wiring mid (Some next) new more
     → FedLines wiring old (cards ++ next ∷ []) new (lines ++ more)
 unfolding FedLines
@@ -97,7 +97,7 @@ IsFound-next wiring deck page line cards running kept within has placed = record
   points = placed.points;
 }
 
-fed-to-end : (wiring : Wiring) (old : MachineState) (cards : List (List ℕ)) (mid new : MachineState) (lines rest : List PlacedLine)
+pub fed-to-end : (wiring : Wiring) (old : MachineState) (cards : List (List ℕ)) (mid new : MachineState) (lines rest : List PlacedLine)
     → FedLines wiring old cards mid lines → Feeds wiring mid None new rest → LinesFrom wiring old cards (lines ++ rest)
 unfolding FedLines LinesFrom
 fed-to-end wiring old [] mid new lines rest (same, none) feed = (

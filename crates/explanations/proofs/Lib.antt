@@ -1,5 +1,7 @@
 mod Feeding
 mod Givers
+mod PageFeeding
+pub mod PageLines
 mod Printed
 mod ReadyRuns
 mod RowLists

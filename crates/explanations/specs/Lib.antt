@@ -2,3 +2,5 @@ pub mod PlacedInRun
 pub mod Explanations
 pub mod Refusals
 pub mod Rows
+pub mod Pages
+pub mod PageFeeds
