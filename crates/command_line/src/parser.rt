@@ -116,8 +116,8 @@ fn explain_command<'a>(alloc: Global) -> Result<Command<'a>, Error> {
     place_words(alloc, explain)
 }
 
-/// The program's commands, each with its words.
-pub fn parser<'a>(alloc: Global) -> Result<Command<'a>, Error> {
+// The commands that take a planning chart, with a deck or alone.
+fn with_charts<'a>(alloc: Global, program: Command<'a>) -> Result<Command<'a>, Error> {
     let run = Command::new(alloc, "run")
         .about("Prints the pages of a deck")
         .arg(chart_word(alloc))?
@@ -128,20 +128,42 @@ pub fn parser<'a>(alloc: Global) -> Result<Command<'a>, Error> {
     let wire = Command::new(alloc, "wire")
         .about("Prints the wiring chart of a planning chart")
         .arg(chart_word(alloc))?;
-    let whole = Command::new(alloc, "run407")
+    Ok(program.subcommand(run)?.subcommand(check)?.subcommand(wire)?)
+}
+
+// The commands that take a wiring chart.
+fn with_wirings<'a>(alloc: Global, program: Command<'a>) -> Result<Command<'a>, Error> {
+    let replay = replay_command(alloc)?;
+    let upgrade = upgrade_command(alloc)?;
+    Ok(program.subcommand(replay)?.subcommand(upgrade)?)
+}
+
+// The commands that tell why.
+fn with_guides<'a>(alloc: Global, program: Command<'a>) -> Result<Command<'a>, Error> {
+    let legend = legend_command(alloc)?;
+    let explain = explain_command(alloc)?;
+    let fault = fault_command(alloc)?;
+    Ok(program
+        .subcommand(legend)?
+        .subcommand(explain)?
+        .subcommand(fault)?)
+}
+
+// The program without its commands.
+fn program<'a>(alloc: Global) -> Result<Command<'a>, Error> {
+    let program = Command::new(alloc, "run407")
         .version(VERSION)
         .about(
             "Compiles planning charts and runs decks on a simulated IBM 407. Without a command it reads a chart and then its deck from standard input, and prints the pages.",
         )
         .after_help(AFTER_HELP)
-        .bin_name("run407")?
-        .subcommand(run)?
-        .subcommand(check)?
-        .subcommand(wire)?
-        .subcommand(replay_command(alloc)?)?
-        .subcommand(upgrade_command(alloc)?)?
-        .subcommand(legend_command(alloc)?)?
-        .subcommand(explain_command(alloc)?)?
-        .subcommand(fault_command(alloc)?)?;
-    Ok(whole)
+        .bin_name("run407")?;
+    Ok(program)
+}
+
+/// The program's commands, each with its words.
+pub fn parser<'a>(alloc: Global) -> Result<Command<'a>, Error> {
+    let with_charts = with_charts(alloc, program(alloc)?)?;
+    let with_wirings = with_wirings(alloc, with_charts)?;
+    with_guides(alloc, with_wirings)
 }
