@@ -1,3 +1,4 @@
 mod Groups
+mod LineSetupLemmas
 mod Numbered
 mod Whole

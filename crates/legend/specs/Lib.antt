@@ -1,4 +1,5 @@
 pub mod Helper
 pub mod Laws
 pub mod Legend
+pub mod LineSetups
 pub mod Rows

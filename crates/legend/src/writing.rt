@@ -1,9 +1,10 @@
 //! Writing a legend.
 
-ghost use Rattle.std.specs.Prelude.{◌≡◌, ◌++◌, ℕ, Contains, IfOk, OnOk, length};
+ghost use Rattle.std.specs.Prelude.{◌≡◌, ◌++◌, ℕ, Contains, IfOk, OnOk, length, map};
 ghost use Rattle.std.specs.String.{string_bytes};
 ghost use Rattle.legend.specs.Helper.{GainsGroup, IsUnder};
 ghost use Rattle.legend.specs.Legend.{IsLegend, form_part, heading, line_numbered};
+ghost use Rattle.legend.specs.LineSetups.{AreLineSetups, line_words, plain};
 ghost use Rattle.plans.specs.Plans.{IsFor};
 ghost use Rattle.wire_chart.specs.WrittenText.{ended};
 
@@ -121,4 +122,43 @@ pub fn legend(
         write_group(alloc, &mut text, version, chart, plan, source, line)?;
     }
     Ok(text)
+}
+
+/// For each line of a chart with its plan, in their order, words for it, as `TOTAL 1 1 AMT (line 4 of the chart)`, and a setup with the
+/// wires, the jacks and the stops that it asks for. `source` is the text of the chart. Its only refusal is memory.
+pub fn line_setups(
+    alloc: Global,
+    chart: &Chart,
+    plan: &Plan,
+    source: &[u8],
+) -> Result<Vec<(String, Setup)>, AllocError>
+    requires { IsFor chart.now.lines plan.now }
+    ensures { IfOk result (λ all. AreLineSetups chart.now.lines plan.now source.now (length chart.now.lines) all.items) }
+{
+    let mut all = Vec::new(alloc);
+    for line in chart.lines() {
+        let words = line_words(alloc, source, line.number)?;
+        all.push((words, line_setup(alloc, chart, plan, line)?))?;
+    }
+    Ok(all)
+}
+
+// Words for the line of a chart with a number.
+fn line_words(alloc: Global, source: &[u8], number: u16) -> Result<String, AllocError>
+    ensures { IfOk result (λ words. string_bytes words ≡ line_words source.now number) }
+{
+    let mut words = String::new(alloc);
+    write_plain(&mut words, line_numbered(source, number))?;
+    write!(&mut words, " (line {number} of the chart)")?;
+    Ok(words)
+}
+
+// Writes bytes as characters, with a question mark for each that is none.
+fn write_plain(words: &mut String, bytes: &[u8]) -> Result<(), AllocError>
+    ensures { OnOk result (string_bytes words.new ≡ string_bytes words.old ++ map plain bytes.now) }
+{
+    for byte in bytes {
+        words.push(char::from(if *byte < 128 { *byte } else { b'?' }))?;
+    }
+    Ok(())
 }
