@@ -19,6 +19,7 @@ use Rattle.streamed_runs.proofs.Standing.{run_in_order}
 use Rattle.streamed_runs.proofs.Written.{all_written, begins_shorter, taken_broken, taken_more}
 use Rattle.decks.specs.Stands.{report_before}
 use Rattle.streamed_runs.specs.Causes.{HasCause, cards_written, stops_between_cards}
+use Rattle.streamed_runs.specs.FirstCauses.{IsFirstCause}
 use Rattle.streamed_runs.specs.HelperStanding.{Ends, HasTaken, PutsOut, Serves, Start, Stops, broken, whole}
 use Rattle.streamed_runs.specs.Runs.{HasRun, HasStopped}
 use Rattle.streamed_runs.specs.declared.fault.StreamCause.{StreamCause}
@@ -28,6 +29,9 @@ use Rattle.streamed_runs.specs.declared.fault.StreamFault.{StreamFault}
 -- where a sink could not be written, that is all that is told
 told_of_writing : (chart : Chart) (text : List ℕ) (cards : List (List ℕ)) (told : StreamCause) → told ≡ cause.Write → HasCause chart text cards told
 told_of_writing chart text cards told is = subst (HasCause chart text cards) (sym is) tt
+
+first_of_writing : (chart : Chart) (text : List ℕ) (cards : List (List ℕ)) (told : StreamCause) → told ≡ cause.Write → IsFirstCause chart text cards told
+first_of_writing chart text cards told is = subst (IsFirstCause chart text cards) (sym is) tt
 
 not_between : (told : StreamCause) → told ≡ cause.Write → stops_between_cards told ≡ true → ⊥
 not_between told is between = false≢true (sym (ap stops_between_cards is) ∙ between)
@@ -80,6 +84,7 @@ module _ {S W : Type 0} {left : S → Option (List ℕ)} {held : W → Option (L
           is_read = read_all text ends.cards (ends.read text known);
           valid = ends.valid;
           has_cause = told_of_writing chart text ends.cards fault.cause is;
+          is_first = first_of_writing chart text ends.cards fault.cause is;
           counted = taken.counted ∙ sym count_is;
           begins = begins_shorter (Report chart ends.cards) taken.sent taken.left
               (subst (StartsWith (Report chart ends.cards)) report (take-length (Report chart ends.cards)));
@@ -106,6 +111,7 @@ module _ {W : Type 0} {held : W → Option (List ℕ)} {has_failed : W → Bool}
           is_read = read.1;
           valid = stops.valid;
           has_cause = told_of_writing chart text stops.cards fault.cause is;
+          is_first = first_of_writing chart text stops.cards fault.cause is;
           counted = taken.counted ∙ sym counted;
           begins = begins_shorter (Report chart stops.cards) taken.sent taken.left
               (subst (StartsWith (Report chart stops.cards)) parts stops.begins);
@@ -130,6 +136,7 @@ module _ {W : Type 0} {held : W → Option (List ℕ)} {has_failed : W → Bool}
           is_read = read.1;
           valid = stops.valid;
           has_cause = subst (HasCause chart text stops.cards) (sym is) read.2;
+          is_first = subst (IsFirstCause chart text stops.cards) (sym is) (stops.first text known);
           counted = taken.counted ∙ sym counted;
           begins = subst (StartsWith (Report chart stops.cards)) sent stops.begins;
           stands = λ between.

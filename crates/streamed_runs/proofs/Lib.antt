@@ -1,4 +1,5 @@
 pub mod Feeding
+mod FirstCauses
 mod Ending
 mod LastCards
 mod NextCards

@@ -5,6 +5,7 @@ use Rattle.std.proofs.lemmas.Bool.{false≢true}
 use Rattle.std.proofs.lemmas.List.Elements.{All-append, All-cons, All-nil}
 use Rattle.std.specs.Io.KnownBytes.{IsAtEnd, prepend_known}
 use Rattle.std.specs.Prelude.{option_to_list}
+use Rattle.card_code.specs.Deck.{Deck}
 use Rattle.card_code.specs.MostCards.{most_cards}
 use Rattle.card_lines.specs.Reading.{Reading}
 use Rattle.charts.specs.Chart.{Chart}
@@ -36,6 +37,7 @@ use Rattle.streamed_runs.proofs.NextCards.{read_all}
 use Rattle.streamed_runs.proofs.Standing.{HaveNoMisfit, fed_deck, fed_end, fed_next, feed_in_order, report_begins, run_begins, stand_before, stand_before_last}
 use Rattle.streamed_runs.proofs.Written.{breaks_more, follow, open_none, taken_none, takes_more}
 use Rattle.streamed_runs.specs.Causes.{HasCause, cards_written}
+use Rattle.streamed_runs.specs.FirstCauses.{HaveFitSoFar, IsFirstCause, IsFirstMisfit}
 use Rattle.streamed_runs.specs.HelperStanding.{Ends, HasFed, HasTaken, HasToCome, HaveLast, IsOfNext, IsUnbegun, ReadsOn, Serves, Stands, Start, Stops, start_of}
 use Rattle.streamed_runs.specs.Reading.{HasRead}
 use Rattle.streamed_runs.specs.declared.fault.StreamCause.{StreamCause}
@@ -93,6 +95,20 @@ same_form : {W : Type 0} (held : W → Option (List ℕ)) (has_failed : W → Bo
 same_form held has_failed before lines writing form is taken =
     subst (λ f. HasTaken held has_failed before (Open lines f) writing.out) is taken
 
+fed_fit : (chart : Chart) (wiring : Wiring) (cards : List (List ℕ)) (machine : MachineState) (lines : List PlacedLine)
+    → HasFed chart wiring cards machine lines → HaveFitSoFar chart.lines cards
+fed_fit chart wiring [] machine lines fed = tt
+fed_fit chart wiring (card ∷ cards) machine lines fed = fed.fit
+
+-- so a cause of the next card is the first
+first_of_next : (chart : Chart) (text : List ℕ) (cards : List (List ℕ)) (stopped : StreamCause) → IsOfNext stopped
+    → HaveFitSoFar chart.lines cards → IsFirstCause chart text cards stopped
+first_of_next chart text cards (cause.Card fault) is fit = fit
+first_of_next chart text cards (cause.Invalid fault card) is fit = fit
+first_of_next chart text cards (cause.Misfit misfit) is fit = absurd is
+first_of_next chart text cards cause.Write is fit = tt
+first_of_next chart text cards cause.Memory is fit = tt
+
 -- a misfit is the first of the cards read, and stands after all lines that are placed
 misfit_of : (chart : Chart) (wiring : Wiring) → Serves chart wiring → (cards : List (List ℕ)) (machine : MachineState) (lines : List PlacedLine)
     (last next : Option (List ℕ)) (sums : Sums) (misfit : Found)
@@ -112,6 +128,30 @@ misfit_of chart wiring serves (card ∷ cards) machine lines last next sums misf
       stand_before_last chart wiring serves card cards later machine lines fed
           ∙ ap (report_before chart (card ∷ (cards ++ later))) (sym count),
     )
+
+-- and none that is met earlier is one
+first_misfit : (chart : Chart) (wiring : Wiring) (text : List ℕ) (cards : List (List ℕ)) (machine : MachineState) (lines : List PlacedLine)
+    (last next : Option (List ℕ)) (sums : Sums) (misfit : Found)
+    → HasFed chart wiring cards machine lines → HaveLast chart.lines cards last sums
+    → (HaveLast chart.lines [] last sums → Some misfit ≡ None)
+    → ((card : List ℕ) (others : List (List ℕ)) → HaveLast chart.lines (card ∷ others) last sums
+    → Some (told misfit) ≡ first_of (misfits_of_last chart.lines card others next))
+    → (next ≡ None → Deck text cards) → IsFirstMisfit chart text (with_next cards next) misfit
+first_misfit chart wiring text [] machine lines last next sums misfit fed have none tells ends = let e = none have in cc
+first_misfit chart wiring text (card ∷ cards) machine lines last next sums misfit fed have none tells ends =
+    let later = option_to_list next in
+    let first = first_told chart.lines card cards later (told misfit) fed.fit
+    (ap (λ n. first_of (misfits_of_last chart.lines card cards n)) (first_later next) ∙ sym (tells card cards have)) in
+    record {
+      card = card;
+      others = cards;
+      next = next;
+      are = refl;
+      ended = ends;
+      fit = fed.fit;
+      number = omega (arith, first.1);
+      is_first = sym (tells card cards have);
+    }
 
 -- after a feed the report begins with what is written of all lines
 placed_begins : (chart : Chart) (wiring : Wiring) → Serves chart wiring → (cards : List (List ℕ)) (machine : MachineState) (lines : List PlacedLine)
@@ -181,6 +221,7 @@ module _ {S W : Type 0} (left : S → Option (List ℕ)) (held : W → Option (L
         begins = report_begins chart wiring serves [] [] [] (machine_at_start wiring) [] (refl, refl) refl none;
         stands = λ between. absurd (false≢true between);
         written = subst (λ b. HasTaken held has_failed (held writing.out.sink) b writing.out) (sym (open_none form)) first_bytes;
+        first = λ text known. tt;
         broken = λ same. cc;
       }
 
@@ -242,6 +283,8 @@ module _ {S W : Type 0} {left : S → Option (List ℕ)} {held : W → Option (L
         stand_before chart start.wiring serves stands.cards run.machine.machine stands.lines stands.fed
         ∙ ap (report_before chart stands.cards) (sym (stops_between stopped stands.cards is));
     written = same_form held has_failed start.held stands.lines writing form form_is stands.written.bytes;
+    first = λ text known. first_of_next chart text stands.cards stopped is
+        (fed_fit chart start.wiring stands.cards run.machine.machine stands.lines stands.fed);
     broken = λ same. absurd (not_of_writing stopped is same);
   }
 
@@ -273,6 +316,8 @@ module _ {S W : Type 0} {left : S → Option (List ℕ)} {held : W → Option (L
               refl all_deck;
           stands = λ _. first.1;
           written = same_form held has_failed start.held stands.lines writing form form_is stands.written.bytes;
+          first = λ text known. first_misfit chart start.wiring text stands.cards run.machine.machine stands.lines run.last next run.sums misfit
+              stands.fed stands.sums none tells (λ ends. subst (ReadsOn left text stands.cards read_on) ends (is.read text known));
           broken = λ same. cc;
         }
 
@@ -286,6 +331,7 @@ module _ {S W : Type 0} {left : S → Option (List ℕ)} {held : W → Option (L
       begins = report_begins chart start.wiring serves stands.cards (option_to_list next) all run.machine.machine stands.lines stands.fed refl all_deck;
       stands = λ between. absurd (false≢true between);
       written = same_form held has_failed start.held stands.lines writing form form_is stands.written.bytes;
+      first = λ text known. tt;
       broken = λ same. cc;
     }
 
@@ -313,6 +359,7 @@ module _ {S W : Type 0} {left : S → Option (List ℕ)} {held : W → Option (L
             (room_of read_on stands.cards next is.room) none feed;
         stands = λ between. absurd (false≢true between);
         written = breaks_more form stands.lines more writing written form_is in_order stands.written breaks;
+        first = λ text known. tt;
         broken = λ _. breaks.told;
       }
 

@@ -26,6 +26,7 @@ use Rattle.report.specs.Totals.{Fits}
 use Rattle.setups.specs.Tapes.{IsCarriageTape}
 use Rattle.setups.specs.Wiring.{Wiring}
 use Rattle.streamed_runs.specs.Causes.{HasCause, cards_written, stops_between_cards}
+use Rattle.streamed_runs.specs.FirstCauses.{IsFirstCause}
 use Rattle.streamed_runs.specs.Reading.{HasRead}
 use Rattle.streamed_runs.specs.Streams.{Streams}
 use Rattle.streamed_runs.specs.declared.fault.StreamCause.{StreamCause}
@@ -153,6 +154,7 @@ pub record Stops {W : Type 0} (held : W → Option (List ℕ)) (has_failed : W �
   pub begins : StartsWith (Report chart cards) (Open lines (form_of chart.lines).lines)
   pub stands : stops_between_cards stopped ≡ true → lines ≡ report_before chart cards (cards_written cards stopped)
   pub written : HasTaken held has_failed start.held (Open lines (form_of chart.lines).lines) writing.out
+  pub first : (text : List ℕ) → start.text ≡ Some text → IsFirstCause chart text cards stopped
   pub broken : stopped ≡ cause.Write → writing.out.has_failed ≡ true
 
 -- After a step a run stands a card further, or it has ended.

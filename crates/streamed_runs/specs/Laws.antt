@@ -1,5 +1,6 @@
 -- Laws of runs over decks whose cards come one by one.
 use Rattle.std.specs.Prelude.{◌≡◌, ℕ, ◌<◌, ◌≤◌, List, [], ◌∷◌, ◌++◌, Option, Some, None, length, option_to_list}
+use Rattle.card_code.specs.Deck.{Deck}
 use Rattle.card_code.specs.MostCards.{most_cards}
 use Rattle.chart_rules.specs.ValidCard.{IsValidCard}
 use Rattle.charts.specs.Chart.{Chart}
@@ -9,9 +10,14 @@ use Rattle.machine.specs.Machine.{MachineState, machine_at_start}
 use Rattle.machine.specs.Runs.{MachineLines}
 use Rattle.placed_lines.specs.InOrder.{IsInOrder}
 use Rattle.placed_lines.specs.declared.placed_line.PlacedLine.{PlacedLine}
+use Rattle.misfits.specs.Told.{told}
+use Rattle.misfits.specs.declared.misfit.Misfit.{Misfit as Found}
+use Rattle.report.specs.Misfits.{first_of, misfits}
 use Rattle.report.specs.Totals.{Fits}
 use Rattle.setups.specs.Tapes.{IsCarriageTape}
 use Rattle.setups.specs.Wiring.{Wiring}
+use Rattle.streamed_runs.specs.FirstCauses.{IsFirstMisfit}
+use Rattle.streamed_runs.specs.Reading.{HasRead}
 use Rattle.streamed_runs.specs.Streams.{Streams}
 
 -- A run begins where the machine is fed a valid card.
@@ -59,3 +65,10 @@ FeedsPlaceInOrder =
     → FedLines wiring (machine_at_start wiring) cards machine lines
     → Feeds wiring machine next new more
     → IsInOrder wiring.tape.lines (lines ++ more)
+
+-- A misfit at which a run stops is the first of the whole deck, also where it goes on after the cards that were read.
+abbrev pub MisfitsAreTheDecks : Type 0
+MisfitsAreTheDecks =
+    (chart : Chart) (text : List ℕ) (cards : List (List ℕ)) (rest : List ℕ) (misfit : Found) (all : List (List ℕ))
+    → HasRead text cards rest → IsFirstMisfit chart text cards misfit → Deck text all
+    → first_of (misfits chart.lines all) ≡ Some (told misfit)

@@ -1,5 +1,6 @@
 pub mod Below
 pub mod Causes
+pub mod FirstCauses
 pub mod HelperStanding
 pub mod Laws
 pub mod Reading

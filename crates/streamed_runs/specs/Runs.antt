@@ -10,6 +10,7 @@ use Rattle.report.specs.ChartForm.{form_of}
 use Rattle.report.specs.Report.{Report}
 use Rattle.report.specs.Totals.{Fits}
 use Rattle.streamed_runs.specs.Causes.{HasCause, cards_written, stops_between_cards}
+use Rattle.streamed_runs.specs.FirstCauses.{IsFirstCause}
 use Rattle.streamed_runs.specs.Reading.{HasRead}
 use Rattle.streamed_runs.specs.declared.fault.StreamFault.{StreamFault}
 
@@ -22,7 +23,7 @@ pub record HasRun (chart : Chart) (text : List ℕ) (count : ℕ) (written : Lis
   pub fit : Fits chart.lines cards
   pub report : written ≡ Report chart cards
 
--- The run stopped: the cards that were read before are valid, the cause is so, and what was written is counted and begins their report.
+-- The run stopped: the cards that were read before are valid, the cause is so, it is the first one, and what was written is counted and begins their report.
 -- Where a card or a total stopped it, that is exactly what stands before the lines of a card.
 pub record HasStopped (chart : Chart) (text : List ℕ) (fault : StreamFault) (written : List ℕ) : Type 0 where
   pub cards : List (List ℕ)
@@ -30,6 +31,7 @@ pub record HasStopped (chart : Chart) (text : List ℕ) (fault : StreamFault) (w
   pub is_read : HasRead text cards rest
   pub valid : IsDeck chart cards
   pub has_cause : HasCause chart text cards fault.cause
+  pub is_first : IsFirstCause chart text cards fault.cause
   pub counted : length written ≡ fault.written
   pub begins : StartsWith (Report chart cards) written
   pub stands : stops_between_cards fault.cause ≡ true →

@@ -1,6 +1,6 @@
 //! Laws of runs over decks whose cards come one by one. The functions do nothing: the contract of each is the law.
 
-ghost use Rattle.streamed_runs.specs.Laws.{FeedsPlaceInOrder, StreamsBegin, StreamsEnd, StreamsGoOn, StreamsMayHaveNoCard};
+ghost use Rattle.streamed_runs.specs.Laws.{FeedsPlaceInOrder, MisfitsAreTheDecks, StreamsBegin, StreamsEnd, StreamsGoOn, StreamsMayHaveNoCard};
 
 /// A run begins where the machine is fed a valid card.
 pub fn streams_begin()
@@ -27,4 +27,9 @@ pub fn streams_may_have_no_card()
 /// The lines that a feed places come in order after those of the feeds before it.
 pub fn feeds_place_in_order()
     ensures { FeedsPlaceInOrder }
+{}
+
+/// A misfit at which a run stops is the first of the whole deck, also where the deck goes on after the cards that were read.
+pub fn misfits_are_the_decks()
+    ensures { MisfitsAreTheDecks }
 {}
