@@ -103,7 +103,15 @@ fn explained(
     let text = text_of(alloc, chart)?;
     let compiled = compile(alloc, text.as_slice())?;
     let cards = read_deck(alloc, deck)?;
-    Ok(explain_text(alloc, compiled.setup(), cards.as_slice(), 1, line, wheel))
+    Ok(explain_text(
+        alloc,
+        compiled.setup(),
+        &[],
+        cards.as_slice(),
+        1,
+        line,
+        wheel,
+    ))
 }
 
 /// Looks each row of the table up.

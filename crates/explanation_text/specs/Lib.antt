@@ -1,3 +1,4 @@
+pub mod Asked
 pub mod Text
 pub mod Told
 pub mod Writing

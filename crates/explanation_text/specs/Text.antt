@@ -1,6 +1,7 @@
 -- The text of an explanation. Its first line tells the place and the character, the second the cycle. Then comes for each row that the
--- wheel received a line with the way, and behind it notes in words, which two spaces set off. Other words may follow at the end.
-use Rattle.std.specs.Prelude.{◌≡◌, ℕ, ◌+◌, ◌-◌, ◌<◌, ◌==◌, Bool, true, false, List, [], ◌∷◌, ◌++◌, Option, Some, None, Vec, codes, decimal, length, slice_index_or, if◌then◌else◌, nat_lt}
+-- wheel received a line with the way, and behind it notes in words, which two spaces set off, and who asks for its wires. Other words may
+-- follow at the end.
+use Rattle.std.specs.Prelude.{◌≡◌, ℕ, ◌+◌, ◌-◌, ◌<◌, ◌==◌, Bool, true, false, List, [], ◌∷◌, ◌++◌, Option, Some, None, Vec, codes, decimal, length, String, slice_index_or, if◌then◌else◌, nat_lt}
 use Rattle.std.specs.List.{flat_map}
 use Rattle.std.specs.declared.alloc.Global.{Global}
 use Rattle.hub_table.specs.HubTable.{row_of}
@@ -12,7 +13,9 @@ use Rattle.hubs.specs.declared.hub.Hub.TheVariants.{CO, BAN, BAT, PIN, PIT, IX, 
 use Rattle.net.specs.Cycles.{level_number, ordinal_number}
 use Rattle.net.specs.declared.cycle.Cycle.{Cycle}
 use Rattle.net.specs.declared.cycle.Cycle.TheVariants.{RunIn, Card, Prog, Head}
+use Rattle.setups.specs.Wiring.{Wiring}
 use Rattle.explanations.specs.declared.explanation.Explanation.{Explanation}
+use Rattle.explanation_text.specs.Asked.{asked_lines}
 
 -- the numbers of a hub, a point before each
 abbrev pub numbers_text : Numbers → List ℕ
@@ -98,23 +101,23 @@ pub data AreNotes : List ℕ → Type 0 where
   none : AreNotes []
   more : (notes line : List ℕ) → AreNotes notes → IsNote line → AreNotes (notes ++ line)
 
--- the lines of a row: none where the wheel didn't receive it, else its way and notes
-pub data IsRowText : ℕ → Option (Vec Hub Global) → List ℕ → Type 0 where
-  silent : (place : ℕ) → IsRowText place None []
+-- the lines of a row: none where the wheel didn't receive it, else its way, notes, and who asks for the wires of the way
+pub data IsRowText (asked : List (String Global × Wiring)) : ℕ → Option (Vec Hub Global) → List ℕ → Type 0 where
+  silent : (place : ℕ) → IsRowText asked place None []
   told :
       (place : ℕ) (way : Vec Hub Global) (notes : List ℕ) → AreNotes notes
-      → IsRowText place (Some way) (row_line place way.items ++ notes)
+      → IsRowText asked place (Some way) (row_line place way.items ++ notes ++ asked_lines asked way.items)
 
 -- the lines of the first rows of some
-pub data AreRowTexts (rows : List (Option (Vec Hub Global))) : ℕ → List ℕ → Type 0 where
-  begun : AreRowTexts rows 0 []
+pub data AreRowTexts (asked : List (String Global × Wiring)) (rows : List (Option (Vec Hub Global))) : ℕ → List ℕ → Type 0 where
+  begun : AreRowTexts asked rows 0 []
   more :
-      (place : ℕ) (text lines : List ℕ) → AreRowTexts rows place text → IsRowText place (slice_index_or rows place None) lines
-      → AreRowTexts rows (place + 1) (text ++ lines)
+      (place : ℕ) (text lines : List ℕ) → AreRowTexts asked rows place text
+      → IsRowText asked place (slice_index_or rows place None) lines → AreRowTexts asked rows (place + 1) (text ++ lines)
 
--- The text of an explanation.
-pub record IsTextOf (told : Explanation) (text : List ℕ) : Type 0 where
+-- The text of an explanation, where it is known who asks for wires.
+pub record IsTextOf (asked : List (String Global × Wiring)) (told : Explanation) (text : List ℕ) : Type 0 where
   pub rows : List ℕ
   pub closing : List ℕ
-  pub are_rows : AreRowTexts told.rows.items 12 rows
+  pub are_rows : AreRowTexts asked told.rows.items 12 rows
   pub spelled : text ≡ page_line told ++ cycle_line told.cycle told.cards ++ rows ++ closing

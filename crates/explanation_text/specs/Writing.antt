@@ -1,7 +1,8 @@
 -- Helper words: what a text gains while an explanation is written.
-use Rattle.std.specs.Prelude.{◌≡◌, ℕ, List, ◌++◌, Option, Vec}
+use Rattle.std.specs.Prelude.{◌≡◌, ℕ, List, ◌++◌, Option, String, Vec}
 use Rattle.std.specs.declared.alloc.Global.{Global}
 use Rattle.hubs.specs.declared.hub.Hub.{Hub}
+use Rattle.setups.specs.Wiring.{Wiring}
 use Rattle.explanation_text.specs.Text.{AreNotes, AreRowTexts, IsRowText}
 
 -- some words
@@ -16,13 +17,14 @@ pub record GainsNotes (old new : List ℕ) : Type 0 where
   pub gained : new ≡ old ++ notes
 
 -- the lines of a row
-pub record GainsRow (place : ℕ) (way : Option (Vec Hub Global)) (old new : List ℕ) : Type 0 where
+pub record GainsRow (asked : List (String Global × Wiring)) (place : ℕ) (way : Option (Vec Hub Global)) (old new : List ℕ) : Type 0 where
   pub lines : List ℕ
-  pub is : IsRowText place way lines
+  pub is : IsRowText asked place way lines
   pub gained : new ≡ old ++ lines
 
 -- the lines of the first rows
-pub record GainsRows (rows : List (Option (Vec Hub Global))) (count : ℕ) (old new : List ℕ) : Type 0 where
+pub record GainsRows (asked : List (String Global × Wiring)) (rows : List (Option (Vec Hub Global))) (count : ℕ) (old new : List ℕ)
+    : Type 0 where
   pub lines : List ℕ
-  pub are : AreRowTexts rows count lines
+  pub are : AreRowTexts asked rows count lines
   pub gained : new ≡ old ++ lines

@@ -37,8 +37,6 @@ fn write_note(text: &mut String, words: &str) -> Result<(), AllocError>
 
 #[tactic(auto, using(crate::proofs::Gains::notes_none, crate::proofs::Gains::notes_then))]
 // The notes of a row: what the exit stands for, and each contact of the way. What they say is not told by contracts.
-//
-// The lines of a planning chart that ask for the wires of the way belong here too, once it is known which they are.
 pub(crate) fn write_notes(
     alloc: Global,
     text: &mut String,

@@ -9,6 +9,7 @@ ghost use Rattle.explanation_text.specs.Text.{IsTextOf};
 ghost use Rattle.explanation_text.specs.Told.{Explains};
 ghost use Rattle.explanation_text.specs.Writing.{GainsRow, GainsRows};
 
+use crate::asked::write_asked;
 use crate::lines::{write_cycle_line, write_page_line, write_row_line};
 use crate::notes::write_notes;
 use crate::zero_control::closing_words;
@@ -18,20 +19,22 @@ use setups::Setup;
 use std::alloc::{AllocError, Global};
 
 /// The text that tells why a wheel of a line that a setup of the panel prints of a deck, of at most 999,999 cards, printed its
-/// character.
+/// character. `asked` has words for each who asks for wires, say for each line of a planning chart, and a setup with the wires that it asks
+/// for: behind each way a line names those who ask for a wire of it. It is empty where nobody is known.
 ///
 /// Refused with `NoSuchWheel` where the wheel isn't one of 1 to 120, else with `NoSuchLine` where no line stands at this page and this
 /// line of it, and with `Memory` where no memory is left.
 pub fn explain_text(
     alloc: Global,
     setup: &Setup,
+    asked: &[(String, Setup)],
     cards: &[Card],
     page: u64,
     line: u32,
     wheel: u8,
 ) -> Result<String, Refusal>
     requires { length cards.now ≤ most_cards }
-    ensures told { IfOk result (λ text. Explains setup.now cards.now page line wheel (string_bytes text)) }
+    ensures told { IfOk result (λ text. Explains setup.now asked.now cards.now page line wheel (string_bytes text)) }
     ensures no_wheel { (wheel < 1) ⊎ (120 < wheel) → result ≡ Err NoSuchWheel }
     ensures wheel { result ≡ Err NoSuchWheel → (wheel < 1) ⊎ (120 < wheel) }
     ensures no_line { result ≡ Err NoSuchLine → PrintsNoneAt setup.now cards.now page line }
@@ -44,25 +47,27 @@ pub fn explain_text(
     };
     let ways = LineWays::of(alloc, setup, found)?;
     let told = ways.wheel(alloc, setup, wheel)?;
-    Ok(wheel_text(alloc, setup, &ways, &told)?)
+    Ok(wheel_text(alloc, setup, asked, &ways, &told)?)
 }
 
 #[tactic(auto, using(crate::proofs::Gains::text_whole))]
-/// The text of what was told of a wheel of a line. The setup is that by which the line was found. Fails only where no memory is left.
+/// The text of what was told of a wheel of a line. The setup is that by which the line was found, and `asked` names who asks for wires,
+/// as for [`explain_text`]. Fails only where no memory is left.
 pub fn wheel_text(
     alloc: Global,
     setup: &Setup,
+    asked: &[(String, Setup)],
     line: &LineWays,
     told: &Explanation,
 ) -> Result<String, AllocError>
     requires rows { length told.now.rows.items ≡ 12 }
     requires ways { length line.now.ways.items ≡ 12 }
-    ensures { IfOk result (λ text. IsTextOf told.now (string_bytes text)) }
+    ensures { IfOk result (λ text. IsTextOf asked.now told.now (string_bytes text)) }
 {
     let mut text = String::new(alloc);
     write_page_line(&mut text, told)?;
     write_cycle_line(&mut text, told.cycle, told.cards)?;
-    write_rows(alloc, &mut text, line, told)?;
+    write_rows(alloc, &mut text, asked, line, told)?;
     let closing = closing_words(alloc, setup, line, told)?;
     text.push_str(&closing)?;
     Ok(text)
@@ -73,14 +78,15 @@ pub fn wheel_text(
 fn write_rows(
     alloc: Global,
     text: &mut String,
+    asked: &[(String, Setup)],
     line: &LineWays,
     told: &Explanation,
 ) -> Result<(), AllocError>
     requires { length told.now.rows.items ≡ 12 }
-    ensures { OnOk result (GainsRows told.now.rows.items 12 (string_bytes text.old) (string_bytes text.new)) }
+    ensures { OnOk result (GainsRows asked.now told.now.rows.items 12 (string_bytes text.old) (string_bytes text.new)) }
 {
     for place in 0..12 {
-        write_row(alloc, text, line, told, place)?;
+        write_row(alloc, text, asked, line, told, place)?;
     }
     Ok(())
 }
@@ -90,18 +96,20 @@ fn write_rows(
 fn write_row(
     alloc: Global,
     text: &mut String,
+    asked: &[(String, Setup)],
     line: &LineWays,
     told: &Explanation,
     place: usize,
 ) -> Result<(), AllocError>
     requires rows { length told.now.rows.items ≡ 12 }
     requires place { place < 12 }
-    ensures { OnOk result (GainsRow place (slice_index_or told.now.rows.items place None) (string_bytes text.old) (string_bytes text.new)) }
+    ensures { OnOk result (GainsRow asked.now place (slice_index_or told.now.rows.items place None) (string_bytes text.old) (string_bytes text.new)) }
 {
     match &told.rows[place] {
         Some(way) => {
             write_row_line(text, place, way)?;
-            write_notes(alloc, text, &line.found, place, way)
+            write_notes(alloc, text, &line.found, place, way)?;
+            write_asked(text, asked, way)
         }
         None => Ok(()),
     }

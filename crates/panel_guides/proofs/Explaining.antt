@@ -1,14 +1,15 @@
 -- What is explained, and why something isn't.
 use Rattle.std.proofs.Common.{◌≡◌, ◌≢◌, ◌∙◌, ap, sym, subst, refl, ℕ, Bool, true, false, List, Result, Ok, Err, IfOk}
 use Rattle.std.proofs.lemmas.Bool.{false≢true}
-use Rattle.std.specs.Prelude.{IfErr}
+use Rattle.std.specs.Prelude.{IfErr, String}
+use Rattle.std.specs.declared.alloc.Global.{Global}
 use Rattle.explanations.specs.PlacedInRun.{PrintsNoneAt}
 use Rattle.explanations.specs.declared.refusal.Refusal.{Refusal}
 use Rattle.explanations.specs.declared.refusal.Refusal.TheVariants as refusal
 use Rattle.faults.specs.declared.fault.Fault.{Fault}
 use Rattle.faults.specs.declared.fault.Fault.TheVariants as fault
 use Rattle.setups.specs.Wiring.{Wiring}
-use Rattle.panel_guides.specs.Explained.{ExplainsPlace, IsExplained, IsNoWheel, IsUnexplained, LacksPlace, RefusesTexts, no_line, no_wheel, nowhere, texts}
+use Rattle.panel_guides.specs.Explained.{AreAsked, ExplainsPlace, IsExplained, IsNoWheel, IsUnexplained, LacksPlace, RefusesTexts, no_line, no_wheel, nowhere, texts}
 use Rattle.panel_guides.specs.Panels.{IsRunOf}
 use Rattle.panel_guides.specs.declared.place.Place.{Place}
 use Rattle.panel_guides.specs.declared.unexplained.Unexplained.{Unexplained}
@@ -49,17 +50,20 @@ texts_refused text deck place met told refuses same not_memory =
 -- what is explained on a panel, or lacks there, is of the texts that give it
 module _ {X : Type 0} (result : Result X Unexplained) (text deck : List ℕ) (place : Place) (wiring : Wiring)
     (slice cards : List (List ℕ)) (same : slice ≡ cards) (run : IsRunOf text deck cards wiring) where
-  pub explained_of_texts : (items : X → List ℕ) → IfOk result (λ answer. ExplainsPlace wiring slice place (items answer))
+  pub explained_of_texts : (asked : List (String Global × Wiring)) → AreAsked text asked → (items : X → List ℕ)
+      → IfOk result (λ answer. ExplainsPlace wiring asked slice place (items answer))
       → IfOk result (λ answer. IsExplained text deck place (items answer))
-  explained_of_texts items = by result
+  explained_of_texts asked are items = by result
     where
-      by : (any : Result X Unexplained) → IfOk any (λ answer. ExplainsPlace wiring slice place (items answer))
+      by : (any : Result X Unexplained) → IfOk any (λ answer. ExplainsPlace wiring asked slice place (items answer))
           → IfOk any (λ answer. IsExplained text deck place (items answer))
       by (Ok answer) is = record {
         wiring = wiring;
         cards = cards;
         run = run;
-        explains = subst (λ (of : List (List ℕ)). ExplainsPlace wiring of place (items answer)) same is;
+        asked = asked;
+        are_asked = are;
+        explains = subst (λ (of : List (List ℕ)). ExplainsPlace wiring asked of place (items answer)) same is;
       }
       by (Err _) is = tt
 

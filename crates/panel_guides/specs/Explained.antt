@@ -1,26 +1,39 @@
 -- The explanation of a wheel of a line that the run of a text and a deck prints, from the bytes of both; or why there is none.
-use Rattle.std.specs.Prelude.{◌≡◌, ◌<◌, ◌⊎◌, ℕ, List}
+use Rattle.std.specs.Prelude.{◌≡◌, ◌<◌, ◌⊎◌, ℕ, List, [], String, false, length, true}
+use Rattle.std.specs.declared.alloc.Global.{Global}
+use Rattle.commands.specs.Answers.{CompilesAs}
 use Rattle.commands.specs.Refusals.{RefusesReplay, RefusesRun}
+use Rattle.compile407.specs.Compilation.{Compilation}
 use Rattle.explanation_text.specs.Told.{Explains}
 use Rattle.explanations.specs.PlacedInRun.{PrintsNoneAt}
 use Rattle.faults.specs.declared.fault.Fault.{Fault}
+use Rattle.legend.specs.LineSetups.{AreLineSetups}
 use Rattle.setups.specs.Wiring.{Wiring}
 use Rattle.panel_guides.specs.Panels.{IsRunOf, is_wiring_text}
 use Rattle.panel_guides.specs.declared.place.Place.{Place}
 use Rattle.panel_guides.specs.declared.unexplained.Unexplained.{Unexplained}
 use Rattle.panel_guides.specs.declared.unexplained.Unexplained.TheVariants as why
-use Rattle.std.specs.Prelude.{true, false}
+
+-- Who asks for the wires of a text's panel: each line of a planning chart, by the plan that the chart compiles to. Of a wiring chart nobody
+-- is known.
+pub data AreAsked (text : List ℕ) : List (String Global × Wiring) → Type 0 where
+  nobody : is_wiring_text text ≡ true → AreAsked text []
+  lines :
+      is_wiring_text text ≡ false → (compiled : Compilation) → CompilesAs text compiled → (asked : List (String Global × Wiring))
+      → AreLineSetups compiled.chart.lines compiled.plan text (length compiled.chart.lines) asked → AreAsked text asked
 
 -- on a panel, over cards: the text explains the wheel of the line that the machine prints at this place
-abbrev pub ExplainsPlace : Wiring → List (List ℕ) → Place → List ℕ → Type 0
-ExplainsPlace wiring cards place = Explains wiring cards place.page place.line place.wheel
+abbrev pub ExplainsPlace : Wiring → List (String Global × Wiring) → List (List ℕ) → Place → List ℕ → Type 0
+ExplainsPlace wiring asked cards place = Explains wiring asked cards place.page place.line place.wheel
 
--- the text explains the wheel at this place of the run of a text and a deck
+-- the text explains the wheel at this place of the run of a text and a deck, and names who asks for each way's wires
 pub record IsExplained (text deck : List ℕ) (place : Place) (answer : List ℕ) : Type 0 where
   pub wiring : Wiring
   pub cards : List (List ℕ)
   pub run : IsRunOf text deck cards wiring
-  pub explains : ExplainsPlace wiring cards place answer
+  pub asked : List (String Global × Wiring)
+  pub are_asked : AreAsked text asked
+  pub explains : ExplainsPlace wiring asked cards place answer
 
 -- there is no such wheel
 abbrev pub IsNoWheel : ℕ → Type 0

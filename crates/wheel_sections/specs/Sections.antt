@@ -49,7 +49,7 @@ pub record IsSection (wiring : Wiring) (deck : List (List ℕ)) (page line wheel
   pub told : Explanation
   pub words : List ℕ
   pub right : IsExplanation wiring deck page line wheel told
-  pub worded : IsTextOf told words
+  pub worded : IsTextOf [] told words
   pub spelled : text ≡ section_text page line wheel words told.rows.items
 
 -- what is written for a wheel of a line: nothing for a blank, else the element of the wheel

@@ -33,7 +33,7 @@ fn write_explained(
 {
     let _cards = cards;
     let told = line.wheel(alloc, setup, wheel)?;
-    let words = wheel_text(alloc, setup, line, &told)?;
+    let words = wheel_text(alloc, setup, &[], line, &told)?;
     write_section(
         text,
         placed.page,

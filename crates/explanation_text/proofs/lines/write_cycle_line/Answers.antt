@@ -1,7 +1,7 @@
-use Rattle.std.proofs.Common.{◌≡◌, sym, subst, ℕ, List, ◌++◌}
+use Rattle.std.proofs.Common.{◌≡◌, sym, subst, ℕ, ◌++◌}
 use Rattle.std.specs.Prelude.{OnOk}
 use Rattle.std.specs.String.{string_bytes}
-use Rattle.net.specs.Cycles.{level_number, ordinal_number}
+use Rattle.net.specs.Cycles.{ordinal_number}
 use Rattle.net.specs.declared.cycle.Cycle.{Cycle}
 use Rattle.explanation_text.specs.Text.{cycle_line, heading_line, program_line}
 use Rattle.explanation_text.proofs.lines.write_cycle_line.Goals as goal

@@ -1,4 +1,4 @@
-use Rattle.std.proofs.Common.{◌≡◌, ◌++◌, List}
+use Rattle.std.proofs.Common.{◌≡◌, ◌++◌}
 use Rattle.std.specs.String.{string_bytes}
 use Rattle.explanation_text.specs.Text.{after_text, level_text, program_line, spaced_text}
 use Rattle.explanation_text.proofs.Gains.{three_pieces, where_ok}

@@ -1,7 +1,8 @@
-use Rattle.std.proofs.Common.{inl}
+use Rattle.std.proofs.Common.{[], inl}
 use Rattle.std.proofs.lemmas.Result.{err_from_is_err_and}
 use Rattle.std.specs.Prelude.{string_bytes}
 use Rattle.panel_guides.proofs.Explaining.{explained_of_texts, lacking_of_texts, texts_refused}
+use Rattle.panel_guides.specs.Explained.{nobody}
 use Rattle.panel_guides.specs.Panels.{replayed}
 use Rattle.panel_guides.proofs.answers.explained_by_wiring.Goals as goal
 
@@ -15,8 +16,8 @@ pub returns-clause-explained : goal.returns-clause-explained
 returns-clause-explained c =
     explained_of_texts c.explained_on.result c.args.wiring.now c.args.deck.now c.args.place c.in_ok-wired.wired.setup c.as_slice.result.now
     c.in_ok-wired.wired.cards.items c.as_slice.ensures.value
-    (replayed c.requires c.in_ok-wired.wired.setup c.in_ok-wired.ensures.reads c.in_ok-wired.ensures.deck) string_bytes
-    c.explained_on.ensures.explains
+    (replayed c.requires c.in_ok-wired.wired.setup c.in_ok-wired.ensures.reads c.in_ok-wired.ensures.deck) [] (nobody c.requires)
+    string_bytes c.explained_on.ensures.explains
 
 pub returns-clause-refused : goal.returns-clause-refused
 returns-clause-refused c =
