@@ -4,10 +4,10 @@ ghost use Rattle.std.specs.Prelude.{◌≡◌, ℕ, ◌&&◌, All, OnOk, false};
 ghost use Rattle.std.specs.List.{list_any};
 ghost use Rattle.bit_sets.specs.Contacts.{is_any_contact, is_contact};
 ghost use Rattle.net.specs.HubSets.{is_bit};
-ghost use Rattle.net.specs.Links.{IsInRange, IsPassing, is_led_to};
+ghost use Rattle.net.specs.Links.{AreSkips, IsInRange, IsPassing, is_led_to};
 ghost use Rattle.net.specs.Passing.{AddsContacts, AddsFurther, IsPassed, LeadsToExits, Passes, SameSets, is_closed_at};
 
-use crate::links::Link;
+use crate::links::{Link, is_block_empty};
 use crate::picture::HUBS;
 use bit_sets::{Run, WORDS, has};
 use std::alloc::AllocError;
@@ -83,18 +83,27 @@ fn is_led_to(links: &[Link], place: usize) -> bool
 // to.
 pub(crate) fn pass_all(
     contacts: &[Link],
+    skips: &[usize],
     digits: &[u64; WORDS],
     zones: &[u64; WORDS],
     sets: &mut [u16; HUBS],
 ) -> bool
-    requires { All IsPassing contacts.now }
+    requires passing { All IsPassing contacts.now }
+    requires skips { AreSkips contacts.now skips.now }
     ensures passed { Passes digits.now zones.now contacts.now sets.old sets.new }
     ensures same { result ≡ false → SameSets sets.old sets.new }
 {
     let mut gained = false;
-    for contact in contacts {
-        let now = pass(*contact, digits, zones, sets);
-        gained |= now;
+    let mut place = 0;
+    while place < contacts.len() {
+        let contact = contacts[place];
+        if is_block_empty(sets, contact.from as usize) {
+            place = skips[place];
+        } else {
+            let now = pass(contact, digits, zones, sets);
+            gained |= now;
+            place += 1;
+        }
     }
     gained
 }
