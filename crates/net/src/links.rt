@@ -1,9 +1,9 @@
 //! The wires of a net one by one, and sets of rows that are spread along them.
 
-ghost use Rattle.std.specs.Prelude.{◌≡◌, ◌<◌, ◌/◌, ℕ, All, IfOk, OnOk, true, false, length};
+ghost use Rattle.std.specs.Prelude.{◌≡◌, ◌<◌, ◌≤◌, ◌/◌, ℕ, List, All, IfOk, OnOk, true, false, length, take};
 ghost use Rattle.bit_sets.specs.Bits.{has_place};
 ghost use Rattle.setups.specs.Wiring.{IsEntryNumber};
-ghost use Rattle.net.specs.Links.{AddsLinks, AreSkips, IsFollowed, IsInRange, IsSkip, Spreads, has_at};
+ghost use Rattle.net.specs.Links.{AddsLinks, AreSkips, HasExitsOf, IsFollowed, IsInRange, IsSkip, Spreads, has_at};
 
 use crate::picture::HUBS;
 use bit_sets::WORDS;
@@ -88,13 +88,28 @@ pub(crate) fn follow_all(links: &[Link], skips: &[usize], sets: &mut [u16; HUBS]
 {
     let mut place = 0;
     while place < links.len() {
-        let link = links[place];
-        if is_block_empty(sets, link.from as usize) {
-            place = skips[place];
+        let end = skips[place];
+        if is_block_empty(sets, links[place].from as usize) {
+            place = end;
         } else {
-            follow(link, sets);
-            place += 1;
+            follow_run(links, place, end, sets);
+            place = end;
         }
+    }
+}
+
+// Spreads sets of rows along the links from one place of their list up to another.
+fn follow_run(links: &[Link], from: usize, to: usize, sets: &mut [u16; HUBS])
+    requires range { All IsInRange links.now }
+    requires order { from ≤ to }
+    requires within { to ≤ length links.now }
+    ensures spread { (first : List ℕ) → HasExitsOf first sets.old → Spreads (take from links.now) first sets.old
+        → Spreads (take to links.now) first sets.new }
+    ensures exits { HasExitsOf sets.old sets.new }
+    ensures long { length sets.new ≡ 1936 }
+{
+    for place in from..to {
+        follow(links[place], sets);
     }
 }
 

@@ -1,5 +1,5 @@
 use Rattle.std.proofs.Common.{◌∙◌, refl, arith}
-use Rattle.net.proofs.PassLemmas.{Passes-all, Passes-more, Passes-none, Passes-past, entries-more, neither}
+use Rattle.net.proofs.PassLemmas.{Passes-all, Passes-none, Passes-past, neither}
 use Rattle.net.proofs.passing.pass_all.Goals as goal
 
 pub loop-place-init : goal.loop-place-init
@@ -27,21 +27,15 @@ loop-place-preserved-then-is_block_empty c =
 
 pub loop-place-preserved : goal.loop-place-preserved
 loop-place-preserved c =
-    let range = c.requires.passing c.loop-place.place _ c.loop-place-test.true in
-    let digits = c.args.digits.now in
-    let zones = c.args.zones.now in
+    let skip = c.requires.skips.each c.loop-place.place c.loop-place-test.true in
     record {
-      passed =
-          Passes-more digits zones c.args.contacts.now c.loop-place.place _ _ c.args.sets.now c.loop-place.sets c.pass-now.new.sets
-          c.loop-place-test.true refl range c.loop-place.invariant.entries c.loop-place.invariant.passed c.pass-now.ensures.passed;
-      entries =
-          entries-more digits zones _ c.args.sets.now c.loop-place.sets c.pass-now.new.sets range c.pass-now.ensures.passed
-          c.loop-place.invariant.entries;
+      passed = c.pass_run-now.ensures.passed c.args.sets.now c.loop-place.invariant.entries c.loop-place.invariant.passed;
+      entries = λ place row high. c.pass_run-now.ensures.entries place row high ∙ c.loop-place.invariant.entries place row high;
       same = λ none place row.
-          let both = neither c.loop-place.gained c.pass-now.result none in
-          c.pass-now.ensures.same both.1 place row ∙ c.loop-place.invariant.same both.0 place row;
-      within = omega arith;
-      long = c.pass-now.array_long;
+          let both = neither c.loop-place.gained c.pass_run-now.result none in
+          c.pass_run-now.ensures.same both.1 place row ∙ c.loop-place.invariant.same both.0 place row;
+      within = skip.within;
+      long = c.pass_run-now.ensures.long;
     }
 
 pub returns-clause-passed : goal.returns-clause-passed
