@@ -3,3 +3,4 @@ pub mod Faults
 pub mod OneToOne
 pub mod Pieces
 pub mod Rows
+pub mod Tables

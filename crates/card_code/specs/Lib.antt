@@ -3,3 +3,4 @@ pub mod Deck
 pub mod Lines
 pub mod MostCards
 pub mod Rows
+pub mod Tables

@@ -43,6 +43,14 @@ impl Card {
         Card { columns }
     }
 
+    /// Its columns, the first one being column 1.
+    pub fn columns(&self) -> &[Column; CARD_COLUMNS]
+        ensures columns { result.now ≡ self.now }
+        ensures whole { length self.now ≡ 80 }
+    {
+        &self.columns
+    }
+
     /// The column with the number `column`, 1 to 80.
     pub fn column(&self, column: u8) -> Column
         requires from { 1 ≤ column }

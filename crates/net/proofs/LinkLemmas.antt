@@ -1,5 +1,5 @@
 -- Sets of rows spread along links: one link after another, and what comes of all of them by the wires of a setup.
-use Rattle.std.proofs.Common.{⊎_elim, ◌≡◌, ◌≢◌, ℕ, zero, suc, ◌+◌, ◌-◌, ◌<◌, ◌≤◌, ◌&&◌, ◌||◌, Bool, true, false, List, [], ◌∷◌, ◌++◌, Option, Some, None, All, ◌↔◌, inl, inr, sym, ap, ◌∙◌, refl, subst, arith, length, take, slice_index_or, slice_set}
+use Rattle.std.proofs.Common.{⊎_elim, ◌≡◌, ◌≢◌, ℕ, zero, suc, ◌+◌, ◌-◌, ◌*◌, ◌/◌, ◌<◌, ◌≤◌, ◌&&◌, ◌||◌, Bool, true, false, List, [], ◌∷◌, ◌++◌, Option, Some, None, All, ◌↔◌, inl, inr, sym, ap, ◌∙◌, refl, subst, arith, length, take, slice_index_or, slice_set}
 use Rattle.std.specs.Prelude.{◌==◌, is_some}
 use Rattle.std.specs.Int.Bits.{bit_or}
 use Rattle.std.proofs.Math.Bool.{or-false}
@@ -191,19 +191,48 @@ spread-fed wiring net links old new is_net range agree spreads row hub = by (num
     no_way (inl emits) = false≢true (sym (ap is_some is) ∙ emits.0)
     no_way (inr fed) = let n = fed.wire.entry_numbered in cc
 
+-- the rows of one place more of a block
+pub block-joined : (sets : List ℕ) (first count rows : ℕ)
+    → ((k row : ℕ) → k < count → is_bit rows row ≡ false → has_at sets (first + k) row ≡ false)
+    → (k row : ℕ) → k < count + 1 → is_bit (bit_or rows (slice_index_or sets (first + count) 0)) row ≡ false
+    → has_at sets (first + k) row ≡ false
+block-joined sets first count rows before k row less none = ⊎_elim here earlier (cases_eq k count) where
+  parts : (a b c : Bool) → c ≡ (a || b) → c ≡ false → (a ≡ false) × (b ≡ false)
+  parts a b c e f = grind (arith, nat_tests, common_steps)
+
+  both : (is_bit rows row ≡ false) × (has_at sets (first + count) row ≡ false)
+  both = parts _ _ _ (is_bit-or rows (slice_index_or sets (first + count) 0) row) none
+
+  here : k ≡ count → has_at sets (first + k) row ≡ false
+  here same = ap (λ (j : ℕ). has_at sets (first + j) row) same ∙ both.1
+
+  earlier : k ≢ count → has_at sets (first + k) row ≡ false
+  earlier other = before k row (omega (arith, less, other)) both.0
+
+-- where no row is joined no place of the block has one
+pub block-without : (sets : List ℕ) (place other count rows row : ℕ) → (rows == 0) ≡ true → other / 16 ≡ place / 16 → 16 ≤ count
+    → ((k row : ℕ) → k < count → is_bit rows row ≡ false → has_at sets (place / 16 * 16 + k) row ≡ false)
+    → has_at sets other row ≡ false
+block-without sets place other count rows row none same end joined =
+    let no_rows : rows ≡ 0 = grind (arith, nat_tests, none) in
+    let k = other - place / 16 * 16 in
+    let inside : k < count = omega (arith, same, end) in
+    let at : place / 16 * 16 + k ≡ other = omega (arith, same) in
+    subst (λ (p : ℕ). has_at sets p row ≡ false) at (joined k row inside (ap (λ (w : ℕ). is_bit w row) no_rows ∙ is_bit-zero row))
+
 -- a link whose near end has no row is followed by nothing
-not-followed : (link : Link) (sets : List ℕ) → slice_index_or sets link.from 0 ≡ 0 → IsFollowed link sets sets
+not-followed : (link : Link) (sets : List ℕ) → ((row : ℕ) → has_at sets link.from row ≡ false) → IsFollowed link sets sets
 not-followed link sets none place row =
     sym
-    (ap (λ b. has_at sets place row || ((link.to == place) && b)) (ap (λ (w : ℕ). is_bit w row) none ∙ is_bit-zero row)
+    (ap (λ b. has_at sets place row || ((link.to == place) && b)) (none row)
     ∙ nothing (has_at sets place row) (link.to == place))
   where
     nothing : (a b : Bool) → (a || (b && false)) ≡ a
     nothing a b = grind (arith, nat_tests)
 
--- links from a place that has no row are passed over
+-- links from a block of places that have no row are passed over
 pub Spreads-past : (links : List Link) (place end : ℕ) (d : Link) (first now : List ℕ) → All IsInRange links → IsSkip links place end
-    → slice_index_or now (slice_index_or links place d).from 0 ≡ 0
+    → ((other row : ℕ) → other / 16 ≡ (slice_index_or links place d).from / 16 → has_at now other row ≡ false)
     → ((p row : ℕ) → p < 1040 → has_at now p row ≡ has_at first p row)
     → Spreads (take place links) first now → Spreads (take end links) first now
 Spreads-past links place end d first now range skip none exits before =
@@ -214,8 +243,8 @@ Spreads-past links place end d first now range skip none exits before =
     by (suc count) low =
         let inside : place + count < length links = let within = skip.within in omega (arith, low, within) in
         let link = slice_index_or links (place + count) d in
-        let silent : slice_index_or now link.from 0 ≡ 0 =
-        ap (λ (f : ℕ). slice_index_or now f 0) (skip.alike (place + count) d (omega arith) (omega (arith, low))) ∙ none in
+        let silent : (row : ℕ) → has_at now link.from row ≡ false =
+        λ row. none link.from row (skip.alike (place + count) d (omega arith) (omega (arith, low))) in
         let sum : place + count + 1 ≡ place + suc count = omega arith in
         subst (λ (e : ℕ). Spreads (take e links) first now) sum
         (Spreads-more links (place + count) d link first now now inside refl (range (place + count) d inside) exits

@@ -1,5 +1,5 @@
 -- Contacts as links: the rows at which they are closed, and what they pass on, one contact after another.
-use Rattle.std.proofs.Common.{⊎_elim, ◌≡◌, ◌≢◌, ℕ, zero, suc, ◌+◌, ◌<◌, ◌≤◌, ◌&&◌, ◌||◌, not, Bool, true, false, List, [], ◌∷◌, ◌++◌, All, ◌⊎◌, inl, inr, sym, ap, ◌∙◌, refl, subst, arith, length, take, slice_index_or, slice_set, if◌then◌else◌, bit_and}
+use Rattle.std.proofs.Common.{⊎_elim, ◌≡◌, ◌≢◌, ℕ, zero, suc, ◌+◌, ◌-◌, ◌/◌, ◌<◌, ◌≤◌, ◌&&◌, ◌||◌, not, Bool, true, false, List, [], ◌∷◌, ◌++◌, All, ◌⊎◌, inl, inr, sym, ap, ◌∙◌, refl, subst, arith, length, take, slice_index_or, slice_set, if◌then◌else◌, bit_and}
 use Rattle.std.specs.Prelude.{◌==◌, nat_le, nat_lt}
 use Rattle.std.specs.List.{list_any}
 use Rattle.std.specs.Int.Bits.{bit_or}
@@ -14,7 +14,7 @@ use Rattle.bit_sets.proofs.BitLemmas.{is_bit-above, is_bit-and, is_bit-or, is_bi
 use Rattle.bit_sets.specs.Bits.{has_place, is_bit}
 use Rattle.bit_sets.specs.Contacts.{is_any_contact, is_contact}
 use Rattle.bit_sets.specs.declared.contacts.Run.{Run}
-use Rattle.net.specs.Links.{IsPassing, has_at, is_led_to, is_linked}
+use Rattle.net.specs.Links.{IsPassing, IsSkip, has_at, is_led_to, is_linked}
 use Rattle.net.specs.Passing.{AddsContacts, IsPassed, Passes, is_closed_at, is_passed_by}
 use Rattle.net.specs.declared.links.Link.{Link}
 
@@ -272,6 +272,38 @@ linked-led (link ∷ links) from to linked =
 pub not-true : (test : Bool) → not test ≡ true → test ≡ false
 not-true true is = cc
 not-true false is = refl
+
+-- a contact whose near end has no row changes nothing
+not-passed : (digits zones : List ℕ) (contact : Link) (sets : List ℕ) → ((row : ℕ) → has_at sets contact.from row ≡ false)
+    → IsPassed digits zones contact sets sets
+not-passed digits zones contact sets none place row =
+    sym
+    (ap (λ b. has_at sets place row || ((contact.to == place) && (b && is_closed_at digits zones row contact.to))) (none row)
+    ∙ nothing (has_at sets place row) (contact.to == place))
+  where
+    nothing : (a b : Bool) → (a || (b && false)) ≡ a
+    nothing a b = grind (arith, nat_tests)
+
+-- contacts from a block of places that have no row are passed over
+pub Passes-past : (digits zones : List ℕ) (contacts : List Link) (place end : ℕ) (d : Link) (first now : List ℕ) → All IsPassing contacts
+    → IsSkip contacts place end
+    → ((other row : ℕ) → other / 16 ≡ (slice_index_or contacts place d).from / 16 → has_at now other row ≡ false)
+    → ((p row : ℕ) → 1040 ≤ p → has_at now p row ≡ has_at first p row)
+    → Passes digits zones (take place contacts) first now → Passes digits zones (take end contacts) first now
+Passes-past digits zones contacts place end d first now range skip none entries before =
+    subst (λ (e : ℕ). Passes digits zones (take e contacts) first now) (let less = skip.on in omega (arith, less)) (by (end - place) (omega arith))
+  where
+    by : (count : ℕ) → place + count ≤ end → Passes digits zones (take (place + count) contacts) first now
+    by zero low = subst (λ (e : ℕ). Passes digits zones (take e contacts) first now) (let sum : place ≡ place + 0 = omega arith in sum) before
+    by (suc count) low =
+        let inside : place + count < length contacts = let within = skip.within in omega (arith, low, within) in
+        let contact = slice_index_or contacts (place + count) d in
+        let silent : (row : ℕ) → has_at now contact.from row ≡ false =
+        λ row. none contact.from row (skip.alike (place + count) d (omega arith) (omega (arith, low))) in
+        let sum : place + count + 1 ≡ place + suc count = omega arith in
+        subst (λ (e : ℕ). Passes digits zones (take e contacts) first now) sum
+        (Passes-more digits zones contacts (place + count) d contact first now now inside refl (range (place + count) d inside) entries
+        (by count (omega (arith, low))) (not-passed digits zones contact now silent))
 
 -- a contact whose near end has no row passes none on
 pub nothing-passed : (digits zones sets : List ℕ) (contact : Link) (place row : ℕ) → slice_index_or sets contact.from 0 ≡ 0

@@ -1,6 +1,6 @@
 -- Links: wires one by one, from place to place. A set of rows for each place is a number: bit r tells of the row at place r among the
 -- points. Sets are spread along links.
-use Rattle.std.specs.Prelude.{◌≡◌, ℕ, ◌-◌, ◌<◌, ◌≤◌, ◌==◌, ◌&&◌, ◌||◌, All, Bool, true, false, List, Option, Some, None, length, slice_index_or}
+use Rattle.std.specs.Prelude.{◌≡◌, ℕ, ◌-◌, ◌/◌, ◌<◌, ◌≤◌, ◌==◌, ◌&&◌, ◌||◌, All, Bool, true, false, List, Option, Some, None, length, slice_index_or}
 use Rattle.std.specs.List.{list_any}
 use Rattle.hubs.specs.Hubs.{number_of}
 use Rattle.hubs.specs.declared.hub.Hub.{Hub}
@@ -25,12 +25,12 @@ is_link from to link = (from == link.from) && (to == link.to)
 abbrev pub is_linked : List Link → ℕ → ℕ → Bool
 is_linked links from to = list_any (is_link from to) links
 
--- the links from one place of their list on lead from the same place of the panel up to where they end
+-- the links from one place of their list on lead from the same block of sixteen places of the panel up to where they end
 pub record IsSkip (links : List Link) (first end : ℕ) : Type 0 where
   pub on : first < end
   pub within : end ≤ length links
   pub alike :
-      (k : ℕ) (d : Link) → first ≤ k → k < end → (slice_index_or links k d).from ≡ (slice_index_or links first d).from
+      (k : ℕ) (d : Link) → first ≤ k → k < end → (slice_index_or links k d).from / 16 ≡ (slice_index_or links first d).from / 16
 
 -- so it is with each link
 pub record AreSkips (links : List Link) (skips : List ℕ) : Type 0 where
@@ -64,6 +64,14 @@ abbrev pub IsFollowed : Link → List ℕ → List ℕ → Type 0
 IsFollowed link old new =
     (place row : ℕ) → has_at new place row ≡ (has_at old place row || ((link.to == place) && has_at old link.from row))
 
+-- each exit of the panel has the rows that it had
+abbrev pub HasExitsOf : List ℕ → List ℕ → Type 0
+HasExitsOf old new = (place row : ℕ) → place < 1040 → has_at new place row ≡ has_at old place row
+
+-- each entry has the rows that it had
+abbrev pub HasEntriesOf : List ℕ → List ℕ → Type 0
+HasEntriesOf old new = (place row : ℕ) → 1040 ≤ place → has_at new place row ≡ has_at old place row
+
 -- each place has the rows that it had, and those of the places from which links lead to it, and no other
 abbrev pub Spreads : List Link → List ℕ → List ℕ → Type 0
 Spreads links old new = (place row : ℕ) → has_at new place row ≡ (has_at old place row || is_fed_at links old place row)
@@ -79,7 +87,7 @@ has_row_at sets row hub = has_at_number sets row (number_of hub)
 
 -- The links lead on where the rows do, each in range, and the common places of the contacts are known, as it is where no link leads
 -- to any of them. The contacts that a link leads to stand one by one.
-pub record IsNetInside (contacts : List Run) (common_places : List ℕ) (links wired_contacts further : List Link) (skips further_skips : List ℕ) (is_direct : Bool)
+pub record IsNetInside (contacts : List Run) (common_places : List ℕ) (links wired_contacts further : List Link) (skips contact_skips further_skips : List ℕ) (is_direct : Bool)
     (rows : List (List ℕ)) : Type 0 where
   pub commons : AreCommons contacts common_places
   pub in_range : All IsInRange links
@@ -87,6 +95,7 @@ pub record IsNetInside (contacts : List Run) (common_places : List ℕ) (links w
   pub passing : All IsPassing wired_contacts
   pub wired : (from to : ℕ) → is_linked wired_contacts from to ≡ (is_any_contact contacts from to && is_led_to links from)
   pub skipped : AreSkips links skips
+  pub contacts_skipped : AreSkips wired_contacts contact_skips
   pub further_range : All IsInRange further
   pub follows : (from to : ℕ) → is_linked further from to ≡ (is_linked links from to && is_led_to wired_contacts from)
   pub further_skipped : AreSkips further further_skips

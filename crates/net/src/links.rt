@@ -1,13 +1,16 @@
 //! The wires of a net one by one, and sets of rows that are spread along them.
 
-ghost use Rattle.std.specs.Prelude.{◌≡◌, ◌<◌, ℕ, All, IfOk, OnOk, false, length};
+ghost use Rattle.std.specs.Prelude.{◌≡◌, ◌<◌, ◌≤◌, ◌/◌, ℕ, List, All, IfOk, OnOk, true, false, length, take};
 ghost use Rattle.bit_sets.specs.Bits.{has_place};
 ghost use Rattle.setups.specs.Wiring.{IsEntryNumber};
-ghost use Rattle.net.specs.Links.{AddsLinks, AreSkips, IsFollowed, IsInRange, IsSkip, Spreads};
+ghost use Rattle.net.specs.Links.{AddsLinks, AreSkips, HasExitsOf, IsFollowed, IsInRange, IsSkip, Spreads, has_at};
 
 use crate::picture::HUBS;
 use bit_sets::WORDS;
 use std::alloc::{AllocError, Global};
+
+// How many places a block has: the first block has the places 0 to 15, and so on.
+const BLOCK: usize = 16;
 
 /// A wire from one place to another. The hub with the number h is the place h - 1.
 #[derive(Clone, Copy)]
@@ -49,7 +52,7 @@ pub(crate) fn leads_to_any(links: &[Link], places: &[u64; WORDS]) -> bool
     false
 }
 
-// For each link where the links after it end that lead from the same place.
+// For each link where the links after it end that lead from the same block of places.
 pub(crate) fn skips_of(alloc: Global, links: &[Link]) -> Result<Vec<usize>, AllocError>
     ensures { IfOk result (λ skips. AreSkips links.now skips.items) }
 {
@@ -64,20 +67,20 @@ pub(crate) fn skips_of(alloc: Global, links: &[Link]) -> Result<Vec<usize>, Allo
     Ok(skips)
 }
 
-// Where the links end that lead from the place that the one at `first` leads from, from that one on.
+// Where the links end that lead from the block that the one at `first` leads from, from that one on.
 fn run_end(links: &[Link], first: usize) -> usize
     requires { first < length links.now }
     ensures { IsSkip links.now first result }
 {
     let mut end = first + 1;
-    while end < links.len() && links[end].from == links[first].from {
+    while end < links.len() && links[end].from / 16 == links[first].from / 16 {
         end += 1;
     }
     end
 }
 
 // Spreads sets of rows, one for each place, along the links: the far end of each gains the rows of the near end. No link leads from
-// where another one leads to. Links from a place that has no row are passed over.
+// where another one leads to. Links from a block of places that have no row are passed over: most exits emit nothing in a cycle.
 pub(crate) fn follow_all(links: &[Link], skips: &[usize], sets: &mut [u16; HUBS])
     requires range { All IsInRange links.now }
     requires skips { AreSkips links.now skips.now }
@@ -85,14 +88,42 @@ pub(crate) fn follow_all(links: &[Link], skips: &[usize], sets: &mut [u16; HUBS]
 {
     let mut place = 0;
     while place < links.len() {
-        let link = links[place];
-        if sets[link.from as usize] == 0 {
-            place = skips[place];
+        let end = skips[place];
+        if is_block_empty(sets, links[place].from as usize) {
+            place = end;
         } else {
-            follow(link, sets);
-            place += 1;
+            follow_run(links, place, end, sets);
+            place = end;
         }
     }
+}
+
+// Spreads sets of rows along the links from one place of their list up to another.
+fn follow_run(links: &[Link], from: usize, to: usize, sets: &mut [u16; HUBS])
+    requires range { All IsInRange links.now }
+    requires order { from ≤ to }
+    requires within { to ≤ length links.now }
+    ensures spread { (first : List ℕ) → HasExitsOf first sets.old → Spreads (take from links.now) first sets.old
+        → Spreads (take to links.now) first sets.new }
+    ensures exits { HasExitsOf sets.old sets.new }
+    ensures long { length sets.new ≡ 1936 }
+{
+    for place in from..to {
+        follow(links[place], sets);
+    }
+}
+
+// Whether no place in the block of a place has a row.
+pub(crate) fn is_block_empty(sets: &[u16; HUBS], place: usize) -> bool
+    requires { place < HUBS }
+    ensures { result ≡ true → (other row : ℕ) → other / 16 ≡ place / 16 → has_at sets.now other row ≡ false }
+{
+    let first = place / BLOCK * BLOCK;
+    let mut rows = 0;
+    for k in 0..BLOCK {
+        rows |= sets[first + k];
+    }
+    rows == 0
 }
 
 // The far end of a link gains the rows of the near end.

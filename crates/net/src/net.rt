@@ -27,11 +27,12 @@ pub struct Net {
     commons: [u64; WORDS],
     // The wires one by one, as the rows have them.
     links: Vec<Link>,
-    // For each of the links where those after it end that lead from the same place.
+    // For each of the links where those after it end that lead from the same block of places.
     skips: Vec<usize>,
-    // The contacts that a wire leads to, one by one.
+    // The contacts that a wire leads to, one by one, and the same of each of them.
     contacts: Vec<Link>,
-    // The wires from the exits of these contacts, and for each where those after it end that lead from the same place.
+    contact_skips: Vec<usize>,
+    // The wires from the exits of these contacts, and the same of each of them.
     further: Vec<Link>,
     further_skips: Vec<usize>,
     // Whether no wire leads to a common hub.
@@ -48,7 +49,7 @@ impl Model for Net {
 
     ghost use Rattle.net.specs.Links.{IsNetInside};
 
-    ghost invariant = { λ net. IsNetInside CONTACTS net.commons net.links.items net.contacts.items net.further.items net.skips.items net.further_skips.items net.is_direct net.rows };
+    ghost invariant = { λ net. IsNetInside CONTACTS net.commons net.links.items net.contacts.items net.further.items net.skips.items net.contact_skips.items net.further_skips.items net.is_direct net.rows };
 }
 
 impl Net {
@@ -84,6 +85,7 @@ impl Net {
         let skips = skips_of(alloc, links.as_slice())?;
         let mut contacts = Vec::new(alloc);
         add_contacts(&CONTACTS, links.as_slice(), &mut contacts)?;
+        let contact_skips = skips_of(alloc, contacts.as_slice())?;
         let mut further = Vec::new(alloc);
         add_further(links.as_slice(), contacts.as_slice(), &mut further)?;
         let further_skips = skips_of(alloc, further.as_slice())?;
@@ -95,6 +97,7 @@ impl Net {
             links,
             skips,
             contacts,
+            contact_skips,
             further,
             further_skips,
             is_direct,
@@ -183,6 +186,7 @@ impl Net {
     {
         pass_all(
             self.contacts.as_slice(),
+            self.contact_skips.as_slice(),
             digits.words(),
             zones.words(),
             &mut sets.sets,

@@ -1,13 +1,13 @@
 //! The contacts of a net one by one, and the rows that they pass on while they are closed.
 
-ghost use Rattle.std.specs.Prelude.{◌≡◌, ℕ, ◌&&◌, All, OnOk, false};
+ghost use Rattle.std.specs.Prelude.{◌≡◌, ℕ, ◌≤◌, ◌&&◌, List, All, OnOk, false, length, take};
 ghost use Rattle.std.specs.List.{list_any};
 ghost use Rattle.bit_sets.specs.Contacts.{is_any_contact, is_contact};
 ghost use Rattle.net.specs.HubSets.{is_bit};
-ghost use Rattle.net.specs.Links.{IsInRange, IsPassing, is_led_to};
+ghost use Rattle.net.specs.Links.{AreSkips, HasEntriesOf, IsInRange, IsPassing, is_led_to};
 ghost use Rattle.net.specs.Passing.{AddsContacts, AddsFurther, IsPassed, LeadsToExits, Passes, SameSets, is_closed_at};
 
-use crate::links::Link;
+use crate::links::{Link, is_block_empty};
 use crate::picture::HUBS;
 use bit_sets::{Run, WORDS, has};
 use std::alloc::AllocError;
@@ -83,17 +83,53 @@ fn is_led_to(links: &[Link], place: usize) -> bool
 // to.
 pub(crate) fn pass_all(
     contacts: &[Link],
+    skips: &[usize],
     digits: &[u64; WORDS],
     zones: &[u64; WORDS],
     sets: &mut [u16; HUBS],
 ) -> bool
-    requires { All IsPassing contacts.now }
+    requires passing { All IsPassing contacts.now }
+    requires skips { AreSkips contacts.now skips.now }
     ensures passed { Passes digits.now zones.now contacts.now sets.old sets.new }
     ensures same { result ≡ false → SameSets sets.old sets.new }
 {
     let mut gained = false;
-    for contact in contacts {
-        let now = pass(*contact, digits, zones, sets);
+    let mut place = 0;
+    while place < contacts.len() {
+        let end = skips[place];
+        if is_block_empty(sets, contacts[place].from as usize) {
+            place = end;
+        } else {
+            let now = pass_run(contacts, place, end, digits, zones, sets);
+            gained |= now;
+            place = end;
+        }
+    }
+    gained
+}
+
+// The contacts from one place of their list up to another pass on the rows of their near ends at which they are closed. Answers whether a far end may
+// have gained any.
+fn pass_run(
+    contacts: &[Link],
+    from: usize,
+    to: usize,
+    digits: &[u64; WORDS],
+    zones: &[u64; WORDS],
+    sets: &mut [u16; HUBS],
+) -> bool
+    requires passing { All IsPassing contacts.now }
+    requires order { from ≤ to }
+    requires within { to ≤ length contacts.now }
+    ensures passed { (first : List ℕ) → HasEntriesOf first sets.old → Passes digits.now zones.now (take from contacts.now) first sets.old
+        → Passes digits.now zones.now (take to contacts.now) first sets.new }
+    ensures entries { HasEntriesOf sets.old sets.new }
+    ensures same { result ≡ false → SameSets sets.old sets.new }
+    ensures long { length sets.new ≡ 1936 }
+{
+    let mut gained = false;
+    for place in from..to {
+        let now = pass(contacts[place], digits, zones, sets);
         gained |= now;
     }
     gained

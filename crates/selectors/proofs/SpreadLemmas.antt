@@ -8,6 +8,7 @@ use Rattle.std.proofs.lemmas.Nat.Bits.{bit_at-zero, bit_at_ones, bit_at_cat_low,
 use Rattle.std.proofs.Math.Nat.{mod-eq_of_lt, mul-le-mul_right, pow-le-pow_right}
 use Rattle.std.proofs.Math.Seq.{drop-cons}
 use Rattle.net.specs.HubSets.{is_bit}
+use Rattle.std.specs.List.{list_any}
 use Rattle.selectors.specs.Spread.{is_same, parts_of, spread}
 
 -- a word moved up has no bit below, and the others are its own
@@ -153,3 +154,10 @@ spread-bit value parts (first ∷ things) (suc thing) part within there =
     (parts_of-below parts (is_same value first)) (omega arith)
     ∙ ap (bit_at (spread value parts things)) place)
     ∙ spread-bit value parts things thing part within (omega (arith, there))
+
+-- where none of the things is set no bit is
+pub none-set : (parts : ℕ) (things : List Bool) → list_any (λ thing. thing) things ≡ false → spread true parts things ≡ 0
+unfolding spread
+none-set parts [] none = refl
+none-set parts (true ∷ things) none = cc
+none-set parts (false ∷ things) none = let before = none-set parts things none in rw before (omega arith)

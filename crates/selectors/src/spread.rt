@@ -1,6 +1,7 @@
 //! Words of a row of contacts in which each thing, as a pilot, has as many contacts.
 
 ghost use Rattle.std.specs.Prelude.{◌≡◌, ◌+◌, ◌-◌, ◌*◌, ◌^◌, ◌≤◌, ◌<◌, true, length};
+ghost use Rattle.std.specs.List.{list_any};
 ghost use Rattle.selectors.specs.Spread.{parts_of, spread};
 
 // The word with as many bits for each thing, set for those that are set. The first thing has the lowest bits.
@@ -10,12 +11,26 @@ pub(crate) fn spread(things: &[bool], parts: usize) -> u128
     ensures value { result ≡ spread true parts things.now }
     ensures below { result < 2 ^ (parts * length things.now) }
 {
+    if !has_any(things) {
+        return 0;
+    }
     let mut bits = 0;
     for after in 0..things.len() {
         let at = things.len() - 1 - after;
         bits = with_parts(bits, parts, things[at]);
     }
     bits
+}
+
+// Whether any of the things is set: mostly none is.
+fn has_any(things: &[bool]) -> bool
+    ensures { result ≡ list_any (λ thing. thing) things.now }
+{
+    let mut any = false;
+    for thing in things {
+        any |= *thing;
+    }
+    any
 }
 
 // The word moved up, with as many bits below it, all set or none.

@@ -1,8 +1,7 @@
 -- The columns of a card as sets of rows by their places among the points.
-use Rattle.std.proofs.Common.{◌≡◌, ◌≢◌, ◌∙◌, ◌⊎◌, ℕ, ◌+◌, ◌-◌, ◌*◌, ◌%◌, ◌^◌, ◌<◌, ◌≤◌, arith, refl, sym, ap, inl, inr, Bool, true, false, not, ◌&&◌, ◌||◌, ◌==◌, nat_lt, List, length, replicate, slice_index, slice_index_or, slice_set, bit_or, Option, Some, None}
+use Rattle.std.proofs.Common.{◌≡◌, ◌≢◌, ◌∙◌, ◌⊎◌, ℕ, zero, suc, ◌+◌, ◌-◌, ◌<◌, ◌≤◌, arith, refl, sym, ap, inl, inr, Bool, true, false, ◌==◌, nat_lt, List, [], ◌∷◌, length, replicate, slice_index, slice_index_or, slice_set, Option, Some, None}
 use Rattle.std.proofs.lemmas.Bool.Decides.{eqb_tells, nat_tests}
 use Rattle.std.proofs.lemmas.List.{get_or-replicate, get_or-set_same, get_or-set_other, get_or_past, length-set}
-use Rattle.std.proofs.lemmas.Nat.{one_shl}
 use Rattle.card_code.specs.CardCode.{has_row}
 use Rattle.card_code.specs.Rows.{row_number, passing_place}
 use Rattle.card_code.specs.declared.row.Row.{Row}
@@ -15,59 +14,20 @@ use Rattle.net.specs.Links.{has_at}
 use Rattle.net.specs.RowSets.{is_in_sets}
 use Rattle.stations.specs.Punches.{is_punched, AreColumnsAt, AreRowsAt}
 use Rattle.stations.specs.Stations.{first_emits, second_emits}
-use Rattle.stations.specs.Words.{HasRowsBut, LosesBit, place_of}
-use Rattle.stations.proofs.PositionWords.{is_bit-or, is_bit-power}
 use Rattle.stations.proofs.RowHubs.{first_row, second_row}
-use Rattle.stations.proofs.RowSets.{IsLowest, nothing_left, place_tells}
 use Rattle.stations.proofs.RowWords.{no_bit}
 
--- no row is done
-pub rows-none : (column : ℕ) → HasRowsBut column column 0
-rows-none column row = ap (λ b. b || has_row column (row_number row)) (no_bit (passing_place row))
+-- what is read within a list, whatever stands for none
+at-default : (columns : List ℕ) (k d : ℕ) → k < length columns → slice_index_or columns k d ≡ slice_index columns k
+at-default [] k d inside = absurd (omega (arith, inside))
+at-default (column ∷ columns) zero d inside = refl
+at-default (column ∷ columns) (suc k) d inside = at-default columns k d (omega (arith, inside))
 
--- one row more is done
-pub rows-more : (left rest n column set place : ℕ) → place ≡ place_of n → place < 12 → IsLowest left n → LosesBit n left rest
-    → HasRowsBut left column set → HasRowsBut rest column (bit_or set (1 * 2 ^ place % 2 ^ 16))
-rows-more left rest n column set place is near lowest lost before row = by (place_tells row n lowest.below lowest.not_ten)
-  where
-    joined : is_bit (bit_or set (1 * 2 ^ place % 2 ^ 16)) (passing_place row) ≡ (is_bit set (passing_place row) || (passing_place row == place))
-    joined =
-        is_bit-or set (1 * 2 ^ place % 2 ^ 16) (passing_place row)
-        ∙ ap (λ w. is_bit set (passing_place row) || is_bit w (passing_place row)) (one_shl place 16 (omega (arith, near)))
-        ∙ ap (λ b. is_bit set (passing_place row) || b) (is_bit-power place (passing_place row))
-
-    by : ((row_number row ≡ n) × (passing_place row ≡ place_of n)) ⊎ ((row_number row ≢ n) × (passing_place row ≢ place_of n))
-        → (is_bit (bit_or set (1 * 2 ^ place % 2 ^ 16)) (passing_place row) || has_row rest (row_number row)) ≡ has_row column (row_number row)
-    by (inl same) =
-        let here : (passing_place row == place) ≡ true = let e = same.1 in grind (arith, nat_tests, e, is) in
-        let on : has_row left (row_number row) ≡ true = ap (has_row left) same.0 ∙ lowest.there in
-        done (is_bit set (passing_place row)) (has_row left (row_number row)) (has_row rest (row_number row))
-        (is_bit (bit_or set (1 * 2 ^ place % 2 ^ 16)) (passing_place row)) (has_row column (row_number row))
-        (joined ∙ ap (λ b. is_bit set (passing_place row) || b) here) on (before row) where
-          done : (old left_has rest_has new goal : Bool) → new ≡ (old || true) → left_has ≡ true → (old || left_has) ≡ goal
-              → (new || rest_has) ≡ goal
-          done old left_has rest_has new goal e f g = grind (arith, nat_tests, e, f, g)
-    by (inr other) =
-        let apart : (passing_place row == place) ≡ false = let e = other.1 in grind (arith, nat_tests, e, is) in
-        let kept : has_row rest (row_number row) ≡ has_row left (row_number row) =
-        lost (row_number row) ∙ whole (has_row left (row_number row)) other.0 in
-        rw (kept) (ap (λ b. b || has_row left (row_number row)) (joined ∙ ap (λ b. is_bit set (passing_place row) || b) apart ∙ none (is_bit set (passing_place row))) ∙ before row) where
-          whole : (b : Bool) → row_number row ≢ n → (b && not (row_number row == n)) ≡ b
-          whole b differ = grind (arith, nat_tests, differ)
-
-          none : (b : Bool) → (b || false) ≡ b
-          none b = grind (arith, nat_tests)
-
--- where no row is left all are done
-pub rows-all : (left column set : ℕ) → left ≡ 0 → HasRowsBut left column set → (row : Row)
-    → is_bit set (passing_place row) ≡ has_row column (row_number row)
-rows-all left column set none before row =
-    sym (nothing_left (is_bit set (passing_place row)) left (row_number row) true none)
-    ∙ ap (λ b. is_bit set (passing_place row) || b) (and-true (has_row left (row_number row))) ∙ before row
-  where
-    and-true : (b : Bool) → (b && true) ≡ b
-    and-true true = refl
-    and-true false = refl
+-- a column that is read is the card's
+pub column-read : (columns card : List ℕ) (k d column : ℕ) → columns ≡ card → length columns ≡ 80 → k < 80
+    → column ≡ slice_index_or columns k d → column ≡ slice_index card k
+column-read columns card k d column same long below read =
+    read ∙ at-default columns k d (omega (arith, long, below)) ∙ ap (λ (cs : List ℕ). slice_index cs k) same
 
 -- the first columns of a card are done
 pub record AreColumnsTo (count : ℕ) (card columns : List ℕ) : Type 0 where
@@ -78,7 +38,7 @@ pub columns-first : (card : List ℕ) → AreColumnsTo 0 card (replicate 80 0)
 columns-first card = record { long = refl; done = λ row k less. absurd (omega (arith, less)) }
 
 pub columns-next : (count set column : ℕ) (card columns : List ℕ) → count < 80
-    → column ≡ slice_index card (count + 1 - 1)
+    → column ≡ slice_index card count
     → ((row : Row) → is_bit set (passing_place row) ≡ has_row column (row_number row))
     → AreColumnsTo count card columns → AreColumnsTo (count + 1) card (slice_set columns count set)
 columns-next count set column card columns below is rows before = record {
@@ -93,10 +53,9 @@ columns-next count set column card columns below is rows before = record {
         → has_at (slice_set columns count set) k (passing_place row) ≡ has_row (slice_index card k) (row_number row)
     by row k less (inl same) =
         let long = before.long in
-        let index : count + 1 - 1 ≡ k = let e = same.1 in omega (arith, e) in
         ap (λ (w : ℕ). is_bit w (passing_place row))
         (ap (λ (j : ℕ). slice_index_or (slice_set columns count set) j 0) same.1 ∙ get_or-set_same columns count set 0 (omega (arith, long, below)))
-        ∙ rows row ∙ ap (λ (c : ℕ). has_row c (row_number row)) (is ∙ ap (λ (j : ℕ). slice_index card j) index)
+        ∙ rows row ∙ ap (λ (c : ℕ). has_row c (row_number row)) (is ∙ ap (λ (j : ℕ). slice_index card j) (sym same.1))
     by row k less (inr other) =
         let apart = other.1 in
         ap (λ (w : ℕ). is_bit w (passing_place row)) (get_or-set_other columns count k set 0 apart)

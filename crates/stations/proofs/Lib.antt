@@ -4,5 +4,7 @@ pub mod RowWords
 pub mod RowHubs
 pub mod RowSets
 mod FourRows
+pub mod MovedRows
 pub mod ColumnSets
+pub mod MovedCards
 pub mod CollectedSets

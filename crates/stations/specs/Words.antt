@@ -48,8 +48,3 @@ gathered entries place pair = (
   bit_or pair.0 (positions 30 (λ p. has_at entries (0 + (p - 1)) place)),
   bit_or pair.1 (positions 30 (λ p. has_at entries (30 + (p - 1)) place)),
 )
-
--- the set has the rows of a column by their places, but for those that are left
-abbrev pub HasRowsBut : ℕ → ℕ → ℕ → Type 0
-HasRowsBut left column set =
-    (row : Row) → (is_bit set (passing_place row) || has_row left (row_number row)) ≡ has_row column (row_number row)

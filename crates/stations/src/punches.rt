@@ -1,6 +1,6 @@
 //! Cards as the words of their twelve rows, and as the sets of rows of their eighty columns.
 
-ghost use Rattle.std.specs.Prelude.{◌≡◌, ◌≢◌, ℕ, ◌<◌, Some, true};
+ghost use Rattle.std.specs.Prelude.{◌≡◌, ◌≢◌, ℕ, ◌+◌, ◌-◌, ◌<◌, ◌&&◌, nat_le, Some, true};
 ghost use Rattle.card_code.specs.CardCode.{has_row};
 ghost use Rattle.card_code.specs.Rows.{is_row_set};
 ghost use Rattle.card_code.specs.Rows.{passing_place, row_number};
@@ -46,25 +46,59 @@ pub(crate) fn columns_at(card: &Option<Card>) -> [u16; CARD_COLUMNS]
 fn columns_of(card: &Card) -> [u16; CARD_COLUMNS]
     ensures { AreColumnsAt (Some card.now) result }
 {
+    let punched = card.columns();
     let mut columns = [0; CARD_COLUMNS];
     for k in 0..CARD_COLUMNS {
-        columns[k] = set_of(card.column(k as u8 + 1));
+        columns[k] = set_of(punched[k].rows());
     }
     columns
 }
 
-// The rows of a column by their places among the points.
-fn set_of(column: Column) -> u16
-    ensures { (row : CardRow) → is_bit result (passing_place row) ≡ has_row column (row_number row) }
+// A set of rows by their places among the points: 9 to 0 are the first ten, 11 and 12 the next two. No row is looked at by itself, so that
+// the sets of some columns can be made at a time.
+fn set_of(rows: u16) -> u16
+    ensures { (row : CardRow) → is_bit result (passing_place row) ≡ has_row rows (row_number row) }
 {
-    let mut set = 0;
-    let mut left = column.rows();
-    while left != 0 {
-        let row = left.trailing_zeros();
-        set |= 1 << place_of(row);
-        left = without(left, row);
-    }
-    set
+    low_digits(rows) | high_digits(rows) | moved_down(rows, 1, 0xc00)
+}
+
+// The rows 0 to 4, at the places 9 to 5.
+fn low_digits(rows: u16) -> u16
+    ensures { (row : CardRow) → is_bit result (passing_place row) ≡ (nat_le (row_number row) 4 && has_row rows (row_number row)) }
+{
+    moved_up(rows, 9, 0x200)
+        | moved_up(rows, 7, 0x100)
+        | moved_up(rows, 5, 0x80)
+        | moved_up(rows, 3, 0x40)
+        | moved_up(rows, 1, 0x20)
+}
+
+// The rows 5 to 9, at the places 4 to 0.
+fn high_digits(rows: u16) -> u16
+    ensures { (row : CardRow) → is_bit result (passing_place row)
+        ≡ (nat_le 5 (row_number row) && (nat_le (row_number row) 9 && has_row rows (row_number row))) }
+{
+    moved_down(rows, 1, 0x10)
+        | moved_down(rows, 3, 0x8)
+        | moved_down(rows, 5, 0x4)
+        | moved_down(rows, 7, 0x2)
+        | moved_down(rows, 9, 0x1)
+}
+
+// The bits moved up, as far as the mask has them.
+fn moved_up(bits: u16, by: u32, mask: u16) -> u16
+    requires { by < 16 }
+    ensures { (bit : ℕ) → bit < 16 → is_bit result bit ≡ (is_bit mask bit && (nat_le by bit && has_row bits (bit - by))) }
+{
+    bits << by & mask
+}
+
+// The bits moved down, as far as the mask has them.
+fn moved_down(bits: u16, by: u32, mask: u16) -> u16
+    requires { by < 16 }
+    ensures { (bit : ℕ) → is_bit result bit ≡ (is_bit mask bit && has_row bits (by + bit)) }
+{
+    bits >> by & mask
 }
 
 // Sets a bit in the word of each row that the column has, one punch after the other.

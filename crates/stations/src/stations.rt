@@ -52,12 +52,12 @@ impl Stations {
     pub fn load(&mut self, next: Option<Card>)
         ensures { self.new ≡ loaded next self.old }
     {
-        let rows = rows_at(&next);
-        let columns = columns_at(&next);
+        self.rows[1] = self.rows[0];
+        self.rows[0] = rows_at(&next);
+        self.columns[1] = self.columns[0];
+        self.columns[0] = columns_at(&next);
         self.second = self.first;
         self.first = next;
-        self.rows = [rows, self.rows[0]];
-        self.columns = [columns, self.columns[0]];
     }
 
     /// Whether a card stands at first reading.

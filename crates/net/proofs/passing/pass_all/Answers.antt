@@ -1,35 +1,47 @@
-use Rattle.std.proofs.Common.{◌∙◌, refl}
-use Rattle.net.proofs.PassLemmas.{Passes-all, Passes-more, Passes-none, entries-more, neither}
+use Rattle.std.proofs.Common.{◌∙◌, refl, arith}
+use Rattle.net.proofs.PassLemmas.{Passes-all, Passes-none, Passes-past, neither}
 use Rattle.net.proofs.passing.pass_all.Goals as goal
 
-pub loop-contact-init : goal.loop-contact-init
-loop-contact-init c = record {
+pub loop-place-init : goal.loop-place-init
+loop-place-init c = record {
   passed = Passes-none c.args.digits.now c.args.zones.now c.args.sets.now;
   entries = λ place row high. refl;
   same = λ none place row. refl;
+  within = omega arith;
+  long = c.told-sets;
 }
 
-pub loop-contact-preserved : goal.loop-contact-preserved
-loop-contact-preserved c =
-    let range = c.requires c.loop-contact.contact-index _ c.loop-contact-test.true in
-    let digits = c.args.digits.now in
-    let zones = c.args.zones.now in
+pub loop-place-preserved-then-is_block_empty : goal.loop-place-preserved-then-is_block_empty
+loop-place-preserved-then-is_block_empty c =
+    let skip = c.requires.skips.each c.loop-place.place c.loop-place-test.true in
     record {
       passed =
-          Passes-more digits zones c.args.contacts.now c.loop-contact.contact-index _ _ c.args.sets.now c.loop-contact.sets c.pass-now.new.sets
-          c.loop-contact-test.true refl range c.loop-contact.invariant.entries c.loop-contact.invariant.passed c.pass-now.ensures.passed;
-      entries =
-          entries-more digits zones _ c.args.sets.now c.loop-contact.sets c.pass-now.new.sets range c.pass-now.ensures.passed
-          c.loop-contact.invariant.entries;
+          Passes-past c.args.digits.now c.args.zones.now c.args.contacts.now c.loop-place.place _ _ c.args.sets.now c.loop-place.sets
+          c.requires.passing skip (c.is_block_empty.ensures c.if-is_block_empty.true) c.loop-place.invariant.entries
+          c.loop-place.invariant.passed;
+      entries = c.loop-place.invariant.entries;
+      same = c.loop-place.invariant.same;
+      within = skip.within;
+      long = c.loop-place.invariant.long;
+    }
+
+pub loop-place-preserved : goal.loop-place-preserved
+loop-place-preserved c =
+    let skip = c.requires.skips.each c.loop-place.place c.loop-place-test.true in
+    record {
+      passed = c.pass_run-now.ensures.passed c.args.sets.now c.loop-place.invariant.entries c.loop-place.invariant.passed;
+      entries = λ place row high. c.pass_run-now.ensures.entries place row high ∙ c.loop-place.invariant.entries place row high;
       same = λ none place row.
-          let both = neither c.loop-contact.gained c.pass-now.result none in
-          c.pass-now.ensures.same both.1 place row ∙ c.loop-contact.invariant.same both.0 place row;
+          let both = neither c.loop-place.gained c.pass_run-now.result none in
+          c.pass_run-now.ensures.same both.1 place row ∙ c.loop-place.invariant.same both.0 place row;
+      within = skip.within;
+      long = c.pass_run-now.ensures.long;
     }
 
 pub returns-clause-passed : goal.returns-clause-passed
 returns-clause-passed c =
-    Passes-all c.args.digits.now c.args.zones.now c.args.contacts.now c.loop-contact.contact-index c.args.sets.now c.loop-contact.sets
-    c.loop-contact-test.false c.loop-contact.invariant.passed
+    Passes-all c.args.digits.now c.args.zones.now c.args.contacts.now c.loop-place.place c.args.sets.now c.loop-place.sets
+    c.loop-place-test.false c.loop-place.invariant.passed
 
 pub returns-clause-same : goal.returns-clause-same
-returns-clause-same c none = c.loop-contact.invariant.same none
+returns-clause-same c none = c.loop-place.invariant.same none

@@ -1,6 +1,12 @@
-use Rattle.std.proofs.Common.{true, false}
-use Rattle.selectors.proofs.SpreadLemmas.{has_room, spread-none, spread-more, spread-all, spread-below}
+use Rattle.std.proofs.Common.{◌∙◌, ◌*◌, sym, length, true, false}
+use Rattle.std.proofs.lemmas.Nat.{pow_pos}
+use Rattle.selectors.proofs.SpreadLemmas.{has_room, none-set, spread-none, spread-more, spread-all, spread-below}
 use Rattle.selectors.proofs.spread.spread.Goals as goal
+
+pub returns-then-not-has_any : goal.returns-then-not-has_any
+returns-then-not-has_any c =
+    let value = sym (none-set c.args.parts c.args.things.now (sym c.has_any.ensures ∙ c.if-not-has_any.true)) in
+    record { value = value; below = pow_pos (c.args.parts * length c.args.things.now) }
 
 pub loop-after-init : goal.loop-after-init
 loop-after-init c = spread-none true c.args.parts c.args.things.now

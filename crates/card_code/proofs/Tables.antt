@@ -1,0 +1,129 @@
+-- The tables of the card code against its pairs.
+use Rattle.std.proofs.Common.{◌≡◌, ◌≢◌, ℕ, zero, suc, ◌+◌, ◌-◌, ◌%◌, ◌<◌, ◌≤◌, ◌⊎◌, inl, inr, arith, refl, sym, ap, ◌∙◌, Bool, true, false, ◌&&◌, List, [], ◌∷◌, length, Option, Some, None, if◌then◌else◌, ◌==◌, slice_index}
+use Rattle.std.specs.Prelude.{nat_lt, nat_le}
+use Rattle.std.specs.List.{list_all}
+use Rattle.std.proofs.lemmas.Grind.{common_steps}
+use Rattle.std.proofs.lemmas.Bool.{false≢true}
+use Rattle.std.proofs.lemmas.Bool.Decides.{eqb_tells, nat_tests}
+use Rattle.card_code.specs.CardCode.{character_in, rows_in}
+use Rattle.card_code.specs.Tables.{entry, listed, matching}
+
+-- whether two optional numbers are the same
+abbrev same_option : Option ℕ → Option ℕ → Bool
+same_option None None = true
+same_option None (Some n) = false
+same_option (Some m) None = false
+same_option (Some m) (Some n) = m == n
+
+same-option : (one other : Option ℕ) → same_option one other ≡ true → one ≡ other
+same-option None None is = refl
+same-option None (Some n) is = absurd (false≢true is)
+same-option (Some m) None is = absurd (false≢true is)
+same-option (Some m) (Some n) is = let e : m ≡ n = grind (arith, nat_tests, is) in ap (λ (k : ℕ). Some k) e
+
+-- both parts of a test
+both : (a b : Bool) → (a && b) ≡ true → (a ≡ true) × (b ≡ true)
+both a b e = grind (arith, nat_tests, common_steps)
+
+-- a look-up that goes on
+goes_on : (test : Bool) (value : ℕ) (rest : Option ℕ) → test ≡ false → (if test then Some value else rest) ≡ rest
+goes_on true value rest e = absurd (false≢true (sym e))
+goes_on false value rest e = refl
+
+-- whether a table lists what pairs have, from a character on
+abbrev pub lists : List (ℕ × ℕ) → ℕ → List ℕ → Bool
+lists pairs from [] = true
+lists pairs from (rows ∷ table) = same_option (entry rows) (rows_in pairs from) && lists pairs (suc from) table
+
+-- what it lists is what they have
+lists-at : (pairs : List (ℕ × ℕ)) (from k : ℕ) (table : List ℕ) → lists pairs from table ≡ true → k < length table
+    → entry (slice_index table k) ≡ rows_in pairs (from + k)
+lists-at pairs from k [] is inside = absurd (omega (arith, inside))
+lists-at pairs from zero (rows ∷ table) is inside =
+    let same : from ≡ from + 0 = omega arith in
+    same-option (entry rows) (rows_in pairs from) (both _ _ is).0 ∙ ap (λ (c : ℕ). rows_in pairs c) same
+lists-at pairs from (suc k) (rows ∷ table) is inside =
+    let same : suc from + k ≡ from + suc k = omega arith in
+    lists-at pairs (suc from) k table (both _ _ is).1 (omega (arith, inside)) ∙ ap (λ (c : ℕ). rows_in pairs c) same
+
+-- pairs whose characters are all from 32 to 95 have no other
+outside : (pairs : List (ℕ × ℕ)) (character : ℕ) → list_all (λ pair. nat_le 32 pair.0 && nat_lt pair.0 96) pairs ≡ true
+    → (character < 32) ⊎ (96 ≤ character) → rows_in pairs character ≡ None
+outside [] character within far = refl
+outside (pair ∷ pairs) character within far =
+    let parts = both _ _ within in
+    let here = both (nat_le 32 pair.0) (nat_lt pair.0 96) parts.0 in
+    let other : (pair.0 == character) ≡ false = apart pair.0 character here.0 here.1 far in
+    goes_on (pair.0 == character) pair.1 (rows_in pairs character) other ∙ outside pairs character parts.1 far
+  where
+    apart : (one character : ℕ) → nat_le 32 one ≡ true → nat_lt one 96 ≡ true → (character < 32) ⊎ (96 ≤ character)
+        → (one == character) ≡ false
+    apart one character low high (inl below) = grind (arith, nat_tests, low, high, below)
+    apart one character low high (inr above) = grind (arith, nat_tests, low, high, above)
+
+-- a table of 64 that lists what pairs have from the blank on
+pub listed-right : (pairs : List (ℕ × ℕ)) (table : List ℕ) (character : ℕ)
+    → list_all (λ pair. nat_le 32 pair.0 && nat_lt pair.0 96) pairs ≡ true → lists pairs 32 table ≡ true → length table ≡ 64
+    → listed table character ≡ rows_in pairs character
+listed-right pairs table character within lists_all long = by (nat_lt character 32) (nat_le 96 character) refl refl
+  where
+    by : (low high : Bool) → nat_lt character 32 ≡ low → nat_le 96 character ≡ high → listed table character ≡ rows_in pairs character
+    by true high is is_high = rw (is) (sym (outside pairs character within (inl (grind (arith, nat_tests, is)))))
+    by false true is is_high = rw (is, is_high) (sym (outside pairs character within (inr (grind (arith, nat_tests, is_high)))))
+    by false false is is_high =
+        let from : 32 ≤ character = grind (arith, nat_tests, is) in
+        let to : character < 96 = grind (arith, nat_tests, is_high) in
+        let same : 32 + (character - 32) ≡ character = omega (arith, from) in
+        rw (is, is_high)
+        (lists-at pairs 32 (character - 32) table lists_all (omega (arith, from, to, long)) ∙ ap (λ (c : ℕ). rows_in pairs c) same)
+
+-- whether pairs have what two tables have beside one another
+abbrev pub has_all : List (ℕ × ℕ) → List ℕ → List ℕ → Bool
+has_all pairs [] characters = true
+has_all pairs (set ∷ sets) [] = false
+has_all pairs (set ∷ sets) (character ∷ characters) =
+    same_option (character_in pairs set) (Some character) && has_all pairs sets characters
+
+has-at : (pairs : List (ℕ × ℕ)) (sets characters : List ℕ) (k : ℕ) → has_all pairs sets characters ≡ true → k < length sets
+    → character_in pairs (slice_index sets k) ≡ Some (slice_index characters k)
+has-at pairs [] characters k is inside = absurd (omega (arith, inside))
+has-at pairs (set ∷ sets) [] k is inside = absurd (false≢true is)
+has-at pairs (set ∷ sets) (character ∷ characters) zero is inside = same-option _ _ (both _ _ is).0
+has-at pairs (set ∷ sets) (character ∷ characters) (suc k) is inside =
+    has-at pairs sets characters k (both _ _ is).1 (omega (arith, inside))
+
+-- whether a set of rows stands at its place
+abbrev pub is_placed : List ℕ → ℕ → Bool
+is_placed sets set = slice_index sets (set % 118) == set
+
+-- what pairs have stands at its place where all of their sets do
+placed : (pairs : List (ℕ × ℕ)) (sets : List ℕ) (set character : ℕ) → list_all (λ pair. is_placed sets pair.1) pairs ≡ true
+    → character_in pairs set ≡ Some character → is_placed sets set ≡ true
+placed [] sets set character all found = cc
+placed (pair ∷ pairs) sets set character all found =
+    let parts : (is_placed sets pair.1 ≡ true) × (list_all (λ p. is_placed sets p.1) pairs ≡ true) = both _ _ all in
+    by parts.0 (λ later. placed pairs sets set character parts.1 later) (eqb_tells pair.1 set)
+  where
+    by : is_placed sets pair.1 ≡ true → (character_in pairs set ≡ Some character → is_placed sets set ≡ true)
+        → ((pair.1 == set) ≡ true) × (pair.1 ≡ set) ⊎ ((pair.1 == set) ≡ false) × (pair.1 ≢ set) → is_placed sets set ≡ true
+    by here there (inl same) = ap (λ (s : ℕ). is_placed sets s) (sym same.1) ∙ here
+    by here there (inr other) = there (sym (goes_on (pair.1 == set) pair.0 (character_in pairs set) other.0) ∙ found)
+
+-- two tables in which each set of the pairs stands at its place, and nothing that they have not
+pub matching-right : (pairs : List (ℕ × ℕ)) (sets characters : List ℕ) (rows : ℕ)
+    → list_all (λ pair. is_placed sets pair.1) pairs ≡ true → has_all pairs sets characters ≡ true → length sets ≡ 118
+    → matching sets characters rows ≡ character_in pairs rows
+matching-right pairs sets characters rows all has long = by (is_placed sets rows) refl
+  where
+    none : (found : Option ℕ) → character_in pairs rows ≡ found → is_placed sets rows ≡ false → None ≡ character_in pairs rows
+    none None is other = sym is
+    none (Some character) is other = absurd (false≢true (sym other ∙ placed pairs sets rows character all is))
+
+    by : (there : Bool) → is_placed sets rows ≡ there → matching sets characters rows ≡ character_in pairs rows
+    by true is =
+        let same : slice_index sets (rows % 118) ≡ rows = equal (slice_index sets (rows % 118)) rows is in
+        let inside : rows % 118 < length sets = omega (arith, long) in
+        rw (is) (sym (has-at pairs sets characters (rows % 118) has inside) ∙ ap (λ (s : ℕ). character_in pairs s) same) where
+          equal : (m n : ℕ) → (m == n) ≡ true → m ≡ n
+          equal m n e = grind (arith, nat_tests, e)
+    by false is = rw (is) (none (character_in pairs rows) refl is)
