@@ -1,11 +1,14 @@
--- What is allocated: the counters by the rule, and the other parts in the order in which they are wanted.
+-- What is allocated: the counters by the rule, and the other parts by number in the order in which they are wanted.
 use Rattle.std.specs.Prelude.{◌≡◌}
 use Rattle.capacity.specs.Capacities.{Capacities}
 use Rattle.wanted.specs.Wanted.{Wanted}
+use Rattle.plans.specs.PartNumbers.{in_order}
 use Rattle.plans.specs.Plans.{Lists}
 use Rattle.allocate.specs.Groups.{IsByRule}
 
--- The plan of what is wanted on a machine: the counters by the rule of allocation, the other parts as wanted.
+-- The plan of what is wanted on a machine: the counters by the rule of allocation, and of each other kind the parts 1, 2 and so on, in
+-- the order in which they are wanted.
 pub record IsPlanOf (wanted : Wanted) (machine : Capacities) (plan : Lists) : Type 0 where
   pub counters : IsByRule wanted.totals machine plan.counters
   pub parts : plan.parts ≡ wanted.parts
+  pub numbers : plan.numbers ≡ in_order wanted.parts

@@ -20,7 +20,7 @@ use wanted::Wanted;
 /// The totals are taken by need, the greatest first, then by level, then by line. One that needs more than 8 positions has
 /// the two counter groups of the lowest numbers that are free of the groups of 8, the lower number for its positions 1 to 8;
 /// any other has the group of the lowest number that is free of the smallest width that is enough and still has a free one. The other parts of the machine
-/// serve what the chart asks for in its order: pilots the signed amounts of DETAIL and TOTAL lines by their FIELD lines,
+/// serve what the chart asks for in its order, those of each kind by number: pilots the signed amounts of DETAIL and TOTAL lines by their FIELD lines,
 /// comparing positions the columns of the CONTROL lines' fields, storage units the texts of total lines, splits the DETAIL
 /// amounts with their sign column inside, indicate positions the columns of the INDICATE items of their level.
 ///
@@ -42,5 +42,5 @@ pub fn allocate(alloc: Global, chart: &Chart, profile: &Profile) -> Result<Plan,
     let pilots = profile.pilots();
     prove!(pilots <= 16);
     let counters = assign(alloc, wanted.totals(), profile)?;
-    Ok(Plan::of(counters, wanted.into_parts()))
+    Ok(Plan::in_order(alloc, counters, wanted.into_parts())?)
 }

@@ -1,6 +1,5 @@
 -- In a card cycle what lines send to the line of a card arrives at its wheels.
 use Rattle.std.proofs.Common.{◌≡◌, ◌≢◌, ◌∙◌, refl, sym, ap, subst, ℕ, ◌+◌, ◌-◌, ◌<◌, ◌≤◌, ◌==◌, ◌&&◌, Bool, true, false, List, Contains, Option, Some, None, is_some, length, map, slice_get, option_map, inl, inr, ◌⊎◌, arith}
-use Rattle.std.proofs.lemmas.Bool.{cases_lt}
 use Rattle.std.proofs.lemmas.Bool.Decides.{nat_tests}
 use Rattle.std.proofs.lemmas.Option.{slice_get_within}
 use Rattle.std.proofs.lemmas.List.{length-map}
@@ -70,25 +69,6 @@ use Rattle.wired_panels.specs.Below.wanted.Pilots.{shows}
 emits-four : (cycle : Cycle) → cycle ≡ Card → emitter_of cycle ≡ Some 4
 emits-four cycle is = ap emitter_of is
 
--- the parts that a plan takes are parts of the machine
-pub at-most : (last n m : ℕ) → ¬ (last < n) → m ≡ n → m ≤ last
-at-most last n m few is = by (cases_lt last n)
-  where
-    by : (last < n) ⊎ (n ≤ last) → m ≤ last
-    by (inl more) = absurd (few more)
-    by (inr less) = omega (arith, is, less)
-
-pilots-few : (lines : List Line) (plan : Lists) → IsFor lines plan → length plan.parts.pilots ≤ 16
-pilots-few lines plan planned = at-most 16 _ (length plan.parts.pilots) planned.pilots (ap (λ parts. length parts.pilots) planned.parts)
-
-indicate-few : (lines : List Line) (plan : Lists) (level : ControlLevel) → IsFor lines plan → length (indicate_at plan.parts level) ≤ 30
-indicate-few lines plan control.Minor planned =
-    at-most 30 _ (length plan.parts.minor) planned.minor (ap (λ parts. length parts.minor) planned.parts)
-indicate-few lines plan control.Intermediate planned =
-    at-most 30 _ (length plan.parts.intermediate) planned.intermediate (ap (λ parts. length parts.intermediate) planned.parts)
-indicate-few lines plan control.Major planned =
-    at-most 30 _ (length plan.parts.major) planned.major (ap (λ parts. length parts.major) planned.parts)
-
 pub mark-few : (its : Mark) (k row : ℕ) → HasPunchAt (mark_text its) k row → k ≤ 1
 mark-few mark.Credit k row punch = let e = slice_get_within (mark_text mark.Credit) k punch.character punch.there in omega (arith, e)
 mark-few mark.Minus k row punch = let e = slice_get_within (mark_text mark.Minus) k punch.character punch.there in omega (arith, e)
@@ -119,10 +99,9 @@ module _ (wiring : Wiring) (card : List ℕ) (opens : ℕ) (at : CycleRow) (row 
       let good = good-field at.chart row.on_panel.panel.lawful name field is.named in
       let planned = row.on_panel.panel.planned in
       let served = indicate-given at.chart.lines at.plan planned line level wheel name field j there says_it is.named within in
-      let few = indicate-few at.chart.lines at.plan level planned in
       let from = served.from in
       let to = served.to in
-      let x_within : is_within served.n 30 ≡ true = grind (arith, nat_tests, from, to, few) in
+      let x_within : is_within served.n 30 ≡ true = grind (arith, nat_tests, from, to) in
       along_contact wiring at row.on_panel row.rises line there says_it (indicated_text_in wheel name level field j served.n is within served.is)
       (second (field.first + j) row.cycle
       (has-read wiring card opens at row (field.first + j) (omega (arith, good.card.from)) (omega (arith, within, good.card.to, good.card.order)) punched)) refl
@@ -161,11 +140,9 @@ module _ (wiring : Wiring) (card : List ℕ) (opens : ℕ) (at : CycleRow) (row 
           let inside : is_inside field (Some (field.last + 1 - position)) ≡ true = grind (arith, nat_tests, from, to, g.card.order) in
           let served = split-given at.chart.lines at.plan planned line wheel name how field there says_it is.named
           (ap (is_inside field) signed ∙ inside) in
-          let few : length at.plan.parts.splits ≤ 16
-          = at-most 16 _ (length at.plan.parts.splits) planned.splits (ap (λ parts. length parts.splits) planned.parts) in
           let lowest = served.from in
           let highest = served.to in
-          let within : is_within served.n 16 ≡ true = grind (arith, nat_tests, lowest, highest, few) in
+          let within : is_within served.n 16 ≡ true = grind (arith, nat_tests, lowest, highest) in
           along_contact wiring at row.on_panel row.rises line there says_it
           (split_digit_in wheel name how field position served.n is from to signed served.is)
           (second (field.last + 1 - position) row.cycle read) refl
@@ -220,10 +197,9 @@ module _ (wiring : Wiring) (card : List ℕ) (opens : ℕ) (at : CycleRow) (row 
       let served = pilot-given at.chart.lines at.plan planned line name field there (ap (shows name) says_it ∙ is_same_name-own name) is.named ruled.signed in
       let signed : IsSigned at.chart.lines name ruled.rule = record { field = field; named = is.named; ruled = ruled.is } in
       let own : its ≡ mark = cc in
-      let few = pilots-few at.chart.lines at.plan planned in
       let lowest = served.from in
       let highest = served.to in
-      let within : is_within served.n 16 ≡ true = grind (arith, nat_tests, lowest, highest, few) in
+      let within : is_within served.n 16 ≡ true = grind (arith, nat_tests, lowest, highest) in
       let its_punch : HasPunchAt (mark_text mark) k (row_number at.row) = subst (λ m. HasPunchAt (mark_text m) k (row_number at.row)) own punch in
       along_contact wiring at row.on_panel row.rises line there says_it
       (detail_mark_in wheel name mark ruled.rule served.n k (row_number at.row) signed served.is its_punch)

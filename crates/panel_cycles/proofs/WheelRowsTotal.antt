@@ -169,7 +169,7 @@ module _ (wiring : Wiring) (its : ProgramLevel) (held : List ℕ → Printed) (c
       → unit_for at.plan line.number ≡ Some unit → at.pictures C (SO unit) ≡ true → chart_number level ≡ level_number its
   unit-level line level wheel name unit listed says_it served out =
       let u = text-read wiring at row.on_panel its row.cycle unit out in
-      let n = parts.unit-own at.plan u.line.number line.number unit u.served served in
+      let n = parts.unit-own at.chart.lines at.plan row.on_panel.panel.planned u.line.number line.number unit u.served served in
       let e = one-line u.line line u.listed listed n in
       by u.level u.wheel u.name (sym u.is_text ∙ ap (λ l. l.statement) e ∙ says_it) (emits_third u.printed refl refl)
     where

@@ -64,7 +64,7 @@ use Rattle.printed_lines.proofs.Below.wiring_table.Totals.{total-of}
 use Rattle.wired_panels.proofs.SpeakersLawful.{kept-at}
 use Rattle.panel_cycles.proofs.WheelRows.IsLineOf.{total as its_total}
 use Rattle.panel_cycles.proofs.WheelRows.{IsLineOf, SendsRow, stands_on, sent_on}
-use Rattle.panel_cycles.proofs.WheelRowsCardLine.{at-most, mark-few}
+use Rattle.panel_cycles.proofs.WheelRowsCardLine.{mark-few}
 use Rattle.panel_cycles.proofs.WheelRowsField.{both-of}
 use Rattle.panel_cycles.proofs.WheelRowsFigure.FigureSends.{digit as figure_digit, point as figure_point, marked as figure_marked}
 use Rattle.panel_cycles.proofs.WheelRowsFigure.{FigureSends, amount_shown, figure-of, length-sets}
@@ -218,11 +218,9 @@ module _ (wiring : Wiring) (its : ProgramLevel) (held : List ℕ → Printed) (c
   text-arrives line place level wheel name field j listed there says_it is same within punched =
       let planned = row.on_panel.panel.planned in
       let served = unit-given at.chart.lines at.plan planned line level wheel name there says_it in
-      let few : length at.plan.parts.storage ≤ 4
-      = at-most 4 _ (length at.plan.parts.storage) planned.storage_units (ap (λ parts. length parts.storage) planned.parts) in
       let from = served.from in
       let to = served.to in
-      let to_four : served.n ≤ 4 = omega (arith, to, few) in
+      let to_four : served.n ≤ 4 = omega (arith, to) in
       let placed = unit-place at.old row.on_panel.between served.n from to_four in
       let out : at.pictures C (SO served.n) ≡ true = reads-text wiring at row.on_panel its row.cycle served.n (record {
         line = line;

@@ -6,3 +6,4 @@ mod Unique
 mod Whole
 mod Found
 mod Steps
+mod Planned

@@ -35,3 +35,9 @@ none-of None has = refl
 pub if-ok : {T E : Type 0} (r : Result T E) (P Q : T → Type 0) → ((x : T) → P x → Q x) → IfOk r P → IfOk r Q
 if-ok (Ok x) P Q f p = f x p
 if-ok (Err e) P Q f p = tt
+
+-- what follows from three things that hold where a call gave no error
+pub if-all-ok : {T E : Type 0} (r : Result T E) (P Q R S : T → Type 0) → ((x : T) → P x → Q x → R x → S x) → IfOk r P → IfOk r Q → IfOk r R
+    → IfOk r S
+if-all-ok (Ok x) P Q R S f p q r = f x p q r
+if-all-ok (Err e) P Q R S f p q r = tt

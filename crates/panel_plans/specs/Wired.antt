@@ -6,6 +6,7 @@ use Rattle.charts.specs.declared.level.Level.{Level}
 use Rattle.charts.specs.declared.statement.Field.{Field}
 use Rattle.charts.specs.declared.statement.Mark.{Mark}
 use Rattle.charts.specs.declared.statement.Statement.TheVariants as says
+use Rattle.plans.specs.PartNumbers.{first_numbers}
 use Rattle.plans.specs.Plans.{IsFor, Lists}
 use Rattle.plans.specs.declared.counter.TotalCounter.{TotalCounter}
 use Rattle.setups.specs.Wiring.{Wiring}
@@ -19,6 +20,16 @@ use Rattle.wiring_table.specs.WiredFor.{WiredFor}
 pub record IsWiredBy (lines : List Line) (setup : Wiring) (plan : Lists) : Type 0 where
   pub planned : IsFor lines plan
   pub wired : WiredFor lines plan setup
+
+-- A plan takes the parts other than the counters in order: of each kind the parts 1, 2 and so on.
+pub record TakesOthersInOrder (plan : Lists) : Type 0 where
+  pub pilots : plan.numbers.pilots ≡ first_numbers plan.parts.pilots
+  pub comparing : plan.numbers.comparing ≡ first_numbers plan.parts.comparing
+  pub storage : plan.numbers.storage ≡ first_numbers plan.parts.storage
+  pub splits : plan.numbers.splits ≡ first_numbers plan.parts.splits
+  pub minor : plan.numbers.minor ≡ first_numbers plan.parts.minor
+  pub intermediate : plan.numbers.intermediate ≡ first_numbers plan.parts.intermediate
+  pub major : plan.numbers.major ≡ first_numbers plan.parts.major
 
 -- a line of a chart is a total of an amount
 pub record TotalOn (lines : List Line) (line : Line) : Type 0 where

@@ -1,8 +1,9 @@
 //! The plan that a setup shows.
 
 ghost use Rattle.std.specs.Prelude.{◌≡◌, IfOk, ◌∷◌};
-ghost use Rattle.panel_plans.specs.Wired.{IsWiredBy};
-ghost use Rattle.plans.specs.Plans.{IsFor, Lists};
+ghost use Rattle.panel_plans.specs.Wired.{IsWiredBy, TakesOthersInOrder};
+ghost use Rattle.plans.specs.PartNumbers.{in_order};
+ghost use Rattle.plans.specs.Plans.{IsFor, IsWithinMachine, Lists};
 ghost use Rattle.std.specs.Option.{IsSomeAnd};
 ghost use Rattle.wanted.specs.Wanted.{parts_of};
 
@@ -82,7 +83,7 @@ fn all_counters(
     Ok(Some(counters))
 }
 
-// The plan of a chart with these counters, and with the other parts that every plan of it has.
+// The plan of a chart with these counters, in which the other parts serve in order what every plan of it has them serve.
 fn with_counters(
     alloc: Global,
     chart: &Chart,
@@ -92,24 +93,26 @@ fn with_counters(
     requires { IsFor chart.now.lines own.now }
     ensures counters { IfOk result (λ plan. plan.counters ≡ counters.items) }
     ensures parts { IfOk result (λ plan. plan.parts ≡ own.now.parts) }
+    ensures numbers { IfOk result (λ plan. plan.numbers ≡ in_order own.now.parts) }
+    ensures within { IsWithinMachine own.now.parts }
 {
     // What is known of the parts of every plan is told with them.
     let _pilots = own.pilots();
     let wanted = Wanted::of(alloc, chart)?;
-    Ok(Plan::of(counters, wanted.into_parts()))
+    Plan::in_order(alloc, counters, wanted.into_parts())
 }
 
-// A plan of a chart once more.
+// A plan of a chart with the counters of another.
 fn again(alloc: Global, chart: &Chart, own: &Plan) -> Result<Plan, AllocError>
     requires { IsFor chart.now.lines own.now }
-    ensures { IfOk result (λ plan. plan ≡ own.now) }
+    ensures { IfOk result (IsFor chart.now.lines) }
 {
     let mut counters = Vec::new(alloc);
     counters.extend_from_slice(own.counters())?;
     with_counters(alloc, chart, own, counters)
 }
 
-// The plan of a chart with these counters, where it is one; else the one that is given.
+// The plan of a chart with these counters, where it is one; else one with the counters of the one that is given.
 fn planned(
     alloc: Global,
     chart: &Chart,
@@ -118,7 +121,8 @@ fn planned(
 ) -> Result<Plan, AllocError>
     requires { IsFor chart.now.lines own.now }
     ensures planned { IfOk result (IsFor chart.now.lines) }
-    ensures kept { IfOk result (λ plan. (its : Lists) → IsFor chart.now.lines its → counters.items ≡ its.counters → plan ≡ its) }
+    ensures kept { IfOk result (λ plan. (its : Lists) → IsFor chart.now.lines its → TakesOthersInOrder its → counters.items ≡ its.counters
+        → plan ≡ its) }
 {
     let plan = with_counters(alloc, chart, own, counters)?;
     if plan.is_for(chart) {
@@ -141,8 +145,9 @@ fn near_plan(alloc: Global, chart: &Chart, own: &Plan, setup: &Setup) -> Result<
     }
 }
 
-/// The plan of a chart that the wires of a setup show. Where they show none, one that is near: what shows no counter of its own has a
-/// free one, and where that is no plan of the chart, it is a plan of it that is given. Its only refusal is memory.
+/// The plan of a chart that the wires of a setup show, of those that take the parts other than the counters in order. Where they show
+/// none, one that is near: what shows no counter of its own has a free one, and where that is no plan of the chart, it has the counters
+/// of a plan of it that is given. Its only refusal is memory.
 pub fn read_plan(
     alloc: Global,
     chart: &Chart,
@@ -151,7 +156,7 @@ pub fn read_plan(
 ) -> Result<Plan, AllocError>
     requires { IsFor chart.now.lines own.now }
     ensures planned { IfOk result (IsFor chart.now.lines) }
-    ensures found { IfOk result (λ plan. (its : Lists) → IsWiredBy chart.now.lines setup.now its → plan ≡ its) }
+    ensures found { IfOk result (λ plan. (its : Lists) → IsWiredBy chart.now.lines setup.now its → TakesOthersInOrder its → plan ≡ its) }
 {
     match shown_counters(alloc, chart, setup)? {
         Some(counters) => planned(alloc, chart, own, counters),

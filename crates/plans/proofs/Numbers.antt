@@ -1,49 +1,162 @@
--- The number that a list gives by a test: that of the first element that passes, from 1.
-use Rattle.std.proofs.Common.{◌≡◌, ◌∙◌, refl, sym, ap, subst, ℕ, ◌+◌, ◌-◌, ◌≤◌, Bool, true, List, length, Option, Some, None, slice_get, position, option_map, arith}
-use Rattle.std.specs.List.{Contains}
+-- The number of the part that serves a thing, by a test of what is served.
+use Rattle.std.proofs.Common.{◌≡◌, ◌∙◌, ◌⊎◌, inl, inr, refl, sym, ap, subst, ℕ, zero, suc, ◌+◌, ◌≤◌, ◌<◌, Bool, true, List, [], ◌∷◌, ◌++◌, length, take, Option, Some, None, get_or, slice_get, position, arith}
+use Rattle.std.proofs.lemmas.Bool.{cases_lt}
+use Rattle.std.proofs.lemmas.List.{get_or-take, length-take-le}
+use Rattle.std.specs.List.{Contains, range_with_len}
+use Rattle.std.specs.Option.{option_and_then}
+use Rattle.std.proofs.lemmas.List.FromFn.{get_or-range_with_len, length-range_with_len}
+use Rattle.std.proofs.lemmas.Option.{get_or_from_slice_get, slice_get-get_or, slice_get_within}
 use Rattle.charts.proofs.Listed.{StandsAt, position-stands, position-passing, position-within}
-use Rattle.plans.specs.Plans.{number_where}
+use Rattle.plans.specs.PartNumbers.{AreApart, AreNumbers, AreNumbersOf, AreThere, in_order, number_for}
+use Rattle.plans.specs.Plans.{IsWithinMachine}
+use Rattle.wanted.specs.Wanted.{Parts}
 
--- A number of a list, from 1.
+-- A number of a part, from 1.
 pub record HasNumber (given : Option ℕ) (last : ℕ) : Type 0 where
   pub n : ℕ
   pub is : given ≡ Some n
   pub from : 1 ≤ n
   pub to : n ≤ last
 
--- a number is 1 to the length of its list, and what stands there passes
-pub number-stands : {X : Type 0} (test : X → Bool) (list : List X) (n : ℕ) → number_where test list ≡ Some n
-    → StandsAt test list (n - 1) × (1 ≤ n) × (n ≤ length list)
-number-stands test list n is = by (position test list) refl is
-  where
-    by : (o : Option ℕ) → position test list ≡ o → option_map (λ place. place + 1) o ≡ Some n
-        → StandsAt test list (n - 1) × (1 ≤ n) × (n ≤ length list)
-    by None found same = cc
-    by (Some place) found same =
-        let next : place + 1 ≡ n = cc in
-        let before : place ≡ n - 1 = omega (arith, next) in
-        let within = position-within test list place (sym found) in (
-          subst (λ k. StandsAt test list k) before (position-stands test list place found),
-          omega (arith, next),
-          omega (arith, next, within),
-        )
+-- where what a number serves stands
+pub record Serving {X : Type 0} (test : X → Bool) (list : List X) (numbers : List ℕ) (n : ℕ) : Type 0 where
+  pub place : ℕ
+  pub at : position test list ≡ Some place
+  pub given : slice_get numbers place ≡ Some n
+  pub stands : StandsAt test list place
 
--- what stands at a number passes both tests that give it
-pub both-stand : {X : Type 0} (one other : X → Bool) (list : List X) (n : ℕ) → number_where one list ≡ Some n
-    → number_where other list ≡ Some n → (x : X) × (one x ≡ true) × (other x ≡ true)
-both-stand one other list n is is_other =
-    let a = (number-stands one list n is).0 in
-    let b = (number-stands other list n is_other).0 in
-    let same : b.element ≡ a.element = by a.there b.there in
-    (a.element, a.passes, sym (ap other same) ∙ b.passes)
+pub number-serves : {X : Type 0} (test : X → Bool) (list : List X) (numbers : List ℕ) (n : ℕ) → number_for test list numbers ≡ Some n
+    → Serving test list numbers n
+number-serves test list numbers n is = by (position test list) refl is
   where
-    by : {x y : _} → slice_get list (n - 1) ≡ Some x → slice_get list (n - 1) ≡ Some y → y ≡ x
+    by : (o : Option ℕ) → position test list ≡ o → option_and_then (slice_get numbers) o ≡ Some n → Serving test list numbers n
+    by None found same = cc
+    by (Some place) found same = record { place = place; at = found; given = same; stands = position-stands test list place found }
+
+-- a number is that of a part of the machine
+pub number-there : {X : Type 0} (test : X → Bool) (list : List X) (numbers : List ℕ) (last things n : ℕ) → AreNumbers last things numbers
+    → number_for test list numbers ≡ Some n → (1 ≤ n) × (n ≤ last)
+number-there test list numbers last things n are is =
+    let serving = number-serves test list numbers n is in
+    are.there serving.place n serving.given
+
+-- what a number serves passes both tests that give it
+pub both-stand : {X : Type 0} (one other : X → Bool) (list : List X) (numbers : List ℕ) (last things n : ℕ) → AreNumbers last things numbers
+    → number_for one list numbers ≡ Some n → number_for other list numbers ≡ Some n → (x : X) × (one x ≡ true) × (other x ≡ true)
+both-stand {X} one other list numbers last things n are is is_other =
+    let a = number-serves one list numbers n is in
+    let b = number-serves other list numbers n is_other in
+    let places : b.place ≡ a.place = are.own b.place a.place n b.given a.given in
+    let same : b.stands.element ≡ a.stands.element
+    = by (sym (ap (slice_get list) places) ∙ b.stands.there) a.stands.there in
+    (a.stands.element, a.stands.passes, sym (ap other same) ∙ b.stands.passes)
+  where
+    by : {o : Option X} {x y : X} → o ≡ Some x → o ≡ Some y → x ≡ y
     by p q = cc
 
--- where an element passes, there is a number
-pub number-given : {X : Type 0} (test : X → Bool) (list : List X) (x : X) → Contains list x → test x ≡ true
-    → HasNumber (number_where test list) (length list)
-number-given test list x there passes =
+-- where a thing passes, there is a number
+pub number-given : {X : Type 0} (test : X → Bool) (list : List X) (numbers : List ℕ) (last : ℕ) (x : X) → AreNumbers last (length list) numbers
+    → Contains list x → test x ≡ true → HasNumber (number_for test list numbers) last
+number-given test list numbers last x are there passes =
     let (place, at) = position-passing test list x there passes in
     let within = position-within test list place (sym at) in
-    record { n = place + 1; is = ap (option_map (λ k. k + 1)) at; from = omega arith; to = omega (arith, within) }
+    let few : place < length numbers = omega (arith, within, are.many) in
+    let n = get_or numbers place 0 in
+    let given : slice_get numbers place ≡ Some n = slice_get-get_or numbers place 0 few in
+    let range = are.there place n given in
+    record { n = n; is = ap (option_and_then (slice_get numbers)) at ∙ given; from = range.0; to = range.1 }
+
+-- one number more
+pub first-more : (from many : ℕ) → range_with_len from (many + 1) ≡ range_with_len from many ++ (from + many) ∷ []
+first-more from many =
+    let next : suc many ≡ many + 1 = omega arith in
+    subst (λ n. range_with_len from n ≡ range_with_len from many ++ (from + many) ∷ []) next (by from many)
+  where
+    by : (a n : ℕ) → range_with_len a (suc n) ≡ range_with_len a n ++ (a + n) ∷ []
+    by a zero = let same : a ≡ a + 0 = omega arith in ap (λ k. k ∷ []) same
+    by a (suc n) =
+        let same : (a + 1) + n ≡ a + suc n = omega arith in
+        ap (λ xs. a ∷ xs) (by (a + 1) n ∙ ap (λ k. range_with_len (a + 1) n ++ k ∷ []) same)
+
+-- of the first numbers none is told twice
+pub record AreApartBelow (numbers : List ℕ) (count : ℕ) : Type 0 where
+  pub apart : (one other number : ℕ) → one < count → other < count → slice_get numbers one ≡ Some number
+      → slice_get numbers other ≡ Some number → one ≡ other
+
+-- a number before a place is one of those before it
+before : (numbers : List ℕ) (place one number : ℕ) → one < place → place ≤ length numbers → slice_get numbers one ≡ Some number
+    → Contains (take place numbers) number
+before numbers place one number less within at = (
+  one,
+  omega (arith, less, length-take-le place numbers within),
+  get_or-take place numbers one number less ∙ get_or_from_slice_get numbers one number number at,
+)
+
+-- one number more that is none of those before
+pub apart-more : (numbers : List ℕ) (place number : ℕ) → place < length numbers → slice_get numbers place ≡ Some number
+    → ¬ Contains (take place numbers) number → AreApartBelow numbers place → AreApartBelow numbers (place + 1)
+apart-more numbers place number within at new below = record {
+  apart = λ one other each less less_too here there. by one other each (cases_lt one place) (cases_lt other place) less less_too here there;
+}
+  where
+    by : (one other each : ℕ) → (one < place) ⊎ (place ≤ one) → (other < place) ⊎ (place ≤ other) → one < place + 1 → other < place + 1
+        → slice_get numbers one ≡ Some each → slice_get numbers other ≡ Some each → one ≡ other
+    by one other each (inl a) (inl b) less less_too here there = below.apart one other each a b here there
+    by one other each (inr a) (inr b) less less_too here there = omega (arith, a, b, less, less_too)
+    by one other each (inl a) (inr b) less less_too here there =
+        let same : other ≡ place = omega (arith, b, less_too) in
+        let is : each ≡ number = let e : Some each ≡ Some number = sym there ∙ ap (slice_get numbers) same ∙ at in cc in
+        absurd (new (before numbers place one number a (omega (arith, within)) (here ∙ ap Some is)))
+    by one other each (inr a) (inl b) less less_too here there =
+        let same : one ≡ place = omega (arith, a, less) in
+        let is : each ≡ number = let e : Some each ≡ Some number = sym here ∙ ap (slice_get numbers) same ∙ at in cc in
+        absurd (new (before numbers place other number b (omega (arith, within)) (there ∙ ap Some is)))
+
+-- all of them
+pub apart-all : (numbers : List ℕ) (count : ℕ) → length numbers ≤ count → AreApartBelow numbers count → AreApart numbers
+apart-all numbers count past below one other number here there =
+    below.apart one other number (omega (arith, past, slice_get_within numbers one number here))
+    (omega (arith, past, slice_get_within numbers other number there)) here there
+
+-- not where one is among those before it
+pub not-apart : (numbers : List ℕ) (place number : ℕ) → place < length numbers → slice_get numbers place ≡ Some number
+    → Contains (take place numbers) number → ¬ AreApart numbers
+not-apart numbers place number within at (k, less, is) apart =
+    let short = length-take-le place numbers (omega (arith, within)) in
+    let lower : k < place = omega (arith, less, short) in
+    let here : slice_get numbers k ≡ Some number =
+    slice_get-get_or numbers k number (omega (arith, lower, within)) ∙ ap Some (sym (get_or-take place numbers k number lower) ∙ is) in
+    let same = apart k place number here at in
+    omega (arith, same, lower)
+
+-- the parts 1, 2 and so on serve as many things, where there are no more things than parts
+pub first-numbers : (last things : ℕ) → things ≤ last → AreNumbers last things (range_with_len 1 things)
+first-numbers last things few = record {
+  many = length-range_with_len 1 things;
+  there = λ place number at.
+      let within = slice_get_within (range_with_len 1 things) place number at in
+      let is = value place number at in
+      (omega (arith, is), omega (arith, is, within, few, length-range_with_len 1 things));
+  own = λ one other number at at_other.
+      let is = value one number at in
+      let also = value other number at_other in
+      omega (arith, is, also);
+}
+  where
+    value : (place number : ℕ) → slice_get (range_with_len 1 things) place ≡ Some number → number ≡ 1 + place
+    value place number at =
+        let within = slice_get_within (range_with_len 1 things) place number at in
+        sym (get_or_from_slice_get (range_with_len 1 things) place number 0 at)
+        ∙ get_or-range_with_len 1 things place 0 (omega (arith, within, length-range_with_len 1 things))
+
+-- and so in each list of what a chart asks for
+pub in-order : (parts : Parts) → IsWithinMachine parts → AreNumbersOf parts (in_order parts)
+in-order parts within = record {
+  pilots = first-numbers 16 (length parts.pilots) within.pilots;
+  comparing = first-numbers 30 (length parts.comparing) within.comparing;
+  storage = first-numbers 4 (length parts.storage) within.storage;
+  splits = first-numbers 16 (length parts.splits) within.splits;
+  minor = first-numbers 30 (length parts.minor) within.minor;
+  intermediate = first-numbers 30 (length parts.intermediate) within.intermediate;
+  major = first-numbers 30 (length parts.major) within.major;
+}

@@ -1,5 +1,5 @@
 -- Plans: which counter, pilot, comparing position, storage unit, split and indicate position serves what of a chart.
-use Rattle.std.specs.Prelude.{◌≡◌, ℕ, ◌+◌, ◌≤◌, ◌==◌, Bool, List, Option, length, position, option_map, option_and_then, slice_get}
+use Rattle.std.specs.Prelude.{◌≡◌, ℕ, ◌≤◌, ◌==◌, List, Option, length, position, option_and_then, slice_get}
 use Rattle.charts.specs.declared.chart.Line.{Line}
 use Rattle.charts.specs.declared.level.ControlLevel.TheVariants as control
 use Rattle.capacity.specs.Capacities.{standard}
@@ -7,20 +7,24 @@ use Rattle.wanted.specs.declared.total.Total.{Total}
 use Rattle.wanted.specs.declared.count.Capacity.TheVariants as of
 use Rattle.plans.specs.Excess.{IsOver}
 use Rattle.plans.specs.Assignments.{IsAssignment}
+use Rattle.plans.specs.PartNumbers.{AreNumbersOf, PartNumbers}
 use Rattle.plans.specs.declared.counter.TotalCounter.{TotalCounter}
 use Rattle.wanted.specs.Wanted.{Parts, Wanted, wanted_of}
 
--- a counter for each TOTAL amount, in the order of their lines, and what the other parts serve
+-- a counter for each TOTAL amount, in the order of their lines; what the other parts serve, each list in the order in which the chart
+-- asks for it; and the numbers of the parts that serve it
 pub record Lists : Type 0 where
   pub counters : List TotalCounter
   pub parts : Parts
+  pub numbers : PartNumbers
 
 -- A plan serves what is wanted: each total has a counter of its own of the standard machine that is enough for it, and there are as
--- many counters as totals; the other parts serve what is wanted of them; and but for the counter groups no capacity of the
--- standard machine is exceeded.
+-- many counters as totals; the other parts serve what is wanted of them, each thing by a part of its own of the standard machine,
+-- whichever that is; and but for the counter groups no capacity of the standard machine is exceeded.
 pub record Serves (wanted : Wanted) (plan : Lists) : Type 0 where
   pub counters : IsAssignment wanted.totals standard plan.counters
   pub parts : plan.parts ≡ wanted.parts
+  pub numbers : AreNumbersOf plan.parts plan.numbers
   pub pilots : ¬ IsOver of.Pilots wanted standard
   pub comparing : ¬ IsOver of.Comparing wanted standard
   pub storage_width : ¬ IsOver of.StorageWidth wanted standard
@@ -34,7 +38,7 @@ pub record Serves (wanted : Wanted) (plan : Lists) : Type 0 where
 abbrev pub IsFor : List Line → Lists → Type 0
 IsFor lines plan = Serves (wanted_of lines) plan
 
--- no list is longer than the standard machine has parts
+-- no more is served than the standard machine has parts
 pub record IsWithinMachine (parts : Parts) : Type 0 where
   pub pilots : length parts.pilots ≤ 16
   pub comparing : length parts.comparing ≤ 30
@@ -43,10 +47,6 @@ pub record IsWithinMachine (parts : Parts) : Type 0 where
   pub minor : length parts.minor ≤ 30
   pub intermediate : length parts.intermediate ≤ 30
   pub major : length parts.major ≤ 30
-
--- the number of the first of a list that passes a test, from 1
-abbrev pub number_where : {X : Type 0} → (X → Bool) → List X → Option ℕ
-number_where test list = option_map (λ place. place + 1) (position test list)
 
 -- the counter of the total on a line: the one that stands where that total stands among the totals
 abbrev pub counter_on : List Total → List TotalCounter → ℕ → Option TotalCounter

@@ -1,6 +1,6 @@
-//! Where something stands in a list, and the number that it has there.
+//! Where something stands in a list, and the number of the part that serves it.
 
-ghost use Rattle.std.specs.Prelude.{◌≡◌, ◌==◌, ◌+◌, ◌<◌, IfSome, length, position, option_map};
+ghost use Rattle.std.specs.Prelude.{◌≡◌, ◌==◌, ◌<◌, IfSome, length, position, slice_get, option_and_then};
 ghost use Rattle.charts.specs.Name.{is_same_name};
 ghost use Rattle.wanted.specs.Positions.{is_same_position};
 
@@ -31,13 +31,9 @@ pub(crate) fn place_of_position(list: &[Position], at: Position) -> Option<usize
     list.iter().position(|each| each.is(at))
 }
 
-/// The number of what stands at a place, from 1.
-pub(crate) fn number_at(place: Option<usize>) -> Option<u8>
-    requires { IfSome place (λ at. at < 255) }
-    ensures { result ≡ option_map (λ at. at + 1) place }
+/// The number at a place, where there is one.
+pub(crate) fn number_at(numbers: &[u8], place: Option<usize>) -> Option<u8>
+    ensures { result ≡ option_and_then (slice_get numbers.now) place }
 {
-    match place {
-        Some(at) => Some(at as u8 + 1),
-        None => None,
-    }
+    numbers.get(place?).copied()
 }

@@ -2,20 +2,23 @@
 
 use crate::assignment::has_assignment;
 use crate::counter::TotalCounter;
+use crate::part_numbers::PartNumbers;
 use crate::places::{number_at, place_of_line, place_of_name, place_of_position};
 use chart_rules::Chart;
 use charts::{ControlLevel, Name};
+use std::alloc::{AllocError, Global};
 use std::marker::Model;
 use wanted::{Parts, Position, has_narrow_texts, total_place};
 
 /// Which counter, pilot, comparing position, storage unit, column split and indicate position serves what of a chart.
 ///
-/// Contracts see a counter for each TOTAL amount, in the order of their lines, and what the other parts serve, in
-/// the order of their numbers, from 1. No list of these is longer than the standard machine has parts.
+/// Contracts see a counter for each TOTAL amount, in the order of their lines; what the other parts serve, in the order in which the
+/// chart asks for it; and the numbers of the parts that serve it. No list of these is longer than the standard machine has parts.
 #[derive(Drop)]
 pub struct Plan {
     counters: Vec<TotalCounter>,
     parts: Parts,
+    numbers: PartNumbers,
 }
 
 impl Model for Plan {
@@ -23,38 +26,60 @@ impl Model for Plan {
 
     ghost Value = { Lists };
 
-    ghost view = { λ plan. record { counters = plan.counters.items; parts = plan.parts } };
+    ghost view = { λ plan. record { counters = plan.counters.items; parts = plan.parts; numbers = plan.numbers } };
 
     ghost invariant = { λ plan. IsWithinMachine plan.parts };
 }
 
 impl Plan {
-    ghost use Rattle.std.specs.Prelude.{◌≡◌, ◌↔◌, ◌≤◌, ◌==◌, IsTrue, IfSome};
+    ghost use Rattle.std.specs.Prelude.{◌≡◌, ◌↔◌, ◌≤◌, ◌==◌, IsTrue, IfOk, IfSome};
     ghost use Rattle.charts.specs.Name.{is_same_name};
     ghost use Rattle.wanted.specs.ChartTotals.{totals_of};
     ghost use Rattle.wanted.specs.Wanted.{indicate_at};
-    ghost use Rattle.plans.specs.Plans.{IsFor, IsWithinMachine, number_where, counter_on};
+    ghost use Rattle.plans.specs.PartNumbers.{in_order, number_for, numbers_at};
+    ghost use Rattle.plans.specs.Plans.{IsFor, IsWithinMachine, counter_on};
     ghost use Rattle.wanted.specs.Positions.{is_same_position};
 
-    /// The plan of these counters and other parts.
-    pub fn of(counters: Vec<TotalCounter>, parts: Parts) -> Plan
+    /// The plan of these counters, and of other parts with these numbers.
+    pub fn of(counters: Vec<TotalCounter>, parts: Parts, numbers: PartNumbers) -> Plan
         requires { IsWithinMachine parts }
         ensures counters { result.counters ≡ counters.items }
         ensures parts { result.parts ≡ parts }
+        ensures numbers { result.numbers ≡ numbers }
     {
-        Plan { counters, parts }
+        Plan {
+            counters,
+            parts,
+            numbers,
+        }
+    }
+
+    /// The plan of these counters, in which the parts 1, 2 and so on of each other kind serve what is asked of it, in its order.
+    pub fn in_order(
+        alloc: Global,
+        counters: Vec<TotalCounter>,
+        parts: Parts,
+    ) -> Result<Plan, AllocError>
+        requires { IsWithinMachine parts }
+        ensures counters { IfOk result (λ plan. plan.counters ≡ counters.items) }
+        ensures parts { IfOk result (λ plan. plan.parts ≡ parts) }
+        ensures numbers { IfOk result (λ plan. plan.numbers ≡ in_order parts) }
+    {
+        let numbers = PartNumbers::in_order(alloc, &parts)?;
+        Ok(Plan::of(counters, parts, numbers))
     }
 
     /// Whether this is a plan of the chart: each total has a counter of its own of the standard machine that is enough for
-    /// it, and there are no more counters; the other parts serve what the chart asks for, by their numbers; and it asks for
-    /// no more of them than the standard machine has.
+    /// it, and there are no more counters; the other parts serve what the chart asks for, each thing by a part of its own;
+    /// and it asks for no more of them than the standard machine has.
     pub fn is_for(&self, chart: &Chart) -> bool
         ensures { IsTrue result ↔ IsFor chart.now.lines self.now }
     {
         let has_counters = has_assignment(self.counters(), chart);
         let has_parts = self.parts.are_for(chart);
+        let has_numbers = self.numbers.are_for(&self.parts);
         let has_width = has_narrow_texts(chart);
-        has_counters && has_parts && has_width
+        has_counters && has_parts && has_numbers && has_width
     }
 
     /// The counters, one for each TOTAL amount of the chart, in the order of their lines.
@@ -64,7 +89,14 @@ impl Plan {
         self.counters.as_slice()
     }
 
-    /// The names of the amounts that the pilots serve, in the order of their numbers.
+    /// The numbers of the parts other than the counters.
+    pub fn numbers(&self) -> &PartNumbers
+        ensures { result.now ≡ self.now.numbers }
+    {
+        &self.numbers
+    }
+
+    /// The names of the amounts that the pilots serve, in the order of their FIELD lines.
     pub fn pilots(&self) -> &[Name]
         ensures value { result.now ≡ self.now.parts.pilots }
         ensures within { IsWithinMachine self.now.parts }
@@ -72,7 +104,7 @@ impl Plan {
         self.parts.pilots()
     }
 
-    /// What the comparing positions serve, in the order of their numbers.
+    /// What the comparing positions serve, in the order of the lines that ask for them.
     pub fn comparing(&self) -> &[Position]
         ensures value { result.now ≡ self.now.parts.comparing }
         ensures within { IsWithinMachine self.now.parts }
@@ -80,7 +112,7 @@ impl Plan {
         self.parts.comparing()
     }
 
-    /// The lines of the total texts that the storage units serve, in the order of their numbers.
+    /// The lines of the total texts that the storage units serve, in their order.
     pub fn storage(&self) -> &[u16]
         ensures value { result.now ≡ self.now.parts.storage }
         ensures within { IsWithinMachine self.now.parts }
@@ -88,7 +120,7 @@ impl Plan {
         self.parts.storage()
     }
 
-    /// The lines of the DETAIL amounts that the column splits serve, in the order of their numbers.
+    /// The lines of the DETAIL amounts that the column splits serve, in their order.
     pub fn splits(&self) -> &[u16]
         ensures value { result.now ≡ self.now.parts.splits }
         ensures within { IsWithinMachine self.now.parts }
@@ -96,7 +128,7 @@ impl Plan {
         self.parts.splits()
     }
 
-    /// What the indicate positions of a level serve, in the order of their numbers.
+    /// What the indicate positions of a level serve, in the order of the lines that ask for them.
     pub fn indicate(&self, level: ControlLevel) -> &[Position]
         ensures value { result.now ≡ indicate_at self.now.parts level }
         ensures within { IsWithinMachine self.now.parts }
@@ -114,43 +146,47 @@ impl Plan {
 
     /// The number of the pilot that serves the amount of a name, from 1.
     pub fn pilot_of(&self, name: Name) -> Option<u8>
-        ensures value { result ≡ number_where (λ served. is_same_name served name) self.now.parts.pilots }
+        ensures value { result ≡ number_for (λ served. is_same_name served name) self.now.parts.pilots self.now.numbers.pilots }
         ensures few { IfSome result (λ number. (1 ≤ number) × (number ≤ 16)) }
     {
-        number_at(place_of_name(self.pilots(), name))
+        number_at(self.numbers.pilots(), place_of_name(self.pilots(), name))
     }
 
-    /// The number of the comparing position that serves a column of the field of a CONTROL line, from 1. The columns of a
-    /// line have numbers that follow one another, from left to right.
+    /// The number of the comparing position that serves a column of the field of a CONTROL line, from 1.
     pub fn comparing_position(&self, at: Position) -> Option<u8>
-        ensures value { result ≡ number_where (λ served. is_same_position served at) self.now.parts.comparing }
+        ensures value { result ≡ number_for (λ served. is_same_position served at) self.now.parts.comparing self.now.numbers.comparing }
         ensures few { IfSome result (λ number. (1 ≤ number) × (number ≤ 30)) }
     {
-        number_at(place_of_position(self.comparing(), at))
+        number_at(
+            self.numbers.comparing(),
+            place_of_position(self.comparing(), at),
+        )
     }
 
     /// The number of the storage unit that serves the text on a total line of the chart, from 1.
     pub fn storage_unit(&self, line: u16) -> Option<u8>
-        ensures value { result ≡ number_where (λ served. served == line) self.now.parts.storage }
+        ensures value { result ≡ number_for (λ served. served == line) self.now.parts.storage self.now.numbers.storage }
         ensures few { IfSome result (λ number. (1 ≤ number) × (number ≤ 4)) }
     {
-        number_at(place_of_line(self.storage(), line))
+        number_at(self.numbers.storage(), place_of_line(self.storage(), line))
     }
 
     /// The number of the column split that serves the amount on a DETAIL line of the chart, from 1.
     pub fn split_on(&self, line: u16) -> Option<u8>
-        ensures value { result ≡ number_where (λ served. served == line) self.now.parts.splits }
+        ensures value { result ≡ number_for (λ served. served == line) self.now.parts.splits self.now.numbers.splits }
         ensures few { IfSome result (λ number. (1 ≤ number) × (number ≤ 16)) }
     {
-        number_at(place_of_line(self.splits(), line))
+        number_at(self.numbers.splits(), place_of_line(self.splits(), line))
     }
 
     /// The number of the indicate position of a level that serves a column of the field of an INDICATE item, from 1.
-    /// The columns of an item have numbers that follow one another, from left to right.
     pub fn indicate_position(&self, level: ControlLevel, at: Position) -> Option<u8>
-        ensures value { result ≡ number_where (λ served. is_same_position served at) (indicate_at self.now.parts level) }
+        ensures value { result ≡ number_for (λ served. is_same_position served at) (indicate_at self.now.parts level) (numbers_at self.now.numbers level) }
         ensures few { IfSome result (λ number. (1 ≤ number) × (number ≤ 30)) }
     {
-        number_at(place_of_position(self.indicate(level), at))
+        number_at(
+            self.numbers.indicate(level),
+            place_of_position(self.indicate(level), at),
+        )
     }
 }

@@ -34,7 +34,6 @@ use Rattle.panel_cycles.proofs.Counters.{counter_held}
 use Rattle.panel_cycles.specs.CounterStates.{held_in}
 use Rattle.panel_cycles.specs.Below.wired_panels.Groups.{IsCounterOf}
 use Rattle.panel_cycles.proofs.JacksAndTape.{wheel_jacks-are}
-use Rattle.panel_cycles.proofs.Below.plans.Numbers.{number-stands}
 use Rattle.panel_cycles.proofs.Below.field_rules.Places.{is_same_name-own}
 use Rattle.decks.proofs.Below.chart_rules.Laws.{kept-line}
 use Rattle.panel_cycles.proofs.Below.wired_panels.ToCounters.{IsLine, on_line}
@@ -65,6 +64,7 @@ use Rattle.panel_cycles.specs.Below.whole_cycles.Units.{group_at, storage_at}
 use Rattle.panel_cycles.specs.Below.whole_cycles.WholeCycles.{WholeCycle}
 use Rattle.panel_cycles.specs.Below.wiring_table.Figures.{IsAmount, IsText}
 use Rattle.panel_cycles.specs.Below.wiring_table.Parts.{HasTotal, ServesTotal, counter_for, panel_group, unit_for}
+use Rattle.panel_cycles.proofs.Below.wiring_table.Parts.{unit-there}
 use Rattle.printed_reports.specs.Content.{held}
 use Rattle.printed_reports.proofs.Facts.{ShowsTotal}
 use Rattle.printed_reports.proofs.FromCounters.{held_pair, held_there, pair_there}
@@ -157,18 +157,6 @@ module _ (chart : Chart) (plan : Lists) (wiring : Wiring) (panel : IsPanel chart
           holds_text = sym (ap names_amount named) ∙ sym (ap (breaks_wrong_kind (fields_of chart.lines)) says) ∙ right;
         }
 
-    -- the plan has at most four storage units
-    few_units : length plan.parts.storage ≤ 4
-    few_units =
-        let not_over = panel.planned.storage_units in
-        let same = ap (λ p. length p.storage) panel.planned.parts in
-        by (nat_lt 4 (length plan.parts.storage)) refl not_over same
-      where
-        by : {wanted : ℕ} (b : Bool) → nat_lt 4 (length plan.parts.storage) ≡ b → (4 < wanted → ⊥)
-            → length plan.parts.storage ≡ wanted → length plan.parts.storage ≤ 4
-        by true over none same = absurd (none (grind (arith, nat_tests, over, same)))
-        by false over none same = grind (arith, nat_tests, over)
-
     -- what the units hold
     units_hold :
         UnitsHold chart.lines plan card old.storage
@@ -178,9 +166,7 @@ module _ (chart : Chart) (plan : Lists) (wiring : Wiring) (panel : IsPanel chart
         → field_named chart.lines name ≡ Some field → j < columns_of field
         → holds_column (storage_at old unit) row (j + 1) ≡ has_row (column_of card (field.first + j)) (row_number row)
     units_hold stored line its wheel name field unit j there says same served named less =
-        let (stands, low, to) = number-stands (λ (each : ℕ). each == line.number) plan.parts.storage unit served in
-        let few = few_units in
-        let high : unit ≤ 4 = omega (arith, to, few) in
+        let (low, high) = unit-there chart.lines plan panel.planned line.number unit served in
         stored line its wheel name field unit (storage_at old unit) row j there says
         (is_text_field line its wheel name field there says named) served (unit-listed old is.between unit low high)
         (unit-place old is.between unit low high) less

@@ -23,7 +23,6 @@ prints_name lines name = list_any (λ line. shows name line.statement) lines
 unfoldable pub wants_pilot : List Line → Field → Bool
 wants_pilot lines field = is_some (sign_column field.kind) && prints_name lines field.name
 
--- The pilots of a chart: the names of the amounts that want one, in the order of their FIELD lines. A pilot's number is
--- its place in this list, from 1.
+-- The pilots of a chart: the names of the amounts that want one, in the order of their FIELD lines.
 abbrev pub pilots_of : List Line → List (List ℕ)
 pilots_of lines = map (λ field. field.name) (filter (wants_pilot lines) (fields_of lines))

@@ -45,11 +45,10 @@ abbrev pub positions_of : List Line → ColumnUse → List Position
 positions_of lines columns = flat_map (λ line. positions_for line.number (field_used lines columns line.statement)) lines
 
 -- The comparing positions of a chart: the columns of each CONTROL line's field. A field that controls two levels has
--- them twice. A position's number is its place in this list, from 1.
+-- them twice.
 abbrev pub comparing_of : List Line → List Position
 comparing_of lines = positions_of lines Comparing
 
--- The indicate positions of a level: the columns of each INDICATE item of that level. A position's number is its place
--- in this list, from 1.
+-- the indicate positions of a level: the columns of each INDICATE item of that level
 abbrev pub indicate_of : ControlLevel → List Line → List Position
 indicate_of level lines = positions_of lines (Indicate level)

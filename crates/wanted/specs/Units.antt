@@ -49,7 +49,7 @@ is_of_kind lines SplitAmount statement = is_split_amount lines statement
 abbrev pub lines_of_kind : List Line → LineKind → List ℕ
 lines_of_kind lines kind = map (λ line. line.number) (filter (λ line. is_of_kind lines kind line.statement) lines)
 
--- The storage units of a chart: the lines of its total texts. A unit's number is its place in this list, from 1.
+-- the storage units of a chart: the lines of its total texts
 abbrev pub storage_of : List Line → List ℕ
 storage_of lines = lines_of_kind lines TotalText
 
@@ -62,7 +62,6 @@ pub record IsLowestOf (lines : List ℕ) (line : ℕ) : Type 0 where
   pub among : Contains lines line
   pub lowest : (other : ℕ) → Contains lines other → line ≤ other
 
--- The column splits of a chart: the lines of its DETAIL amounts whose sign column is one of their own columns. A split's
--- number is its place in this list, from 1.
+-- the column splits of a chart: the lines of its DETAIL amounts whose sign column is one of their own columns
 abbrev pub splits_of : List Line → List ℕ
 splits_of lines = lines_of_kind lines SplitAmount

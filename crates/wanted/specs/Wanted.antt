@@ -10,7 +10,7 @@ use Rattle.wanted.specs.Pilots.{pilots_of}
 use Rattle.wanted.specs.Positions.{comparing_of, indicate_of}
 use Rattle.wanted.specs.Units.{storage_of, wide_texts_of, splits_of}
 
--- What the parts of the machine other than the counter groups serve, each list in the order of their numbers, from 1; the
+-- What the parts of the machine other than the counter groups serve, each list in the order in which a chart asks for it; the
 -- indicate positions by level.
 pub record Parts : Type 0 where
   pub pilots : List (List ℕ)

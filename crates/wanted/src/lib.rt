@@ -1,7 +1,7 @@
 //! What a chart wants of the machine.
 //!
 //! [`Wanted`] has the totals of a chart, which want counter groups, and its [`Parts`]: what pilots, comparing and indicate
-//! positions, storage units and column splits are to serve, each in the order of their numbers. It counts how much is
+//! positions, storage units and column splits are to serve, each in the order in which the chart asks for it. It counts how much is
 //! wanted of each [`Capacity`]. It stands on `chart_rules`, for charts that break no rule, and knows no machine.
 //!
 //! `specs/` has each of these as a list of lines, fields or columns of the chart.

@@ -8,8 +8,8 @@ use charts::{ControlLevel, Name};
 use std::alloc::{AllocError, Global};
 use std::marker::Model;
 
-/// What each pilot, comparing position, storage unit, column split and indicate position serves, in the order of their
-/// numbers.
+/// What the pilots, comparing positions, storage units, column splits and indicate positions serve, in the order in which a chart
+/// asks for it.
 #[derive(Drop)]
 pub struct Parts {
     // The names of the amounts.

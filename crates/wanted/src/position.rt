@@ -57,7 +57,7 @@ fn field_used(chart: &Chart, columns: ColumnUse, statement: &Statement) -> Optio
     }
 }
 
-/// The positions of a use, in the order of their numbers.
+/// The positions of a use, in the order of the lines that ask for them.
 pub(crate) fn positions_of(
     alloc: Global,
     chart: &Chart,
@@ -87,7 +87,7 @@ fn push_columns(list: &mut Vec<Position>, line: u16, field: Field) -> Result<(),
     Ok(())
 }
 
-/// Whether a list has the positions of a use, in the order of their numbers.
+/// Whether a list has the positions of a use, in the order of the lines that ask for them.
 pub(crate) fn are_positions_of(list: &[Position], chart: &Chart, columns: ColumnUse) -> bool
     ensures { IsTrue result ↔ (list.now ≡ positions.positions_of chart.now.lines columns) }
 {

@@ -124,7 +124,7 @@ module _ (chart : Chart) (plan : Lists) (wiring : Wiring) (old : MachineState) (
               → has_row (column_of next (field.first + j)) (row_number row) ≡ true
           by number sends (compared_first level' name' field' j' n named' below' served') served =
               let columns : field'.first + j' ≡ field.first + j =
-              (comparing-own plan number line.number (field'.first + j') (field.first + j) n served' served).1 in
+              (comparing-own chart.lines plan it.panel.planned number line.number (field'.first + j') (field.first + j) n served' served).1 in
               punched-in old.stations.first next row (field.first + j) waits (sends-first (field.first + j) sends (ap FR columns))
 
       second-came : (row : CardRow) → ArrivesAtRow chart.lines plan old pictures Card row (CB position)
@@ -137,7 +137,7 @@ module _ (chart : Chart) (plan : Lists) (wiring : Wiring) (old : MachineState) (
               → has_row (column_of card (field.first + j)) (row_number row) ≡ true
           by number sends (compared_second level' name' field' j' n named' below' served') served =
               let columns : field'.first + j' ≡ field.first + j =
-              (comparing-own plan number line.number (field'.first + j') (field.first + j) n served' served).1 in
+              (comparing-own chart.lines plan it.panel.planned number line.number (field'.first + j') (field.first + j) n served' served).1 in
               punched-in old.stations.second card row (field.first + j) stands (sends-second (field.first + j) sends (ap SR columns))
 
       -- its entries have the rows of the two cards

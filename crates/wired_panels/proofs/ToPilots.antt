@@ -101,7 +101,7 @@ module _ (chart : Chart) (plan : Lists) (wiring : Wiring) (old : MachineState) (
             → line.statement ≡ statement → {n : ℕ} → LineWire chart.lines plan line.number statement exit (PIX n) → pilot_for plan name ≡ Some n
             → has_sign old.stations.first (column_of_rule rule) ≡ true
         by line listed sends is (pickup its its_rule n its_ruled its_served) served =
-            let names : its.name ≡ name = pilot-own plan its.name name n its_served served in
+            let names : its.name ≡ name = pilot-own chart.lines plan it.panel.planned its.name name n its_served served in
             let its_named : field_named chart.lines its.name ≡ Some its = field-own chart it.panel.lawful line its listed is in
             let fields : Some its ≡ Some field = sym its_named ∙ ap (field_named chart.lines) names ∙ named in
             let same : its ≡ field = cc in

@@ -164,7 +164,7 @@ module _ (chart : Chart) (plan : Lists) (wiring : Wiring) (old : MachineState) (
               → other.statement ≡ statement → {n c : ℕ} → LineWire chart.lines plan other.number statement exit (SE n c) → c ≡ j + 1
               → unit_for plan line.number ≡ Some n → has_row (column_of card (field.first + j)) (row_number row) ≡ true
           by other its_listed sends is (total_text_in its wheel' name' field' n j' text' below' served') same served =
-              let numbers : other.number ≡ line.number = unit-own plan other.number line.number n served' served in
+              let numbers : other.number ≡ line.number = unit-own chart.lines plan it.panel.planned other.number line.number n served' served in
               let lines : other ≡ line = one-line chart.lines chart.end other line rising its_listed listed numbers in
               let statements : says.TotalText its wheel' name' ≡ says.TotalText level wheel name =
               sym is ∙ ap (λ (l : Line). l.statement) lines ∙ says_it in

@@ -114,7 +114,7 @@ module _ (wiring : Wiring) (at : CycleRow) (it : IsPanelCycle at.chart at.plan w
           let e : level' ≡ level = control-same level' level levels in
           let f : indicate_for at.plan level other.number (field.first + j) ≡ Some position
           = ap (λ l. indicate_for at.plan l other.number (field.first + j)) (sym e) ∙ served' ∙ ap Some places in
-          let g = indicate-own at.plan level other.number line.number (field.first + j) c position f served in
+          let g = indicate-own at.chart.lines at.plan it.panel.planned level other.number line.number (field.first + j) c position f served in
           (card, subst (λ n. reads at n ≡ true) g.1 punched)
 
   -- through a split comes the sign column of its amount
@@ -136,7 +136,7 @@ module _ (wiring : Wiring) (at : CycleRow) (it : IsPanelCycle at.chart at.plan w
       by : {its : Statement} {x : Hub} {s : ℕ} → other.statement ≡ its → WireAt at other.number its x (CSE s) → Emits at x → s ≡ split
           → (at.cycle ≡ Card) × (reads at (field.last + 1 - position) ≡ true)
       by says_its (split_digit_in wheel' name' how' field' position' s is' low' high' signed' served') (second c card punched) splits =
-          let n : other.number ≡ line.number = split-own at.plan other.number line.number split (served' ∙ ap Some splits) served in
+          let n : other.number ≡ line.number = split-own at.chart.lines at.plan it.panel.planned other.number line.number split (served' ∙ ap Some splits) served in
           let e : other ≡ line = one_line other line there listed n in
           let f : says.DetailField wheel' name' how' ≡ says.DetailField wheel name how = sym says_its ∙ ap (λ l. l.statement) e ∙ says_it in
           let names : name' ≡ name = cc in
@@ -163,7 +163,7 @@ module _ (wiring : Wiring) (at : CycleRow) (it : IsPanelCycle at.chart at.plan w
       by : {its : Statement} {x : Hub} {p q : ℕ} → other.statement ≡ its → WireAt at other.number its x (PIC p q) → Emits at x → p ≡ pilot
           → q ≡ 2 + k → HasPunchAt (mark_text mark) k (row_number at.row) × (emitter_of at.cycle ≡ Some detail_emitter)
       by says_its (detail_mark_in wheel' name' mark' rule' p k' row is served' punch) (emitter from emits) pilots places =
-          let e : name' ≡ name = pilot-own at.plan name' name pilot (served' ∙ ap Some pilots) served in
+          let e : name' ≡ name = pilot-own at.chart.lines at.plan it.panel.planned name' name pilot (served' ∙ ap Some pilots) served in
           let f : other.statement ≡ says.DetailField wheel' name (shown.Marked mark')
           = says_its ∙ ap (λ n. says.DetailField wheel' n (shown.Marked mark')) e in
           let g : other ≡ line = detail-same at.chart other line wheel' wheel name (shown.Marked mark') (shown.Marked mark) it.panel.lawful there listed f says_it in

@@ -2,7 +2,8 @@
 use Rattle.std.specs.Prelude.{◌≡◌, ℕ, ◌+◌, ◌<◌, ◌≤◌, ◌==◌, List, Contains, Option, Some, option_and_then, option_map, true, ◌⊎◌}
 use Rattle.plans.specs.Below.wanted.ChartTotals.{totals_of}
 use Rattle.plans.specs.Counters.{single_group}
-use Rattle.plans.specs.Plans.{Lists, counter_on, number_where}
+use Rattle.plans.specs.PartNumbers.{number_for, numbers_at}
+use Rattle.plans.specs.Plans.{Lists, counter_on}
 use Rattle.plans.specs.declared.counter.TotalCounter.{TotalCounter}
 use Rattle.plans.specs.declared.counter.TotalCounter.TheVariants as of
 use Rattle.plans.specs.Below.wanted.Positions.{is_same_position}
@@ -76,7 +77,7 @@ pub record ServesPosition (lines : List Line) (plan : Lists) (number position : 
 
 -- the pilot of an amount
 abbrev pub pilot_for : Lists → List ℕ → Option ℕ
-pilot_for plan name = number_where (λ served. is_same_name served name) plan.parts.pilots
+pilot_for plan name = number_for (λ served. is_same_name served name) plan.parts.pilots plan.numbers.pilots
 
 -- a column of a line of the chart
 abbrev pub column_on : (number column : ℕ) → Position
@@ -85,20 +86,20 @@ column_on number column = record { line = number; column = column }
 -- the comparing position of a column of a CONTROL line
 abbrev pub comparing_for : Lists → (number column : ℕ) → Option ℕ
 comparing_for plan number column =
-    number_where (λ served. is_same_position served (column_on number column)) plan.parts.comparing
+    number_for (λ served. is_same_position served (column_on number column)) plan.parts.comparing plan.numbers.comparing
 
 -- the indicate position of a column of an INDICATE item of a level
 abbrev pub indicate_for : Lists → ControlLevel → (number column : ℕ) → Option ℕ
 indicate_for plan level number column =
-    number_where (λ served. is_same_position served (column_on number column)) (indicate_at plan.parts level)
+    number_for (λ served. is_same_position served (column_on number column)) (indicate_at plan.parts level) (numbers_at plan.numbers level)
 
 -- the split of the amount on a DETAIL line
 abbrev pub split_for : Lists → ℕ → Option ℕ
-split_for plan number = number_where (λ served. served == number) plan.parts.splits
+split_for plan number = number_for (λ served. served == number) plan.parts.splits plan.numbers.splits
 
 -- the storage unit of the text on a total line
 abbrev pub unit_for : Lists → ℕ → Option ℕ
-unit_for plan number = number_where (λ served. served == number) plan.parts.storage
+unit_for plan number = number_for (λ served. served == number) plan.parts.storage plan.numbers.storage
 
 -- The contact of a pilot's position that is closed while its amount is below 0: the transferred one for X, the normal one for NX.
 abbrev pub negative_side : SignRule → (pilot position : ℕ) → Hub

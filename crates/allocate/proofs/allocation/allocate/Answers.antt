@@ -1,16 +1,18 @@
-use Rattle.std.proofs.Common.{◌∙◌}
+use Rattle.std.proofs.Common.{◌∙◌, ap}
 use Rattle.allocate.proofs.Fitting.{HasGroupsFor-fits, IsWithinMachine-fits, Serves-fits}
+use Rattle.plans.specs.PartNumbers.{in_order}
 use Rattle.allocate.proofs.allocation.allocate.Goals as goal
 
 pub assign-requires-clause-enough : goal.assign-requires-clause-enough
 assign-requires-clause-enough c = rw c.totals.ensures.value (HasGroupsFor-fits c.in_ok-wanted.wanted c.args.profile.now c.in_default.ensures.none)
 
-pub of-requires-2 : goal.of-requires-2
-of-requires-2 c =
+pub in_order-requires : goal.in_order-requires
+in_order-requires c =
     rw c.into_parts.ensures (IsWithinMachine-fits c.in_ok-wanted.wanted c.args.profile.now c.in_default.ensures.none c.pilots-pilots.ensures.standard)
 
 pub returns-clause-serves : goal.returns-clause-serves
 returns-clause-serves c =
     rw (← c.in_ok-wanted.ensures)
-    (Serves-fits c.in_ok-wanted.wanted c.args.profile.now c.of-2.result c.in_default.ensures.none c.pilots-pilots.ensures.standard
-    (rw c.of-2.ensures.counters (rw c.totals.ensures.value at c.in_ok-counters.ensures.own)) (c.of-2.ensures.parts ∙ c.into_parts.ensures))
+    (Serves-fits c.in_ok-wanted.wanted c.args.profile.now c.in_ok-in_order.field-0 c.in_default.ensures.none c.pilots-pilots.ensures.standard
+    (rw c.in_ok-in_order.ensures.counters (rw c.totals.ensures.value at c.in_ok-counters.ensures.own))
+    (c.in_ok-in_order.ensures.parts ∙ c.into_parts.ensures) (c.in_ok-in_order.ensures.numbers ∙ ap in_order c.into_parts.ensures))

@@ -23,8 +23,8 @@ returns-clause-told c = record {
 }
 
 pub returns-clause-found : goal.returns-clause-found
-returns-clause-found c = λ its wired.
-    let plan = c.in_ok-plan.ensures.found its wired in
+returns-clause-found c = λ its wired ordered.
+    let plan = c.in_ok-plan.ensures.found its wired ordered in
     true≢false (sym (c.if-is_same.ensures.1
     (same-wired c.args.chart.now.lines c.in_ok-plan.plan c.in_ok-wanted.wanted c.args.setup.now c.in_ok-wanted.ensures
     (subst (λ (p : Lists). WiredFor c.args.chart.now.lines p c.args.setup.now) (sym plan) wired.wired))))
