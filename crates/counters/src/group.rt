@@ -48,7 +48,7 @@ impl Model for Group {
 
 impl Group {
     ghost use Rattle.std.specs.Prelude.{◌≡◌, ◌≤◌, reverse};
-    ghost use Rattle.counters.specs.Counters.{counter_at_start, wheels_in};
+    ghost use Rattle.counters.specs.Counters.{counter_at_start, counter_ended, wheels_in};
     ghost use Rattle.counters.specs.Numbers.{number};
     ghost use Rattle.counters.specs.Wheels.{all_nines};
 
@@ -99,6 +99,51 @@ impl Group {
         ensures { result ≡ self.now.latch }
     {
         self.latch
+    }
+
+    /// Which group it is.
+    pub fn name(&self) -> hubs::Group
+        ensures { result ≡ self.now.name }
+    {
+        self.name
+    }
+
+    /// The controls of the cycle that runs, as they were sensed at its control point. None is on between cycles.
+    pub fn controls(&self) -> Controls
+        ensures { result ≡ self.now.controls }
+    {
+        self.controls
+    }
+
+    /// What was entered so far in the cycle that runs, by position, from position 1, the units, to the top: 0 where nothing was.
+    pub fn entered(&self) -> Digits
+        ensures { result ≡ reverse self.now.entered }
+    {
+        from_units(self.entered, self.name.width as usize)
+    }
+
+    /// Whether a carry came in at the units in the cycle that runs.
+    pub fn carry(&self) -> bool
+        ensures { result ≡ self.now.carry }
+    {
+        self.carry
+    }
+
+    /// The group as it stands once the cycle that runs has ended: its wheels have turned.
+    pub fn turned(&self, cycle: Cycle) -> Self
+        ensures { result ≡ counter_ended self.now cycle }
+    {
+        let mut turned = Group {
+            unit: self.unit,
+            name: self.name,
+            digits: self.digits,
+            entered: self.entered,
+            carry: self.carry,
+            controls: self.controls,
+            latch: self.latch,
+        };
+        turned.end_cycle(cycle);
+        turned
     }
 }
 

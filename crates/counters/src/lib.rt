@@ -10,6 +10,7 @@ mod sensing;
 mod turn;
 mod wheel;
 
+pub use controls::Controls;
 pub use digits::Digits;
 pub use group::Group;
 pub use laws::{

@@ -30,7 +30,7 @@ PointStep-one wiring cycle point old one other first second =
     second.is_picture in
     first.is_new ∙ ap (λ (p : Hub → Bool). sensed old cycle point p) pictures ∙ sym second.is_new
 
-Reached-one : (wiring : Wiring) (cycle : Cycle) (place : ℕ) (old one other : MachineState)
+pub Reached-one : (wiring : Wiring) (cycle : Cycle) (place : ℕ) (old one other : MachineState)
     → Reached wiring cycle place old one → Reached wiring cycle place old other → one ≡ other
 unfolding Reached
 Reached-one wiring cycle zero old one other first second = first ∙ sym second

@@ -6,6 +6,7 @@ pub mod Feeds
 pub mod Kept
 pub mod Laws
 pub mod Running
+pub mod Stepped
 pub mod Fields
 pub mod Ends
 pub mod Rest

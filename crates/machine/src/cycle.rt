@@ -17,23 +17,31 @@ impl Units {
     ghost use Rattle.net.specs.Nets.{IsNetOf};
     ghost use Rattle.net.specs.HubSets.{has_hub};
     ghost use Rattle.net.specs.Impulsed.{IsPicture};
-    ghost use Rattle.machine.specs.Cycles.{PointStep, CycleRun, line_of};
+    ghost use Rattle.machine.specs.Cycles.{PointStep, CycleRun, Reached, line_of};
     ghost use Rattle.machine.specs.Ends.{SensesSome, EndsCycle};
     ghost use Rattle.machine.specs.Machine.{closes};
     ghost use Rattle.machine.specs.Steady.{AreSteady};
     ghost use Rattle.machine.specs.Keeps.{Keeps};
     ghost use Rattle.machine.specs.AllRows.{RunsRows};
 
-    // A cycle: its points, and then its end. The points of the rows are taken all at once where that is right.
+    // A cycle: its points, and then its end.
     pub(crate) fn run_cycle(&mut self, net: &Net, cycle: Cycle)
         ensures ran { (wiring : Wiring) → IsNetOf wiring net.now → CycleRun wiring cycle self.old self.new }
         ensures ends { EndsCycle cycle self.old self.new }
+    {
+        self.run_points(net, cycle);
+        self.end_cycle(cycle);
+    }
+
+    // The points of a cycle. Those of the rows are taken all at once where that is right.
+    pub(crate) fn run_points(&mut self, net: &Net, cycle: Cycle)
+        ensures reached { (wiring : Wiring) → IsNetOf wiring net.now → Reached wiring cycle 14 self.old self.new }
+        ensures keeps { Keeps cycle self.old self.new }
     {
         let closed = self.closed(cycle);
         self.step(net, &closed, cycle, Point::C);
         self.run_rows(net, &closed, cycle);
         self.step(net, &closed, cycle, Point::K);
-        self.end_cycle(cycle);
     }
 
     // The points of the rows. They are taken all at once where no impulse passes one contact behind another, else one by one.

@@ -31,14 +31,14 @@ impl Units {
     }
 
     // The cards move on by one.
-    fn load(&mut self, next: &Option<Card>)
+    pub(crate) fn load(&mut self, next: &Option<Card>)
         ensures { self.new ≡ moved_on next.now self.old }
     {
         self.stations.load(*next);
     }
 
     // The cycle that is due, if any.
-    fn cycle_due(&self) -> Option<Cycle>
+    pub(crate) fn cycle_due(&self) -> Option<Cycle>
         ensures { result ≡ cycle_due self.now }
     {
         self.program

@@ -17,6 +17,7 @@ mod machine;
 mod marked;
 mod rows;
 mod run;
+mod stepped;
 mod storage_rows;
 mod units;
 
@@ -25,3 +26,4 @@ pub use kept::{KeptCycle, KeptPoint};
 pub use machine::Machine;
 pub use placed_lines::{LINE_WHEELS, PlacedLine};
 pub use run::simulate;
+pub use stepped::SteppedMachine;

@@ -70,6 +70,13 @@ impl Storage {
         }
     }
 
+    /// Its number among the storage units, 1 to 4, by which its hubs are named.
+    pub fn place(&self) -> u8
+        ensures { result ≡ self.now.place }
+    {
+        self.place
+    }
+
     /// Whether a column holds a row. No column but 1 to 16 does.
     pub fn holds(&self, row: Row, column: u8) -> bool
         ensures { result ≡ holds self.now row column }

@@ -1,34 +1,13 @@
-use Rattle.machine.proofs.Keeps.{Keeps-both, Keeps-ends, Keeps-none}
-use Rattle.machine.proofs.Points.{AreSteady-more, Keeps-more, Reached-more, Reached-none}
-use Rattle.std.proofs.Common.{refl}
-use Rattle.net.specs.declared.cycle.Point.TheVariants.{C, K}
+use Rattle.machine.proofs.Keeps.{Keeps-ends}
 use Rattle.machine.proofs.units.Units.run_cycle.Goals as goal
 
-pub run_rows-requires : goal.run_rows-requires
-run_rows-requires c =
-    AreSteady-more c.args.cycle c.closed-closed.result C c.args.self.now c.step.new.self c.closed-closed.ensures c.step.ensures.senses
-
-pub step-requires-2 : goal.step-requires-2
-step-requires-2 c = c.run_rows.ensures.steady
-
 pub returns-clause-ran : goal.returns-clause-ran
-returns-clause-ran c wiring is_net =
-    let cycle = c.args.cycle in
-    let old = c.args.self.now in
-    let control =
-    Reached-more wiring cycle old old c.step.new.self 0 (Reached-none wiring cycle old) (c.step.ensures.step wiring is_net) in
-    let rows = c.run_rows.ensures.ran wiring is_net old control in
-    record {
-      at_end = c.step-2.new.self;
-      reached = Reached-more wiring cycle old c.run_rows.new.self c.step-2.new.self 13 rows (c.step-2.ensures.step wiring is_net);
-      is_new = c.end_cycle.ensures;
-    }
+returns-clause-ran c wiring is_net = record {
+  at_end = c.run_points.new.self;
+  reached = c.run_points.ensures.reached wiring is_net;
+  is_new = c.end_cycle.ensures;
+}
 
 pub returns-clause-ends : goal.returns-clause-ends
 returns-clause-ends c =
-    let cycle = c.args.cycle in
-    let old = c.args.self.now in
-    let control = Keeps-more cycle C old old c.step.new.self (Keeps-none cycle old old refl) c.step.ensures.senses in
-    let rows = Keeps-both cycle old c.step.new.self c.run_rows.new.self control c.run_rows.ensures.keeps in
-    let closing = Keeps-more cycle K old c.run_rows.new.self c.step-2.new.self rows c.step-2.ensures.senses in
-    Keeps-ends cycle old c.step-2.new.self c.end_cycle.new.self closing c.end_cycle.ensures
+    Keeps-ends c.args.cycle c.args.self.now c.run_points.new.self c.end_cycle.new.self c.run_points.ensures.keeps c.end_cycle.ensures
