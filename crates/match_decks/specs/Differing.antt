@@ -1,9 +1,7 @@
--- The first line in which two lists of printed lines differ, and two panels over one deck.
-use Rattle.std.specs.Prelude.{◌≡◌, ◌≢◌, ℕ, ◌==◌, ◌&&◌, ◌||◌, nat_le, nat_lt, List, [], ◌∷◌, Option, IfNone, IfSome, take, drop, if◌then◌else◌}
-use Rattle.machine.specs.Runs.{MachineLines}
+-- The first line in which two lists of printed lines differ.
+use Rattle.std.specs.Prelude.{◌≡◌, ◌≢◌, ℕ, ◌==◌, ◌&&◌, ◌||◌, nat_le, nat_lt, List, [], ◌∷◌, take, drop, if◌then◌else◌}
 use Rattle.match_decks.specs.declared.lines.Place.{Place}
 use Rattle.placed_lines.specs.declared.placed_line.PlacedLine.{PlacedLine}
-use Rattle.setups.specs.Wiring.{Wiring}
 
 -- the place of a line
 abbrev pub place_of : PlacedLine → Place
@@ -27,12 +25,3 @@ pub record IsFirstDifference (one other : List PlacedLine) (place : Place) : Typ
   pub front : ℕ
   pub same : take front one ≡ take front other
   pub apart : StartApart (drop front one) (drop front other) place
-
--- the machine prints a deck differently, wired as two setups, first at a place; or it prints the same lines
-pub record DifferOnDeck (one other : Wiring) (cards : List (List ℕ)) (place : Option Place) : Type 0 where
-  pub lines : List PlacedLine
-  pub others : List PlacedLine
-  pub run : MachineLines one cards lines
-  pub other_run : MachineLines other cards others
-  pub same : IfNone place (lines ≡ others)
-  pub first : IfSome place (IsFirstDifference lines others)

@@ -2,26 +2,26 @@
 
 ghost use Rattle.std.specs.Prelude.{◌≤◌, IfOk, length};
 ghost use Rattle.card_code.specs.MostCards.{most_cards};
-ghost use Rattle.match_decks.specs.Differing.{DifferOnDeck};
+ghost use Rattle.match_decks.specs.Wheels.{DifferOnDeck};
 
-use crate::lines::{Place, first_difference};
+use crate::wheels::{Difference, line_difference};
 use card_code::Card;
 use machine::simulate;
 use setups::Setup;
 use std::alloc::{AllocError, Global};
 
-/// The place of the first line that the machine prints differently of a deck of at most 999,999 cards, wired as two setups; none where it
-/// prints the same lines. Its only refusal is memory.
-pub fn differing_line(
+/// Where the machine prints a deck of at most 999,999 cards differently, wired as two setups: the place of the first line that differs, and
+/// the first wheel of it; none where it prints the same lines. Its only refusal is memory.
+pub fn deck_difference(
     alloc: Global,
     one: &Setup,
     other: &Setup,
     cards: &[Card],
-) -> Result<Option<Place>, AllocError>
+) -> Result<Option<Difference>, AllocError>
     requires { length cards.now ≤ most_cards }
     ensures { IfOk result (DifferOnDeck one.now other.now cards.now) }
 {
     let lines = simulate(alloc, one, cards)?;
     let other_lines = simulate(alloc, other, cards)?;
-    Ok(first_difference(lines.as_slice(), other_lines.as_slice()))
+    Ok(line_difference(lines.as_slice(), other_lines.as_slice()))
 }

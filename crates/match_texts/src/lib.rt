@@ -6,6 +6,8 @@
 #![tactic(auto)]
 
 mod counts;
+mod missing;
+mod plan;
 mod text;
 
 pub use counts::{Counts, counts_of};
