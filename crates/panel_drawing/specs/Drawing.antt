@@ -54,12 +54,17 @@ line_to place = codes "L" ++ decimal place.x ++ codes " " ++ decimal place.y
 abbrev pub wire_name : PanelWire → List ℕ
 wire_name wire = hub_text wire.exit ++ codes " -&gt; " ++ hub_text wire.entry
 
--- what stands before the curve of a wire: a link to the line that asks for it, whose number also gives its colour, one of twelve
+-- what stands before the curve of a wire: a link to the line that asks for it, where one does, and its colour, one of twelve, by the
+-- number of the line
 abbrev pub link_text : ℕ → List ℕ
-link_text line = codes "<a href=\"#line" ++ decimal line ++ codes "\">"
+link_text line = if line == 0 then [] else codes "<a href=\"#line" ++ decimal line ++ codes "\">"
 
 abbrev pub colour_text : ℕ → List ℕ
 colour_text line = codes "<path class=\"c" ++ decimal (line % 12) ++ codes "\" d=\""
+
+-- what stands behind the name of a wire: the end of its curve, and of the link
+abbrev pub link_close : ℕ → List ℕ
+link_close line = if line == 0 then codes "</title></path>\n" else codes "</title></path></a>\n"
 
 -- a wire: the data of its path, and the whole
 abbrev pub wire_path : PanelWire → List ℕ
@@ -67,8 +72,7 @@ wire_path wire = pen_at (place_of wire.exit) ++ curve_between (place_of wire.exi
 
 unfoldable pub wire_text : PanelWire → List ℕ
 wire_text wire =
-    link_text wire.line ++ colour_text wire.line ++ wire_path wire ++ codes "\"><title>" ++ wire_name wire
-    ++ codes "</title></path></a>\n"
+    link_text wire.line ++ colour_text wire.line ++ wire_path wire ++ codes "\"><title>" ++ wire_name wire ++ link_close wire.line
 
 -- the way of an impulse from hub to hub: a curve along a wire, which leads to an entry, and a line through a contact, to its exit
 abbrev pub step_text : Hub → Hub → List ℕ

@@ -4,7 +4,7 @@ ghost use Rattle.std.specs.Prelude.{◌≡◌, ◌++◌, ◌≤◌, codes, decim
 ghost use Rattle.std.specs.List.{flat_map};
 ghost use Rattle.std.specs.String.{string_bytes};
 ghost use Rattle.panel_drawing.specs.Blocks.{blocks, place_of};
-ghost use Rattle.panel_drawing.specs.Drawing.{block_text, box_text, centre_text, colour_text, curve_between, dot_text, drawing_between, drawing_close, drawing_open, label_text, line_to, link_text, pen_at, step_text, steps_text, way_curve, width_text, wire_name, wire_path, wire_text};
+ghost use Rattle.panel_drawing.specs.Drawing.{block_text, box_text, centre_text, colour_text, curve_between, dot_text, drawing_between, drawing_close, drawing_open, label_text, line_to, link_close, link_text, pen_at, step_text, steps_text, way_curve, width_text, wire_name, wire_path, wire_text};
 ghost use Rattle.panel_drawing.specs.Helper.{GainsDots, GainsDrawing};
 
 use crate::blocks::{BLOCKS, Block, Place, hub_place};
@@ -19,7 +19,8 @@ pub struct PanelWire {
     pub exit: Hub,
     /// The hub that it enters.
     pub entry: Hub,
-    /// The line of the chart that asks for it. It gives the wire its colour, and the drawing links to the element `line` with this number.
+    /// The line of the chart that asks for it, 0 where none does. It gives the wire its colour, and the drawing links to the element `line`
+    /// with this number, but not for 0.
     pub line: u16,
 }
 
@@ -142,11 +143,25 @@ fn write_line(text: &mut String, place: Place) -> Result<(), AllocError>
     write!(text, "L{x} {y}")
 }
 
-// The link of a wire.
+// The link of a wire, where a line asks for it.
 fn write_link(text: &mut String, line: u16) -> Result<(), AllocError>
     ensures { OnOk result (string_bytes text.new ≡ string_bytes text.old ++ link_text line) }
 {
+    if line == 0 {
+        return Ok(());
+    }
     write!(text, "<a href=\"#line{line}\">")
+}
+
+// What stands behind the name of a wire.
+fn write_link_close(text: &mut String, line: u16) -> Result<(), AllocError>
+    ensures { OnOk result (string_bytes text.new ≡ string_bytes text.old ++ link_close line) }
+{
+    if line == 0 {
+        text.push_str("</title></path>\n")
+    } else {
+        text.push_str("</title></path></a>\n")
+    }
 }
 
 // The front of a wire's curve, with its colour.
@@ -185,7 +200,7 @@ fn write_wire(text: &mut String, wire: PanelWire) -> Result<(), AllocError>
     write_path(text, wire)?;
     text.push_str("\"><title>")?;
     write_name(text, wire)?;
-    text.push_str("</title></path></a>\n")
+    write_link_close(text, wire.line)
 }
 
 #[tactic(auto, using(crate::proofs::Written::one_more))]
@@ -227,8 +242,8 @@ fn write_close(text: &mut String) -> Result<(), AllocError>
 
 #[tactic(auto, using(crate::proofs::Written::drawing_whole))]
 /// Writes the drawing of the panel as an SVG element: a box with a label for each block of hubs, a dot with its name for each hub, and
-/// for each wire of the list, in its order, a curve with its name, which links to its line of the chart. What is drawn has the id
-/// `board`, the element `panel`.
+/// for each wire of the list, in its order, a curve with its name, which links to its line of the chart, where one asks for it. What is
+/// drawn has the id `board`, the element `panel`.
 ///
 /// Fails only where no memory is left; a front of the drawing may then have been written.
 pub fn write_drawing(text: &mut String, wires: &[PanelWire]) -> Result<(), AllocError>

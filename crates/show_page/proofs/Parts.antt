@@ -1,10 +1,11 @@
 -- The parts of the page.
 use Rattle.std.proofs.Common.{◌≡◌, ◌∙◌, refl, sym, ap, subst, Bool, true, false, ℕ, ◌+◌, ◌<◌, List, [], ◌∷◌, ◌++◌, length, take, get_or}
-use Rattle.std.specs.Prelude.{All, Contains, if◌then◌else◌, nat_le}
+use Rattle.std.specs.Prelude.{All, Contains, if◌then◌else◌, map, nat_le}
 use Rattle.std.specs.List.{range_with_len}
-use Rattle.std.proofs.lemmas.List.{take_more}
+use Rattle.std.proofs.lemmas.List.{map-append, take_more}
 use Rattle.std.proofs.lemmas.List.Elements.{All-cons, All-head, All-nil, All-tail, Contains-get_or}
 use Rattle.explanations.specs.PlacedInRun.{PrintsLine}
+use Rattle.hubs.specs.declared.hub.Hub.{Hub}
 use Rattle.machine.specs.Runs.{MachineLines}
 use Rattle.markup.specs.Pieces.{GainsEach, GainsOne}
 use Rattle.markup.proofs.Pieces.{and_more, each_more, each_none}
@@ -13,8 +14,8 @@ use Rattle.setups.specs.Wiring.{Wiring}
 use Rattle.wheel_sections.specs.Sections.{IsOfLine, IsOfWheel}
 use Rattle.panel_drawing.specs.Helper.{GainsDrawing}
 use Rattle.panel_drawing.specs.declared.drawing.PanelWire.{PanelWire}
-use Rattle.show_page.specs.Frame.{document_close, legend_open, why_open}
-use Rattle.show_page.specs.Page.{IsPage, front, front_text, page_text, shown}
+use Rattle.show_page.specs.Frame.{document_close, why_open}
+use Rattle.show_page.specs.Page.{IsPage, front, front_text, page_text, shown, unasked}
 
 -- the lines of a run are printed, and so are those of them that are shown
 pub run_prints : (wiring : Wiring) (deck : List (List ℕ)) (lines : List PlacedLine) → MachineLines wiring deck lines
@@ -53,15 +54,24 @@ lines_more wiring deck lines place d old mid new less before one =
     (each_more (IsOfLine wiring deck) (take place lines) (get_or lines place d) old mid new before
     (record { text = one.text; is = one.each; gained = one.gained }))
 
+-- one wire more that no line asks for
+pub unasked_item : (pairs : List (Hub × Hub)) (place : ℕ) (d : Hub × Hub) (old new : List PanelWire) (wire : PanelWire)
+    → place < length pairs → old ≡ map unasked (take place pairs) → wire ≡ unasked (get_or pairs place d) → new ≡ old ++ wire ∷ []
+    → new ≡ map unasked (take (place + 1) pairs)
+unasked_item pairs place d old new wire less before is pushed =
+    pushed ∙ ap (λ (w : PanelWire). old ++ w ∷ []) is ∙ ap (λ (l : List PanelWire). l ++ unasked (get_or pairs place d) ∷ []) before
+    ∙ sym (map-append unasked (take place pairs) (get_or pairs place d ∷ []))
+    ∙ ap (λ (l : List (Hub × Hub)). map unasked l) (sym (take_more pairs place d less))
+
 -- the pieces of the page
 pub page_whole : (wiring : Wiring) (deck : List (List ℕ)) (lines : List PlacedLine) (wires : List PanelWire)
-    (legend none one two three four five six new : List ℕ) → MachineLines wiring deck lines → none ≡ []
+    (legend none one two three four five new : List ℕ) → MachineLines wiring deck lines → none ≡ []
     → one ≡ none ++ front_text (length deck) (shown (length deck) lines) wiring.tape.lines
-    → GainsDrawing wires one two → three ≡ two ++ legend_open → four ≡ three ++ legend → five ≡ four ++ why_open
-    → GainsEach (IsOfLine wiring deck) (shown (length deck) lines) five six → new ≡ six ++ document_close
+    → GainsDrawing wires one two → three ≡ two ++ legend → four ≡ three ++ why_open
+    → GainsEach (IsOfLine wiring deck) (shown (length deck) lines) four five → new ≡ five ++ document_close
     → IsPage wiring deck wires legend new
 unfolding page_text
-page_whole wiring deck lines wires legend none one two three four five six new run empty h1 h2 h3 h4 h5 h6 h7 =
+page_whole wiring deck lines wires legend none one two three four five new run empty h1 h2 h3 h4 h5 h6 =
     let first = front_text (length deck) (shown (length deck) lines) wiring.tape.lines in
     let begun : one ≡ [] ++ first = h1 ∙ ap (λ (l : List ℕ). l ++ first) empty in
     record {
@@ -69,13 +79,12 @@ page_whole wiring deck lines wires legend none one two three four five six new r
       run = run;
       drawing = h2.drawing;
       drawn = h2.is;
-      sections = h6.text;
-      told = h6.each;
+      sections = h5.text;
+      told = h5.each;
       spelled =
-          and_more [] six new (first ++ h2.drawing ++ legend_open ++ legend ++ why_open ++ h6.text) document_close
-          (and_more [] five six (first ++ h2.drawing ++ legend_open ++ legend ++ why_open) h6.text
-          (and_more [] four five (first ++ h2.drawing ++ legend_open ++ legend) why_open
-          (and_more [] three four (first ++ h2.drawing ++ legend_open) legend
-          (and_more [] two three (first ++ h2.drawing) legend_open
-          (and_more [] one two first h2.drawing begun h2.gained) h3) h4) h5) h6.gained) h7;
+          and_more [] five new (first ++ h2.drawing ++ legend ++ why_open ++ h5.text) document_close
+          (and_more [] four five (first ++ h2.drawing ++ legend ++ why_open) h5.text
+          (and_more [] three four (first ++ h2.drawing ++ legend) why_open
+          (and_more [] two three (first ++ h2.drawing) legend
+          (and_more [] one two first h2.drawing begun h2.gained) h3) h4) h5.gained) h6;
     }

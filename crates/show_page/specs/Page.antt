@@ -1,11 +1,14 @@
 -- The page of a setup and a deck: the printed pages, the drawing of the panel, the legend, and an explanation of each printed character.
-use Rattle.std.specs.Prelude.{◌≡◌, ℕ, List, [], ◌∷◌, ◌++◌, if◌then◌else◌, length, nat_le}
+use Rattle.std.specs.Prelude.{◌≡◌, ℕ, List, [], ◌∷◌, ◌++◌, if◌then◌else◌, length, map, nat_le}
 use Rattle.charts.specs.declared.chart.Line.{Line}
+use Rattle.hubs.specs.declared.hub.Hub.{Hub}
 use Rattle.chart_panels.specs.Asking.{AreChartWires}
 use Rattle.chart_panels.specs.Legends.{IsLegendSection}
 use Rattle.machine.specs.Runs.{MachineLines}
+use Rattle.markup.specs.Escapes.{escaped}
 use Rattle.markup.specs.Pieces.{EachText}
 use Rattle.panel_drawing.specs.Drawing.{IsDrawing}
+use Rattle.panel_drawing.specs.Wires.{AreWiresOf}
 use Rattle.panel_drawing.specs.declared.drawing.PanelWire.{PanelWire}
 use Rattle.placed_lines.specs.declared.placed_line.PlacedLine.{PlacedLine}
 use Rattle.plans.specs.Plans.{Lists}
@@ -13,7 +16,7 @@ use Rattle.report_sheets.specs.Sheets.{sheets_text}
 use Rattle.setups.specs.Wiring.{Wiring}
 use Rattle.wheel_sections.specs.Sections.{IsOfLine}
 use Rattle.wiring_text.specs.declared.statement.Version.{Version}
-use Rattle.show_page.specs.Frame.{body_open, cut_words, document_close, document_open, legend_open, panel_open, sheets_open, style, why_open}
+use Rattle.show_page.specs.Frame.{body_open, cut_words, document_close, document_open, legend_open, panel_open, sheets_open, style, why_open, wiring_close, wiring_open}
 
 -- the lines of the first two pages
 abbrev pub front : List PlacedLine → List PlacedLine
@@ -36,7 +39,7 @@ front_text cards lines long =
 -- the page, by its parts
 unfoldable pub page_text : (cards : ℕ) → List PlacedLine → (long : ℕ) → (drawing legend sections : List ℕ) → List ℕ
 page_text cards lines long drawing legend sections =
-    front_text cards lines long ++ drawing ++ legend_open ++ legend ++ why_open ++ sections ++ document_close
+    front_text cards lines long ++ drawing ++ legend ++ why_open ++ sections ++ document_close
 
 -- The page of a setup and a deck: the lines are those that the machine prints, each wire of the list is drawn once, and each printed
 -- character that is shown has its element.
@@ -56,4 +59,19 @@ pub record ShowsChart (version : Version) (lines : List Line) (plan : Lists) (se
   pub are : AreChartWires lines plan setup wires
   pub legend : List ℕ
   pub is_legend : EachText (IsLegendSection version lines plan source) lines legend
-  pub page : IsPage setup deck wires legend text
+  pub page : IsPage setup deck wires (legend_open ++ legend) text
+
+-- a wire that no line of a chart asks for
+abbrev pub unasked : Hub × Hub → PanelWire
+unasked pair = record { exit = pair.0; entry = pair.1; line = 0 }
+
+-- the text of a wiring chart, in place of a legend
+unfoldable pub wiring_text : List ℕ → List ℕ
+wiring_text source = wiring_open ++ escaped source ++ wiring_close
+
+-- The page of a panel that is wired as a wiring chart says, and a deck: the wires are those of the panel, and the wiring chart stands in
+-- place of the legend.
+pub record ShowsPanel (setup : Wiring) (source : List ℕ) (deck : List (List ℕ)) (text : List ℕ) : Type 0 where
+  pub pairs : List (Hub × Hub)
+  pub all : AreWiresOf setup pairs
+  pub page : IsPage setup deck (map unasked pairs) (wiring_text source) text

@@ -2,7 +2,7 @@
 
 ghost use Rattle.std.specs.Prelude.{◌≡◌, ◌++◌, OnOk};
 ghost use Rattle.std.specs.String.{string_bytes};
-ghost use Rattle.show_page.specs.Frame.{document_open, style_a, style_b, style_c, style_d, style_e, style_f, style_g, style_h, style_i, body_open, cut_words, sheets_open, panel_open, legend_open, why_open, document_close, style};
+ghost use Rattle.show_page.specs.Frame.{document_open, style_a, style_b, style_c, style_d, style_e, style_f, style_g, style_h, style_i, body_open, cut_words, sheets_open, panel_open, legend_open, wiring_open, wiring_close, why_open, document_close, style};
 
 use std::alloc::AllocError;
 
@@ -42,7 +42,7 @@ fn write_style_c(text: &mut String) -> Result<(), AllocError>
     ensures { OnOk result (string_bytes text.new ≡ string_bytes text.old ++ style_c) }
 {
     text.push_str(
-        "#panel{display:block;width:100%;max-width:80em;height:auto}\n.hubs rect{fill:#f3f1ec;stroke:#ccc;stroke-width:.1;transform:translate(-.5px,-.5px)}\n.hubs text{font:1.4px sans-serif;transform:translate(-.4px,-.8px)}.hubs circle{fill:#777}\n",
+        "#panel{display:block;width:100%;min-width:44em;max-width:80em;height:auto}.board{overflow-x:auto}\n.hubs rect{fill:#f3f1ec;stroke:#ccc;stroke-width:.1;transform:translate(-.5px,-.5px)}\n.hubs text{font:1.4px sans-serif;transform:translate(-.4px,-.8px)}.hubs circle{fill:#777}\n",
     )
 }
 
@@ -52,7 +52,7 @@ fn write_style_d(text: &mut String) -> Result<(), AllocError>
     ensures { OnOk result (string_bytes text.new ≡ string_bytes text.old ++ style_d) }
 {
     text.push_str(
-        ".wires path{fill:none;stroke-width:.2;stroke-opacity:.75}.wires path:hover{stroke-width:.6;stroke-opacity:1}\n.c0{stroke:#555;border-color:#555}.c1{stroke:#c0392b;border-color:#c0392b}.c2{stroke:#2471a3;border-color:#2471a3}\n",
+        ".wires path{fill:none;stroke-width:.2;stroke-opacity:.75}.wires path:hover,.wires a:focus path{stroke-width:.6;stroke-opacity:1}\n.c0{stroke:#555;border-color:#555}.c1{stroke:#c0392b;border-color:#c0392b}.c2{stroke:#2471a3;border-color:#2471a3}\n",
     )
 }
 
@@ -92,7 +92,7 @@ fn write_style_h(text: &mut String) -> Result<(), AllocError>
     ensures { OnOk result (string_bytes text.new ≡ string_bytes text.old ++ style_h) }
 {
     text.push_str(
-        ".why svg{display:block;width:100%;height:auto;background:#fff}.why use{opacity:.3}\n.why path{fill:none;stroke:#d00;stroke-width:.5;stroke-linejoin:round}\n@media(min-width:75em){body{margin-right:46vw}.why section:target{left:auto;top:0;width:44vw;max-height:none;border-top:0;border-left:3px solid #c90}}\n",
+        ".why svg{display:block;width:100%;height:auto;background:#fff}.why use{opacity:.3}\n.why path{fill:none;stroke:#d00;stroke-width:.5;stroke-linejoin:round}\n@media(min-width:75em){body:has(.why :target){margin-right:46vw}.why section:target{left:auto;top:0;width:44vw;max-height:none;border-top:0;border-left:3px solid #c90}}\n",
     )
 }
 
@@ -101,7 +101,9 @@ fn write_style_h(text: &mut String) -> Result<(), AllocError>
 fn write_style_i(text: &mut String) -> Result<(), AllocError>
     ensures { OnOk result (string_bytes text.new ≡ string_bytes text.old ++ style_i) }
 {
-    text.push_str("@media print{body{margin:0}.why{display:none}.sheets pre{break-after:page}}\n")
+    text.push_str(
+        "@page{margin:1cm}@media print{body{margin:0}.why{display:none}.sheets,.board{overflow:visible}#panel{min-width:0}.sheets pre{font-size:6.5pt;break-after:page}}\n",
+    )
 }
 
 #[tactic(auto, unfolding(crate::specs::Frame::body_open))]
@@ -110,7 +112,7 @@ pub(crate) fn write_body_open(text: &mut String) -> Result<(), AllocError>
     ensures { OnOk result (string_bytes text.new ≡ string_bytes text.old ++ body_open) }
 {
     text.push_str(
-        "</style></head><body>\n<p>The drawing of the panel is our own schematic, not the real layout of the machine.</p>\n<h1>The report</h1>\n",
+        "</style></head><body>\n<p>Choose a printed character to see the way of each impulse that printed it. The drawing of the panel is our own schematic, not the real layout of the machine.</p>\n<h1>The report</h1>\n",
     )
 }
 
@@ -135,15 +137,33 @@ pub(crate) fn write_sheets_open(text: &mut String) -> Result<(), AllocError>
 pub(crate) fn write_panel_open(text: &mut String) -> Result<(), AllocError>
     ensures { OnOk result (string_bytes text.new ≡ string_bytes text.old ++ panel_open) }
 {
-    text.push_str("</div>\n<h1>The panel</h1>\n")
+    text.push_str("</div>\n<h1>The panel</h1>\n<div class=\"board\">\n")
 }
 
 #[tactic(auto, unfolding(crate::specs::Frame::legend_open))]
-// What stands between the drawing and the legend.
+// What stands before the legend of a chart.
 pub(crate) fn write_legend_open(text: &mut String) -> Result<(), AllocError>
     ensures { OnOk result (string_bytes text.new ≡ string_bytes text.old ++ legend_open) }
 {
-    text.push_str("<h1>What each line asks for</h1>\n<div class=\"legend\">\n")
+    text.push_str(
+        "</div>\n<h1>What each line asks for</h1>\n<p>A wire of the panel leads to the line that asks for it.</p>\n<div class=\"legend\">\n",
+    )
+}
+
+#[tactic(auto, unfolding(crate::specs::Frame::wiring_open))]
+// What stands before the text of a wiring chart.
+pub(crate) fn write_wiring_open(text: &mut String) -> Result<(), AllocError>
+    ensures { OnOk result (string_bytes text.new ≡ string_bytes text.old ++ wiring_open) }
+{
+    text.push_str("</div>\n<h1>The wiring chart</h1>\n<div class=\"legend\">\n<pre class=\"c0\">")
+}
+
+#[tactic(auto, unfolding(crate::specs::Frame::wiring_close))]
+// What stands behind the text of a wiring chart.
+pub(crate) fn write_wiring_close(text: &mut String) -> Result<(), AllocError>
+    ensures { OnOk result (string_bytes text.new ≡ string_bytes text.old ++ wiring_close) }
+{
+    text.push_str("</pre>\n")
 }
 
 #[tactic(auto, unfolding(crate::specs::Frame::why_open))]

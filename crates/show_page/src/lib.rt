@@ -1,12 +1,12 @@
 //! One page for a browser: the report, the panel and the way of each impulse.
 //!
-//! [`show_chart`] makes the page of a chart and a deck. It is one file of XHTML without scripts,
-//! and needs no network: the printed pages, the drawing of the panel, the legend, and for each printed character an element with its
-//! explanation, to which the character links. `specs/Page.antt` says what is written.
+//! [`show_chart`] makes the page of a chart and a deck, [`show_panel`] that of a panel that is wired as a wiring chart says. It is one file
+//! of XHTML without scripts, and needs no network: the printed pages, the drawing of the panel, the legend or the wiring chart, and for
+//! each printed character an element with its explanation, to which the character links. `specs/Page.antt` says what is written.
 #![tactic(auto)]
 
 mod frame;
 mod page;
 mod show;
 
-pub use show::show_chart;
+pub use show::{show_chart, show_panel};

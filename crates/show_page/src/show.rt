@@ -1,18 +1,23 @@
 //! The whole page.
 
-ghost use Rattle.std.specs.Prelude.{◌≡◌, ◌≤◌, IfOk, length};
+ghost use Rattle.std.specs.Prelude.{◌≡◌, ◌≤◌, ◌++◌, IfOk, OnOk, length, map};
 ghost use Rattle.std.specs.String.{string_bytes};
 ghost use Rattle.card_code.specs.MostCards.{most_cards};
+ghost use Rattle.panel_drawing.specs.Wires.{AreWiresOf};
 ghost use Rattle.plans.specs.Plans.{IsFor};
-ghost use Rattle.show_page.specs.Page.{IsPage, ShowsChart};
+ghost use Rattle.show_page.specs.Page.{IsPage, ShowsChart, ShowsPanel, unasked, wiring_text};
 
-use crate::frame::{write_document_close, write_legend_open, write_why_open};
+use crate::frame::{
+    write_document_close, write_legend_open, write_why_open, write_wiring_close, write_wiring_open,
+};
 use crate::page::{shown, write_front, write_sections};
 use card_code::Card;
 use chart_panels::{chart_wires, write_legend};
 use chart_rules::Chart;
+use hubs::Hub;
 use machine::simulate;
-use panel_drawing::{PanelWire, write_drawing};
+use markup::push_escaped;
+use panel_drawing::{PanelWire, panel_wires, write_drawing};
 use plans::Plan;
 use setups::Setup;
 use std::alloc::{AllocError, Global};
@@ -35,7 +40,6 @@ fn page(
     let mut text = String::new(alloc);
     write_front(&mut text, cards.len(), lines, form_lines)?;
     write_drawing(&mut text, wires)?;
-    write_legend_open(&mut text)?;
     text.push_str(legend)?;
     write_why_open(&mut text)?;
     write_sections(alloc, &mut text, setup, cards, lines)?;
@@ -62,6 +66,59 @@ pub fn show_chart(
 {
     let wires = chart_wires(alloc, chart, plan, setup)?;
     let mut legend = String::new(alloc);
+    write_legend_open(&mut legend)?;
     write_legend(alloc, &mut legend, version, chart, plan, source)?;
+    page(alloc, setup, cards, &wires, &legend)
+}
+
+// A wire that no line of a chart asks for.
+fn unasked(pair: (Hub, Hub)) -> PanelWire
+    ensures { result ≡ unasked pair }
+{
+    PanelWire {
+        exit: pair.0,
+        entry: pair.1,
+        line: 0,
+    }
+}
+
+#[tactic(auto, using(crate::proofs::Parts::unasked_item))]
+// The wires of a panel, none of which a line of a chart asks for.
+fn unasked_wires(alloc: Global, pairs: &[(Hub, Hub)]) -> Result<Vec<PanelWire>, AllocError>
+    ensures { IfOk result (λ wires. wires.items ≡ map unasked pairs.now) }
+{
+    let mut wires = Vec::new(alloc);
+    for pair in pairs {
+        wires.push(unasked(*pair))?;
+    }
+    Ok(wires)
+}
+
+#[tactic(auto, unfolding(crate::specs::Page::wiring_text))]
+// Writes the text of a wiring chart, in place of a legend.
+fn write_wiring(text: &mut String, source: &[u8]) -> Result<(), AllocError>
+    ensures { OnOk result (string_bytes text.new ≡ string_bytes text.old ++ wiring_text source.now) }
+{
+    write_wiring_open(text)?;
+    push_escaped(text, source)?;
+    write_wiring_close(text)
+}
+
+/// The page of a panel that is wired as a wiring chart says, and a deck of at most 999,999 cards, as [`show_chart`] gives that of a chart:
+/// no line of a chart asks for the wires, and the wiring chart stands in place of the legend. `source` is its text. Its only refusal is
+/// memory.
+pub fn show_panel(
+    alloc: Global,
+    setup: &Setup,
+    source: &[u8],
+    cards: &[Card],
+) -> Result<String, AllocError>
+    requires { length cards.now ≤ most_cards }
+    ensures { IfOk result (λ text. ShowsPanel setup.now source.now cards.now (string_bytes text)) }
+{
+    let pairs = panel_wires(alloc, setup)?;
+    let wires = unasked_wires(alloc, &pairs)?;
+    let mut legend = String::new(alloc);
+    write_wiring(&mut legend, source)?;
     page(alloc, setup, cards, &wires, &legend)
 }

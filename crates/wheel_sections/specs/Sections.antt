@@ -34,7 +34,7 @@ unfoldable pub words_open : List ℕ
 words_open = codes "<pre>"
 
 unfoldable pub picture_open : List ℕ
-picture_open = codes "</pre><svg viewBox=\"0 0 87 77\"><use href=\"#board\"/>"
+picture_open = codes "</pre><svg xmlns=\"http://www.w3.org/2000/svg\" viewBox=\"0 0 87 77\"><use href=\"#board\"/>"
 
 unfoldable pub section_close : List ℕ
 section_close = codes "</svg></section>\n"

@@ -77,7 +77,9 @@ fn write_words_open(text: &mut String) -> Result<(), AllocError>
 fn write_picture_open(text: &mut String) -> Result<(), AllocError>
     ensures { OnOk result (string_bytes text.new ≡ string_bytes text.old ++ picture_open) }
 {
-    text.push_str("</pre><svg viewBox=\"0 0 87 77\"><use href=\"#board\"/>")
+    text.push_str(
+        "</pre><svg xmlns=\"http://www.w3.org/2000/svg\" viewBox=\"0 0 87 77\"><use href=\"#board\"/>",
+    )
 }
 
 #[tactic(auto, unfolding(crate::specs::Sections::section_close))]

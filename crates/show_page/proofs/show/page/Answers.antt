@@ -26,15 +26,15 @@ returns c =
     let long : c.from-form_lines.result ≡ c.args.setup.now.tape.lines =
     c.from-form_lines.ensures ∙ c.lines.ensures.value ∙ ap (λ (t : CarriageTape). t.lines) c.tape.ensures.value in
     let none = string_bytes c.new-text.result in
-    let five = string_bytes c.write_why_open.new.text in
-    let six = string_bytes c.write_sections.new.text in
+    let four = string_bytes c.write_why_open.new.text in
+    let five = string_bytes c.write_sections.new.text in
     page_whole c.args.setup.now c.args.cards.now printed c.args.wires.now c.args.legend.now none
-    (string_bytes c.write_front.new.text) (string_bytes c.write_drawing.new.text) (string_bytes c.write_legend_open.new.text)
-    (string_bytes c.push_str.new.self) five six (string_bytes c.write_document_close.new.text) c.in_ok-printed.ensures.lines
+    (string_bytes c.write_front.new.text) (string_bytes c.write_drawing.new.text) (string_bytes c.push_str.new.self) four five
+    (string_bytes c.write_document_close.new.text) c.in_ok-printed.ensures.lines
     c.new-text.ensures.bytes
     (c.in_ok-write_front.ensures ∙ ap (λ (l : List PlacedLine). none ++ front_text cards l c.from-form_lines.result) same
     ∙ ap (λ (n : ℕ). none ++ front_text cards (shown cards printed) n) long)
-    c.in_ok-write_drawing.ensures c.in_ok-write_legend_open.ensures c.in_ok-push_str.ensures.bytes c.in_ok-write_why_open.ensures
-    (subst (λ (l : List PlacedLine). GainsEach (IsOfLine c.args.setup.now c.args.cards.now) l five six) same
+    c.in_ok-write_drawing.ensures c.in_ok-push_str.ensures.bytes c.in_ok-write_why_open.ensures
+    (subst (λ (l : List PlacedLine). GainsEach (IsOfLine c.args.setup.now c.args.cards.now) l four five) same
     c.in_ok-write_sections.ensures)
     c.in_ok-write_document_close.ensures
