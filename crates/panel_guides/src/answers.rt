@@ -68,9 +68,7 @@ fn explained_on<'a>(
     let Ok(wheel) = u8::try_from(place.wheel) else {
         return Err(Unexplained::NoSuchWheel { wheel: place.wheel });
     };
-    match explain_text(
-        alloc, setup, asked, cards, place.page, place.line, wheel,
-    ) {
+    match explain_text(alloc, setup, asked, cards, place.page, place.line, wheel) {
         Ok(text) => Ok(text),
         Err(refusal) => Err(told_of(refusal, place)),
     }
@@ -107,7 +105,7 @@ fn explained_by_chart<'a>(
     explained_on(
         alloc,
         planned.compiled.setup(),
-        asked.as_slice(),
+        &asked,
         planned.cards.as_slice(),
         place,
     )

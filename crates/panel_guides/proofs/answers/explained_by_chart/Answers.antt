@@ -14,7 +14,7 @@ returns-in_err-planned-clause-refused c =
 
 pub returns-in_err-asked-clause-refused : goal.returns-in_err-asked-clause-refused
 returns-in_err-asked-clause-refused c =
-    let exit = err_from_is_err_and c.from_residual.result c.from_residual.ensures.1 in
+    let exit = err_from_is_err_and c.from_residual-in_err-asked.result c.from_residual-in_err-asked.ensures.1 in
     rw exit.1 (texts_refused c.args.chart.now c.args.deck.now c.args.place c.in_err-asked.field-0.0 exit.0
     (λ not_memory. absurd (not_memory c.in_err-asked.ensures.memory)) exit.2)
 
@@ -23,7 +23,8 @@ returns-clause-explained c =
     explained_of_texts c.explained_on.result c.args.chart.now c.args.deck.now c.args.place c.setup.result.now c.as_slice.result.now
     c.in_ok-planned.planned.cards.items c.as_slice.ensures.value
     (rw c.setup.ensures.value (reported c.requires c.in_ok-planned.planned.compiled c.in_ok-planned.ensures.compiles c.in_ok-planned.ensures.deck c.in_ok-planned.ensures.runnable))
-    c.in_ok-asked.asked.items (lines c.requires c.in_ok-planned.planned.compiled c.in_ok-planned.ensures.compiles c.in_ok-asked.asked.items c.in_ok-asked.ensures.lines)
+    c.deref.result.now
+    (rw c.deref.ensures.value (lines c.requires c.in_ok-planned.planned.compiled c.in_ok-planned.ensures.compiles c.in_ok-asked.asked.items c.in_ok-asked.ensures.lines))
     string_bytes c.explained_on.ensures.explains
 
 pub returns-clause-refused : goal.returns-clause-refused
