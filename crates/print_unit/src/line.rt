@@ -65,7 +65,7 @@ fn put_rows(rows: &mut [u128; 12], set: u16, k: usize)
     ensures rows { PutsRows set k rows.old rows.new }
     ensures twelve { length rows.new ≡ 12 }
 {
-    let mut left = u128::from(set & 0xfff);
+    let mut left = u64::from(set & 0xfff);
     while left != 0 {
         let place = left.trailing_zeros() as usize;
         rows[place] |= 1 << k;
