@@ -5,3 +5,4 @@ pub mod Laws
 pub mod ValidCards
 pub mod OneFault
 pub mod Versions
+pub mod DigitCounts

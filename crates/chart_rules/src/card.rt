@@ -1,6 +1,7 @@
 //! The cards that are valid for a chart.
 
-ghost use Rattle.std.specs.Prelude.{◌≡◌, ◌+◌, ◌<◌, ◌≤◌, ◌↔◌, ℕ, IsTrue, IsOk, IfErr, length};
+ghost use Rattle.std.specs.List.{list_any};
+ghost use Rattle.std.specs.Prelude.{◌≡◌, ◌==◌, ◌+◌, ◌<◌, ◌≤◌, ◌↔◌, ℕ, IsTrue, IsOk, IfErr, length};
 ghost use Rattle.card_code.specs.CardCode.{deck_character};
 ghost use Rattle.field_rules.specs.Fields.{fields_of};
 ghost use Rattle.charts.specs.Field.{sign_column, decimals_of};
@@ -17,6 +18,9 @@ use thiserror::Error;
 static DIGIT_ROWS: [Row; 10] = [
     Row::Zero, Row::One, Row::Two, Row::Three, Row::Four, Row::Five, Row::Six, Row::Seven, Row::Eight, Row::Nine,
 ];
+
+/// The sets of rows that have a single digit.
+const DIGIT_SETS: [u16; 10] = [1, 2, 4, 8, 16, 32, 64, 128, 256, 512];
 
 /// Why a card is not valid for a chart.
 #[derive(Clone, Copy, Debug, PartialEq, Eq, Error)]
@@ -143,11 +147,30 @@ fn punched_among(rows: &[Row], column: Column) -> usize
 }
 
 /// How many of the rows 0 to 9 are punched in a column.
-#[tactic(auto, unfolding(crate::specs::ValidCard::digit_count, crate::specs::ValidCard::digit_rows))]
 fn digit_count(column: Column) -> usize
     ensures { result ≡ valid.digit_count column }
 {
-    punched_among(&DIGIT_ROWS, column)
+    // Nearly all columns have no digit or a single one.
+    let digits = column.rows() & 0x3ff;
+    if digits == 0 {
+        0
+    } else if is_among(&DIGIT_SETS, digits) {
+        1
+    } else {
+        punched_among(&DIGIT_ROWS, column)
+    }
+}
+
+/// Whether a set of rows is one of some.
+fn is_among(sets: &[u16], set: u16) -> bool
+    ensures { result ≡ list_any (λ one. one == set) sets.now }
+{
+    for one in sets {
+        if *one == set {
+            return true;
+        }
+    }
+    false
 }
 
 /// The first of some columns that has a row 0 to 9, or the column after them.

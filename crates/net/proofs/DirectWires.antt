@@ -49,7 +49,7 @@ exit_numbered (CSZ split) common n is numbered =
 exit_numbered other common n is numbered = cc
 
 -- what is linked is in the range of links
-linked-range : (links : List Link) (from to : ℕ) → All IsInRange links → is_linked links from to ≡ true
+pub linked-range : (links : List Link) (from to : ℕ) → All IsInRange links → is_linked links from to ≡ true
     → (from < 1040) × (1040 ≤ to) × (to < 1936)
 linked-range [] from to range linked = absurd (false≢true linked)
 linked-range (link ∷ links) from to range linked =
@@ -70,7 +70,7 @@ linked-range (link ∷ links) from to range linked =
             low_of m n e less = grind (arith, nat_tests, e, less)
 
 -- what is linked to is none of the places that no link leads to
-linked-elsewhere : (links : List Link) (places : List ℕ) (from to : ℕ) → All (λ link. has_place places link.to ≡ false) links
+pub linked-elsewhere : (links : List Link) (places : List ℕ) (from to : ℕ) → All (λ link. has_place places link.to ≡ false) links
     → is_linked links from to ≡ true → has_place places to ≡ false
 linked-elsewhere [] places from to apart linked = absurd (false≢true linked)
 linked-elsewhere (link ∷ links) places from to apart linked =

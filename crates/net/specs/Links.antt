@@ -87,7 +87,8 @@ has_row_at sets row hub = has_at_number sets row (number_of hub)
 
 -- The links lead on where the rows do, each in range, and the common places of the contacts are known, as it is where no link leads
 -- to any of them. The contacts that a link leads to stand one by one.
-pub record IsNetInside (contacts : List Run) (common_places : List ℕ) (links wired_contacts further : List Link) (skips contact_skips further_skips : List ℕ) (is_direct : Bool)
+pub record IsNetInside (contacts : List Run) (common_places : List ℕ) (links wired_contacts further : List Link) (skips contact_skips further_skips : List ℕ)
+    (is_direct is_shallow : Bool)
     (rows : List (List ℕ)) : Type 0 where
   pub commons : AreCommons contacts common_places
   pub in_range : All IsInRange links
@@ -100,3 +101,4 @@ pub record IsNetInside (contacts : List Run) (common_places : List ℕ) (links w
   pub follows : (from to : ℕ) → is_linked further from to ≡ (is_linked links from to && is_led_to wired_contacts from)
   pub further_skipped : AreSkips further further_skips
   pub direct : is_direct ≡ true → All (λ link. has_place common_places link.to ≡ false) links
+  pub shallow : is_shallow ≡ true → All (λ link. has_place common_places link.to ≡ false) further

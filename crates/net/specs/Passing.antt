@@ -61,6 +61,11 @@ pub record SpreadsOn (wiring : Wiring) (old new : List ℕ) : Type 0 where
       (row : ℕ) (exit common hub before : Hub) → contact_of exit ≡ Some common → HasWire wiring before common
       → HasWire wiring exit hub → has_row_at old row exit ≡ true → has_row_at new row hub ≡ true
 
+-- hubs from which contacts lead have gained no row
+abbrev pub KeepsCommons : List ℕ → List ℕ → Type 0
+KeepsCommons old new =
+    (row : ℕ) (common hub : Hub) → contact_of hub ≡ Some common → has_row_at new row common ≡ true → has_row_at old row common ≡ true
+
 -- a run of contacts leads from entries of the panel to exits
 pub record LeadsToExits (run : Run) : Type 0 where
   pub from : 1040 ≤ run.common

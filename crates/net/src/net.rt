@@ -37,6 +37,8 @@ pub struct Net {
     further_skips: Vec<usize>,
     // Whether no wire leads to a common hub.
     is_direct: bool,
+    // Whether none of the wires from the exits of contacts does.
+    is_shallow: bool,
 }
 
 impl Model for Net {
@@ -49,7 +51,7 @@ impl Model for Net {
 
     ghost use Rattle.net.specs.Links.{IsNetInside};
 
-    ghost invariant = { λ net. IsNetInside CONTACTS net.commons net.links.items net.contacts.items net.further.items net.skips.items net.contact_skips.items net.further_skips.items net.is_direct net.rows };
+    ghost invariant = { λ net. IsNetInside CONTACTS net.commons net.links.items net.contacts.items net.further.items net.skips.items net.contact_skips.items net.further_skips.items net.is_direct net.is_shallow net.rows };
 }
 
 impl Net {
@@ -64,7 +66,7 @@ impl Net {
     ghost use Rattle.net.specs.Links.{has_row_at};
     ghost use Rattle.std.specs.Prelude.{false};
     ghost use Rattle.card_code.specs.declared.row.Row.{Row as CardRow};
-    ghost use Rattle.net.specs.Passing.{AreCommonsSilent, PassesOn, SameSets, SpreadsOn, closes_at_row};
+    ghost use Rattle.net.specs.Passing.{AreCommonsSilent, KeepsCommons, PassesOn, SameSets, SpreadsOn, closes_at_row};
     ghost use Rattle.net.specs.RowSets.{LeadsToNoContact, pictures_of};
     ghost use Rattle.net.specs.declared.cycle.Point.TheVariants.{Row};
 
@@ -91,6 +93,7 @@ impl Net {
         let further_skips = skips_of(alloc, further.as_slice())?;
         let commons = commons_of(&CONTACTS);
         let is_direct = !leads_to_any(links.as_slice(), &commons);
+        let is_shallow = !leads_to_any(further.as_slice(), &commons);
         Ok(Net {
             rows,
             commons,
@@ -101,6 +104,7 @@ impl Net {
             further,
             further_skips,
             is_direct,
+            is_shallow,
         })
     }
 
@@ -162,19 +166,24 @@ impl Net {
         if !self.pass(digits, zones, sets) {
             return true;
         }
-        self.spread_on(sets);
+        if self.spread_on(sets) {
+            return true;
+        }
         !self.pass(digits, zones, sets)
     }
 
-    // Spreads rows along the wires from the exits of the contacts that wires lead to.
-    fn spread_on(&self, sets: &mut RowSets)
-        ensures { (wiring : Wiring) → IsNetOf wiring self.now → SpreadsOn wiring sets.old sets.new }
+    // Spreads rows along the wires from the exits of the contacts that wires lead to. Answers whether surely no hub from which contacts lead
+    // has gained any.
+    fn spread_on(&self, sets: &mut RowSets) -> bool
+        ensures spreads { (wiring : Wiring) → IsNetOf wiring self.now → SpreadsOn wiring sets.old sets.new }
+        ensures keeps { result ≡ true → KeepsCommons sets.old sets.new }
     {
         follow_all(
             self.further.as_slice(),
             self.further_skips.as_slice(),
             &mut sets.sets,
         );
+        self.is_shallow
     }
 
     // Passes rows on along the closed contacts that wires lead to. Answers whether a hub may have gained any.

@@ -10,3 +10,4 @@ pub mod Sets
 pub mod WheelRows
 pub mod HiddenWheels
 pub mod EmittedRows
+pub mod Blocks

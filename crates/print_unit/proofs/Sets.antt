@@ -5,7 +5,8 @@ use Rattle.std.proofs.lemmas.List.{get_or-set_same, get_or-set_other, get_or-map
 use Rattle.std.proofs.lemmas.Bool.{cases_lt, false≢true}
 use Rattle.std.proofs.lemmas.Nat.{and_le_l, and_le_r}
 use Rattle.std.proofs.lemmas.Nat.Bits.{bit_at-trailing_zeros}
-use Rattle.std.specs.Int.{bit_not, w128, trailing_zeros}
+use Rattle.std.specs.Int.{bit_not, w64, w128, trailing_zeros}
+use Rattle.net.proofs.Below.bit_sets.BitLemmas.{is_bit-taken, lowest_bit}
 use Rattle.net.specs.HubSets.{is_bit}
 use Rattle.print_unit.specs.RowSets.{rows_in, HasRowsOf, HidesLeft, PutsLeft, PutsRows, Receives, TakesRow, TakesLeft}
 use Rattle.print_unit.specs.WheelWords.{received_at, rows_at}
@@ -97,14 +98,14 @@ puts-none set k rows long = record {
 
 -- the row of the lowest bit that is left is put
 pub puts-lowest : (set left k : ℕ) (old now : List ℕ) → left ≢ 0 → k < 128 → PutsLeft set left k old now
-    → (trailing_zeros w128 left < 12)
-    × PutsLeft set (bit_and left (bit_not w128 (1 * 2 ^ trailing_zeros w128 left % 2 ^ 128))) k old
-    (slice_set now (trailing_zeros w128 left) (bit_or (slice_index_or now (trailing_zeros w128 left) 0) (1 * 2 ^ k % 2 ^ 128)))
+    → (trailing_zeros w64 left < 12)
+    × PutsLeft set (bit_and left (bit_not w64 (1 * 2 ^ trailing_zeros w64 left % 2 ^ 64))) k old
+    (slice_set now (trailing_zeros w64 left) (bit_or (slice_index_or now (trailing_zeros w64 left) 0) (1 * 2 ^ k % 2 ^ 128)))
 puts-lowest set left k old now some narrow puts =
-    let wide : left < 2 ^ 128 = let low = puts.small in omega (arith, low) in
-    let at = lowest left some wide in
-    let near = within_twelve (trailing_zeros w128 left) at.1 in
-    (near, by (trailing_zeros w128 left) near at.1)
+    let wide : left < 2 ^ 64 = let low = puts.small in omega (arith, low) in
+    let at = lowest_bit left (omega (arith, some)) wide in
+    let near = within_twelve (trailing_zeros w64 left) at.1 in
+    (near, by (trailing_zeros w64 left) near at.1)
   where
     within_twelve : (p : ℕ) → is_bit left p ≡ true → p < 12
     within_twelve p on = elim (cases_lt p 12) [
@@ -113,14 +114,14 @@ puts-lowest set left k old now some narrow puts =
     ]
 
     by : (at : ℕ) → at < 12 → is_bit left at ≡ true
-        → PutsLeft set (bit_and left (bit_not w128 (1 * 2 ^ at % 2 ^ 128))) k old
+        → PutsLeft set (bit_and left (bit_not w64 (1 * 2 ^ at % 2 ^ 64))) k old
         (slice_set now at (bit_or (slice_index_or now at 0) (1 * 2 ^ k % 2 ^ 128)))
     by at near on = record {
       small =
-          let less = and_le_l left (bit_not w128 (1 * 2 ^ at % 2 ^ 128)) in let low = puts.small in omega (arith, less, low);
+          let less = and_le_l left (bit_not w64 (1 * 2 ^ at % 2 ^ 64)) in let low = puts.small in omega (arith, less, low);
       within = λ p low.
           let w = puts.within p low in
-          rw (is_bit-cleared left at p (omega (arith, near)) (omega (arith, low))) (grind (arith, nat_tests, w));
+          rw (is_bit-taken left at p (omega (arith, near)) (omega (arith, low))) (grind (arith, nat_tests, w));
       put = λ p low j. put p low j (eqb_tells p at);
       twelve = length-set now at (bit_or (slice_index_or now at 0) (1 * 2 ^ k % 2 ^ 128)) ∙ puts.twelve;
     }
@@ -128,17 +129,17 @@ puts-lowest set left k old now some narrow puts =
         put : (p : ℕ) → p < 12 → (j : ℕ) → ((p == at) ≡ true) × (p ≡ at) ⊎ ((p == at) ≡ false) × (p ≢ at)
             → is_bit (slice_index_or (slice_set now at (bit_or (slice_index_or now at 0) (1 * 2 ^ k % 2 ^ 128))) p 0) j
             ≡ (is_bit (slice_index_or old p 0) j
-            || (is_bit set p && not (is_bit (bit_and left (bit_not w128 (1 * 2 ^ at % 2 ^ 128))) p)) && (j == k))
+            || (is_bit set p && not (is_bit (bit_and left (bit_not w64 (1 * 2 ^ at % 2 ^ 64))) p)) && (j == k))
         put p low j (inl same) =
             let before = puts.put at near j in
             let w = puts.within at near in
             let long = puts.twelve in
-            let gone = is_bit-cleared left at at (omega (arith, near)) (omega (arith, near)) in
+            let gone = is_bit-taken left at at (omega (arith, near)) (omega (arith, near)) in
             rw (same.1, get_or-set_same now at (bit_or (slice_index_or now at 0) (1 * 2 ^ k % 2 ^ 128)) 0 (omega (arith, long, near)), is_bit-joined 128 (slice_index_or now at 0) k j narrow, before)
             (grind (arith, nat_tests, w, on, gone))
         put p low j (inr other) =
             let before = puts.put p low j in
-            let kept = is_bit-cleared left at p (omega (arith, near)) (omega (arith, low)) in
+            let kept = is_bit-taken left at p (omega (arith, near)) (omega (arith, low)) in
             let apart = other.0 in
             rw (get_or-set_other now at p (bit_or (slice_index_or now at 0) (1 * 2 ^ k % 2 ^ 128)) 0 other.1, before, kept, apart)
             (grind (arith, nat_tests))

@@ -1,6 +1,6 @@
 -- The words of the wheels: bit k of a word stands for wheel k + 1, and each wheel has the set of the rows that it received. There is a
 -- word for each kind of jack, and one is made for each row. What is said here is for proofs: the wheels' rules stand in Wheels and ZeroControl.
-use Rattle.std.specs.Prelude.{◌≡◌, ℕ, zero, suc, ◌+◌, ◌<◌, ◌&&◌, ◌||◌, not, Bool, false, List, map, slice_index_or, if◌then◌else◌}
+use Rattle.std.specs.Prelude.{◌≡◌, ℕ, zero, suc, ◌+◌, ◌<◌, ◌&&◌, ◌||◌, not, Bool, false, List, length, map, slice_index_or, if◌then◌else◌}
 use Rattle.std.specs.List.{range_with_len}
 use Rattle.setups.specs.Wiring.{Wiring, is_plugged}
 use Rattle.hubs.specs.declared.jack.Jack.{Jack}
@@ -20,6 +20,11 @@ rows_at words k = map (λ word. is_bit word k) words
 -- the rows that the wheel of a bit received, by the sets of the wheels
 abbrev pub received_at : List ℕ → ℕ → List Bool
 received_at sets k = rows_in (slice_index_or sets k 0)
+
+-- the line has the characters of the first wheels
+pub record HasPrinted (sets : List ℕ) (count : ℕ) (line : List ℕ) : Type 0 where
+  pub characters : (k : ℕ) → k < count → slice_index_or line k 0 ≡ character_of (received_at sets k)
+  pub wheels : length line ≡ 120
 
 -- the wheel of a bit
 abbrev pub wheel_at : inside.Inside → ℕ → Wheel

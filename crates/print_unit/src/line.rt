@@ -1,10 +1,10 @@
 //! The line: the characters of the wheels, by the sets of the rows that they received.
 
-ghost use Rattle.std.specs.Prelude.{◌≡◌, ℕ, ◌<◌, ◌≤◌, ◌==◌, ◌&&◌, ◌||◌, not, length, nat_lt, slice_index_or, if◌then◌else◌};
+ghost use Rattle.std.specs.Prelude.{◌≡◌, ℕ, ◌+◌, ◌<◌, ◌≤◌, true, ◌==◌, ◌&&◌, ◌||◌, not, length, nat_lt, slice_index_or, if◌then◌else◌};
 ghost use Rattle.net.specs.HubSets.{is_bit};
 ghost use Rattle.print_unit.specs.RowSets.{rows_in, PutsRows, Receives, TakesRow};
 ghost use Rattle.print_unit.specs.ZeroControl.{character_of};
-ghost use Rattle.print_unit.specs.WheelWords.{printed_at, received_at, rows_at};
+ghost use Rattle.print_unit.specs.WheelWords.{HasPrinted, printed_at, received_at, rows_at};
 
 use crate::characters::Characters;
 use crate::wheel_words::WHEELS;
@@ -26,7 +26,48 @@ fn print_all(characters: &Characters, sets: &[u16; BITS], line: &mut [u8; WHEELS
     ensures characters { (k : ℕ) → k < 120 → slice_index_or line.new k 0 ≡ character_of (received_at sets.now k) }
     ensures wheels { length line.new ≡ 120 }
 {
-    for k in 0..WHEELS {
+    let blank = characters.of(0);
+    for block in 0..15 {
+        if is_empty(sets, 8 * block) {
+            put_blanks(sets, blank, 8 * block, line);
+        } else {
+            print_wheels(characters, sets, 8 * block, line);
+        }
+    }
+}
+
+// Whether none of eight wheels received anything. Most do not: few wheels are wired.
+fn is_empty(sets: &[u16; BITS], from: usize) -> bool
+    requires { from + 8 ≤ 128 }
+    ensures { result ≡ true → (k : ℕ) → from ≤ k → k < from + 8 → slice_index_or sets.now k 0 ≡ 0 }
+{
+    let mut rows = 0;
+    for k in from..from + 8 {
+        rows |= sets[k];
+    }
+    rows == 0
+}
+
+// Prints eight wheels after those on the line, none of which received anything.
+fn put_blanks(sets: &[u16; BITS], blank: u8, from: usize, line: &mut [u8; WHEELS])
+    requires within { from + 8 ≤ 120 }
+    requires blank { blank ≡ character_of (rows_in 0) }
+    requires empty { (k : ℕ) → from ≤ k → k < from + 8 → slice_index_or sets.now k 0 ≡ 0 }
+    requires before { HasPrinted sets.now from line.old }
+    ensures { HasPrinted sets.now (from + 8) line.new }
+{
+    for k in from..from + 8 {
+        line[k] = blank;
+    }
+}
+
+// Prints eight wheels after those on the line.
+fn print_wheels(characters: &Characters, sets: &[u16; BITS], from: usize, line: &mut [u8; WHEELS])
+    requires within { from + 8 ≤ 120 }
+    requires before { HasPrinted sets.now from line.old }
+    ensures { HasPrinted sets.now (from + 8) line.new }
+{
+    for k in from..from + 8 {
         line[k] = characters.of(sets[k]);
     }
 }
@@ -65,7 +106,7 @@ fn put_rows(rows: &mut [u128; 12], set: u16, k: usize)
     ensures rows { PutsRows set k rows.old rows.new }
     ensures twelve { length rows.new ≡ 12 }
 {
-    let mut left = u128::from(set & 0xfff);
+    let mut left = u64::from(set & 0xfff);
     while left != 0 {
         let place = left.trailing_zeros() as usize;
         rows[place] |= 1 << k;

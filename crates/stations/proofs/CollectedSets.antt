@@ -20,7 +20,6 @@ use Rattle.net.specs.declared.cycle.Point.TheVariants.{Row}
 use Rattle.stations.specs.Comparing.{Compared, comparing_sensed, joined, positions, sets_at}
 use Rattle.stations.specs.Words.{gathered}
 use Rattle.stations.proofs.PositionWords.{is_bit-or, is_bit-positions, same_word}
-use Rattle.stations.proofs.RowWords.{no_bit}
 
 -- words of positions of tests that agree on them
 pub positions-same : (last : ℕ) (one other : ℕ → Bool) → ((p : ℕ) → 1 ≤ p → p ≤ last → one p ≡ other p)
@@ -42,8 +41,8 @@ pub positions-none : (test : ℕ → Bool) → 0 ≡ positions 0 test
 unfolding positions
 positions-none test = refl
 
--- entries without a row add no position
-pub gathered-none : (entries : List ℕ) (place : ℕ) (pair : ℕ × ℕ) → ((k row : ℕ) → k < 60 → has_at entries k row ≡ false)
+-- entries that don't have the row at a place add no position there
+pub gathered-none : (entries : List ℕ) (place : ℕ) (pair : ℕ × ℕ) → ((k : ℕ) → k < 60 → has_at entries k place ≡ false)
     → pair ≡ gathered entries place pair
 gathered-none entries place pair none =
     let one = same pair.0 0 (omega arith) in let other = same pair.1 30 (omega arith) in λ i. (one i, other i)
@@ -56,7 +55,7 @@ gathered-none entries place pair none =
         → (nat_lt k 30 && has_at entries (from + (suc k - 1)) place) ≡ false
     off from k true low is =
         let inside : from + (suc k - 1) < 60 = grind (arith, nat_tests, is, low) in
-        rw (is) (none (from + (suc k - 1)) place inside)
+        rw (is) (none (from + (suc k - 1)) inside)
     off from k false low is = rw (is) refl
 
     same : (word from : ℕ) → from ≤ 30 → word ≡ bit_or word (positions 30 (λ p. has_at entries (from + (p - 1)) place))
@@ -71,6 +70,22 @@ pub record AreGathered (count : ℕ) (entries : List ℕ) (old now : List (ℕ �
   pub long : length now ≡ 12
   pub done : (place : ℕ) → place < count → sets_at place now ≡ gathered entries place (sets_at place old)
   pub rest : (place : ℕ) → count ≤ place → sets_at place now ≡ sets_at place old
+
+-- a row that no entry has is gathered
+pub gathered-past : (count : ℕ) (entries : List ℕ) (old now : List (ℕ × ℕ)) → ((k : ℕ) → k < 60 → has_at entries k count ≡ false)
+    → AreGathered count entries old now → AreGathered (count + 1) entries old now
+gathered-past count entries old now none before = record {
+  long = before.long;
+  done = λ place less. by place less (eqb_tells place count);
+  rest = λ place more. before.rest place (omega (arith, more));
+}
+  where
+    by : (place : ℕ) → place < count + 1 → ((place == count) ≡ true) × (place ≡ count) ⊎ ((place == count) ≡ false) × (place ≢ count)
+        → sets_at place now ≡ gathered entries place (sets_at place old)
+    by place less (inl same) =
+        before.rest place (let e = same.1 in omega (arith, e))
+        ∙ gathered-none entries place (sets_at place old) (λ k inside. ap (λ (p : ℕ). has_at entries k p) same.1 ∙ none k inside)
+    by place less (inr other) = before.done place (let apart = other.1 in omega (arith, less, apart))
 
 pub gathered-more : (count : ℕ) (entries : List ℕ) (old now : List (ℕ × ℕ)) (pair : ℕ × ℕ) → count < 12
     → pair ≡ gathered entries count (sets_at count now) → AreGathered count entries old now
@@ -141,13 +156,6 @@ rows-joined sets count rows set is before k row less none = by (eqb_tells k coun
 -- no row is gathered yet
 pub gathered-first : (entries : List ℕ) (old : List (ℕ × ℕ)) → length old ≡ 12 → AreGathered 0 entries old old
 gathered-first entries old long = record { long = long; done = λ place less. absurd (omega (arith, less)); rest = λ place more. refl }
-
--- where no row is joined none of so many sets has a row
-pub none-joined : (sets : List ℕ) (count rows : ℕ) → (rows == 0) ≡ true
-    → ((k row : ℕ) → k < count → is_bit rows row ≡ false → has_at sets k row ≡ false) → (k row : ℕ) → k < count → has_at sets k row ≡ false
-none-joined sets count rows none before k row less =
-    let zero_rows : rows ≡ 0 = grind (arith, nat_tests, none) in
-    before k row less (ap (λ (w : ℕ). is_bit w row) zero_rows ∙ no_bit row)
 
 -- the entries that are read from the first one on
 pub entry-read : (sets entries : List ℕ) (k row : ℕ) (hub : Hub) → entries ≡ drop 1040 sets → number_of hub ≡ Some (1041 + k)

@@ -117,28 +117,28 @@ fn collect(collected: &mut [(u32, u32); 12], entries: &[u16])
     ensures before { length collected.old ≡ 12 }
     ensures after { length collected.new ≡ 12 }
 {
-    if is_empty(entries) {
-        return;
-    }
+    let rows = rows_of_all(entries);
     for place in 0..12 {
-        let pair = collected[place];
-        collected[place] = (
-            pair.0 | positions_at(entries, 0, place),
-            pair.1 | positions_at(entries, 30, place),
-        );
+        if has_bit(rows, place) {
+            let pair = collected[place];
+            collected[place] = (
+                pair.0 | positions_at(entries, 0, place),
+                pair.1 | positions_at(entries, 30, place),
+            );
+        }
     }
 }
 
-// Whether none of the entries has a row.
-fn is_empty(entries: &[u16]) -> bool
+// The rows that any of the entries has: at the others no position is impulsed.
+fn rows_of_all(entries: &[u16]) -> u16
     requires { ENTRIES ≤ length entries.now }
-    ensures { result ≡ true → (k row : ℕ) → k < ENTRIES → has_at entries.now k row ≡ false }
+    ensures { (k row : ℕ) → k < ENTRIES → is_bit result row ≡ false → has_at entries.now k row ≡ false }
 {
     let mut rows = 0;
     for k in 0..ENTRIES {
         rows |= entries[k];
     }
-    rows == 0
+    rows
 }
 
 // Of thirty entries from one on, the positions of those that have the row at a place.

@@ -1,19 +1,20 @@
-use Rattle.std.proofs.Common.{◌∙◌, arith}
-use Rattle.std.proofs.lemmas.List.{length-set}
-use Rattle.print_unit.specs.WheelWords.{received_at}
-use Rattle.print_unit.specs.ZeroControl.{character_of}
-use Rattle.print_unit.proofs.Ranges.{places-more}
+use Rattle.std.proofs.Common.{◌≡◌, ◌+◌, ◌*◌, ℕ, arith, subst}
+use Rattle.print_unit.specs.WheelWords.{HasPrinted}
 use Rattle.print_unit.proofs.line.print_all.Goals as goal
+use Rattle.print_unit.proofs.line.print_all.Goals.{then-is_empty, else-is_empty}
 
-pub loop-k-preserved : goal.loop-k-preserved
-loop-k-preserved c =
-    let line = c.loop-k.line in
-    let k = c.loop-k.k in
-    let long = c.loop-k.invariant.wheels in
-    let below = c.loop-k-test.true in
-    record {
-      characters =
-          places-more (λ j. character_of (received_at c.args.sets.now j)) line k c.of.result (omega (arith, long, below)) c.of.ensures
-          c.loop-k.invariant.characters;
-      wheels = length-set line k c.of.result ∙ long;
-    }
+pub loop-block-init : goal.loop-block-init
+loop-block-init c = record { characters = λ k less. absurd (omega (arith, less)); wheels = c.told-line }
+
+pub loop-block-preserved : goal.loop-block-preserved
+loop-block-preserved c =
+    let next : 8 * c.loop-block.block + 8 ≡ 8 * (c.loop-block.block + 1) = omega arith in
+    elim c.if-is_empty.branch [
+      | then-is_empty w ↦ rw w.line-is
+          (subst (λ (count : ℕ). HasPrinted c.args.sets.now count w.put_blanks.new.line) next w.put_blanks.ensures)
+      | else-is_empty w ↦ rw w.line-is
+          (subst (λ (count : ℕ). HasPrinted c.args.sets.now count w.print_wheels.new.line) next w.print_wheels.ensures)
+    ]
+
+pub put_blanks-requires-clause-empty : goal.put_blanks-requires-clause-empty
+put_blanks-requires-clause-empty c = c.is_empty.ensures c.if-is_empty.true

@@ -1,6 +1,7 @@
-use Rattle.std.proofs.Common.{ℕ, subst, sym}
+use Rattle.std.proofs.Common.{ℕ, arith, subst, sym}
+use Rattle.net.proofs.Below.bit_sets.BitLemmas.{taken_lower}
 use Rattle.print_unit.specs.RowSets.{PutsLeft}
-use Rattle.print_unit.proofs.Sets.{puts-all, puts-lowest, puts-none, without_lowest-smaller}
+use Rattle.print_unit.proofs.Sets.{puts-all, puts-lowest, puts-none}
 use Rattle.print_unit.proofs.line.put_rows.Goals as goal
 
 pub loop-left-init : goal.loop-left-init
@@ -9,7 +10,8 @@ loop-left-init c =
     (puts-none c.args.set c.args.k c.args.rows.now c.told-rows)
 
 pub loop-left-smaller : goal.loop-left-smaller
-loop-left-smaller c = without_lowest-smaller c.loop-left.left c.loop-left-test.true c.loop-left.auto.left-fits.fits
+loop-left-smaller c =
+    let some = c.loop-left-test.true in taken_lower c.loop-left.left (omega (arith, some)) c.loop-left.auto.left-fits.fits
 
 pub loop-left-preserved : goal.loop-left-preserved
 loop-left-preserved c =

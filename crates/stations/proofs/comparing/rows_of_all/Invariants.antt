@@ -1,7 +1,7 @@
 use Rattle.std.proofs.Common.{◌≡◌, ◌<◌, ℕ, false}
 use Rattle.net.specs.HubSets.{is_bit}
 use Rattle.net.specs.Links.{has_at}
-use Rattle.stations.proofs.comparing.is_empty.Given as goal
+use Rattle.stations.proofs.comparing.rows_of_all.Given as goal
 
 -- the rows so far are all that the sets so far have
 abbrev pub invariant-loop-k : goal.invariant-loop-k

@@ -1,0 +1,61 @@
+-- How many digits are punched in a column, by the rows 0 to 9 alone.
+use Rattle.std.proofs.Common.{◌≡◌, ◌∙◌, ◌⊎◌, ℕ, ◌+◌, ◌<◌, ◌==◌, inl, inr, arith, refl, sym, ap, true, nat_lt, List, [], ◌∷◌, bit_and, min, if◌then◌else◌}
+use Rattle.std.specs.Int.{bit_at}
+use Rattle.std.specs.List.{fold, list_all, list_any}
+use Rattle.std.proofs.lemmas.Bool.{and_parts, false≢true, or_cases}
+use Rattle.std.proofs.lemmas.Bool.Decides.{nat_tests}
+use Rattle.std.proofs.lemmas.Nat.Bits.{bit_at-lt, bit_at_and, bit_at_ones}
+use Rattle.card_code.specs.CardCode.{has_row}
+use Rattle.card_code.specs.Rows.{row_number}
+use Rattle.card_code.specs.declared.row.Row.{Row}
+use Rattle.chart_rules.specs.ValidCard.{digit_count, digit_rows, punched_among}
+
+-- the rows 0 to 9 of a column
+masked : (n row : ℕ) → row < 10 → has_row (bit_and n 1023) row ≡ has_row n row
+masked n row low = ap (λ (x : ℕ). x == 1) (bit_at_and n 1023 row ∙ ap (λ (x : ℕ). min (bit_at n row) x) (bit_at_ones 10 row low)) ∙ by (bit_at n row) (bit_at-lt n row)
+  where
+    by : (x : ℕ) → x < 2 → (min x 1 == 1) ≡ (x == 1)
+    by x small = grind (arith, nat_tests, small)
+
+-- the digits punched among some rows, added to so many
+abbrev added : List Row → ℕ → ℕ → ℕ
+added rows n before = fold (λ count row. count + (if has_row n (row_number row) then 1 else 0)) before rows
+
+-- the rows 0 to 9 are all that count
+among-masked : (rows : List Row) (n before : ℕ) → list_all (λ row. nat_lt (row_number row) 10) rows ≡ true
+    → added rows (bit_and n 1023) before ≡ added rows n before
+among-masked [] n before low = refl
+among-masked (row ∷ rows) n before low =
+    let both = and_parts (nat_lt (row_number row) 10) (list_all (λ r. nat_lt (row_number r) 10) rows) low in
+    let digit : row_number row < 10 = let test = both.0 in grind (arith, nat_tests, test) in
+    rw (masked n (row_number row) digit) (among-masked rows n (before + (if has_row n (row_number row) then 1 else 0)) both.1)
+
+pub digits-masked : (n digits : ℕ) → digits ≡ bit_and n 1023 → digit_count digits ≡ digit_count n
+unfolding digit_count digit_rows
+digits-masked n digits is = ap (λ (d : ℕ). punched_among digit_rows d) is ∙ among-masked digit_rows n 0 refl
+
+-- where none is punched
+pub no_digit : (n digits : ℕ) → digits ≡ bit_and n 1023 → digits ≡ 0 → 0 ≡ digit_count n
+unfolding digit_count digit_rows
+no_digit n digits is none = sym (ap (λ (d : ℕ). digit_count d) none) ∙ digits-masked n digits is
+
+-- a set that is one of some has one digit where each of them has
+one-among : (sets : List ℕ) (set : ℕ) → list_all (λ one. digit_count one == 1) sets ≡ true → list_any (λ one. one == set) sets ≡ true
+    → digit_count set ≡ 1
+one-among [] set all among = absurd (false≢true among)
+one-among (one ∷ sets) set all among =
+    let both = and_parts (digit_count one == 1) (list_all (λ s. digit_count s == 1) sets) all in
+    by both.0 (λ later. one-among sets set both.1 later) (or_cases (one == set) (list_any (λ s. s == set) sets) among)
+  where
+    equal : (m n : ℕ) → (m == n) ≡ true → m ≡ n
+    equal m n e = grind (arith, nat_tests, e)
+
+    by : (digit_count one == 1) ≡ true → (list_any (λ s. s == set) sets ≡ true → digit_count set ≡ 1)
+        → ((one == set) ≡ true) ⊎ (list_any (λ s. s == set) sets ≡ true) → digit_count set ≡ 1
+    by here there (inl same) = sym (ap (λ (s : ℕ). digit_count s) (equal one set same)) ∙ equal (digit_count one) 1 here
+    by here there (inr later) = there later
+
+-- where one is punched
+pub one_digit : (n digits : ℕ) (sets : List ℕ) → digits ≡ bit_and n 1023 → list_all (λ one. digit_count one == 1) sets ≡ true
+    → list_any (λ one. one == digits) sets ≡ true → 1 ≡ digit_count n
+one_digit n digits sets is all among = sym (one-among sets digits all among) ∙ digits-masked n digits is

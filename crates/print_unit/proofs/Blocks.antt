@@ -1,0 +1,39 @@
+-- Wheels printed eight at a time.
+use Rattle.std.proofs.Common.{⊎_elim, ◌≡◌, ◌≢◌, ◌∙◌, ℕ, ◌+◌, ◌<◌, ◌≤◌, ap, arith, sym, subst, List, bit_or, slice_index_or, slice_set}
+use Rattle.std.proofs.lemmas.Bool.{cases_eq}
+use Rattle.std.proofs.lemmas.List.{length-set}
+use Rattle.std.proofs.lemmas.Nat.{le_or_l, le_or_r}
+use Rattle.print_unit.proofs.Ranges.{places-more}
+use Rattle.print_unit.specs.RowSets.{rows_in}
+use Rattle.print_unit.specs.WheelWords.{HasPrinted, received_at}
+use Rattle.print_unit.specs.ZeroControl.{character_of}
+
+-- no set has more than all of them joined
+pub bound-more : (sets : List ℕ) (from count rows : ℕ)
+    → ((k : ℕ) → from ≤ k → k < count → slice_index_or sets k 0 ≤ rows)
+    → (k : ℕ) → from ≤ k → k < count + 1 → slice_index_or sets k 0 ≤ bit_or rows (slice_index_or sets count 0)
+bound-more sets from count rows before k low high = ⊎_elim
+    (λ (same : k ≡ count).
+    let right = le_or_r rows (slice_index_or sets count 0) in
+    subst (λ (j : ℕ). slice_index_or sets j 0 ≤ bit_or rows (slice_index_or sets count 0)) (sym same) right)
+    (λ (other : k ≢ count).
+    let left = le_or_l rows (slice_index_or sets count 0) in
+    let less = before k low (omega (arith, high, other)) in
+    omega (arith, left, less))
+    (cases_eq k count)
+
+-- one wheel more is printed
+pub printed-more : (sets line : List ℕ) (k character : ℕ) → k < 120 → character ≡ character_of (received_at sets k)
+    → HasPrinted sets k line → HasPrinted sets (k + 1) (slice_set line k character)
+printed-more sets line k character below is before =
+    let long = before.wheels in
+    record {
+      characters =
+          places-more (λ j. character_of (received_at sets j)) line k character (omega (arith, long, below)) is before.characters;
+      wheels = length-set line k character ∙ long;
+    }
+
+-- a wheel that received nothing prints what no rows print
+pub blank-printed : (sets : List ℕ) (k blank : ℕ) → blank ≡ character_of (rows_in 0) → slice_index_or sets k 0 ≡ 0
+    → blank ≡ character_of (received_at sets k)
+blank-printed sets k blank is none = is ∙ ap (λ (set : ℕ). character_of (rows_in set)) (sym none)
