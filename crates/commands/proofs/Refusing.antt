@@ -1,5 +1,5 @@
 -- A fault of a text as it is told.
-use Rattle.std.proofs.Common.{◌≡◌, ◌≢◌, ◌∙◌, ap, List, ℕ, Result, Ok, Err, IfOk}
+use Rattle.std.proofs.Common.{◌≡◌, ◌≢◌, ◌∙◌, ap, subst, List, ℕ, Result, Ok, Err, IfOk}
 use Rattle.std.specs.Prelude.{IfErr}
 use Rattle.card_code.specs.Deck.{Deck}
 use Rattle.compile407.specs.ChartFaults.{HasChartFault}
@@ -14,7 +14,8 @@ use Rattle.wire_chart.specs.Below.wiring_text.declared.fault.WiringFault.{Wiring
 use Rattle.wire_chart.specs.Below.wiring_text.declared.fault.WiringFault.TheVariants as wiring
 use Rattle.setups.specs.Wiring.{Wiring}
 use Rattle.wire_chart.specs.Below.wiring_text.WiringText.{ReadsAs}
-use Rattle.commands.specs.Answers.{ArePagesOf, ArePagesOn, AreReplayedPages, CompilesAs}
+use Rattle.wire_chart.specs.WrittenText.{IsWritten}
+use Rattle.commands.specs.Answers.{ArePagesOf, ArePagesOn, AreReplayedPages, CompilesAs, IsWiringChartOf}
 use Rattle.commands.specs.Refusals.{RefusesChart, RefusesReplay, RefusesRun, cards, punches, wires}
 use Rattle.program_io.specs.Refusals.{RefusesDeck}
 use Rattle.faults.specs.Told.{chart_told, run_told, wiring_told}
@@ -50,6 +51,14 @@ pub run_refused : {X : Type 0} (result : Result X Fault) (text deck : List ℕ) 
     → IfErr result (λ told. told ≢ fault.Memory → RefusesRun text deck told)
 run_refused (Ok _) text deck compiled compiles refuses = tt
 run_refused (Err _) text deck compiled compiles refuses = λ not_memory. refuses not_memory text compiles
+
+-- the setup that a chart compiles to, as a wiring chart
+pub wiring_written : {X : Type 0} (result : Result X Fault) (items : X → List ℕ) (text : List ℕ) (compiled : Compilation) (setup : Wiring)
+    → setup ≡ compiled.setup → CompilesAs text compiled → IfOk result (λ answer. IsWritten setup (items answer))
+    → IfOk result (λ answer. IsWiringChartOf text (items answer))
+wiring_written (Ok answer) items text compiled setup same compiles written =
+    record { compiled = compiled; compiles = compiles; written = subst (λ (of : Wiring). IsWritten of (items answer)) same written }
+wiring_written (Err _) items text compiled setup same compiles written = tt
 
 -- what a setup prints that a wiring chart reads as
 pub pages_replayed : {X : Type 0} (result : Result X Fault) (items : X → List ℕ) (text deck : List ℕ) (wiring : Wiring) → ReadsAs text wiring
