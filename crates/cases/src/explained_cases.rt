@@ -19,9 +19,7 @@ use wire_chart::read_setup;
 
 // What a command gives on a text and a deck, as a text.
 fn text_of(rt: &HostRuntime, command: &str, text: &[u8], deck: &[u8]) -> Result<String> {
-    Ok(String::from_utf8(
-        Served::of(rt.alloc(), command, text, deck).output,
-    )?)
+    Ok(String::from_utf8(Served::of(rt.alloc(), command, text, deck).output)?)
 }
 
 // Explains pages on a panel, and writes what was walked.
@@ -59,12 +57,7 @@ fn write_chart<W: Write>(rt: &HostRuntime, out: &mut W, name: &str, code: &str) 
     let wiring = text_of(rt, "wire", chart.as_bytes(), b"")?;
     let legend = String::from_utf8(Served::legend(alloc, chart.as_bytes()).output)?;
     let compiled = compile(alloc, chart.as_bytes())?;
-    let asked = line_setups(
-        alloc,
-        compiled.chart(),
-        compiled.plan(),
-        chart.as_bytes(),
-    )?;
+    let asked = line_setups(alloc, compiled.chart(), compiled.plan(), chart.as_bytes())?;
     let ground = Ground {
         wiring: wiring.as_str(),
         chart: chart.as_str(),

@@ -128,7 +128,12 @@ fn with_charts<'a>(alloc: Global, program: Command<'a>) -> Result<Command<'a>, E
     let wire = Command::new(alloc, "wire")
         .about("Prints the wiring chart of a planning chart")
         .arg(chart_word(alloc))?;
-    Ok(program.subcommand(run)?.subcommand(check)?.subcommand(wire)?)
+    Ok(
+        program
+            .subcommand(run)?
+            .subcommand(check)?
+            .subcommand(wire)?,
+    )
 }
 
 // The commands that take a wiring chart.
@@ -143,10 +148,12 @@ fn with_guides<'a>(alloc: Global, program: Command<'a>) -> Result<Command<'a>, E
     let legend = legend_command(alloc)?;
     let explain = explain_command(alloc)?;
     let fault = fault_command(alloc)?;
-    Ok(program
-        .subcommand(legend)?
-        .subcommand(explain)?
-        .subcommand(fault)?)
+    Ok(
+        program
+            .subcommand(legend)?
+            .subcommand(explain)?
+            .subcommand(fault)?,
+    )
 }
 
 // The program without its commands.
