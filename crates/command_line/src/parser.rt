@@ -116,6 +116,15 @@ fn explain_command<'a>(alloc: Global) -> Result<Command<'a>, Error> {
     place_words(alloc, explain)
 }
 
+// The command that tells what each cycle of a run did.
+fn trace_command<'a>(alloc: Global) -> Result<Command<'a>, Error> {
+    let trace = Command::new(alloc, "trace")
+        .about("Prints what each cycle of a run did, a line for each")
+        .arg(text_word(alloc))?
+        .arg(deck_word(alloc))?;
+    Ok(trace)
+}
+
 /// The program's commands, each with its words.
 pub fn parser<'a>(alloc: Global) -> Result<Command<'a>, Error> {
     let run = Command::new(alloc, "run")
@@ -142,6 +151,7 @@ pub fn parser<'a>(alloc: Global) -> Result<Command<'a>, Error> {
         .subcommand(upgrade_command(alloc)?)?
         .subcommand(legend_command(alloc)?)?
         .subcommand(explain_command(alloc)?)?
+        .subcommand(trace_command(alloc)?)?
         .subcommand(fault_command(alloc)?)?;
     Ok(whole)
 }
