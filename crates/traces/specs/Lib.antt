@@ -1,0 +1,4 @@
+pub mod Told
+pub mod Lines
+pub mod Traces
+pub mod Tracing
