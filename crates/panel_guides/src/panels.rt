@@ -66,11 +66,7 @@ pub struct PlannedRun {
 /// # Errors
 ///
 /// The fault of the wiring chart, else of the deck's text, or `Memory` where a growth was refused.
-pub fn wired_run<'a>(
-    alloc: Global,
-    wiring: &[u8],
-    deck: &[u8],
-) -> Result<WiredRun, Fault<'a>>
+pub fn wired_run<'a>(alloc: Global, wiring: &[u8], deck: &[u8]) -> Result<WiredRun, Fault<'a>>
     ensures reads { IfOk result (λ run. ReadsAs wiring.now run.setup) }
     ensures deck { IfOk result (λ run. Deck deck.now run.cards.items) }
     ensures refused { IfErr result (λ told. told ≢ Fault.Memory → RefusesReplay wiring.now deck.now told) }
@@ -86,11 +82,7 @@ pub fn wired_run<'a>(
 /// # Errors
 ///
 /// The fault of the chart, else of the deck's text, else of its cards for the chart, or `Memory` where a growth was refused.
-pub fn planned_run<'a>(
-    alloc: Global,
-    chart: &[u8],
-    deck: &[u8],
-) -> Result<PlannedRun, Fault<'a>>
+pub fn planned_run<'a>(alloc: Global, chart: &[u8], deck: &[u8]) -> Result<PlannedRun, Fault<'a>>
     ensures compiles { IfOk result (λ run. CompilesAs chart.now run.compiled) }
     ensures deck { IfOk result (λ run. Deck deck.now run.cards.items) }
     ensures runnable { IfOk result (λ run. IsRunnable run.compiled.chart run.cards.items) }
