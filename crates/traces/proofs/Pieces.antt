@@ -110,5 +110,7 @@ pub four_pieces : {X E : Type 0} (result : Result X E) (old one two three new a 
     → three ≡ two ++ c → OnOk result (new ≡ three ++ d) → OnOk result (new ≡ old ++ (a ++ b ++ c ++ d))
 four_pieces (Ok x) old one two three new a b c d first second third last =
     last ∙ ap (λ (l : List ℕ). l ++ d) (third ∙ ap (λ (l : List ℕ). l ++ c) (second ∙ ap (λ (l : List ℕ). l ++ b) first))
-    ∙ append_assoc ((old ++ a) ++ b) c d ∙ append_assoc (old ++ a) b (c ++ d) ∙ append_assoc old a (b ++ c ++ d)
+    ∙ ap (λ (l : List ℕ). (l ++ c) ++ d) (append_assoc old a b)
+    ∙ ap (λ (l : List ℕ). l ++ d) (append_assoc old (a ++ b) c)
+    ∙ append_assoc old ((a ++ b) ++ c) d
 four_pieces (Err e) old one two three new a b c d first second third last = tt
