@@ -6,10 +6,10 @@ use Rattle.std.specs.List.{flat_map}
 use Rattle.std.specs.Prelude.{OnOk, Result, Ok, Err, codes}
 use Rattle.placed_lines.specs.declared.placed_line.PlacedLine.{PlacedLine}
 use Rattle.setups.specs.Wiring.{Wiring}
-use Rattle.net.specs.Nets.{NetRows, IsNetOf}
+use Rattle.net.specs.Nets.{IsNetOf}
 use Rattle.net.specs.declared.cycle.Cycle.{Cycle}
 use Rattle.net.specs.declared.cycle.Cycle.TheVariants.{RunIn, Card, Prog, Head}
-use Rattle.machine.specs.Cycles.{CycleRun, Reached, line_of}
+use Rattle.machine.specs.Cycles.{Reached, line_of}
 use Rattle.machine.specs.Ends.{EndsCycle}
 use Rattle.machine.specs.Machine.{MachineState, ended}
 use Rattle.machine.specs.Runs.{InRun, cards_moved, cycle_due, made_ready, run_at_start}
@@ -18,7 +18,7 @@ use Rattle.machine.proofs.FewCycles.{IsSupplied, ahead, ahead-falls, still-suppl
 use Rattle.machine.proofs.Keeps.{CycleRun-ends}
 use Rattle.traces.specs.Lines.{cycle_line, cycle_name, put_behind, units_told}
 use Rattle.traces.specs.Told.{line_told}
-use Rattle.traces.specs.Traces.{IsTrace, TracedTo, begun, behind_cycle, card_in, more}
+use Rattle.traces.specs.Traces.{TracedTo, begun, behind_cycle, card_in, more}
 use Rattle.traces.specs.Tracing.{HasTraced, TracesCycle, WritesTrace, in_run}
 
 -- A stepped machine with these cards in the hopper stands in the run over the deck: so many cards were read, and the trace so far is written.

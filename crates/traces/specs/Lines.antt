@@ -1,5 +1,5 @@
 -- The line of a cycle in a trace: which cycle it was, and then what it did, each thing behind three spaces.
-use Rattle.std.specs.Prelude.{◌≡◌, ℕ, ◌-◌, List, [], ◌∷◌, ◌++◌, codes, decimal, length, replicate}
+use Rattle.std.specs.Prelude.{ℕ, ◌-◌, List, [], ◌++◌, codes, decimal, length, replicate}
 use Rattle.std.specs.List.{flat_map}
 use Rattle.counters.specs.Counters.{Counter, counter_ended}
 use Rattle.net.specs.Cycles.{level_number, ordinal_number}

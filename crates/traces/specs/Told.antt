@@ -1,6 +1,6 @@
 -- What a trace tells of the units in a cycle. Each unit is given as it stands behind the points of the cycle and before its end: then it
 -- is known what the unit was asked and what it took, and nothing has turned yet. What the end of the cycle makes of it stands beside it.
-use Rattle.std.specs.Prelude.{◌≡◌, ℕ, ◌||◌, ◌&&◌, Bool, List, [], ◌++◌, codes, decimal, map, if◌then◌else◌}
+use Rattle.std.specs.Prelude.{ℕ, ◌||◌, ◌&&◌, Bool, List, [], ◌++◌, codes, decimal, map, if◌then◌else◌}
 use Rattle.std.specs.List.{flat_map, range_with_len}
 use Rattle.std.specs.Str.{bytes_eq}
 use Rattle.card_code.specs.Rows.{rows}

@@ -1,8 +1,7 @@
 -- Helper words: one cycle of a run that is traced, and a run between two of its cycles.
-use Rattle.std.specs.Prelude.{◌≡◌, ℕ, ◌+◌, ◌*◌, ◌≤◌, List, Option, length}
+use Rattle.std.specs.Prelude.{◌≡◌, ℕ, List, Option}
 use Rattle.std.specs.Io.KnownBytes.{Appends}
 use Rattle.setups.specs.Wiring.{Wiring}
-use Rattle.net.specs.Nets.{IsNetOf}
 use Rattle.net.specs.declared.cycle.Cycle.{Cycle}
 use Rattle.machine.specs.Cycles.{Reached}
 use Rattle.machine.specs.Machine.{MachineState, ended}
