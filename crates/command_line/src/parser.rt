@@ -59,6 +59,23 @@ fn upgrade_command<'a>(alloc: Global) -> Result<Command<'a>, Error> {
     Ok(upgrade)
 }
 
+// The words for the deck that is run on both panels, a file.
+fn both_panels_words<'a>(alloc: Global) -> Arg<'a> {
+    Arg::new(alloc, "DECK").long("deck").value_name("DECK").help(
+        "a deck of cards, a file; the first line that the panel prints otherwise is told",
+    )
+}
+
+// The command that matches a wired panel with a planning chart.
+fn match_command<'a>(alloc: Global) -> Result<Command<'a>, Error> {
+    let matching = Command::new(alloc, "match")
+        .about("Tells whether a wired panel prints a chart's report of every deck")
+        .arg(both_panels_words(alloc))?
+        .arg(chart_word(alloc))?
+        .arg(wiring_word(alloc))?;
+    Ok(matching)
+}
+
 // The word for the number of a fault.
 fn number_word<'a>(alloc: Global) -> Arg<'a> {
     Arg::new(alloc, "NN")
@@ -140,6 +157,7 @@ pub fn parser<'a>(alloc: Global) -> Result<Command<'a>, Error> {
         .subcommand(wire)?
         .subcommand(replay_command(alloc)?)?
         .subcommand(upgrade_command(alloc)?)?
+        .subcommand(match_command(alloc)?)?
         .subcommand(legend_command(alloc)?)?
         .subcommand(explain_command(alloc)?)?
         .subcommand(fault_command(alloc)?)?;
