@@ -1,4 +1,4 @@
-//! Runs all cases whose answers are known: charts, wiring charts, wired panels with decks, and with orders too, wiring charts in both versions, charts with decks, decks with a fault, commands, and hostile texts.
+//! Runs all cases whose answers are known: charts, wiring charts, wired panels with decks, and with orders too, wiring charts in both versions, panels beside charts, charts with decks, decks with a fault, commands, and hostile texts.
 //!
 //! Each kind has a folder of `data`, and its file here says what is told of its cases. What this program must print was made outside of
 //! this repository or worked out by hand, never by the program.
@@ -8,6 +8,7 @@ mod answered;
 mod chart_cases;
 mod command_cases;
 mod hostile_cases;
+mod match_cases;
 mod panel_cases;
 mod report_cases;
 mod served_cases;
@@ -34,6 +35,7 @@ fn main(rt: HostRuntime) -> Result<()> {
     upgrade_cases::write_all(&rt, &mut out)?;
     report_cases::write_all(&rt, &mut out)?;
     stream_cases::write_all(&rt, &mut out)?;
+    match_cases::write_all(&rt, &mut out)?;
     command_cases::write_all(&rt, &mut out)?;
     hostile_cases::write_all(&rt, &mut out)?;
     out.flush()?;

@@ -1,0 +1,5 @@
+mod Finding
+mod Pairs
+mod Refusing
+mod Telling
+mod TellingOver
