@@ -1,6 +1,7 @@
 -- What is found of panels, by what was found of a setup.
-use Rattle.std.proofs.Common.{◌≡◌, List, ℕ, Option, Some, None, ◌++◌, codes}
+use Rattle.std.proofs.Common.{◌≡◌, List, ℕ, Option, Some, None, ◌++◌, codes, subst}
 use Rattle.compile407.specs.Compilation.{Compilation}
+use Rattle.match_calls.specs.Found.{IsUnwiredText, IsWiredText}
 use Rattle.match_calls.specs.Helper.{IsFoundText, TellsCounts}
 use Rattle.match_texts.specs.MatchText.{IsMatchText}
 use Rattle.match_texts.specs.declared.counts.Counts.{Counts}
@@ -32,3 +33,13 @@ found_text compiled setup (Differs plan missing extra) (Some counts) text told f
       counted = counted;
       tells = spelled;
     }
+
+-- which text it is, by the counts
+pub wired_found : (compiled : Compilation) (setup : Wiring) (counts : Option Counts) (text : List ℕ) → counts ≡ None
+    → IsFoundText compiled setup counts text → IsWiredText compiled setup text
+wired_found compiled setup counts text is found = subst (λ (its : Option Counts). IsFoundText compiled setup its text) is found
+
+pub unwired_found : (compiled : Compilation) (setup : Wiring) (counts : Option Counts) (its : Counts) (text : List ℕ) → counts ≡ Some its
+    → IsFoundText compiled setup counts text → IsUnwiredText its compiled setup text
+unwired_found compiled setup counts its text is found =
+    subst (λ (of : Option Counts). IsFoundText compiled setup of text) is found

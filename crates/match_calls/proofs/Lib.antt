@@ -1,3 +1,4 @@
+mod Answering
 mod Finding
 mod Pairs
 mod Refusing

@@ -5,12 +5,21 @@ use Rattle.faults.specs.Lines.{fault_line}
 use Rattle.faults.specs.Status.{status_of}
 use Rattle.match_calls.specs.declared.unmatched.Unmatched.{Unmatched}
 use Rattle.match_calls.specs.declared.unmatched.Unmatched.TheVariants as why
+use Rattle.match_texts.specs.declared.counts.Counts.{Counts}
+
+-- a number of a fault, and how much is missing and too much
+abbrev pub figures_text : ℕ → Counts → List ℕ
+figures_text number counts =
+    codes "fault " ++ decimal number ++ codes " missing " ++ decimal counts.missing ++ codes " extra " ++ decimal counts.extra
+
+-- the line that tells how much is missing and too much
+abbrev pub counts_line : Counts → List ℕ
+counts_line counts = figures_text 94 counts ++ codes "\n"
 
 -- the line
 abbrev pub unmatched_line : Unmatched → List ℕ
 unmatched_line (why.Failed fault) = fault_line fault
-unmatched_line (why.Unwired counts) =
-    codes "fault 94 missing " ++ decimal counts.missing ++ codes " extra " ++ decimal counts.extra ++ codes "\n"
+unmatched_line (why.Unwired counts) = counts_line counts
 unmatched_line (why.PrintsOtherwise place) =
     codes "fault 95 page " ++ decimal place.page ++ codes " line " ++ decimal place.line ++ codes "\n"
 

@@ -2,7 +2,7 @@
 
 ghost use Rattle.std.specs.Prelude.{◌≡◌, OnOk};
 ghost use Rattle.std.specs.Io.KnownBytes.{Appends};
-ghost use Rattle.match_calls.specs.Unmatched.{IsToldUnmatched, unmatched_line, unmatched_status};
+ghost use Rattle.match_calls.specs.Unmatched.{IsToldUnmatched, counts_line, figures_text, unmatched_line, unmatched_status};
 
 use faults::{Ending, Fault, write_line};
 use match_decks::Place;
@@ -47,6 +47,22 @@ impl<'a> From<Fault<'a>> for Unmatched<'a> {
     }
 }
 
+// Writes a number of a fault, and how much is missing and too much.
+fn write_figures<V: Write>(number: u8, counts: Counts, out: &mut V) -> io::Result<()>
+    ensures { OnOk result (Appends (V.contents out.old) (V.contents out.new) (figures_text number counts)) }
+{
+    let Counts { missing, extra } = counts;
+    write!(out, "fault {number} missing {missing} extra {extra}")
+}
+
+// Writes the line that tells how much is missing and too much.
+fn write_counts<V: Write>(counts: Counts, out: &mut V) -> io::Result<()>
+    ensures { OnOk result (Appends (V.contents out.old) (V.contents out.new) (counts_line counts)) }
+{
+    write_figures(94, counts, out)?;
+    out.write_all(b"\n")
+}
+
 /// Writes the line that tells why a panel doesn't match a chart, and LF.
 ///
 /// # Errors
@@ -57,11 +73,7 @@ pub fn write_unmatched<V: Write>(told: &Unmatched, out: &mut V) -> io::Result<()
 {
     match told {
         Unmatched::Failed { fault } => write_line(fault, out),
-        Unmatched::Unwired { counts } => writeln!(
-            out,
-            "fault 94 missing {} extra {}",
-            counts.missing, counts.extra
-        ),
+        Unmatched::Unwired { counts } => write_counts(*counts, out),
         Unmatched::PrintsOtherwise { place } => writeln!(
             out,
             "fault 95 page {} line {}",
