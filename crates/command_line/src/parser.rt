@@ -8,7 +8,7 @@ const VERSION: &str = "0.3";
 
 /// What stands behind the commands of the program's help.
 const AFTER_HELP: &str =
-    "Status: 0 done, 2 words that are no command, 3 a chart, a deck or another text that is refused, 4 a file that can't be read or an output that can't be written, 5 no memory. Why is told on one line of standard error.\n\nDocuments, in the folder docs: CHART.md the planning chart, GALLERY.md whole charts with their pages, WIRING.md wiring charts, MACHINE.md the machine, EXPLAIN.md explanations, FAULTS.md every fault.";
+    "Status: 0 done, 2 words that are no command, 3 a chart, a deck or another text that is refused, 4 a file that can't be read or an output that can't be written, 5 no memory. Why is told on one line of standard error.\n\nDocuments, in the folder docs: CHART.md the planning chart, GALLERY.md whole charts with their pages, WIRING.md wiring charts, MACHINE.md the machine, EXPLAIN.md explanations, SHOW.md the page for a browser, FAULTS.md every fault.";
 
 // The word for the chart, a file.
 fn chart_word<'a>(alloc: Global) -> Arg<'a> {
@@ -116,6 +116,17 @@ fn explain_command<'a>(alloc: Global) -> Result<Command<'a>, Error> {
     place_words(alloc, explain)
 }
 
+// The command that writes the page for a browser.
+fn show_command<'a>(alloc: Global) -> Result<Command<'a>, Error> {
+    let show = Command::new(alloc, "show")
+        .about(
+            "Prints one page for a browser: the pages of a deck, the panel and the way of each impulse",
+        )
+        .arg(text_word(alloc))?
+        .arg(deck_word(alloc))?;
+    Ok(show)
+}
+
 /// The program's commands, each with its words.
 pub fn parser<'a>(alloc: Global) -> Result<Command<'a>, Error> {
     let run = Command::new(alloc, "run")
@@ -142,6 +153,7 @@ pub fn parser<'a>(alloc: Global) -> Result<Command<'a>, Error> {
         .subcommand(upgrade_command(alloc)?)?
         .subcommand(legend_command(alloc)?)?
         .subcommand(explain_command(alloc)?)?
+        .subcommand(show_command(alloc)?)?
         .subcommand(fault_command(alloc)?)?;
     Ok(whole)
 }
