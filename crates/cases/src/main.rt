@@ -1,4 +1,4 @@
-//! Runs all cases whose answers are known: charts, wiring charts, wired panels with decks, and with orders too, wiring charts in both versions, charts with decks, decks with a fault, commands, and hostile texts.
+//! Runs all cases whose answers are known: charts, wiring charts, wired panels with decks, and with orders too, wiring charts in both versions, charts with decks, decks with a fault, commands, hostile texts, and pages for a browser.
 //!
 //! Each kind has a folder of `data`, and its file here says what is told of its cases. What this program must print was made outside of
 //! this repository or worked out by hand, never by the program.
@@ -11,8 +11,10 @@ mod hostile_cases;
 mod panel_cases;
 mod report_cases;
 mod served_cases;
+mod shown_cases;
 mod stream_cases;
 mod upgrade_cases;
+mod well_formed;
 mod wiring_cases;
 
 use anyhow::Result;
@@ -36,6 +38,7 @@ fn main(rt: HostRuntime) -> Result<()> {
     stream_cases::write_all(&rt, &mut out)?;
     command_cases::write_all(&rt, &mut out)?;
     hostile_cases::write_all(&rt, &mut out)?;
+    shown_cases::write_all(&rt, &mut out)?;
     out.flush()?;
     Ok(())
 }
