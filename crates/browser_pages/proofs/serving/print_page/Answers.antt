@@ -1,8 +1,7 @@
 use Rattle.std.proofs.Common.{◌≡◌, refl, []}
 use Rattle.std.proofs.lemmas.Result.{err_from_is_err_and}
 use Rattle.program_io.proofs.Stopping.{stops_for_deck}
-use Rattle.served_replays.proofs.Printing.{no_file, no_file_stops}
-use Rattle.browser_pages.proofs.Stopping.{refusal_stops, refused_for_any}
+use Rattle.browser_pages.proofs.Stopping.{no_file, no_file_stops, refusal_stops, refused_for_any}
 use Rattle.browser_pages.proofs.serving.print_page.Goals as goal
 
 pub returns-in_err-check_panel-in-Err-clause-refused : goal.returns-in_err-check_panel-in-Err-clause-refused

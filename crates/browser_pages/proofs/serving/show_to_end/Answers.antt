@@ -1,6 +1,6 @@
 use Rattle.std.proofs.Common.{refl}
 use Rattle.program_io.proofs.Stopping.{told_of_memory}
-use Rattle.served_replays.proofs.Printing.{told_of_device}
+use Rattle.browser_pages.proofs.Stopping.{told_of_device}
 use Rattle.browser_pages.proofs.serving.show_to_end.Goals as goal
 
 pub returns-in-Err-clause-device : goal.returns-in-Err-clause-device
