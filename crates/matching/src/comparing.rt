@@ -15,8 +15,8 @@ use std::alloc::{AllocError, Global};
 use wire_gen::wire;
 
 /// What is found of a setup beside a chart, of which a plan is given. `Matched` tells a plan of the chart by which the setup is wired for
-/// it, and where there is such a plan that takes in order what isn't read, it is found. `Differs` tells a plan by which the setup is not wired for the chart, and exactly what
-/// is missing and what is too much by this plan. Its only refusal is memory.
+/// it, and where there is such a plan that takes in order what isn't read, it is found. `Differs` tells a plan by which the setup is not
+/// wired for the chart, and exactly what is missing and what is too much by this plan. Its only refusal is memory.
 pub fn match_setup(
     alloc: Global,
     chart: &Chart,
