@@ -1,4 +1,4 @@
-//! Runs all cases whose answers are known: charts, wiring charts, wired panels with decks, and with orders too, wiring charts in both versions, charts with decks, decks with a fault, commands, and hostile texts.
+//! Runs all cases whose answers are known: charts, wiring charts, wired panels with decks, and with orders too, wiring charts in both versions, charts with decks, decks with a fault, commands, hostile texts, and explanations.
 //!
 //! Each kind has a folder of `data`, and its file here says what is told of its cases. What this program must print was made outside of
 //! this repository or worked out by hand, never by the program.
@@ -7,12 +7,17 @@
 mod answered;
 mod chart_cases;
 mod command_cases;
+mod explained_cases;
 mod hostile_cases;
 mod panel_cases;
 mod report_cases;
 mod served_cases;
 mod stream_cases;
 mod upgrade_cases;
+mod walked_lines;
+mod walked_pages;
+mod walked_texts;
+mod walked_ways;
 mod wiring_cases;
 
 use anyhow::Result;
@@ -36,6 +41,7 @@ fn main(rt: HostRuntime) -> Result<()> {
     stream_cases::write_all(&rt, &mut out)?;
     command_cases::write_all(&rt, &mut out)?;
     hostile_cases::write_all(&rt, &mut out)?;
+    explained_cases::write_all(&rt, &mut out)?;
     out.flush()?;
     Ok(())
 }
