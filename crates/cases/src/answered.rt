@@ -6,6 +6,7 @@ use guides::fault_to_end;
 use panel_guides::{Place, explain_to_end, legend_to_end};
 use std::alloc::Global;
 use std::io::{Read, Write};
+use trace_calls::trace_to_end;
 
 /// What a command printed, what it told, and its status.
 #[derive(Drop)]
@@ -98,6 +99,18 @@ impl Served {
             &mut output,
             &mut told,
         ).status;
+        Served {
+            output,
+            told,
+            status,
+        }
+    }
+
+    /// The trace of a deck.
+    pub fn trace<R: Read + Drop>(alloc: Global, text: &[u8], deck: R) -> Served {
+        let mut output = Vec::new(alloc);
+        let mut told = Vec::new(alloc);
+        let status = trace_to_end(alloc, text, "my.deck", deck, &mut output, &mut told).status;
         Served {
             output,
             told,

@@ -129,10 +129,23 @@ fn explain_deck(rt: &HostRuntime, text: &[u8], deck: &str, place: Place) -> Resu
     Ok(Served::explain(alloc, text, cards.as_slice(), place))
 }
 
+// The trace of the deck of a row.
+fn trace_deck(rt: &HostRuntime, text: &[u8], deck: &str) -> Result<Served> {
+    let alloc = rt.alloc();
+    if deck == "(unreadable)" {
+        return Ok(Served::trace(alloc, text, Broken));
+    }
+    let cards = bytes_of(rt, deck)?;
+    Ok(Served::trace(alloc, text, cards.as_slice()))
+}
+
 // What a row's command gives, where it is one that guides through faults, panels or pages.
 fn guided(rt: &HostRuntime, command: &str, text: &[u8], deck: &str) -> Result<Option<Served>> {
     if command == "legend" {
         return Ok(Some(Served::legend(rt.alloc(), text)));
+    }
+    if command == "trace" {
+        return Ok(Some(trace_deck(rt, text, deck)?));
     }
     if let Some(number) = command.strip_prefix("fault ") {
         return Ok(Some(Served::of_fault(rt.alloc(), number.parse()?)));

@@ -116,6 +116,15 @@ fn explain_command<'a>(alloc: Global) -> Result<Command<'a>, Error> {
     place_words(alloc, explain)
 }
 
+// The command that tells what each cycle of a run did.
+fn trace_command<'a>(alloc: Global) -> Result<Command<'a>, Error> {
+    let trace = Command::new(alloc, "trace")
+        .about("Prints what each cycle of a run did, a line for each")
+        .arg(text_word(alloc))?
+        .arg(deck_word(alloc))?;
+    Ok(trace)
+}
+
 // The commands that take a planning chart, with a deck or alone.
 fn with_charts<'a>(alloc: Global, program: Command<'a>) -> Result<Command<'a>, Error> {
     let run = Command::new(alloc, "run")
@@ -147,11 +156,13 @@ fn with_wirings<'a>(alloc: Global, program: Command<'a>) -> Result<Command<'a>, 
 fn with_guides<'a>(alloc: Global, program: Command<'a>) -> Result<Command<'a>, Error> {
     let legend = legend_command(alloc)?;
     let explain = explain_command(alloc)?;
+    let trace = trace_command(alloc)?;
     let fault = fault_command(alloc)?;
     Ok(
         program
             .subcommand(legend)?
             .subcommand(explain)?
+            .subcommand(trace)?
             .subcommand(fault)?,
     )
 }

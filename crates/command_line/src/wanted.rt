@@ -53,6 +53,11 @@ pub enum Wanted<'a> {
         line: u32,
         wheel: u32,
     },
+    /// What each cycle of a run over a deck did, by a planning chart or a wiring chart.
+    Trace {
+        text: &'a str,
+        deck: &'a str,
+    },
     /// What the guide to faults says of a fault.
     Fault {
         number: u8,
@@ -139,6 +144,10 @@ fn wanted_by<'a>(matches: &ArgMatches<'a>) -> Wanted<'a> {
             page: given.get_one("PAGE").unwrap_or(0),
             line: given.get_one("LINE").unwrap_or(0),
             wheel: given.get_one("WHEEL").unwrap_or(0),
+        },
+        Some(("trace", given)) => Wanted::Trace {
+            text: file_of(given, "TEXT"),
+            deck: file_of(given, "DECK"),
         },
         Some(("fault", given)) => Wanted::Fault {
             number: given.get_one("NN").unwrap_or(0),

@@ -17,7 +17,7 @@ mod unexplained;
 pub use answers::explained;
 pub use laws::explained_lines_are_on_pages;
 pub use legends::{legend_of, legend_to_end, print_legend};
-pub use panels::is_wiring_text;
+pub use panels::{PlannedRun, WiredRun, check_panel, is_wiring_text, planned_run, wired_run};
 pub use place::Place;
 pub use serving::{explain_to_end, print_explanation};
 pub use unexplained::{Unexplained, tell_unexplained, write_unexplained};

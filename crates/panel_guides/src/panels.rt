@@ -45,24 +45,28 @@ pub fn is_wiring_text(text: &[u8]) -> bool
 
 /// A panel that is wired as a wiring chart says, and the cards of a deck.
 #[derive(Drop)]
-pub(crate) struct WiredRun {
-    pub(crate) setup: Setup,
-    pub(crate) cards: Vec<Card>,
+pub struct WiredRun {
+    /// The panel.
+    pub setup: Setup,
+    /// The cards.
+    pub cards: Vec<Card>,
 }
 
 /// A compiled chart, and the cards of a deck that it can be run with.
 #[derive(Drop)]
-pub(crate) struct PlannedRun {
-    pub(crate) compiled: Compiled,
-    pub(crate) cards: Vec<Card>,
+pub struct PlannedRun {
+    /// The chart with its plan and its setup.
+    pub compiled: Compiled,
+    /// The cards.
+    pub cards: Vec<Card>,
 }
 
-// The panel and the cards of a wiring chart and a deck.
-pub(crate) fn wired_run<'a>(
-    alloc: Global,
-    wiring: &[u8],
-    deck: &[u8],
-) -> Result<WiredRun, Fault<'a>>
+/// The panel and the cards of a wiring chart and a deck.
+///
+/// # Errors
+///
+/// The fault of the wiring chart, else of the deck's text, or `Memory` where a growth was refused.
+pub fn wired_run<'a>(alloc: Global, wiring: &[u8], deck: &[u8]) -> Result<WiredRun, Fault<'a>>
     ensures reads { IfOk result (λ run. ReadsAs wiring.now run.setup) }
     ensures deck { IfOk result (λ run. Deck deck.now run.cards.items) }
     ensures refused { IfErr result (λ told. told ≢ Fault.Memory → RefusesReplay wiring.now deck.now told) }
@@ -72,12 +76,13 @@ pub(crate) fn wired_run<'a>(
     Ok(WiredRun { setup, cards })
 }
 
-// The panel and the cards of a chart and a deck. The chart is run with the deck, so that a card or a total which it refuses is found.
-pub(crate) fn planned_run<'a>(
-    alloc: Global,
-    chart: &[u8],
-    deck: &[u8],
-) -> Result<PlannedRun, Fault<'a>>
+/// The compiled chart and the cards of a chart and a deck. The chart is run with the deck, so that a card or a total which it refuses is
+/// found.
+///
+/// # Errors
+///
+/// The fault of the chart, else of the deck's text, else of its cards for the chart, or `Memory` where a growth was refused.
+pub fn planned_run<'a>(alloc: Global, chart: &[u8], deck: &[u8]) -> Result<PlannedRun, Fault<'a>>
     ensures compiles { IfOk result (λ run. CompilesAs chart.now run.compiled) }
     ensures deck { IfOk result (λ run. Deck deck.now run.cards.items) }
     ensures runnable { IfOk result (λ run. IsRunnable run.compiled.chart run.cards.items) }
@@ -108,8 +113,12 @@ fn check_planned<'a>(alloc: Global, text: &[u8]) -> Result<(), Fault<'a>>
     check(alloc, text)
 }
 
-// Whether a text has a panel: else the fault of the wiring chart, or of the chart, whatever the deck is.
-pub(crate) fn check_panel<'a>(alloc: Global, text: &[u8]) -> Result<(), Fault<'a>>
+/// Whether a text has a panel.
+///
+/// # Errors
+///
+/// The fault of the wiring chart, or of the planning chart, whatever the deck is, or `Memory` where a growth was refused.
+pub fn check_panel<'a>(alloc: Global, text: &[u8]) -> Result<(), Fault<'a>>
     ensures good { OnOk result (HasPanel text.now) }
     ensures refused { IfErr result (λ told. told ≢ Fault.Memory → (deck : List ℕ) → RefusesTexts text.now deck told) }
 {

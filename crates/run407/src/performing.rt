@@ -9,6 +9,7 @@ use guides::fault_to_end;
 use panel_guides::{Place, explain_to_end, legend_to_end};
 use std::io::{ErrorKind as IoErrorKind, Write};
 use std::{fs, io};
+use trace_calls::trace_to_end;
 
 /// The status where the words can't be read.
 const USAGE: u8 = 2;
@@ -136,6 +137,29 @@ fn explain(rt: &HostRuntime, text: &str, deck: &str, place: Place) -> u8 {
     .status
 }
 
+// Prints what each cycle of a run did. The text is read whole and the deck is opened before a fault of either is told.
+fn trace(rt: &HostRuntime, text: &str, deck: &str) -> u8 {
+    let mut faults = rt.stderr();
+    let panel = match read_file(rt, text) {
+        Ok(panel) => panel,
+        Err(fault) => return tell(&fault, &mut faults).status,
+    };
+    let cards = match fs::open(rt, deck) {
+        Ok(cards) => cards,
+        Err(error) => return tell(&unopened(&error, deck), &mut faults).status,
+    };
+    let mut out = rt.stdout();
+    trace_to_end(
+        rt.alloc(),
+        panel.as_slice(),
+        deck,
+        cards,
+        &mut out,
+        &mut faults,
+    )
+    .status
+}
+
 // Prints what the guide to faults says of a fault.
 fn guide(rt: &HostRuntime, number: u8) -> u8 {
     let mut out = rt.stdout();
@@ -175,6 +199,7 @@ fn obey(rt: &HostRuntime, wanted: Wanted) -> u8 {
             line,
             wheel,
         } => explain(rt, text, deck, Place { page, line, wheel }),
+        Wanted::Trace { text, deck } => trace(rt, text, deck),
         Wanted::Fault { number } => guide(rt, number),
         Wanted::StandardInput => run_standard_input(rt),
     }
