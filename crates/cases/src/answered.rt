@@ -1,6 +1,7 @@
 //! What the program's commands give, over texts that are all in memory.
 
 use anyhow::Result;
+use browser_pages::show_to_end;
 use commands::{replay_by_orders, serve};
 use guides::fault_to_end;
 use panel_guides::{Place, explain_to_end, legend_to_end};
@@ -111,6 +112,18 @@ impl Served {
         let mut output = Vec::new(alloc);
         let mut told = Vec::new(alloc);
         let status = trace_to_end(alloc, text, "my.deck", deck, &mut output, &mut told).status;
+        Served {
+            output,
+            told,
+            status,
+        }
+    }
+
+    /// The page for a browser.
+    pub fn show<R: Read + Drop>(alloc: Global, text: &[u8], deck: R) -> Served {
+        let mut output = Vec::new(alloc);
+        let mut told = Vec::new(alloc);
+        let status = show_to_end(alloc, text, "my.deck", deck, &mut output, &mut told).status;
         Served {
             output,
             told,

@@ -1,4 +1,4 @@
-//! Runs all cases whose answers are known: charts, wiring charts, wired panels with decks, and with orders too, wiring charts in both versions, charts with decks, decks with a fault, commands, hostile texts, and explanations.
+//! Runs all cases whose answers are known: charts, wiring charts, wired panels with decks, and with orders too, wiring charts in both versions, charts with decks, decks with a fault, commands, hostile texts, explanations, and pages for a browser.
 //!
 //! Each kind has a folder of `data`, and its file here says what is told of its cases. What this program must print was made outside of
 //! this repository or worked out by hand, never by the program.
@@ -12,12 +12,14 @@ mod hostile_cases;
 mod panel_cases;
 mod report_cases;
 mod served_cases;
+mod shown_cases;
 mod stream_cases;
 mod upgrade_cases;
 mod walked_lines;
 mod walked_pages;
 mod walked_texts;
 mod walked_ways;
+mod well_formed;
 mod wiring_cases;
 
 use anyhow::Result;
@@ -42,6 +44,7 @@ fn main(rt: HostRuntime) -> Result<()> {
     command_cases::write_all(&rt, &mut out)?;
     hostile_cases::write_all(&rt, &mut out)?;
     explained_cases::write_all(&rt, &mut out)?;
+    shown_cases::write_all(&rt, &mut out)?;
     out.flush()?;
     Ok(())
 }

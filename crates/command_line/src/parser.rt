@@ -8,7 +8,7 @@ const VERSION: &str = "0.3";
 
 /// What stands behind the commands of the program's help.
 const AFTER_HELP: &str =
-    "Status: 0 done, 2 words that are no command, 3 a chart, a deck or another text that is refused, 4 a file that can't be read or an output that can't be written, 5 no memory. Why is told on one line of standard error.\n\nDocuments, in the folder docs: CHART.md the planning chart, GALLERY.md whole charts with their pages, WIRING.md wiring charts, MACHINE.md the machine, EXPLAIN.md explanations, FAULTS.md every fault.";
+    "Status: 0 done, 2 words that are no command, 3 a chart, a deck or another text that is refused, 4 a file that can't be read or an output that can't be written, 5 no memory. Why is told on one line of standard error.\n\nDocuments, in the folder docs: CHART.md the planning chart, GALLERY.md whole charts with their pages, WIRING.md wiring charts, MACHINE.md the machine, EXPLAIN.md explanations, SHOW.md the page for a browser, FAULTS.md every fault.";
 
 // The word for the chart, a file.
 fn chart_word<'a>(alloc: Global) -> Arg<'a> {
@@ -125,6 +125,17 @@ fn trace_command<'a>(alloc: Global) -> Result<Command<'a>, Error> {
     Ok(trace)
 }
 
+// The command that writes the page for a browser.
+fn show_command<'a>(alloc: Global) -> Result<Command<'a>, Error> {
+    let show = Command::new(alloc, "show")
+        .about(
+            "Prints one page for a browser: the pages of a deck, the panel and the way of each impulse",
+        )
+        .arg(text_word(alloc))?
+        .arg(deck_word(alloc))?;
+    Ok(show)
+}
+
 // The commands that take a planning chart, with a deck or alone.
 fn with_charts<'a>(alloc: Global, program: Command<'a>) -> Result<Command<'a>, Error> {
     let run = Command::new(alloc, "run")
@@ -157,12 +168,14 @@ fn with_guides<'a>(alloc: Global, program: Command<'a>) -> Result<Command<'a>, E
     let legend = legend_command(alloc)?;
     let explain = explain_command(alloc)?;
     let trace = trace_command(alloc)?;
+    let show = show_command(alloc)?;
     let fault = fault_command(alloc)?;
     Ok(
         program
             .subcommand(legend)?
             .subcommand(explain)?
             .subcommand(trace)?
+            .subcommand(show)?
             .subcommand(fault)?,
     )
 }

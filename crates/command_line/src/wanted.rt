@@ -58,6 +58,11 @@ pub enum Wanted<'a> {
         text: &'a str,
         deck: &'a str,
     },
+    /// The page for a browser of a planning chart or a wiring chart, and a deck.
+    Show {
+        text: &'a str,
+        deck: &'a str,
+    },
     /// What the guide to faults says of a fault.
     Fault {
         number: u8,
@@ -146,6 +151,10 @@ fn wanted_by<'a>(matches: &ArgMatches<'a>) -> Wanted<'a> {
             wheel: given.get_one("WHEEL").unwrap_or(0),
         },
         Some(("trace", given)) => Wanted::Trace {
+            text: file_of(given, "TEXT"),
+            deck: file_of(given, "DECK"),
+        },
+        Some(("show", given)) => Wanted::Show {
             text: file_of(given, "TEXT"),
             deck: file_of(given, "DECK"),
         },

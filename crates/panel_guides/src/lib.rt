@@ -3,7 +3,8 @@
 //!
 //! [`legend_of`] answers the legend of the bytes of a chart, and [`legend_to_end`] does the whole command: the legend is printed, or why
 //! there is none is told on one line. [`explained`] answers the explanation of the wheel at a [`Place`] of the pages that a planning chart,
-//! or a wiring chart, gives of a deck, and [`explain_to_end`] does the whole command.
+//! or a wiring chart, gives of a deck, and [`explain_to_end`] does the whole command. [`planned_run`] and [`wired_run`] are the panel and
+//! the cards of a text and a deck, for those who tell something else of them.
 #![tactic(auto)]
 
 mod answers;

@@ -3,6 +3,7 @@
 ghost use Rattle.std.specs.Prelude.{◌≡◌, ◌≢◌};
 ghost use Rattle.std.specs.IoError.{error_kind};
 
+use browser_pages::show_to_end;
 use command_line::{Refused, Wanted, read_words};
 use commands::{Fault, chart_and_deck, read_whole, replay_by_orders, serve, tell, unprinted};
 use guides::fault_to_end;
@@ -160,6 +161,29 @@ fn trace(rt: &HostRuntime, text: &str, deck: &str) -> u8 {
     .status
 }
 
+// Writes the page for a browser. The text is read whole and the deck is opened before a fault of either is told.
+fn show(rt: &HostRuntime, text: &str, deck: &str) -> u8 {
+    let mut faults = rt.stderr();
+    let panel = match read_file(rt, text) {
+        Ok(panel) => panel,
+        Err(fault) => return tell(&fault, &mut faults).status,
+    };
+    let cards = match fs::open(rt, deck) {
+        Ok(cards) => cards,
+        Err(error) => return tell(&unopened(&error, deck), &mut faults).status,
+    };
+    let mut out = rt.stdout();
+    show_to_end(
+        rt.alloc(),
+        panel.as_slice(),
+        deck,
+        cards,
+        &mut out,
+        &mut faults,
+    )
+    .status
+}
+
 // Prints what the guide to faults says of a fault.
 fn guide(rt: &HostRuntime, number: u8) -> u8 {
     let mut out = rt.stdout();
@@ -200,6 +224,7 @@ fn obey(rt: &HostRuntime, wanted: Wanted) -> u8 {
             wheel,
         } => explain(rt, text, deck, Place { page, line, wheel }),
         Wanted::Trace { text, deck } => trace(rt, text, deck),
+        Wanted::Show { text, deck } => show(rt, text, deck),
         Wanted::Fault { number } => guide(rt, number),
         Wanted::StandardInput => run_standard_input(rt),
     }

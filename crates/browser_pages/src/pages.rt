@@ -1,0 +1,96 @@
+//! The page of a text and a deck.
+
+ghost use Rattle.std.specs.Prelude.{◌≡◌, ◌≢◌, ◌≤◌, false, length, true, IfErr, IfOk};
+ghost use Rattle.std.specs.String.{string_bytes};
+ghost use Rattle.card_code.specs.MostCards.{most_cards};
+ghost use Rattle.panel_guides.specs.Explained.{RefusesTexts};
+ghost use Rattle.panel_guides.specs.Panels.{is_wiring_text};
+ghost use Rattle.show_page.specs.Page.{ShowsChart, ShowsPanel};
+ghost use Rattle.wiring_text.specs.declared.statement.Version.TheVariants.{First};
+ghost use Rattle.browser_pages.specs.Shown.{IsShown};
+
+use card_code::Card;
+use compile407::Compiled;
+use faults::Fault;
+use panel_guides::{is_wiring_text, planned_run, wired_run};
+use setups::Setup;
+use show_page::{show_chart, show_panel};
+use std::alloc::Global;
+use wiring_text::Version;
+
+// The page of a panel that is wired as a wiring chart says, and of cards.
+fn panel_page<'a>(
+    alloc: Global,
+    setup: &Setup,
+    wiring: &[u8],
+    cards: &[Card],
+) -> Result<String, Fault<'a>>
+    requires { length cards.now ≤ most_cards }
+    ensures shows { IfOk result (λ text. ShowsPanel setup.now wiring.now cards.now (string_bytes text)) }
+    ensures memory { IfErr result (λ told. told ≡ Fault.Memory) }
+{
+    Ok(show_panel(alloc, setup, wiring, cards)?)
+}
+
+// The page of a compiled chart and of cards.
+fn chart_page<'a>(
+    alloc: Global,
+    compiled: &Compiled,
+    chart: &[u8],
+    cards: &[Card],
+) -> Result<String, Fault<'a>>
+    requires { length cards.now ≤ most_cards }
+    ensures shows { IfOk result (λ text. ShowsChart First compiled.now.chart.lines compiled.now.plan compiled.now.setup chart.now cards.now (string_bytes text)) }
+    ensures memory { IfErr result (λ told. told ≡ Fault.Memory) }
+{
+    let page = show_chart(
+        alloc,
+        Version::First,
+        compiled.chart(),
+        compiled.plan(),
+        compiled.setup(),
+        chart,
+        cards,
+    )?;
+    Ok(page)
+}
+
+// The page of a wiring chart and a deck.
+fn page_by_wiring<'a>(alloc: Global, wiring: &[u8], deck: &[u8]) -> Result<String, Fault<'a>>
+    requires { is_wiring_text wiring.now ≡ true }
+    ensures shown { IfOk result (λ page. IsShown wiring.now deck.now (string_bytes page)) }
+    ensures refused { IfErr result (λ told. told ≢ Fault.Memory → RefusesTexts wiring.now deck.now told) }
+{
+    let wired = wired_run(alloc, wiring, deck)?;
+    panel_page(alloc, &wired.setup, wiring, wired.cards.as_slice())
+}
+
+// The page of a chart and a deck.
+fn page_by_chart<'a>(alloc: Global, chart: &[u8], deck: &[u8]) -> Result<String, Fault<'a>>
+    requires { is_wiring_text chart.now ≡ false }
+    ensures shown { IfOk result (λ page. IsShown chart.now deck.now (string_bytes page)) }
+    ensures refused { IfErr result (λ told. told ≢ Fault.Memory → RefusesTexts chart.now deck.now told) }
+{
+    let planned = planned_run(alloc, chart, deck)?;
+    chart_page(alloc, &planned.compiled, chart, planned.cards.as_slice())
+}
+
+/// The page for a browser of a text and a deck, a file of XHTML: of a planning chart and its report of the deck, or of a panel wired by a
+/// wiring chart and its pages of the deck, as [`is_wiring_text`] tells them apart. The printed pages, the drawing of the panel, the legend
+/// of the chart or else the wiring chart, and for each printed character that is shown its explanation. Of a deck of more than 200 cards
+/// the first two pages are shown, and the page says so.
+///
+/// # Errors
+///
+/// As `explain` refuses texts: the fault of the chart, else of the deck's text, else of its cards for the chart, or the fault of the wiring
+/// chart, else of the deck's text. `Memory` where a growth was refused.
+pub fn page_of<'a>(alloc: Global, text: &[u8], deck: &[u8]) -> Result<String, Fault<'a>>
+    ensures shown { IfOk result (λ page. IsShown text.now deck.now (string_bytes page)) }
+    ensures refused { IfErr result (λ told. told ≢ Fault.Memory → RefusesTexts text.now deck.now told) }
+{
+    if is_wiring_text(text) {
+        page_by_wiring(alloc, text, deck)
+    } else {
+        page_by_chart(alloc, text, deck)
+    }
+}

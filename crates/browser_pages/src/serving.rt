@@ -1,0 +1,92 @@
+//! The command that writes the page, over any reader and writers.
+
+ghost use Rattle.std.specs.Prelude.{◌≡◌, ◌≢◌, ◌≤◌, ◌⊎◌, IfErr, OnOk};
+ghost use Rattle.faults.specs.Lines.{IsTold};
+ghost use Rattle.faults.specs.Status.{status_of};
+ghost use Rattle.panel_guides.specs.Explained.{RefusesTexts};
+ghost use Rattle.panel_guides.specs.Panels.{HasPanel};
+ghost use Rattle.program_io.specs.Stops.{Stops};
+ghost use Rattle.browser_pages.specs.Served.{IsRefused, PrintsPage, PrintsPageOf};
+
+use crate::pages::page_of;
+use faults::{Ending, Fault, tell};
+use panel_guides::check_panel;
+use program_io::{put, read_whole};
+use std::alloc::Global;
+use std::io::{Read, Write};
+
+// Writes the page of a text and a deck in memory.
+fn print_shown<'a, W: Write>(
+    alloc: Global,
+    text: &[u8],
+    deck: &[u8],
+    out: &mut W,
+) -> Result<(), Fault<'a>>
+    ensures printed { OnOk result (PrintsPageOf text.now deck.now (W.contents out.old) (W.contents out.new)) }
+    ensures refused { IfErr result (λ told. status_of told ≡ 3 → RefusesTexts text.now deck.now told × (out.new ≡ out.old)) }
+    ensures stopped { IfErr result (λ told. (unreadable : Fault) → Stops told unreadable (out.new ≡ out.old)) }
+{
+    let page = page_of(alloc, text, deck)?;
+    put(out, page.as_bytes())?;
+    Ok(())
+}
+
+/// Writes the page for a browser of a text and a deck. `path` names the deck in what is told of one that can't be read.
+///
+/// # Errors
+///
+/// As [`page_of`] tells, and nothing is written; of a deck that can't be read a fault of the text comes before. `Memory` where a growth
+/// was refused and `Write` where the output can't be written, and then a part of the page may have been written.
+pub fn print_page<'a, R: Read + Drop, W: Write>(
+    alloc: Global,
+    text: &[u8],
+    path: &'a str,
+    deck: R,
+    out: &mut W,
+) -> Result<(), Fault<'a>>
+    ensures printed { OnOk result (PrintsPage text.now (R.remaining deck) (W.contents out.old) (W.contents out.new)) }
+    ensures refused { IfErr result (λ told. status_of told ≡ 3 → IsRefused text.now (R.remaining deck) told × (out.new ≡ out.old)) }
+    ensures unread { IfErr result (λ told. told ≡ Fault.File path.entry → HasPanel text.now) }
+    ensures stopped { IfErr result (λ told. Stops told (Fault.File path.entry) (out.new ≡ out.old)) }
+{
+    match read_whole(alloc, deck, path) {
+        Ok(bytes) => print_shown(alloc, text, bytes.as_slice(), out),
+        Err(unread) => {
+            check_panel(alloc, text)?;
+            Err(unread)
+        }
+    }
+}
+
+/// Writes the page for a browser of a text and a deck, and tells on one line of `faults` why there is none.
+///
+/// The text is a planning chart, whose report of the deck is shown, or a wiring chart, whose pages of the deck are. `path` names the deck
+/// in what is told of one that can't be read, after a fault of the text. The statuses are 0 done, and then nothing is told, 3 refused
+/// input, 4 file fault, 5 memory. Nothing is written by status 3, nor where the deck can't be read. Where the output can't be written or
+/// memory runs out, a part of the page may have been.
+pub fn show_to_end<R: Read + Drop, W: Write, V: Write>(
+    alloc: Global,
+    text: &[u8],
+    path: &str,
+    deck: R,
+    out: &mut W,
+    faults: &mut V,
+) -> Ending
+    ensures done { result.status ≡ 0 → PrintsPage text.now (R.remaining deck) (W.contents out.old) (W.contents out.new)
+        × (faults.new ≡ faults.old) }
+    ensures refused { result.status ≡ 3 → (told : Fault) × IsRefused text.now (R.remaining deck) told × (out.new ≡ out.old)
+        × IsTold told result.is_told (V.contents faults.old) (V.contents faults.new) }
+    ensures device { result.status ≡ 4 → ((out.new ≡ out.old) × HasPanel text.now
+        × IsTold (Fault.File path.entry) result.is_told (V.contents faults.old) (V.contents faults.new))
+        ⊎ IsTold Fault.Write result.is_told (V.contents faults.old) (V.contents faults.new) }
+    ensures memory { result.status ≡ 5 → IsTold Fault.Memory result.is_told (V.contents faults.old) (V.contents faults.new) }
+    ensures statuses { (result.status ≡ 0) ⊎ (3 ≤ result.status × result.status ≤ 5) }
+{
+    match print_page(alloc, text, path, deck, out) {
+        Ok(()) => Ending {
+            status: 0,
+            is_told: true,
+        },
+        Err(fault) => tell(&fault, faults),
+    }
+}
