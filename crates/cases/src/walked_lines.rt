@@ -19,6 +19,46 @@ pub fn line_of_note<'a>(ground: &Ground, note: &'a str) -> Result<&'a str> {
     Ok(number)
 }
 
+// The wires of a way, as lines of a wiring chart.
+fn wires_of(alloc: Global, way: &str) -> Result<Vec<String>> {
+    let mut wires = Vec::new(alloc);
+    let mut at = "";
+    let mut is_wire = false;
+    for word in way.split(' ') {
+        if word == "->" {
+            is_wire = true;
+        } else if word != "=>" {
+            if is_wire {
+                let wire = format!(in alloc; "WIRE {at} {word}")?;
+                wires.push(wire)?;
+            }
+            at = word;
+            is_wire = false;
+        }
+    }
+    Ok(wires)
+}
+
+// Whether one of the lines with these numbers asks for a wire.
+fn is_asked_by_some(ground: &Ground, wire: &str, numbers: &str) -> bool {
+    for number in numbers.split(' ') {
+        if is_asked(ground.legend, number, wire) {
+            return true;
+        }
+    }
+    false
+}
+
+// Whether the line with a number asks for some of the wires.
+fn asks_for_some(ground: &Ground, wires: &[String], number: &str) -> bool {
+    for wire in wires {
+        if is_asked(ground.legend, number, wire.as_str()) {
+            return true;
+        }
+    }
+    false
+}
+
 /// Checks that by the legend each wire of a way is asked for by one of the lines that are named, and that each of these asks for one.
 /// The numbers of the lines have a blank before each. Where there is no legend, none is to be named.
 pub fn check_asked(alloc: Global, ground: &Ground, way: &str, numbers: &str) -> Result<()> {
@@ -28,58 +68,16 @@ pub fn check_asked(alloc: Global, ground: &Ground, way: &str, numbers: &str) -> 
         }
         return Ok(());
     }
-    let mut at = "";
-    let mut is_wire = false;
-    for word in way.split(' ') {
-        if word == "->" {
-            is_wire = true;
-        } else if word != "=>" {
-            if is_wire && !is_asked_by_some(alloc, ground, at, word, numbers)? {
-                bail!("no line that is named asks for a wire");
-            }
-            at = word;
-            is_wire = false;
+    let wires = wires_of(alloc, way)?;
+    for wire in &wires {
+        if !is_asked_by_some(ground, wire.as_str(), numbers) {
+            bail!("no line that is named asks for a wire");
         }
     }
     for number in numbers.split(' ') {
-        if number != "" && !asks_for_some(alloc, ground, way, number)? {
+        if number != "" && !asks_for_some(ground, wires.as_slice(), number) {
             bail!("a line that is named asks for no wire of the way");
         }
     }
     Ok(())
-}
-
-// Whether one of the lines with these numbers asks for a wire.
-fn is_asked_by_some(
-    alloc: Global,
-    ground: &Ground,
-    from: &str,
-    to: &str,
-    numbers: &str,
-) -> Result<bool> {
-    let wire = format!(in alloc; "WIRE {from} {to}")?;
-    for number in numbers.split(' ') {
-        if is_asked(ground.legend, number, wire.as_str()) {
-            return Ok(true);
-        }
-    }
-    Ok(false)
-}
-
-// Whether the line with a number asks for some wire of a way.
-fn asks_for_some(alloc: Global, ground: &Ground, way: &str, number: &str) -> Result<bool> {
-    let mut at = "";
-    let mut is_wire = false;
-    for word in way.split(' ') {
-        if word == "->" {
-            is_wire = true;
-        } else if word != "=>" {
-            if is_wire && is_asked_by_some(alloc, ground, at, word, number)? {
-                return Ok(true);
-            }
-            at = word;
-            is_wire = false;
-        }
-    }
-    Ok(false)
 }

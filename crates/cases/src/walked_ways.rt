@@ -16,19 +16,18 @@ pub struct Ground<'a> {
     pub code: &'a str,
 }
 
-/// Contacts by the names of their hubs: from a common hub an impulse goes to an exit.
-static CONTACTS: [(&str, &str); 8] = [
-    ("CI", "CO"),
-    ("BAC", "BAN"),
-    ("BAC", "BAT"),
-    ("PIC", "PIN"),
-    ("PIC", "PIT"),
-    ("IE", "IX"),
-    ("CSE", "CSD"),
-    ("CSE", "CSZ"),
-];
+// Whether hubs with these letters are a common hub of a contact and an exit of it: an impulse goes from the one to the other.
+fn are_joined(common: &str, exit: &str) -> bool {
+    match (common, exit) {
+        ("CI", "CO") | ("IE", "IX") => true,
+        ("BAC", "BAN" | "BAT") => true,
+        ("PIC", "PIN" | "PIT") => true,
+        ("CSE", "CSD" | "CSZ") => true,
+        _ => false,
+    }
+}
 
-// Whether a contact leads from one hub to another: its names go together, and the numbers are the same.
+// Whether a contact leads from one hub to another: its letters go together, and the numbers are the same.
 fn is_contact(from: &str, to: &str) -> bool {
     let Some((from_letters, from_numbers)) = from.split_once('.') else {
         return false;
@@ -36,12 +35,7 @@ fn is_contact(from: &str, to: &str) -> bool {
     let Some((to_letters, to_numbers)) = to.split_once('.') else {
         return false;
     };
-    for (common, exit) in &CONTACTS {
-        if *common == from_letters && *exit == to_letters {
-            return from_numbers == to_numbers;
-        }
-    }
-    false
+    are_joined(from_letters, to_letters) && from_numbers == to_numbers
 }
 
 // Whether an impulse goes from one hub to another by what stands between them: a wire of the chart, or a contact.
@@ -158,21 +152,23 @@ pub fn walk(
     let mut last_way = "";
     let mut asked = String::new(alloc);
     for told_line in text.lines() {
-        if let Some((row, way)) = row_told(told_line) {
-            check_asked(alloc, ground, last_way, asked.as_str())?;
-            asked.clear();
-            last_way = way;
-            walk_way(alloc, ground, way, row, cycle, hub.as_str())?;
-            if ways > 0 {
-                told.push_str(" ")?;
-            }
-            told.push_str(row)?;
-            ways = ways.saturating_add(1);
-        }
         if let Some(note) = told_line.strip_prefix("  wires: ") {
             asked.push_str(" ")?;
             asked.push_str(line_of_note(ground, note)?)?;
+            continue;
         }
+        let Some((row, way)) = row_told(told_line) else {
+            continue;
+        };
+        check_asked(alloc, ground, last_way, asked.as_str())?;
+        walk_way(alloc, ground, way, row, cycle, hub.as_str())?;
+        asked.clear();
+        if !told.is_empty() {
+            told.push_str(" ")?;
+        }
+        told.push_str(row)?;
+        ways = ways.saturating_add(1);
+        last_way = way;
     }
     check_asked(alloc, ground, last_way, asked.as_str())?;
     if character != b' ' && told.as_str() != rows_in(ground.code, character) {
