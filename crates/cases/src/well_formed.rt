@@ -20,26 +20,36 @@ fn has_whole_names(words: &str) -> bool {
     true
 }
 
+// Whether words are a blank, a name and `=`.
+fn is_name(words: &str) -> bool {
+    let Some(behind) = words.strip_prefix(' ') else {
+        return false;
+    };
+    match behind.strip_suffix('=') {
+        Some(name) => !name.is_empty() && !name.contains(' '),
+        None => false,
+    }
+}
+
 // Whether what stands behind an element's name is attributes: a blank, a name, `=` and a value between quotation marks, for each.
 fn are_attributes(words: &str) -> bool {
-    let mut rest = words;
-    while !rest.is_empty() {
-        let Some((front, behind)) = rest.split_once('"') else {
-            return false;
-        };
-        let Some((value, others)) = behind.split_once('"') else {
-            return false;
-        };
-        let named = front
-            .strip_prefix(' ')
-            .and_then(|front| front.strip_suffix('='));
-        match named {
-            Some(name) if !name.is_empty() && !name.contains(' ') && has_whole_names(value) => {}
-            _ => return false,
+    let mut is_value = false;
+    let mut has_name = false;
+    for part in words.split('"') {
+        if is_value {
+            if !has_name || !has_whole_names(part) {
+                return false;
+            }
+        } else {
+            has_name = is_name(part);
+            if !has_name && !part.is_empty() {
+                return false;
+            }
         }
-        rest = others;
+        is_value = !is_value;
     }
-    true
+    // Behind the last value there is nothing.
+    is_value && !has_name
 }
 
 // A name, and what stands behind it.
