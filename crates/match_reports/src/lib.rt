@@ -19,7 +19,7 @@ use std::alloc::{AllocError, Global};
 /// What is found of a setup beside a compiled chart. Where it is `Matched`, the setup is wired for the chart by the plan that is told: then
 /// for every deck of at most 999,999 valid cards whose totals fit the pages that the machine prints are byte by byte the chart's report, and
 /// for any other deck of valid cards what it prints before the first card at which a total doesn't fit is the report up to there. Where
-/// there is a plan of the chart by which the setup is wired for it and which takes the parts other than the counters in order, it is
+/// there is a plan of the chart by which the setup is wired for it and which takes in order what `panel_plans` doesn't read, it is
 /// `Matched`. Where it `Differs`, exactly what is missing and what is
 /// too much by the plan that is told is told too. Its only refusal is memory.
 pub fn match_compiled(
@@ -28,7 +28,7 @@ pub fn match_compiled(
     setup: &Setup,
 ) -> Result<Matching, AllocError>
     ensures told { IfOk result (IsMatchingOf compiled.now.chart.lines setup.now) }
-    ensures found { IfOk result (λ matching. (its : Lists) → IsWiredBy compiled.now.chart.lines setup.now its → TakesOthersInOrder its
+    ensures found { IfOk result (λ matching. (its : Lists) → IsWiredBy compiled.now.chart.lines setup.now its → TakesOthersInOrder compiled.now.chart.lines its
         → IsMatched matching) }
     ensures prints { IfOk result (λ matching. IsMatched matching → PrintsReport compiled.now.chart setup.now) }
     ensures begins { IfOk result (λ matching. IsMatched matching → BeginsReport compiled.now.chart setup.now) }

@@ -15,8 +15,8 @@ use std::alloc::{AllocError, Global};
 use wire_gen::wire;
 
 /// What is found of a setup beside a chart, of which a plan is given. `Matched` tells a plan of the chart by which the setup is wired for
-/// it, and where there is such a plan that takes the parts other than the counters in order, it is found. `Differs` tells a plan by which the setup is not wired for the chart, and exactly what
-/// is missing and what is too much by this plan. Its only refusal is memory.
+/// it, and where there is such a plan that takes in order what isn't read, it is found. `Differs` tells a plan by which the setup is not
+/// wired for the chart, and exactly what is missing and what is too much by this plan. Its only refusal is memory.
 pub fn match_setup(
     alloc: Global,
     chart: &Chart,
@@ -25,7 +25,7 @@ pub fn match_setup(
 ) -> Result<Matching, AllocError>
     requires { IsFor chart.now.lines own.now }
     ensures told { IfOk result (IsMatchingOf chart.now.lines setup.now) }
-    ensures found { IfOk result (λ matching. (its : Lists) → IsWiredBy chart.now.lines setup.now its → TakesOthersInOrder its
+    ensures found { IfOk result (λ matching. (its : Lists) → IsWiredBy chart.now.lines setup.now its → TakesOthersInOrder chart.now.lines its
         → IsMatched matching) }
 {
     let plan = read_plan(alloc, chart, own, setup)?;

@@ -6,4 +6,7 @@ mod Unique
 mod Whole
 mod Found
 mod Steps
+mod Apart
+mod Texts
 mod Planned
+mod Columns

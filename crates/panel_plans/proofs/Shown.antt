@@ -1,5 +1,5 @@
 -- Where no place of the row has a group that shows a total, nothing shows it.
-use Rattle.std.proofs.Common.{◌≡◌, ℕ, ◌+◌, ◌<◌, ◌≤◌, ◌⊎◌, inl, inr, ◌∙◌, sym, subst, arith}
+use Rattle.std.proofs.Common.{◌≡◌, ℕ, ◌+◌, ◌-◌, ◌<◌, ◌≤◌, ◌⊎◌, inl, inr, ◌∙◌, sym, subst, arith}
 use Rattle.std.proofs.lemmas.Bool.{cases_lt}
 use Rattle.capacity.specs.Capacities.{HasGroup, standard}
 use Rattle.capacity.specs.declared.group.CounterGroup.{CounterGroup}
@@ -57,3 +57,10 @@ pub none-shown : (setup : Wiring) (level wheel need : ℕ) {bound : ℕ} → 32 
 none-shown setup level wheel need last none counter shown =
     let at = has-place (units_group counter) (units-there setup level wheel need counter shown) in
     none at.place (omega (arith, last, at.within)) counter (sym at.is) shown
+
+-- no number of a part, where none at a place
+pub none-numbered : (P : ℕ → Type 0) {bound last : ℕ} → last ≤ bound → ((p : ℕ) → p < bound → ¬ P (p + 1)) → (n : ℕ) → 1 ≤ n → n ≤ last
+    → ¬ P n
+none-numbered P {bound} {last} all none n from to holds =
+    let same : n ≡ (n - 1) + 1 = omega (arith, from) in
+    none (n - 1) (omega (arith, from, to, all)) (subst P same holds)

@@ -49,7 +49,7 @@ same-group : (one other : CounterGroup) → panel_group one ≡ panel_group othe
 same-group one other same = ap (λ (g : Group). record { width = g.width; number = g.number }) same
 
 -- total lines of levels with one number are one printed line
-same-line : (one other : Level) → level_number one ≡ level_number other → is_same_line (Body (body.Total one)) (Body (body.Total other)) ≡ true
+pub same-line : (one other : Level) → level_number one ≡ level_number other → is_same_line (Body (body.Total one)) (Body (body.Total other)) ≡ true
 same-line level.Minor level.Minor same = refl
 same-line level.Intermediate level.Intermediate same = refl
 same-line level.Major level.Major same = refl

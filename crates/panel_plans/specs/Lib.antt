@@ -1,4 +1,6 @@
+pub mod Columns
 pub mod Groups
 pub mod Shown
+pub mod Texts
 pub mod Totals
 pub mod Wired

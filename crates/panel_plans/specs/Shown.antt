@@ -4,7 +4,7 @@
 use Rattle.std.specs.Prelude.{◌≡◌, ◌≢◌, ℕ, ◌<◌, ◌≤◌}
 use Rattle.capacity.specs.Capacities.{HasGroup, standard}
 use Rattle.capacity.specs.declared.group.CounterGroup.{CounterGroup}
-use Rattle.hubs.specs.declared.hub.Hub.TheVariants.{CI, CO, GX, PX, RO, W}
+use Rattle.hubs.specs.declared.hub.Hub.TheVariants.{CI, CO, GX, PX, RO, SO, SX, W}
 use Rattle.plans.specs.declared.counter.TotalCounter.{TotalCounter}
 use Rattle.plans.specs.declared.counter.TotalCounter.TheVariants as of
 use Rattle.setups.specs.Wiring.{HasWire, Wiring}
@@ -25,6 +25,12 @@ abbrev pub IsShown : Wiring → (level wheel need : ℕ) → TotalCounter → Ty
 IsShown setup level wheel need (of.Single group) = (need ≤ 8) × HasGroup standard group × ShowsUnits setup level wheel group
 IsShown setup level wheel need (of.Coupled lower upper) =
     (8 < need) × HasGroup standard lower × HasGroup standard upper × ShowsUnits setup level wheel lower × CarriesTo setup lower upper
+
+-- a storage unit shows a text of a level from a wheel on: the cycle that prints the level has it give what it holds, and its first column
+-- leads to the wheel
+pub record ShowsText (setup : Wiring) (level wheel unit : ℕ) : Type 0 where
+  pub given : HasWire setup (PX level 3) (SO unit)
+  pub first : HasWire setup (SX unit 1) (W wheel)
 
 -- the group of the units of a counter
 abbrev pub units_group : TotalCounter → CounterGroup

@@ -8,6 +8,7 @@ ghost use Rattle.std.specs.Option.{IsSomeAnd};
 ghost use Rattle.wanted.specs.Wanted.{parts_of};
 
 use crate::counters::{Units, shown_counter, shown_on, units_on};
+use crate::parts::shown_numbers;
 use crate::stand_ins::{Taken, stand_in};
 use chart_rules::Chart;
 use plans::{Plan, TotalCounter};
@@ -88,10 +89,10 @@ fn with_counters(
     alloc: Global,
     chart: &Chart,
     own: &Plan,
-    counters: Vec<TotalCounter>,
+    counters: &[TotalCounter],
 ) -> Result<Plan, AllocError>
     requires { IsFor chart.now.lines own.now }
-    ensures counters { IfOk result (λ plan. plan.counters ≡ counters.items) }
+    ensures counters { IfOk result (λ plan. plan.counters ≡ counters.now) }
     ensures parts { IfOk result (λ plan. plan.parts ≡ own.now.parts) }
     ensures numbers { IfOk result (λ plan. plan.numbers ≡ in_order own.now.parts) }
     ensures within { IsWithinMachine own.now.parts }
@@ -99,7 +100,9 @@ fn with_counters(
     // What is known of the parts of every plan is told with them.
     let _pilots = own.pilots();
     let wanted = Wanted::of(alloc, chart)?;
-    Plan::in_order(alloc, counters, wanted.into_parts())
+    let mut copied = Vec::new(alloc);
+    copied.extend_from_slice(counters)?;
+    Plan::in_order(alloc, copied, wanted.into_parts())
 }
 
 // A plan of a chart with the counters of another.
@@ -107,28 +110,66 @@ fn again(alloc: Global, chart: &Chart, own: &Plan) -> Result<Plan, AllocError>
     requires { IsFor chart.now.lines own.now }
     ensures { IfOk result (IsFor chart.now.lines) }
 {
-    let mut counters = Vec::new(alloc);
-    counters.extend_from_slice(own.counters())?;
-    with_counters(alloc, chart, own, counters)
+    with_counters(alloc, chart, own, own.counters())
 }
 
-// The plan of a chart with these counters, where it is one; else one with the counters of the one that is given.
+// A plan of a chart: that with these counters and the other parts in order, where it is one, else one with the counters of another.
+fn near(
+    alloc: Global,
+    chart: &Chart,
+    own: &Plan,
+    counters: &[TotalCounter],
+) -> Result<Plan, AllocError>
+    requires { IsFor chart.now.lines own.now }
+    ensures { IfOk result (IsFor chart.now.lines) }
+{
+    let plan = with_counters(alloc, chart, own, counters)?;
+    if !plan.is_for(chart) {
+        return again(alloc, chart, own);
+    }
+    Ok(plan)
+}
+
+// The plan of a chart with these counters and with the other parts that a setup shows.
+fn shown_plan(
+    alloc: Global,
+    chart: &Chart,
+    own: &Plan,
+    setup: &Setup,
+    counters: Vec<TotalCounter>,
+) -> Result<Plan, AllocError>
+    requires { IsFor chart.now.lines own.now }
+    ensures counters { IfOk result (λ plan. plan.counters ≡ counters.items) }
+    ensures parts { IfOk result (λ plan. plan.parts ≡ own.now.parts) }
+    ensures numbers { IfOk result (λ plan. (its : Lists) → IsWiredBy chart.now.lines setup.now its → TakesOthersInOrder chart.now.lines its
+        → plan.numbers ≡ its.numbers) }
+{
+    // What is known of the parts of every plan is told with them.
+    let _pilots = own.pilots();
+    let wanted = Wanted::of(alloc, chart)?;
+    let parts = wanted.into_parts();
+    let numbers = shown_numbers(alloc, chart, setup, &parts)?;
+    Ok(Plan::of(counters, parts, numbers))
+}
+
+// The plan of a chart with these counters and with the other parts that a setup shows, where it is one; else one that is near.
 fn planned(
     alloc: Global,
     chart: &Chart,
     own: &Plan,
+    setup: &Setup,
     counters: Vec<TotalCounter>,
 ) -> Result<Plan, AllocError>
     requires { IsFor chart.now.lines own.now }
     ensures planned { IfOk result (IsFor chart.now.lines) }
-    ensures kept { IfOk result (λ plan. (its : Lists) → IsFor chart.now.lines its → TakesOthersInOrder its → counters.items ≡ its.counters
-        → plan ≡ its) }
+    ensures kept { IfOk result (λ plan. (its : Lists) → IsWiredBy chart.now.lines setup.now its → TakesOthersInOrder chart.now.lines its
+        → counters.items ≡ its.counters → plan ≡ its) }
 {
-    let plan = with_counters(alloc, chart, own, counters)?;
+    let plan = shown_plan(alloc, chart, own, setup, counters)?;
     if plan.is_for(chart) {
         Ok(plan)
     } else {
-        again(alloc, chart, own)
+        near(alloc, chart, own, plan.counters())
     }
 }
 
@@ -140,14 +181,15 @@ fn near_plan(alloc: Global, chart: &Chart, own: &Plan, setup: &Setup) -> Result<
     let totals = units_of(alloc, chart)?;
     let shown = shown_each(alloc, setup, totals.as_slice())?;
     match all_counters(alloc, setup, totals.as_slice(), shown.as_slice())? {
-        Some(counters) => planned(alloc, chart, own, counters),
+        Some(counters) => planned(alloc, chart, own, setup, counters),
         None => again(alloc, chart, own),
     }
 }
 
-/// The plan of a chart that the wires of a setup show, of those that take the parts other than the counters in order. Where they show
-/// none, one that is near: what shows no counter of its own has a free one, and where that is no plan of the chart, it has the counters
-/// of a plan of it that is given. Its only refusal is memory.
+/// The plan of a chart that the wires of a setup show, of those that take in order what is not read: the splits, the indicate positions,
+/// the pilots where two amounts have one sign column, and the comparing positions where a column is compared twice. Where they show none,
+/// one that is near: what shows no counter of its own has a free one, and where that is no plan of the chart, it has the counters of a
+/// plan of it that is given. Its only refusal is memory.
 pub fn read_plan(
     alloc: Global,
     chart: &Chart,
@@ -156,10 +198,10 @@ pub fn read_plan(
 ) -> Result<Plan, AllocError>
     requires { IsFor chart.now.lines own.now }
     ensures planned { IfOk result (IsFor chart.now.lines) }
-    ensures found { IfOk result (λ plan. (its : Lists) → IsWiredBy chart.now.lines setup.now its → TakesOthersInOrder its → plan ≡ its) }
+    ensures found { IfOk result (λ plan. (its : Lists) → IsWiredBy chart.now.lines setup.now its → TakesOthersInOrder chart.now.lines its → plan ≡ its) }
 {
     match shown_counters(alloc, chart, setup)? {
-        Some(counters) => planned(alloc, chart, own, counters),
+        Some(counters) => planned(alloc, chart, own, setup, counters),
         None => near_plan(alloc, chart, own, setup),
     }
 }

@@ -4,6 +4,8 @@ use Rattle.std.specs.Prelude.{◌≡◌, ℕ, ◌≤◌, List, Option, Some, Boo
 use Rattle.std.specs.List.{range_with_len}
 use Rattle.charts.specs.declared.level.ControlLevel.{ControlLevel}
 use Rattle.charts.specs.declared.level.ControlLevel.TheVariants as control
+use Rattle.plans.specs.declared.part_numbers.PartKind.{PartKind}
+use Rattle.plans.specs.declared.part_numbers.PartKind.TheVariants as kind
 use Rattle.wanted.specs.Wanted.{Parts}
 
 -- the numbers of the parts of each kind, each list in the order of what they serve
@@ -67,4 +69,85 @@ in_order parts =
       minor = first_numbers parts.minor;
       intermediate = first_numbers parts.intermediate;
       major = first_numbers parts.major;
+    }
+
+-- how many parts of a kind the standard machine has
+abbrev pub last_of : PartKind → ℕ
+last_of kind.Pilot = 16
+last_of kind.Comparing = 30
+last_of kind.Storage = 4
+last_of kind.Split = 16
+last_of (kind.Indicate level) = 30
+
+-- these numbers, but of one kind others
+abbrev pub renumbered : PartNumbers → PartKind → (others : List ℕ) → PartNumbers
+renumbered numbers kind.Pilot others =
+    record {
+      pilots = others;
+      comparing = numbers.comparing;
+      storage = numbers.storage;
+      splits = numbers.splits;
+      minor = numbers.minor;
+      intermediate = numbers.intermediate;
+      major = numbers.major;
+    }
+renumbered numbers kind.Comparing others =
+    record {
+      pilots = numbers.pilots;
+      comparing = others;
+      storage = numbers.storage;
+      splits = numbers.splits;
+      minor = numbers.minor;
+      intermediate = numbers.intermediate;
+      major = numbers.major;
+    }
+renumbered numbers kind.Storage others =
+    record {
+      pilots = numbers.pilots;
+      comparing = numbers.comparing;
+      storage = others;
+      splits = numbers.splits;
+      minor = numbers.minor;
+      intermediate = numbers.intermediate;
+      major = numbers.major;
+    }
+renumbered numbers kind.Split others =
+    record {
+      pilots = numbers.pilots;
+      comparing = numbers.comparing;
+      storage = numbers.storage;
+      splits = others;
+      minor = numbers.minor;
+      intermediate = numbers.intermediate;
+      major = numbers.major;
+    }
+renumbered numbers (kind.Indicate control.Minor) others =
+    record {
+      pilots = numbers.pilots;
+      comparing = numbers.comparing;
+      storage = numbers.storage;
+      splits = numbers.splits;
+      minor = others;
+      intermediate = numbers.intermediate;
+      major = numbers.major;
+    }
+renumbered numbers (kind.Indicate control.Intermediate) others =
+    record {
+      pilots = numbers.pilots;
+      comparing = numbers.comparing;
+      storage = numbers.storage;
+      splits = numbers.splits;
+      minor = numbers.minor;
+      intermediate = others;
+      major = numbers.major;
+    }
+renumbered numbers (kind.Indicate control.Major) others =
+    record {
+      pilots = numbers.pilots;
+      comparing = numbers.comparing;
+      storage = numbers.storage;
+      splits = numbers.splits;
+      minor = numbers.minor;
+      intermediate = numbers.intermediate;
+      major = others;
     }

@@ -14,5 +14,5 @@ mod places;
 mod plan;
 
 pub use counter::TotalCounter;
-pub use part_numbers::PartNumbers;
+pub use part_numbers::{PartKind, PartNumbers};
 pub use plan::Plan;

@@ -9,6 +9,21 @@ use std::alloc::{AllocError, Global};
 use std::marker::Model;
 use wanted::Parts;
 
+/// A kind of parts other than the counter groups.
+#[derive(Clone, Copy, Debug, PartialEq, Eq)]
+pub enum PartKind {
+    /// Pilots.
+    Pilot,
+    /// Comparing positions.
+    Comparing,
+    /// Storage units.
+    Storage,
+    /// Column splits.
+    Split,
+    /// Indicate positions of a level.
+    Indicate(ControlLevel),
+}
+
 /// The numbers of the pilots, comparing positions, storage units, column splits and indicate positions that serve what a chart asks
 /// for, each list in the order in which it asks for it.
 ///
@@ -55,7 +70,7 @@ impl PartNumbers {
     ghost use Rattle.std.specs.Prelude.{◌≡◌, ◌↔◌, IfOk, IsTrue};
     ghost use Rattle.std.specs.Prelude.{length};
     ghost use Rattle.wanted.specs.Wanted.{indicate_at};
-    ghost use Rattle.plans.specs.PartNumbers.{AreNumbers, AreNumbersOf, AreThere, in_order, numbers_at};
+    ghost use Rattle.plans.specs.PartNumbers.{AreNumbers, AreNumbersOf, AreThere, in_order, last_of, numbers_at, renumbered};
     ghost use Rattle.plans.specs.Plans.{IsWithinMachine};
 
     /// The parts 1, 2 and so on of each kind, for these things in their order.
@@ -127,6 +142,24 @@ impl PartNumbers {
             ControlLevel::Intermediate => self.intermediate.as_slice(),
             ControlLevel::Major => self.major.as_slice(),
         }
+    }
+
+    /// These numbers, but of one kind others.
+    pub fn with(self, kind: PartKind, numbers: Vec<u8>) -> PartNumbers
+        requires { AreThere (last_of kind) numbers.items }
+        ensures { result ≡ renumbered self kind numbers.items }
+    {
+        let mut changed = self;
+        match kind {
+            PartKind::Pilot => changed.pilots = numbers,
+            PartKind::Comparing => changed.comparing = numbers,
+            PartKind::Storage => changed.storage = numbers,
+            PartKind::Split => changed.splits = numbers,
+            PartKind::Indicate(ControlLevel::Minor) => changed.minor = numbers,
+            PartKind::Indicate(ControlLevel::Intermediate) => changed.intermediate = numbers,
+            PartKind::Indicate(ControlLevel::Major) => changed.major = numbers,
+        }
+        changed
     }
 
     /// Whether each of these things has a part of its own, and no other part is told.

@@ -8,7 +8,6 @@ pub mod Sending
 pub mod IndicateLatches
 pub mod SaidOnce
 pub mod Straight
-pub mod ChartLines
 pub mod ToPilots
 pub mod ToStorage
 pub mod SameColumns

@@ -29,7 +29,7 @@ use Rattle.wiring_table.specs.Figures.{rule_of}
 use Rattle.wiring_table.specs.Parts.{pilot_for}
 use Rattle.wiring_table.specs.Wires.{LineWire, ChartWire}
 use Rattle.wiring_table.specs.Wires.LineWire.{pickup}
-use Rattle.wired_panels.proofs.ChartLines.{field-own}
+use Rattle.wiring_table.proofs.ChartLines.{field-own}
 use Rattle.wired_panels.proofs.Ways.{same_tests}
 use Rattle.wiring_table.proofs.Parts.{pilot-own}
 use Rattle.wiring_table.proofs.Below.chart_rules.Laws.{field-line}

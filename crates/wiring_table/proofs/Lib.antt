@@ -1,4 +1,5 @@
 pub mod Below
+pub mod ChartLines
 pub mod Groups
 pub mod Parts
 pub mod Totals

@@ -1,4 +1,4 @@
-use Rattle.std.proofs.Common.{ap, ◌++◌, ◌∙◌}
+use Rattle.std.proofs.Common.{◌∙◌}
 use Rattle.panel_plans.proofs.Planned.{planned-again}
 use Rattle.panel_plans.proofs.Steps.{if-all-ok}
 use Rattle.panel_plans.proofs.plan.again.Goals as goal
@@ -7,8 +7,6 @@ pub returns : goal.returns
 returns c =
     if-all-ok c.with_counters.result _ _ _ _
     (λ plan counters parts numbers.
-    planned-again c.args.chart.now.lines c.args.own.now plan c.requires c.with_counters.ensures.within
-    (counters ∙ c.in_ok-extend_from_slice.ensures.items ∙ ap (λ items. items ++ c.counters.result.now) c.new-counters.ensures.items
-    ∙ c.counters.ensures)
+    planned-again c.args.chart.now.lines c.args.own.now plan c.requires c.with_counters.ensures.within (counters ∙ c.counters.ensures)
     parts numbers)
     c.with_counters.ensures.counters c.with_counters.ensures.parts c.with_counters.ensures.numbers

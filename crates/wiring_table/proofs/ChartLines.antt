@@ -1,18 +1,18 @@
 -- A FIELD line of a lawful chart is what its name stands for.
 use Rattle.std.proofs.Common.{◌≡◌, ◌∙◌, refl, sym, ap, Bool, true, false, List, [], ◌∷◌, ◌++◌, Contains, Option, Some, None, is_some, if◌then◌else◌}
 use Rattle.std.specs.List.{cons_option}
-use Rattle.wiring_table.proofs.Below.chart_rules.Laws.{breaks-lawful}
-use Rattle.wiring_table.proofs.Below.field_rules.Places.{is_same_name-own}
-use Rattle.wiring_table.proofs.Below.charts.Listed.{listed-place}
-use Rattle.wiring_table.specs.Below.field_rules.Fields.{field_of, fields_of, first_named, field_named}
-use Rattle.wiring_table.specs.Below.field_rules.Names.{breaks_name_twice}
-use Rattle.wiring_table.specs.Below.chart_rules.Rules.{IsLawful}
-use Rattle.wiring_table.specs.Below.chart_rules.declared.rule.Rule.TheVariants as rule
-use Rattle.wiring_table.specs.Below.charts.Chart.{Chart}
-use Rattle.wiring_table.specs.Below.charts.Name.{is_same_name}
-use Rattle.wiring_table.specs.Below.charts.declared.chart.Line.{Line}
-use Rattle.wiring_table.specs.Below.charts.declared.statement.Field.{Field}
-use Rattle.wiring_table.specs.Below.charts.declared.statement.Statement.TheVariants as says
+use Rattle.plans.proofs.Below.chart_rules.Laws.{breaks-lawful}
+use Rattle.report.proofs.Below.field_rules.Places.{is_same_name-own}
+use Rattle.plans.proofs.Below.charts.Listed.{listed-place}
+use Rattle.report.specs.Below.field_rules.Fields.{field_of, fields_of, first_named, field_named}
+use Rattle.report.specs.Below.field_rules.Names.{breaks_name_twice}
+use Rattle.plans.specs.Below.chart_rules.Rules.{IsLawful}
+use Rattle.plans.specs.Below.chart_rules.declared.rule.Rule.TheVariants as rule
+use Rattle.plans.specs.Below.charts.Chart.{Chart}
+use Rattle.plans.specs.Below.charts.Name.{is_same_name}
+use Rattle.plans.specs.Below.charts.declared.chart.Line.{Line}
+use Rattle.plans.specs.Below.charts.declared.statement.Field.{Field}
+use Rattle.plans.specs.Below.charts.declared.statement.Statement.TheVariants as says
 
 -- the first field with a name, after lines that have none with it
 after-none : (earlier : List Line) (line : Line) (later : List Line) (field : Field) → line.statement ≡ says.Field field

@@ -1,0 +1,12 @@
+use Rattle.std.proofs.Common.{◌≡◌, ◌++◌, drop, filter_map}
+use Rattle.panel_plans.specs.Wired.{IsWiredBy}
+use Rattle.plans.specs.PartNumbers.{AreThere}
+use Rattle.plans.specs.Plans.{Lists}
+use Rattle.panel_plans.proofs.Texts.{unit_on}
+use Rattle.panel_plans.proofs.text_units.shown_units.Given as goal
+
+abbrev pub invariant-loop-line : goal.invariant-loop-line
+invariant-loop-line l =
+    AreThere 4 l.units.items
+    × ((its : Lists) → IsWiredBy l.chart.lines l.setup its
+    → l.units.items ++ filter_map (unit_on its) (drop l.line-index l.lines) ≡ its.numbers.storage)

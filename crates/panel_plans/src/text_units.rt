@@ -1,0 +1,95 @@
+//! The storage units that a setup shows.
+
+ghost use Rattle.std.specs.Prelude.{◌≡◌, ◌↔◌, ◌≤◌, ℕ, IsTrue, IfNone, IfOk, IfSome};
+ghost use Rattle.std.specs.Option.{IsSomeAnd};
+ghost use Rattle.panel_plans.specs.Shown.{ShowsText};
+ghost use Rattle.panel_plans.specs.Texts.{text_of};
+ghost use Rattle.panel_plans.specs.Wired.{IsWiredBy};
+ghost use Rattle.plans.specs.PartNumbers.{AreThere};
+ghost use Rattle.plans.specs.Plans.{Lists};
+
+use chart_rules::Chart;
+use charts::Statement;
+use hubs::Hub;
+use setups::Setup;
+use std::alloc::{AllocError, Global};
+
+/// Where a text on a total line stands.
+#[derive(Clone, Copy, Debug, PartialEq, Eq)]
+pub struct TextPlace {
+    /// The number of its level, 1 to 4.
+    pub level: u8,
+    /// The wheel of its first character.
+    pub wheel: u16,
+}
+
+// The text that a line of a chart puts on a total line, if it is one.
+fn text_of(statement: &Statement) -> Option<TextPlace>
+    ensures { result ≡ text_of statement.now }
+{
+    match statement {
+        Statement::TotalText { level, wheel, .. } => Some(TextPlace {
+            level: level.number(),
+            wheel: *wheel,
+        }),
+        _ => None,
+    }
+}
+
+// Whether a storage unit shows a text of a level from a wheel on.
+fn shows_text(setup: &Setup, level: u8, wheel: u8, unit: u8) -> bool
+    ensures { IsTrue result ↔ ShowsText setup.now level wheel unit }
+{
+    setup.has(Hub::PX(level, 3), Hub::SO(unit)) && setup.has(Hub::SX(unit, 1), Hub::W(wheel))
+}
+
+// The storage unit that shows a text of a level from a wheel on, if there is one: the first by number.
+fn unit_showing(setup: &Setup, level: u8, wheel: u8) -> Option<u8>
+    ensures there { IfSome result (λ unit. (1 ≤ unit) × (unit ≤ 4)) }
+    ensures shown { IfSome result (ShowsText setup.now level wheel) }
+    ensures none { IfNone result ((unit : ℕ) → 1 ≤ unit → unit ≤ 4 → ¬ ShowsText setup.now level wheel unit) }
+{
+    for place in 0..4 {
+        if shows_text(setup, level, wheel, place + 1) {
+            return Some(place + 1);
+        }
+    }
+    None
+}
+
+// The storage unit that shows a text, if there is one.
+fn shown_unit(setup: &Setup, text: TextPlace) -> Option<u8>
+    ensures there { IfSome result (λ unit. (1 ≤ unit) × (unit ≤ 4)) }
+    ensures shown { IfSome result (ShowsText setup.now text.level text.wheel) }
+    ensures none { IfNone result ((unit : ℕ) → 1 ≤ unit → unit ≤ 4 → ¬ ShowsText setup.now text.level text.wheel unit) }
+{
+    if text.wheel < 256 {
+        unit_showing(setup, text.level, text.wheel as u8)
+    } else {
+        None
+    }
+}
+
+/// The storage units that a setup shows for the texts on the total lines of a chart, in the order of their lines; none where it shows
+/// none for one of them.
+pub(crate) fn shown_units(
+    alloc: Global,
+    chart: &Chart,
+    setup: &Setup,
+) -> Result<Option<Vec<u8>>, AllocError>
+    ensures there { IfOk result (λ shown. IfSome shown (λ list. AreThere 4 list.items)) }
+    ensures found { IfOk result (λ shown. (its : Lists) → IsWiredBy chart.now.lines setup.now its
+        → IsSomeAnd shown (λ list. list.items ≡ its.numbers.storage)) }
+{
+    let lines = chart.lines();
+    let mut units = Vec::new(alloc);
+    for line in lines {
+        if let Some(text) = text_of(&line.statement) {
+            match shown_unit(setup, text) {
+                Some(unit) => units.push(unit)?,
+                None => return Ok(None),
+            }
+        }
+    }
+    Ok(Some(units))
+}
