@@ -1,6 +1,0 @@
-mod Answering
-mod Finding
-mod Pairs
-mod Refusing
-mod Telling
-mod TellingOver

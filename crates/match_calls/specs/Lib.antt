@@ -1,7 +1,0 @@
-pub mod Apart
-pub mod Decked
-pub mod Found
-pub mod Helper
-pub mod Matched
-pub mod Panels
-pub mod Unmatched
