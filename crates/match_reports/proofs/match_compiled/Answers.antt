@@ -1,7 +1,9 @@
-use Rattle.std.proofs.Common.{subst}
+use Rattle.std.proofs.Common.{IfOk, subst}
 use Rattle.charts.specs.Chart.{Chart}
-use Rattle.matching.specs.Answers.{IsMatchingOf}
+use Rattle.matching.specs.Answers.{IsMatched, IsMatchingOf}
 use Rattle.matching.proofs.Told.{wired-of}
+use Rattle.panel_plans.specs.Wired.{IsWiredBy, TakesOthersInOrder}
+use Rattle.plans.specs.Plans.{Lists}
 use Rattle.match_reports.proofs.Onward.{if-ok}
 use Rattle.match_reports.proofs.match_compiled.Goals as goal
 
@@ -24,3 +26,10 @@ returns-clause-begins c =
     c.wired_setups_begin_reports.ensures c.args.compiled.now.chart wired.0 c.args.setup.now c.chart-chart.ensures.compiled.sound
     wired.1.planned wired.1.wired)
     c.match_setup.ensures.told
+
+pub returns-clause-found : goal.returns-clause-found
+returns-clause-found c =
+    subst
+    (λ (chart : Chart). IfOk c.match_setup.result
+    (λ matching. (its : Lists) → IsWiredBy chart.lines c.args.setup.now its → TakesOthersInOrder chart.lines its → IsMatched matching))
+    c.chart-chart.ensures.value c.match_setup.ensures.found
