@@ -4,6 +4,7 @@ use anyhow::Result;
 use browser_pages::show_to_end;
 use commands::{replay_by_orders, serve};
 use guides::fault_to_end;
+use match_calls::{match_deck_to_end, match_to_end};
 use panel_guides::{Place, explain_to_end, legend_to_end};
 use std::alloc::Global;
 use std::io::{Read, Write};
@@ -124,6 +125,44 @@ impl Served {
         let mut output = Vec::new(alloc);
         let mut told = Vec::new(alloc);
         let status = show_to_end(alloc, text, "my.deck", deck, &mut output, &mut told).status;
+        Served {
+            output,
+            told,
+            status,
+        }
+    }
+
+    /// What is found of a panel beside a chart.
+    pub fn matching(alloc: Global, chart: &[u8], wiring: &[u8]) -> Served {
+        let mut output = Vec::new(alloc);
+        let mut told = Vec::new(alloc);
+        let status = match_to_end(alloc, chart, wiring, &mut output, &mut told).status;
+        Served {
+            output,
+            told,
+            status,
+        }
+    }
+
+    /// What is found of a panel beside a chart, and of a deck on it.
+    pub fn matching_deck<R: Read + Drop>(
+        alloc: Global,
+        chart: &[u8],
+        wiring: &[u8],
+        deck: R,
+    ) -> Served {
+        let mut output = Vec::new(alloc);
+        let mut told = Vec::new(alloc);
+        let status = match_deck_to_end(
+            alloc,
+            chart,
+            wiring,
+            "my.deck",
+            deck,
+            &mut output,
+            &mut told,
+        )
+        .status;
         Served {
             output,
             told,

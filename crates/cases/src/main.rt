@@ -1,4 +1,4 @@
-//! Runs all cases whose answers are known: charts, wiring charts, wired panels with decks, and with orders too, wiring charts in both versions, charts with decks, decks with a fault, commands, hostile texts, explanations, and pages for a browser.
+//! Runs all cases whose answers are known: charts, wiring charts, wired panels with decks, and with orders too, wiring charts in both versions, panels beside charts, charts with decks, decks with a fault, commands, hostile texts, explanations, and pages for a browser.
 //!
 //! Each kind has a folder of `data`, and its file here says what is told of its cases. What this program must print was made outside of
 //! this repository or worked out by hand, never by the program.
@@ -9,6 +9,7 @@ mod chart_cases;
 mod command_cases;
 mod explained_cases;
 mod hostile_cases;
+mod match_cases;
 mod panel_cases;
 mod report_cases;
 mod served_cases;
@@ -41,6 +42,7 @@ fn main(rt: HostRuntime) -> Result<()> {
     upgrade_cases::write_all(&rt, &mut out)?;
     report_cases::write_all(&rt, &mut out)?;
     stream_cases::write_all(&rt, &mut out)?;
+    match_cases::write_all(&rt, &mut out)?;
     command_cases::write_all(&rt, &mut out)?;
     hostile_cases::write_all(&rt, &mut out)?;
     explained_cases::write_all(&rt, &mut out)?;

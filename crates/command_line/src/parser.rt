@@ -59,6 +59,23 @@ fn upgrade_command<'a>(alloc: Global) -> Result<Command<'a>, Error> {
     Ok(upgrade)
 }
 
+// The words for the deck that is run on both panels, a file.
+fn both_panels_words<'a>(alloc: Global) -> Arg<'a> {
+    Arg::new(alloc, "DECK").long("deck").value_name("DECK").help(
+        "a deck of cards, a file; the first line that the panel prints otherwise is told",
+    )
+}
+
+// The command that matches a wired panel with a planning chart.
+fn match_command<'a>(alloc: Global) -> Result<Command<'a>, Error> {
+    let matching = Command::new(alloc, "match")
+        .about("Tells whether a wired panel prints a chart's report of every deck")
+        .arg(both_panels_words(alloc))?
+        .arg(chart_word(alloc))?
+        .arg(wiring_word(alloc))?;
+    Ok(matching)
+}
+
 // The word for the number of a fault.
 fn number_word<'a>(alloc: Global) -> Arg<'a> {
     Arg::new(alloc, "NN")
@@ -156,11 +173,17 @@ fn with_charts<'a>(alloc: Global, program: Command<'a>) -> Result<Command<'a>, E
     )
 }
 
-// The commands that take a wiring chart.
+// The commands that take a wiring chart, alone, with a deck or beside a planning chart.
 fn with_wirings<'a>(alloc: Global, program: Command<'a>) -> Result<Command<'a>, Error> {
     let replay = replay_command(alloc)?;
     let upgrade = upgrade_command(alloc)?;
-    Ok(program.subcommand(replay)?.subcommand(upgrade)?)
+    let matching = match_command(alloc)?;
+    Ok(
+        program
+            .subcommand(replay)?
+            .subcommand(upgrade)?
+            .subcommand(matching)?,
+    )
 }
 
 // The commands that tell why.

@@ -41,6 +41,17 @@ pub enum Wanted<'a> {
     Upgrade {
         wiring: &'a str,
     },
+    /// Whether a panel that is wired by a wiring chart prints a planning chart's report of every deck.
+    Match {
+        chart: &'a str,
+        wiring: &'a str,
+    },
+    /// The same; where it doesn't, a deck is run on it and on the chart's own panel.
+    MatchDeck {
+        chart: &'a str,
+        wiring: &'a str,
+        deck: &'a str,
+    },
     /// The legend of a planning chart.
     Legend {
         chart: &'a str,
@@ -126,6 +137,20 @@ fn replay_wanted<'a>(given: &ArgMatches<'a>) -> Wanted<'a> {
     }
 }
 
+// What is asked for by the words of a match, with a deck or without.
+fn match_wanted<'a>(given: &ArgMatches<'a>) -> Wanted<'a> {
+    let chart = file_of(given, "CHART");
+    let wiring = file_of(given, "WIRING");
+    match given.get_str("DECK") {
+        Some(deck) => Wanted::MatchDeck {
+            chart,
+            wiring,
+            deck,
+        },
+        None => Wanted::Match { chart, wiring },
+    }
+}
+
 // What is asked for by words that match.
 fn wanted_by<'a>(matches: &ArgMatches<'a>) -> Wanted<'a> {
     match matches.subcommand() {
@@ -140,6 +165,7 @@ fn wanted_by<'a>(matches: &ArgMatches<'a>) -> Wanted<'a> {
         Some(("upgrade", given)) => Wanted::Upgrade {
             wiring: file_of(given, "WIRING"),
         },
+        Some(("match", given)) => match_wanted(given),
         Some(("legend", given)) => Wanted::Legend {
             chart: file_of(given, "CHART"),
         },

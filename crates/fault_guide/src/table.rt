@@ -445,3 +445,27 @@ pub(crate) fn explanation_entry(number: u8) -> FaultEntry
         },
     }
 }
+
+/// The entry of a fault of a panel beside a chart, 94 or 95.
+pub(crate) fn match_entry(number: u8) -> FaultEntry
+    requires from { 94 ≤ number }
+    requires to { number ≤ 95 }
+    ensures { result.number ≡ number }
+{
+    match number {
+        94 => FaultEntry {
+            number: 94,
+            name: "Unwired",
+            cause: "the panel is wired for the chart by no plan of it: A wires, jacks and stops are missing and B are too much, by the plan that is printed; another form counts once as missing and once as too much",
+            cure: "wire what stands under missing, by the line of the chart that asks for it, and take out what stands under too much. Where all wires of a part seem wrong, look which group the first wires of that part name: the plan is read off them",
+            example: "run407 match my.chart my.wiring where the wiring chart lacks a wire",
+        },
+        _ => FaultEntry {
+            number: 95,
+            name: "PrintsOtherwise",
+            cause: "besides, the panel prints the deck otherwise than one that is wired for the chart; line L of page P is the first that differs",
+            cure: "look at the two explanations that are printed last, of the first wheel that differs on that line: where they part, there is the wire that is missing or too much",
+            example: "run407 match --deck my.deck my.chart my.wiring where the wiring chart lacks a wire that the deck needs",
+        },
+    }
+}

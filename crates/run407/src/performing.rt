@@ -7,6 +7,7 @@ use browser_pages::show_to_end;
 use command_line::{Refused, Wanted, read_words};
 use commands::{Fault, chart_and_deck, read_whole, replay_by_orders, serve, tell, unprinted};
 use guides::fault_to_end;
+use match_calls::{match_deck_to_end, match_to_end};
 use panel_guides::{Place, explain_to_end, legend_to_end};
 use std::io::{ErrorKind as IoErrorKind, Write};
 use std::{fs, io};
@@ -101,6 +102,57 @@ fn serve_chart(rt: &HostRuntime, command: &str, chart: &str) -> u8 {
         &mut out,
         &mut faults,
     )
+}
+
+// Matches a panel with a chart.
+fn match_panel(rt: &HostRuntime, chart: &str, wiring: &str) -> u8 {
+    let mut faults = rt.stderr();
+    let text = match read_file(rt, chart) {
+        Ok(text) => text,
+        Err(fault) => return tell(&fault, &mut faults).status,
+    };
+    let panel = match read_file(rt, wiring) {
+        Ok(panel) => panel,
+        Err(fault) => return tell(&fault, &mut faults).status,
+    };
+    let mut out = rt.stdout();
+    match_to_end(
+        rt.alloc(),
+        text.as_slice(),
+        panel.as_slice(),
+        &mut out,
+        &mut faults,
+    )
+    .status
+}
+
+// Matches a panel with a chart, and runs a deck on both panels. Both texts are read whole and the deck is opened before a fault of any of
+// them is told.
+fn match_deck(rt: &HostRuntime, chart: &str, wiring: &str, deck: &str) -> u8 {
+    let mut faults = rt.stderr();
+    let text = match read_file(rt, chart) {
+        Ok(text) => text,
+        Err(fault) => return tell(&fault, &mut faults).status,
+    };
+    let panel = match read_file(rt, wiring) {
+        Ok(panel) => panel,
+        Err(fault) => return tell(&fault, &mut faults).status,
+    };
+    let cards = match fs::open(rt, deck) {
+        Ok(cards) => cards,
+        Err(error) => return tell(&unopened(&error, deck), &mut faults).status,
+    };
+    let mut out = rt.stdout();
+    match_deck_to_end(
+        rt.alloc(),
+        text.as_slice(),
+        panel.as_slice(),
+        deck,
+        cards,
+        &mut out,
+        &mut faults,
+    )
+    .status
 }
 
 // Prints the legend of a chart.
@@ -215,6 +267,12 @@ fn obey(rt: &HostRuntime, wanted: Wanted) -> u8 {
             deck,
         } => serve_orders(rt, wiring, orders, deck),
         Wanted::Upgrade { wiring } => serve_chart(rt, "upgrade", wiring),
+        Wanted::Match { chart, wiring } => match_panel(rt, chart, wiring),
+        Wanted::MatchDeck {
+            chart,
+            wiring,
+            deck,
+        } => match_deck(rt, chart, wiring, deck),
         Wanted::Legend { chart } => tell_legend(rt, chart),
         Wanted::Explain {
             text,

@@ -1,0 +1,45 @@
+-- What is found of panels, by what was found of a setup.
+use Rattle.std.proofs.Common.{◌≡◌, List, ℕ, Option, Some, None, ◌++◌, codes, subst}
+use Rattle.compile407.specs.Compilation.{Compilation}
+use Rattle.match_calls.specs.Found.{IsUnwiredText, IsWiredText}
+use Rattle.match_calls.specs.Helper.{IsFoundText, TellsCounts}
+use Rattle.match_texts.specs.MatchText.{IsMatchText}
+use Rattle.match_texts.specs.declared.counts.Counts.{Counts}
+use Rattle.matching.specs.Answers.{IsMatched, IsMatchingOf}
+use Rattle.matching.specs.declared.answer.Matching.{Matching}
+use Rattle.matching.specs.declared.answer.Matching.TheVariants.{Differs, Matched}
+use Rattle.panel_plans.specs.Wired.{IsWiredBy}
+use Rattle.plans.specs.Plans.{Lists}
+use Rattle.promises.specs.Promises.{BeginsReport, PrintsReport}
+use Rattle.setups.specs.Wiring.{Wiring}
+use Rattle.wire_chart.specs.Below.wiring_text.declared.statement.Version.TheVariants.{First}
+
+pub found_text : (compiled : Compilation) (setup : Wiring) (matching : Matching) (counts : Option Counts) (text : List ℕ)
+    → IsMatchingOf compiled.chart.lines setup matching
+    → ((its : Lists) → IsWiredBy compiled.chart.lines setup its → IsMatched matching)
+    → (IsMatched matching → PrintsReport compiled.chart setup) → (IsMatched matching → BeginsReport compiled.chart setup)
+    → TellsCounts matching counts → IsMatchText First compiled.chart.lines setup matching text → IsFoundText compiled setup counts text
+found_text compiled setup (Matched plan) None text told found prints begins counted spelled =
+    record { plan = plan; wired = told; prints = prints tt; begins = begins tt; spelled = spelled }
+found_text compiled setup (Matched plan) (Some counts) text told found prints begins counted spelled = absurd counted
+found_text compiled setup (Differs plan missing extra) None text told found prints begins counted spelled = absurd counted
+found_text compiled setup (Differs plan missing extra) (Some counts) text told found prints begins counted spelled =
+    record {
+      unwired = found;
+      plan = plan;
+      missing = missing;
+      extra = extra;
+      differs = told;
+      counted = counted;
+      tells = spelled;
+    }
+
+-- which text it is, by the counts
+pub wired_found : (compiled : Compilation) (setup : Wiring) (counts : Option Counts) (text : List ℕ) → counts ≡ None
+    → IsFoundText compiled setup counts text → IsWiredText compiled setup text
+wired_found compiled setup counts text is found = subst (λ (its : Option Counts). IsFoundText compiled setup its text) is found
+
+pub unwired_found : (compiled : Compilation) (setup : Wiring) (counts : Option Counts) (its : Counts) (text : List ℕ) → counts ≡ Some its
+    → IsFoundText compiled setup counts text → IsUnwiredText its compiled setup text
+unwired_found compiled setup counts its text is found =
+    subst (λ (of : Option Counts). IsFoundText compiled setup of text) is found

@@ -1,0 +1,6 @@
+mod Answering
+mod Finding
+mod Pairs
+mod Refusing
+mod Telling
+mod TellingOver

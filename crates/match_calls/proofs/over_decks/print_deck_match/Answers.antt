@@ -1,0 +1,37 @@
+use Rattle.std.proofs.Common.{refl}
+use Rattle.std.proofs.lemmas.Result.{err_from_is_err_and}
+use Rattle.std.specs.String.{string_bytes}
+use Rattle.match_calls.proofs.TellingOver.{all_stop, deck_stops, output_stops_over, panels_stop}
+use Rattle.match_calls.specs.Panels.{of_deck}
+use Rattle.program_io.proofs.Refusing.{read_is_known}
+use Rattle.match_calls.proofs.over_decks.print_deck_match.Goals as goal
+
+pub returns-in_err-panels-clause-stopped : goal.returns-in_err-panels-clause-stopped
+returns-in_err-panels-clause-stopped g c =
+    let exit = err_from_is_err_and c.from_residual.result c.from_residual.ensures.1 in
+    rw exit.1 (panels_stop c.args.chart.now c.args.wiring.now (g.R.Read.remaining c.args.deck) _ _ _ _ c.in_err-panels.field-0.0 exit.0
+    c.in_err-panels.ensures.refused exit.2 refl)
+
+pub returns-in_err-bytes-clause-stopped : goal.returns-in_err-bytes-clause-stopped
+returns-in_err-bytes-clause-stopped g c =
+    let exit = err_from_is_err_and c.from_residual-in_err-bytes.result c.from_residual-in_err-bytes.ensures.1 in
+    rw exit.1 (deck_stops c.args.chart.now c.args.wiring.now (g.R.Read.remaining c.args.deck) _ _ _ _ c.in_err-bytes.field-0.0 exit.0
+    c.in_err-bytes.ensures.told
+    (record { compiled = c.in_ok-panels.panels.compiled; setup = c.in_ok-panels.panels.setup; panels = c.in_ok-panels.ensures.are }) exit.2 refl)
+
+pub returns-in_err-answer-clause-stopped : goal.returns-in_err-answer-clause-stopped
+returns-in_err-answer-clause-stopped g c =
+    let exit = err_from_is_err_and c.from_residual-in_err-answer.result c.from_residual-in_err-answer.ensures.1 in
+    rw exit.1 (all_stop c.args.chart.now c.args.wiring.now (g.R.Read.remaining c.args.deck) _ _ _ _ c.as_slice.result.now
+    c.in_err-answer.field-0.0 exit.0
+    (read_is_known (g.R.Read.remaining c.args.deck) c.as_slice.result.now c.in_ok-bytes.bytes.items c.as_slice.ensures.value
+    c.in_ok-bytes.ensures.whole)
+    (λ not_memory. of_deck
+    (record { compiled = c.in_ok-panels.panels.compiled; setup = c.in_ok-panels.panels.setup; panels = c.in_ok-panels.ensures.are })
+    (c.in_err-answer.ensures.refused not_memory)) exit.2 refl)
+
+pub returns-in_err-put-clause-stopped : goal.returns-in_err-put-clause-stopped
+returns-in_err-put-clause-stopped g c =
+    let exit = err_from_is_err_and c.from_residual-in_err-put.result c.from_residual-in_err-put.ensures.1 in
+    rw exit.1 (output_stops_over c.args.chart.now c.args.wiring.now (g.R.Read.remaining c.args.deck) _ _ _ _ c.in_err-put.field-0.0 exit.0
+    c.in_err-put.ensures.told exit.2)

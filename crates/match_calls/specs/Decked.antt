@@ -1,0 +1,41 @@
+-- Why the command doesn't end well on a planning chart, a wiring chart and a deck. The deck is known where its reader tells its bytes
+-- beforehand.
+use Rattle.std.specs.Prelude.{◌≡◌, ℕ, List, Option, IfSome}
+use Rattle.faults.specs.declared.fault.Fault.{Fault}
+use Rattle.faults.specs.declared.fault.Fault.TheVariants as fault
+use Rattle.match_calls.specs.Apart.{IsAlikeText, IsOtherwiseText}
+use Rattle.match_calls.specs.Found.{Prints}
+use Rattle.match_calls.specs.Panels.{HasPanels, RefusesAll}
+use Rattle.match_calls.specs.Unmatched.{unmatched_status}
+use Rattle.match_calls.specs.declared.unmatched.Unmatched.{Unmatched}
+use Rattle.match_calls.specs.declared.unmatched.Unmatched.TheVariants as why
+use Rattle.match_decks.specs.declared.lines.Place.{Place}
+use Rattle.match_texts.specs.declared.counts.Counts.{Counts}
+
+-- What is told of texts that don't match: the panel is not wired for the chart, and what is missing and too much was printed, and how the
+-- first line of the deck that it prints otherwise differs, if one does; or a text is refused, and nothing was printed.
+pub data LeavesApart (chart wiring deck : List ℕ) (told : Unmatched) (old new : Option (List ℕ)) (Unprinted : Type 0) : Type 0 where
+  alike : (counts : Counts) → told ≡ why.Unwired counts → Prints chart wiring (IsAlikeText deck counts) old new
+      → LeavesApart chart wiring deck told old new Unprinted
+  otherwise : (place : Place) → told ≡ why.PrintsOtherwise place → Prints chart wiring (IsOtherwiseText deck place) old new
+      → LeavesApart chart wiring deck told old new Unprinted
+  refused : (fault : Fault) → told ≡ why.Failed fault → RefusesAll chart wiring deck fault → Unprinted
+      → LeavesApart chart wiring deck told old new Unprinted
+
+-- it is told with the deck that was read
+pub record LeavesOver (chart wiring : List ℕ) (deck : Option (List ℕ)) (told : Unmatched) (old new : Option (List ℕ)) (Unprinted : Type 0)
+    : Type 0 where
+  pub read : List ℕ
+  pub is_deck : IfSome deck (λ known. read ≡ known)
+  pub leaves : LeavesApart chart wiring read told old new Unprinted
+
+-- Why the command does not end well: that; or the deck can't be read, and nothing was printed; or the output can't be written, or memory ran
+-- out, and a part of what is found may have been printed.
+pub data StopsOver (chart wiring : List ℕ) (deck : Option (List ℕ)) (told : Unmatched) (unreadable : Fault) (old new : Option (List ℕ))
+    (Unprinted : Type 0) : Type 0 where
+  unmatched : unmatched_status told ≡ 3 → LeavesOver chart wiring deck told old new Unprinted
+      → StopsOver chart wiring deck told unreadable old new Unprinted
+  unread : told ≡ why.Failed unreadable → HasPanels chart wiring → Unprinted
+      → StopsOver chart wiring deck told unreadable old new Unprinted
+  unwritten : told ≡ why.Failed fault.Write → StopsOver chart wiring deck told unreadable old new Unprinted
+  memory_wanting : told ≡ why.Failed fault.Memory → StopsOver chart wiring deck told unreadable old new Unprinted

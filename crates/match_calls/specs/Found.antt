@@ -1,0 +1,44 @@
+-- What is found of a compiled chart and a panel, and the text that tells it.
+use Rattle.std.specs.Prelude.{◌≡◌, ℕ, List, ◌++◌, Option, codes}
+use Rattle.std.specs.Io.KnownBytes.{Appends}
+use Rattle.compile407.specs.Compilation.{Compilation}
+use Rattle.match_calls.specs.Panels.{ArePanels}
+use Rattle.match_texts.specs.Counts.{CountsDifferences}
+use Rattle.match_texts.specs.MatchText.{TellsDifference}
+use Rattle.match_texts.specs.PlanText.{plan_text}
+use Rattle.match_texts.specs.declared.counts.Counts.{Counts}
+use Rattle.matching.specs.Answers.{DiffersBy}
+use Rattle.panel_plans.specs.Wired.{IsWiredBy}
+use Rattle.plans.specs.Plans.{Lists}
+use Rattle.promises.specs.Promises.{BeginsReport, PrintsReport}
+use Rattle.setups.specs.Wiring.{Wiring}
+use Rattle.wire_chart.specs.Below.wiring_text.declared.statement.Version.TheVariants.{First}
+
+-- The panel is wired for the chart by the plan that is told. So the machine prints the chart's report of every deck that can be run, wired
+-- as this panel, and it begins the report where not all totals fit.
+pub record IsWiredText (compiled : Compilation) (setup : Wiring) (text : List ℕ) : Type 0 where
+  pub plan : Lists
+  pub wired : IsWiredBy compiled.chart.lines setup plan
+  pub prints : PrintsReport compiled.chart setup
+  pub begins : BeginsReport compiled.chart setup
+  pub spelled : text ≡ codes "ok\n" ++ plan_text compiled.chart.lines plan
+
+-- The panel is wired for the chart by no plan. By the plan that is told these are what is missing and what is too much, and so much is
+-- counted of both.
+pub record IsUnwiredText (counts : Counts) (compiled : Compilation) (setup : Wiring) (text : List ℕ) : Type 0 where
+  pub unwired : (plan : Lists) → ¬ IsWiredBy compiled.chart.lines setup plan
+  pub plan : Lists
+  pub missing : Wiring
+  pub extra : Wiring
+  pub differs : DiffersBy compiled.chart.lines setup plan missing extra
+  pub counted : CountsDifferences missing extra counts
+  pub tells : TellsDifference First compiled.chart.lines setup plan missing extra text
+
+-- a text that is right of the panels of two texts was written after what was there
+pub record Prints (chart wiring : List ℕ) (IsRight : Compilation → Wiring → List ℕ → Type 0) (old new : Option (List ℕ)) : Type 0 where
+  pub compiled : Compilation
+  pub setup : Wiring
+  pub panels : ArePanels chart wiring compiled setup
+  pub text : List ℕ
+  pub right : IsRight compiled setup text
+  pub written : Appends old new text

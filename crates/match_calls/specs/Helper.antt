@@ -1,0 +1,37 @@
+-- Helpers of the code: what is told of what was found.
+use Rattle.std.specs.Prelude.{ℕ, List, Option, Some, None, string_bytes}
+use Rattle.compile407.specs.Compilation.{Compilation}
+use Rattle.match_calls.specs.Apart.{IsAlikeText, IsApartText, IsOtherwiseText}
+use Rattle.match_calls.specs.Found.{IsUnwiredText, IsWiredText}
+use Rattle.match_calls.specs.declared.apart.Apart.{Apart}
+use Rattle.match_calls.specs.declared.outcome.Outcome.{Outcome}
+use Rattle.match_calls.specs.declared.outcome.Outcome.TheVariants as outcome
+use Rattle.match_decks.specs.Wheels.{DifferOnDeck}
+use Rattle.match_texts.specs.Counts.{CountsDifferences}
+use Rattle.match_texts.specs.declared.counts.Counts.{Counts}
+use Rattle.matching.specs.declared.answer.Matching.{Matching}
+use Rattle.matching.specs.declared.answer.Matching.TheVariants.{Differs, Matched}
+use Rattle.setups.specs.Wiring.{Wiring}
+
+-- the counts of what was found: none where the setup is wired for the chart, and only there
+abbrev pub TellsCounts : Matching → Option Counts → Type 0
+TellsCounts (Matched plan) None = Unit {0}
+TellsCounts (Matched plan) (Some counts) = ⊥
+TellsCounts (Differs plan missing extra) None = ⊥
+TellsCounts (Differs plan missing extra) (Some counts) = CountsDifferences missing extra counts
+
+-- the text of what was found, by the counts
+abbrev pub IsFoundText : Compilation → Wiring → Option Counts → List ℕ → Type 0
+IsFoundText compiled setup None text = IsWiredText compiled setup text
+IsFoundText compiled setup (Some counts) text = IsUnwiredText counts compiled setup text
+
+-- the first line that two panels print differently, or none
+abbrev pub IsApart : (own setup : Wiring) (cards : List (List ℕ)) → Option Apart → Type 0
+IsApart own setup cards None = DifferOnDeck own setup cards None
+IsApart own setup cards (Some apart) = IsApartText own setup cards apart.place (string_bytes apart.text)
+
+-- the text of what was found over a deck, by the outcome
+abbrev pub IsDeckText : (deck : List ℕ) → Compilation → Wiring → Outcome → List ℕ → Type 0
+IsDeckText deck compiled setup outcome.Wired text = IsWiredText compiled setup text
+IsDeckText deck compiled setup (outcome.Unwired counts) text = IsAlikeText deck counts compiled setup text
+IsDeckText deck compiled setup (outcome.PrintsOtherwise place) text = IsOtherwiseText deck place compiled setup text

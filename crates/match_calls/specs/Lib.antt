@@ -1,0 +1,7 @@
+pub mod Apart
+pub mod Decked
+pub mod Found
+pub mod Helper
+pub mod Matched
+pub mod Panels
+pub mod Unmatched

@@ -1,0 +1,30 @@
+-- The compiled chart and the panel that two texts give, and which fault is told where they don't.
+use Rattle.std.specs.Prelude.{ℕ, List}
+use Rattle.commands.specs.Answers.{CompilesAs}
+use Rattle.commands.specs.Refusals.{RefusesChart}
+use Rattle.compile407.specs.Compilation.{Compilation}
+use Rattle.faults.specs.declared.fault.Fault.{Fault}
+use Rattle.program_io.specs.Refusals.{RefusesDeck, RefusesWiring}
+use Rattle.setups.specs.Wiring.{Wiring}
+use Rattle.wire_chart.specs.Below.wiring_text.WiringText.{ReadsAs}
+
+-- a planning chart compiles as this, and a wiring chart reads as this setup
+pub record ArePanels (chart wiring : List ℕ) (compiled : Compilation) (setup : Wiring) : Type 0 where
+  pub compiles : CompilesAs chart compiled
+  pub reads : ReadsAs wiring setup
+
+-- the planning chart compiles, and the wiring chart reads
+pub record HasPanels (chart wiring : List ℕ) : Type 0 where
+  pub compiled : Compilation
+  pub setup : Wiring
+  pub panels : ArePanels chart wiring compiled setup
+
+-- the fault of the planning chart, else that of the wiring chart
+pub data RefusesPanels (chart wiring : List ℕ) (told : Fault) : Type 0 where
+  of_chart : RefusesChart chart told → RefusesPanels chart wiring told
+  of_wiring : (compiled : Compilation) → CompilesAs chart compiled → RefusesWiring wiring told → RefusesPanels chart wiring told
+
+-- the fault of one of them, else that of the text of the deck
+pub data RefusesAll (chart wiring deck : List ℕ) (told : Fault) : Type 0 where
+  of_panels : RefusesPanels chart wiring told → RefusesAll chart wiring deck told
+  of_deck : HasPanels chart wiring → RefusesDeck deck told → RefusesAll chart wiring deck told

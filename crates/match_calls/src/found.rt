@@ -1,0 +1,55 @@
+//! What is found of a compiled chart and a panel.
+
+ghost use Rattle.std.specs.Prelude.{◌≡◌, IfErr, IfOk};
+ghost use Rattle.std.specs.String.{string_bytes};
+ghost use Rattle.match_calls.specs.Helper.{IsFoundText, TellsCounts};
+
+use crate::panels::Panels;
+use faults::Fault;
+use match_reports::{Matching, match_compiled};
+use match_texts::{Counts, counts_of, match_text};
+use std::alloc::{AllocError, Global};
+use wire_chart::Version;
+
+/// What is found of a compiled chart and a panel.
+#[derive(Drop)]
+pub(crate) struct Found {
+    /// How much is missing and too much, where the panel is not wired for the chart by any plan of it.
+    pub(crate) counts: Option<Counts>,
+    /// What is printed: the plan, and what is missing and too much.
+    pub(crate) text: String,
+}
+
+// How much is missing and too much, where a panel is not wired for a chart.
+fn told_counts(matching: &Matching) -> Option<Counts>
+    ensures { TellsCounts matching.now result }
+{
+    match matching {
+        Matching::Matched { .. } => None,
+        Matching::Differs { .. } => Some(counts_of(matching)),
+    }
+}
+
+// Finds whether a panel is wired for a chart by some plan of it, and what is printed of that.
+fn find(alloc: Global, panels: &Panels) -> Result<Found, AllocError>
+    ensures { IfOk result (λ found. IsFoundText panels.now.compiled panels.now.setup found.counts (string_bytes found.text)) }
+{
+    let matching = match_compiled(alloc, &panels.compiled, &panels.setup)?;
+    let chart = panels.compiled.chart();
+    let text = match_text(alloc, Version::First, chart, &panels.setup, &matching)?;
+    let counts = told_counts(&matching);
+    Ok(Found { counts, text })
+}
+
+/// Finds whether a panel is wired for a chart by some plan of it, and what is printed of that.
+///
+/// # Errors
+///
+/// `Memory` where a growth was refused.
+pub(crate) fn found_of<'a>(alloc: Global, panels: &Panels) -> Result<Found, Fault<'a>>
+    ensures found { IfOk result (λ found.
+        IsFoundText panels.now.compiled panels.now.setup found.counts (string_bytes found.text)) }
+    ensures memory { IfErr result (λ told. told ≡ Fault.Memory) }
+{
+    Ok(find(alloc, panels)?)
+}

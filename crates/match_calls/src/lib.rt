@@ -1,0 +1,18 @@
+//! Whether a panel prints a chart's reports, as a command: from the bytes of a planning chart and a wiring chart to what is printed, what is
+//! told and the status.
+//!
+//! [`match_to_end`] does the whole command, and [`match_deck_to_end`] the command with a deck, of which the first line is told that the
+//! panel prints otherwise than one that is wired for the chart. Why a panel doesn't match is an [`Unmatched`].
+#![tactic(auto)]
+
+mod apart;
+mod found;
+mod outcome;
+mod over_decks;
+mod panels;
+mod serving;
+mod unmatched;
+
+pub use over_decks::{match_deck_to_end, print_deck_match};
+pub use serving::{match_to_end, print_match};
+pub use unmatched::{Unmatched, tell_unmatched, write_unmatched};
