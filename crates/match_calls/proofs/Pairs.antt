@@ -1,5 +1,5 @@
 -- What is told of a deck on two panels.
-use Rattle.std.proofs.Common.{◌≡◌, ℕ, List, ◌++◌, Some, None, ap, ◌∙◌, codes}
+use Rattle.std.proofs.Common.{◌≡◌, ℕ, List, [], ◌++◌, Some, None, ap, ◌∙◌, codes}
 use Rattle.card_code.specs.Deck.{Deck}
 use Rattle.compile407.specs.Compilation.{Compilation}
 use Rattle.explanation_text.specs.Told.{Explains}
@@ -14,7 +14,7 @@ use Rattle.setups.specs.Wiring.{Wiring}
 
 -- of a wheel
 pub wheel_printed : (setup : Wiring) (cards : List (List ℕ)) (at : Difference) (text : List ℕ)
-    → Explains setup cards at.place.page at.place.line at.wheel text → IsWheelText setup cards at text
+    → Explains setup [] cards at.place.page at.place.line at.wheel text → IsWheelText setup cards at text
 wheel_printed setup cards at text explains = printed explains
 
 pub wheel_unprinted : (setup : Wiring) (cards : List (List ℕ)) (at : Difference) (text : List ℕ)

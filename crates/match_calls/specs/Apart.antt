@@ -1,5 +1,5 @@
 -- What is found of a deck on the chart's own panel and another that is not wired for the chart.
-use Rattle.std.specs.Prelude.{◌≡◌, ℕ, List, ◌++◌, Some, None, codes}
+use Rattle.std.specs.Prelude.{◌≡◌, ℕ, List, [], ◌++◌, Some, None, codes}
 use Rattle.card_code.specs.Deck.{Deck}
 use Rattle.compile407.specs.Compilation.{Compilation}
 use Rattle.explanation_text.specs.Told.{Explains}
@@ -11,9 +11,9 @@ use Rattle.match_decks.specs.declared.wheels.Difference.{Difference}
 use Rattle.match_texts.specs.declared.counts.Counts.{Counts}
 use Rattle.setups.specs.Wiring.{Wiring}
 
--- what is told of a wheel of a line on a panel: why it printed its character, or that no line is printed there
+-- What is told of a wheel of a line on a panel: why it printed its character, with no word of who asks for the wires, or that no line is printed there
 pub data IsWheelText (setup : Wiring) (cards : List (List ℕ)) (at : Difference) (text : List ℕ) : Type 0 where
-  printed : Explains setup cards at.place.page at.place.line at.wheel text → IsWheelText setup cards at text
+  printed : Explains setup [] cards at.place.page at.place.line at.wheel text → IsWheelText setup cards at text
   unprinted : PrintsNoneAt setup cards at.place.page at.place.line → text ≡ codes "no line is printed here\n"
       → IsWheelText setup cards at text
 

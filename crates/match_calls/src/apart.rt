@@ -35,7 +35,15 @@ fn wheel_text(
     requires { length cards.now ≤ most_cards }
     ensures { IfOk result (λ text. IsWheelText setup.now cards.now at (string_bytes text)) }
 {
-    match explain_text(alloc, setup, cards, at.place.page, at.place.line, at.wheel) {
+    match explain_text(
+        alloc,
+        setup,
+        &[],
+        cards,
+        at.place.page,
+        at.place.line,
+        at.wheel,
+    ) {
         Ok(text) => Ok(text),
         Err(Refusal::NoSuchLine) => String::from_str(alloc, "no line is printed here\n"),
         // The wheel is one of a line's, so it is memory that is wanting.

@@ -1,7 +1,9 @@
 use Rattle.std.proofs.Common.{refl}
 use Rattle.std.proofs.lemmas.Result.{err_from_is_err_and}
 use Rattle.std.specs.String.{string_bytes}
+use Rattle.match_calls.proofs.Answering.{otherwise_over, unwired_over, wired_over}
 use Rattle.match_calls.proofs.TellingOver.{all_stop, deck_stops, output_stops_over, panels_stop}
+use Rattle.match_calls.specs.Decked.{alike, otherwise, unmatched}
 use Rattle.match_calls.specs.Panels.{of_deck}
 use Rattle.program_io.proofs.Refusing.{read_is_known}
 use Rattle.match_calls.proofs.over_decks.print_deck_match.Goals as goal
@@ -35,3 +37,52 @@ returns-in_err-put-clause-stopped g c =
     let exit = err_from_is_err_and c.from_residual-in_err-put.result c.from_residual-in_err-put.ensures.1 in
     rw exit.1 (output_stops_over c.args.chart.now c.args.wiring.now (g.R.Read.remaining c.args.deck) _ _ _ _ c.in_err-put.field-0.0 exit.0
     c.in_err-put.ensures.told exit.2)
+
+pub returns-in-Wired-clause-printed : goal.returns-in-Wired-clause-printed
+returns-in-Wired-clause-printed g c = record {
+  compiled = c.in_ok-panels.panels.compiled;
+  setup = c.in_ok-panels.panels.setup;
+  panels = c.in_ok-panels.ensures.are;
+  text = string_bytes c.in_ok-answer.answer.text;
+  right = wired_over c.as_slice.result.now c.in_ok-panels.panels.compiled c.in_ok-panels.panels.setup c.in_ok-answer.answer.outcome
+      (string_bytes c.in_ok-answer.answer.text) c.in_ok-answer.ensures.answer c.in-Wired.is;
+  written = rw (← c.as_bytes.ensures.value) c.in_ok-put.ensures.written;
+}
+
+pub returns-in-Unwired-clause-stopped : goal.returns-in-Unwired-clause-stopped
+returns-in-Unwired-clause-stopped g c =
+    unmatched refl
+    (record {
+      read = c.as_slice.result.now;
+      is_deck = read_is_known (g.R.Read.remaining c.args.deck) c.as_slice.result.now c.in_ok-bytes.bytes.items c.as_slice.ensures.value
+          c.in_ok-bytes.ensures.whole;
+      leaves = alike c.in-Unwired.counts refl
+          (record {
+            compiled = c.in_ok-panels.panels.compiled;
+            setup = c.in_ok-panels.panels.setup;
+            panels = c.in_ok-panels.ensures.are;
+            text = string_bytes c.in_ok-answer.answer.text;
+            right = unwired_over c.as_slice.result.now c.in_ok-panels.panels.compiled c.in_ok-panels.panels.setup c.in_ok-answer.answer.outcome
+                (string_bytes c.in_ok-answer.answer.text) c.in_ok-answer.ensures.answer c.in-Unwired.counts c.in-Unwired.is;
+            written = rw (← c.as_bytes.ensures.value) c.in_ok-put.ensures.written;
+          });
+    })
+
+pub returns-clause-stopped : goal.returns-clause-stopped
+returns-clause-stopped g c =
+    unmatched refl
+    (record {
+      read = c.as_slice.result.now;
+      is_deck = read_is_known (g.R.Read.remaining c.args.deck) c.as_slice.result.now c.in_ok-bytes.bytes.items c.as_slice.ensures.value
+          c.in_ok-bytes.ensures.whole;
+      leaves = otherwise c.in-PrintsOtherwise.place refl
+          (record {
+            compiled = c.in_ok-panels.panels.compiled;
+            setup = c.in_ok-panels.panels.setup;
+            panels = c.in_ok-panels.ensures.are;
+            text = string_bytes c.in_ok-answer.answer.text;
+            right = otherwise_over c.as_slice.result.now c.in_ok-panels.panels.compiled c.in_ok-panels.panels.setup c.in_ok-answer.answer.outcome
+                (string_bytes c.in_ok-answer.answer.text) c.in_ok-answer.ensures.answer c.in-PrintsOtherwise.place c.in-PrintsOtherwise.is;
+            written = rw (← c.as_bytes.ensures.value) c.in_ok-put.ensures.written;
+          });
+    })
