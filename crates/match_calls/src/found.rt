@@ -14,7 +14,7 @@ use wire_chart::Version;
 /// What is found of a compiled chart and a panel.
 #[derive(Drop)]
 pub(crate) struct Found {
-    /// How much is missing and too much, where the panel is not wired for the chart by any plan of it.
+    /// How much is missing and too much, where the panel is wired for the chart by no plan that is read off it.
     pub(crate) counts: Option<Counts>,
     /// What is printed: the plan, and what is missing and too much.
     pub(crate) text: String,

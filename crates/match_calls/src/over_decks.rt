@@ -86,7 +86,7 @@ fn deck_answer<'a>(alloc: Global, panels: &Panels, deck: &[u8]) -> Result<Answer
 /// # Errors
 ///
 /// The fault of the planning chart, else that of the wiring chart, else that the deck can't be read, else the fault of its text, and nothing
-/// is printed; else, where the panel is wired for the chart by no plan of it, `PrintsOtherwise` with the place of the first line that
+/// is printed; else, where no plan is found by which the panel is wired for the chart, `PrintsOtherwise` with the place of the first line that
 /// differs, or `Unwired` where none does. `Memory` where a growth was refused and `Write` where the output can't be written, and then a
 /// part may have been printed.
 pub fn print_deck_match<'a, R: Read + Drop, W: Write>(

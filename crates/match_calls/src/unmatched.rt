@@ -15,7 +15,7 @@ use std::io::Write;
 pub enum Unmatched<'a> {
     /// A text is refused, the deck can't be read, the output can't be written, or memory ran out.
     Failed { fault: Fault<'a> },
-    /// The panel is wired for the chart by no plan of it; so much is missing and too much.
+    /// No plan is found by which the panel is wired for the chart; so much is missing and too much.
     Unwired { counts: Counts },
     /// Besides, the panel prints a deck otherwise than the chart's own, first at this place.
     PrintsOtherwise { place: Place },
