@@ -456,7 +456,7 @@ pub(crate) fn match_entry(number: u8) -> FaultEntry
         94 => FaultEntry {
             number: 94,
             name: "Unwired",
-            cause: "the panel is wired for the chart by no plan of it: A wires, jacks and stops are missing and B are too much, by the plan that is printed; another form counts once as missing and once as too much",
+            cause: "no plan is found by which the panel is wired for the chart: A wires, jacks and stops are missing and B are too much, by the plan that is printed; another form counts once as missing and once as too much",
             cure: "wire what stands under missing, by the line of the chart that asks for it, and take out what stands under too much. Where all wires of a part seem wrong, look which group the first wires of that part name: the plan is read off them",
             example: "run407 match my.chart my.wiring where the wiring chart lacks a wire",
         },

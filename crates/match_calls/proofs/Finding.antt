@@ -1,5 +1,5 @@
 -- What is found of panels, by what was found of a setup.
-use Rattle.std.proofs.Common.{◌≡◌, List, ℕ, Option, Some, None, ◌++◌, codes, subst}
+use Rattle.std.proofs.Common.{◌≡◌, List, ℕ, Option, Some, None, subst}
 use Rattle.compile407.specs.Compilation.{Compilation}
 use Rattle.match_calls.specs.Found.{IsUnwiredText, IsWiredText}
 use Rattle.match_calls.specs.Helper.{IsFoundText, TellsCounts}

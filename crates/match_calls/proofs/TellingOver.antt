@@ -1,5 +1,5 @@
 -- Why the command with a deck doesn't end well, and which line is told by the status of what stopped it.
-use Rattle.std.proofs.Common.{◌≡◌, ◌≢◌, ◌∙◌, ◌⊎◌, inl, inr, ap, arith, sym, subst, ◌≤◌, ℕ, Bool, List, [], Option, Some, IfSome, unwrap_or}
+use Rattle.std.proofs.Common.{◌≡◌, ◌≢◌, ◌∙◌, ◌⊎◌, inl, inr, ap, arith, subst, ◌≤◌, ℕ, Bool, List, [], Option, IfSome, unwrap_or}
 use Rattle.faults.proofs.Statuses.{memory_or_not}
 use Rattle.faults.specs.Lines.{IsTold}
 use Rattle.faults.specs.Status.{status_of}

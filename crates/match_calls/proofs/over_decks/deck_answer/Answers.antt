@@ -1,4 +1,3 @@
-use Rattle.std.proofs.lemmas.Result.{err_from_is_err_and}
 use Rattle.std.specs.String.{string_bytes}
 use Rattle.match_calls.proofs.Answering.{answered_over, memory_refuses_deck}
 use Rattle.match_calls.proofs.over_decks.deck_answer.Goals as goal
