@@ -95,6 +95,7 @@ fn write_zero_control(
     words.push_str(if is_symbol { "SYMBOL" } else { "SUPPRESS" })?;
     words.push_str(" wheel")?;
     match told.significance {
+        _ if is_nothing(told) => words.push_str(" that received nothing: it is blank"),
         Significance::Uncontrolled => words.push_str("; heading cycles have none: it prints"),
         _ if !is_symbol && !is_zero(told) => words.push_str(" that received no zero: it prints"),
         Significance::From(from) => {
@@ -113,6 +114,18 @@ fn write_zero_control(
         }),
     }?;
     words.push_str("\n")
+}
+
+// Whether no row was received.
+fn is_nothing(told: &Explanation) -> bool
+    requires { 12 ≤ length told.now.rows.items }
+{
+    for place in 0..12 {
+        if told.rows[place].is_some() {
+            return false;
+        }
+    }
+    true
 }
 
 // Whether row 0 and no other was received.
