@@ -14,6 +14,7 @@ mod counters;
 mod groups;
 mod parts;
 mod plan;
+mod splits;
 mod stand_ins;
 mod text_units;
 
