@@ -26,12 +26,23 @@ fn digit_wheel(wheel: u16, digits: u32, decimals: u16, position: u32) -> u32
 fn wheel_at(wheel: u16, field: Field, column: Option<u16>) -> Option<u32>
     ensures { result ≡ wheel_at wheel field column }
 {
-    let column = column?;
-    if field.first <= column && column <= field.last {
-        let position = u32::from(field.last) + 1 - u32::from(column);
-        Some(digit_wheel(wheel, field.columns(), field.kind.decimals(), position))
-    } else {
-        None
+    let Field {
+        first,
+        last,
+        kind,
+        ..
+    } = field;
+    match column {
+        Some(column) => {
+            if first <= column && column <= last {
+                let digits = (u32::from(last) + 1).saturating_sub(u32::from(first));
+                let position = u32::from(last) + 1 - u32::from(column);
+                Some(digit_wheel(wheel, digits, kind.decimals(), position))
+            } else {
+                None
+            }
+        }
+        None => None,
     }
 }
 
@@ -40,7 +51,9 @@ fn sign_wheel(wheel: u16, field: Option<Field>) -> Option<u32>
     ensures { result ≡ sign_wheel wheel field }
 {
     let field = field?;
-    wheel_at(wheel, field, field.kind.sign_column())
+    let kind = field.kind;
+    let column = kind.sign_column();
+    wheel_at(wheel, field, column)
 }
 
 // The wheel of the sign digit of the amount that a line puts on the line of a card, if its sign column is one of its own.
