@@ -9,7 +9,7 @@ loop-place-init c = λ p less. absurd (omega (arith, less))
 pub loop-place-preserved : goal.loop-place-preserved
 loop-place-preserved c =
     none-more {P = λ p. ¬ ShowsDigit c.args.setup.now c.args.wheel (p + 1)} c.loop-place.invariant
-    (λ shows. true≢false (sym (c.if-shows_text.ensures.1 shows)))
+    (λ shows. true≢false (sym (c.if-shows_digit.ensures.1 shows)))
 
 pub returns-clause-none : goal.returns-clause-none
 returns-clause-none c =
