@@ -8,7 +8,7 @@ use Rattle.match_texts.specs.declared.counts.Counts.{Counts}
 use Rattle.matching.specs.Answers.{IsMatched, IsMatchingOf}
 use Rattle.matching.specs.declared.answer.Matching.{Matching}
 use Rattle.matching.specs.declared.answer.Matching.TheVariants.{Differs, Matched}
-use Rattle.panel_plans.specs.Wired.{IsWiredBy, TakesOthersInOrder}
+use Rattle.panel_plans.specs.Wired.{IsWiredBy}
 use Rattle.plans.specs.Plans.{Lists}
 use Rattle.promises.specs.Promises.{BeginsReport, PrintsReport}
 use Rattle.setups.specs.Wiring.{Wiring}
@@ -16,7 +16,7 @@ use Rattle.wire_chart.specs.Below.wiring_text.declared.statement.Version.TheVari
 
 pub found_text : (compiled : Compilation) (setup : Wiring) (matching : Matching) (counts : Option Counts) (text : List ℕ)
     → IsMatchingOf compiled.chart.lines setup matching
-    → ((its : Lists) → IsWiredBy compiled.chart.lines setup its → TakesOthersInOrder compiled.chart.lines its → IsMatched matching)
+    → ((its : Lists) → IsWiredBy compiled.chart.lines setup its → IsMatched matching)
     → (IsMatched matching → PrintsReport compiled.chart setup) → (IsMatched matching → BeginsReport compiled.chart setup)
     → TellsCounts matching counts → IsMatchText First compiled.chart.lines setup matching text → IsFoundText compiled setup counts text
 found_text compiled setup (Matched plan) None text told found prints begins counted spelled =
@@ -25,7 +25,7 @@ found_text compiled setup (Matched plan) (Some counts) text told found prints be
 found_text compiled setup (Differs plan missing extra) None text told found prints begins counted spelled = absurd counted
 found_text compiled setup (Differs plan missing extra) (Some counts) text told found prints begins counted spelled =
     record {
-      unwired = λ its in_order wired. found its wired in_order;
+      unwired = found;
       plan = plan;
       missing = missing;
       extra = extra;

@@ -8,7 +8,7 @@ use Rattle.match_texts.specs.MatchText.{TellsDifference}
 use Rattle.match_texts.specs.PlanText.{plan_text}
 use Rattle.match_texts.specs.declared.counts.Counts.{Counts}
 use Rattle.matching.specs.Answers.{DiffersBy}
-use Rattle.panel_plans.specs.Wired.{IsWiredBy, TakesOthersInOrder}
+use Rattle.panel_plans.specs.Wired.{IsWiredBy}
 use Rattle.plans.specs.Plans.{Lists}
 use Rattle.promises.specs.Promises.{BeginsReport, PrintsReport}
 use Rattle.setups.specs.Wiring.{Wiring}
@@ -23,10 +23,10 @@ pub record IsWiredText (compiled : Compilation) (setup : Wiring) (text : List �
   pub begins : BeginsReport compiled.chart setup
   pub spelled : text ≡ codes "ok\n" ++ plan_text compiled.chart.lines plan
 
--- The panel is wired for the chart by no plan that takes in order what isn't read off a panel. By the plan that is told these are what is missing and what is too much, and so much is
+-- The panel is wired for the chart by no plan. By the plan that is told these are what is missing and what is too much, and so much is
 -- counted of both.
 pub record IsUnwiredText (counts : Counts) (compiled : Compilation) (setup : Wiring) (text : List ℕ) : Type 0 where
-  pub unwired : (plan : Lists) → TakesOthersInOrder compiled.chart.lines plan → ¬ IsWiredBy compiled.chart.lines setup plan
+  pub unwired : (plan : Lists) → ¬ IsWiredBy compiled.chart.lines setup plan
   pub plan : Lists
   pub missing : Wiring
   pub extra : Wiring

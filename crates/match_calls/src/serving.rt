@@ -42,9 +42,7 @@ pub fn print_match<'a, W: Write>(
 }
 
 /// Matches a panel with a planning chart: prints whether it is wired for the chart, and by which plan, or else what is missing and too
-/// much; and tells on one line of `faults` why it doesn't match. A plan is found wherever there is one that takes in order what isn't read
-/// off a panel: column splits and indicate positions, the pilots where two amounts share a sign column, and the comparing positions where
-/// a column is compared twice.
+/// much; and tells on one line of `faults` why it doesn't match. A plan is found wherever there is one.
 ///
 /// Where the panel is wired for the chart, the machine prints the chart's report of every deck that can be run, and not only of those that
 /// were tried. The statuses are 0 where it is, and then nothing is told; 3 where it is not, and `fault 94 missing A extra B` is told, or

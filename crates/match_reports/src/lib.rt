@@ -6,7 +6,7 @@
 
 ghost use Rattle.std.specs.Prelude.{IfOk};
 ghost use Rattle.matching.specs.Answers.{IsMatched, IsMatchingOf};
-ghost use Rattle.panel_plans.specs.Wired.{IsWiredBy, TakesOthersInOrder};
+ghost use Rattle.panel_plans.specs.Wired.{IsWiredBy};
 ghost use Rattle.plans.specs.Plans.{Lists};
 ghost use Rattle.promises.specs.Promises.{BeginsReport, PrintsReport};
 
@@ -19,17 +19,15 @@ use std::alloc::{AllocError, Global};
 /// What is found of a setup beside a compiled chart. Where it is `Matched`, the setup is wired for the chart by the plan that is told: then
 /// for every deck of at most 999,999 valid cards whose totals fit the pages that the machine prints are byte by byte the chart's report, and
 /// for any other deck of valid cards what it prints before the first card at which a total doesn't fit is the report up to there. Where
-/// there is a plan of the chart by which the setup is wired for it and which takes in order what `panel_plans` doesn't read, it is
-/// `Matched`. Where it `Differs`, exactly what is missing and what is
-/// too much by the plan that is told is told too. Its only refusal is memory.
+/// the setup is wired for the chart by some plan of it, it is `Matched`. Where it `Differs`, exactly what is missing and what is too much by
+/// the plan that is told is told too. Its only refusal is memory.
 pub fn match_compiled(
     alloc: Global,
     compiled: &Compiled,
     setup: &Setup,
 ) -> Result<Matching, AllocError>
     ensures told { IfOk result (IsMatchingOf compiled.now.chart.lines setup.now) }
-    ensures found { IfOk result (λ matching. (its : Lists) → IsWiredBy compiled.now.chart.lines setup.now its → TakesOthersInOrder compiled.now.chart.lines its
-        → IsMatched matching) }
+    ensures found { IfOk result (λ matching. (its : Lists) → IsWiredBy compiled.now.chart.lines setup.now its → IsMatched matching) }
     ensures prints { IfOk result (λ matching. IsMatched matching → PrintsReport compiled.now.chart setup.now) }
     ensures begins { IfOk result (λ matching. IsMatched matching → BeginsReport compiled.now.chart setup.now) }
 {

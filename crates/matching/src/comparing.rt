@@ -2,7 +2,7 @@
 
 ghost use Rattle.std.specs.Prelude.{IfOk};
 ghost use Rattle.matching.specs.Answers.{IsMatched, IsMatchingOf};
-ghost use Rattle.panel_plans.specs.Wired.{IsWiredBy, TakesOthersInOrder};
+ghost use Rattle.panel_plans.specs.Wired.{IsWiredBy};
 ghost use Rattle.plans.specs.Plans.{IsFor, Lists};
 
 use crate::answer::Matching;
@@ -15,8 +15,8 @@ use std::alloc::{AllocError, Global};
 use wire_gen::wire;
 
 /// What is found of a setup beside a chart, of which a plan is given. `Matched` tells a plan of the chart by which the setup is wired for
-/// it, and where there is such a plan that takes in order what isn't read, it is found. `Differs` tells a plan by which the setup is not
-/// wired for the chart, and exactly what is missing and what is too much by this plan. Its only refusal is memory.
+/// it, and where there is such a plan, one is found. `Differs` tells a plan by which the setup is not wired for the chart, and exactly what
+/// is missing and what is too much by this plan. Its only refusal is memory.
 pub fn match_setup(
     alloc: Global,
     chart: &Chart,
@@ -25,8 +25,7 @@ pub fn match_setup(
 ) -> Result<Matching, AllocError>
     requires { IsFor chart.now.lines own.now }
     ensures told { IfOk result (IsMatchingOf chart.now.lines setup.now) }
-    ensures found { IfOk result (λ matching. (its : Lists) → IsWiredBy chart.now.lines setup.now its → TakesOthersInOrder chart.now.lines its
-        → IsMatched matching) }
+    ensures found { IfOk result (λ matching. (its : Lists) → IsWiredBy chart.now.lines setup.now its → IsMatched matching) }
 {
     let plan = read_plan(alloc, chart, own, setup)?;
     let wanted = wire(alloc, chart, &plan)?;

@@ -1,16 +1,24 @@
 -- Lists in which nothing stands twice: what stands at a place is found there first, so that the numbers that serve the list are those of
 -- what it has, one after the other.
-use Rattle.std.proofs.Common.{◌≡◌, ◌∙◌, refl, sym, ap, subst, ℕ, zero, suc, ◌+◌, ◌<◌, ◌≤◌, ◌⊎◌, inl, inr, Bool, true, false, cond, List, [], ◌∷◌, Contains, Option, Some, None, length, map, filter, drop, get_or, slice_get, position, filter_map, arith}
-use Rattle.std.specs.List.{cons_option}
+use Rattle.std.proofs.Common.{◌≡◌, ◌∙◌, refl, sym, ap, subst, ℕ, zero, suc, ◌+◌, ◌<◌, ◌≤◌, ◌⊎◌, inl, inr, Bool, true, false, cond, List, [], ◌∷◌, ◌++◌, flat_map, Contains, Option, Some, None, length, map, filter, drop, get_or, slice_get, position, filter_map, arith}
+use Rattle.std.specs.List.{cons_option, range_with_len}
 use Rattle.std.specs.Option.{option_and_then}
 use Rattle.std.proofs.Math.Seq.{drop-cons}
 use Rattle.std.proofs.lemmas.List.{drop_all}
+use Rattle.std.proofs.lemmas.List.Elements.{Contains-append_cases}
+use Rattle.std.proofs.lemmas.List.FromFn.{get_or-range_with_len, length-range_with_len}
 use Rattle.std.proofs.lemmas.Option.{get_or_from_slice_get, slice_get-get_or, slice_get_within}
 use Rattle.charts.specs.Chart.{NumbersRise}
+use Rattle.charts.specs.Field.{columns_of}
 use Rattle.charts.specs.declared.chart.Line.{Line}
+use Rattle.charts.specs.declared.statement.Field.{Field}
 use Rattle.charts.proofs.Listed.{listed-after, listed-at, listed-cases, listed-first, listed-none, position-passing, position-stands}
 use Rattle.charts.proofs.Rising.{NumbersRise-tail, number-above}
+use Rattle.panel_plans.proofs.Zipped.{map-listed, parts-listed}
 use Rattle.plans.specs.PartNumbers.{number_for}
+use Rattle.wanted.specs.Positions.{positions_for}
+use Rattle.wanted.specs.declared.position.Position.{Position}
+use Rattle.wiring_table.specs.Parts.{column_on}
 
 -- each thing of a list has one place
 abbrev pub HasOwnPlaces : {X : Type 0} → List X → Type 0
@@ -123,3 +131,55 @@ apart-lines test (line ∷ rest) end rise = by (test line) (apart-lines test res
           omega (arith, less, found.is),
       below,
     )
+
+-- nothing stands twice in two lists that have nothing in common
+apart-append : {X : Type 0} (xs ys : List X) → AllApart xs → AllApart ys → ((x : X) → Contains xs x → Contains ys x → ⊥) → AllApart (xs ++ ys)
+apart-append [] ys one other none = other
+apart-append (x ∷ xs) ys one other none = (
+  λ there. elim (Contains-append_cases xs ys x there) [
+    | inl before ↦ one.0 before
+    | inr behind ↦ none x (listed-first x xs) behind
+  ],
+  apart-append xs ys one.1 other (λ each here there. none each (listed-after x xs here) there),
+)
+
+-- the columns of a field stand once on a line, and what stands on a line has its number
+apart-range : (number first many : ℕ) → AllApart (map (column_on number) (range_with_len first many))
+apart-range number first zero = tt
+apart-range number first (suc many) = (
+  λ there.
+      let (column, ranged, is) = map-listed (column_on number) (range_with_len (first + 1) many) (column_on number first) there in
+      let less = length-range_with_len (first + 1) many in
+      let within = ranged.1 in
+      let value = get_or-range_with_len (first + 1) many ranged.0 column (omega (arith, less, within)) in
+      let its = ranged.2 in
+      let same : column ≡ first = ap (λ (p : Position). p.column) is in
+      omega (arith, value, its, same),
+  apart-range number (first + 1) many,
+)
+
+pub positions-line : (number : ℕ) (field : Option Field) (at : Position) → Contains (positions_for number field) at → at.line ≡ number
+unfolding positions_for
+positions-line number None at there = absurd (listed-none at there)
+positions-line number (Some field) at there =
+    let (column, ranged, is) = map-listed (column_on number) (range_with_len field.first (columns_of field)) at there in
+    sym (ap (λ (p : Position). p.line) is)
+
+-- so each column of a line has one place
+pub positions-apart : (used : Line → Option Field) (lines : List Line) (end : ℕ) → NumbersRise lines end
+    → AllApart (flat_map (λ (line : Line). positions_for line.number (used line)) lines)
+unfolding positions_for
+positions-apart used [] end rise = tt
+positions-apart used (line ∷ rest) end rise =
+    apart-append (positions_for line.number (used line)) (flat_map (λ (each : Line). positions_for each.number (used each)) rest)
+    (own (used line)) (positions-apart used rest end (NumbersRise-tail line rest end rise))
+    (λ at here there.
+    let (other, listed, its) = parts-listed (λ (each : Line). positions_for each.number (used each)) rest at there in
+    let one = positions-line line.number (used line) at here in
+    let two = positions-line other.number (used other) at its in
+    let less = number-above line rest end other rise listed in
+    omega (arith, one, two, less))
+  where
+    own : (field : Option Field) → AllApart (positions_for line.number field)
+    own None = tt
+    own (Some field) = apart-range line.number field.first (columns_of field)

@@ -6,7 +6,15 @@ mod Unique
 mod Whole
 mod Found
 mod Steps
+mod Zipped
 mod Apart
 mod Texts
 mod Planned
-mod Columns
+mod Told
+mod Exchange
+mod Rewired
+mod Comparing
+mod Lowest
+mod OwnNames
+mod PilotsTold
+mod WheelParts

@@ -1,12 +1,13 @@
 -- Plans of a chart that take parts in order.
-use Rattle.std.proofs.Common.{◌≡◌, ◌∙◌, ◌⊎◌, inl, inr, sym, ap, List}
+use Rattle.std.proofs.Common.{◌≡◌, ◌∙◌, sym, ap, subst, List}
 use Rattle.charts.specs.declared.chart.Line.{Line}
 use Rattle.plans.proofs.Numbers.{in-order}
-use Rattle.panel_plans.specs.Columns.{HaveOwnColumns, HaveOwnSigns}
-use Rattle.panel_plans.specs.Wired.{TakesOthersInOrder}
-use Rattle.plans.specs.PartNumbers.{PartNumbers, first_numbers, in_order, renumbered}
+use Rattle.panel_plans.specs.Renumbered.{TakesShown, with_numbers}
+use Rattle.panel_plans.specs.Wired.{IsWiredBy}
+use Rattle.plans.specs.PartNumbers.{PartNumbers, in_order, renumbered}
 use Rattle.plans.specs.declared.part_numbers.PartKind.TheVariants as kind
-use Rattle.wanted.specs.Wanted.{Parts}
+use Rattle.charts.specs.declared.level.ControlLevel.TheVariants as control
+use Rattle.setups.specs.Wiring.{Wiring}
 use Rattle.plans.specs.Plans.{IsFor, IsWithinMachine, Lists}
 
 -- a plan of a chart with the counters of another, and the other parts in order
@@ -26,43 +27,48 @@ planned-again lines own plan planned within counters parts numbers = record {
   major = planned.major;
 }
 
--- the numbers of the pilots and the comparing positions that are not read
-pub ordered-pilots : (lines : List Line) (its : Lists) (parts : Parts) (numbers : PartNumbers) → TakesOthersInOrder lines its
-    → its.parts ≡ parts → numbers.pilots ≡ first_numbers parts.pilots → HaveOwnSigns lines ⊎ (numbers.pilots ≡ its.numbers.pilots)
-ordered-pilots lines its parts numbers ordered same first = by ordered.pilots
-  where
-    by : HaveOwnSigns lines ⊎ (its.numbers.pilots ≡ first_numbers its.parts.pilots)
-        → HaveOwnSigns lines ⊎ (numbers.pilots ≡ its.numbers.pilots)
-    by (inl own) = inl own
-    by (inr all) = inr (first ∙ ap (λ (p : Parts). first_numbers p.pilots) (sym same) ∙ sym all)
+-- numbers of which each kind is shown, one after the other
+module _ {lines : List Line} {setup : Wiring} {none units splits minor intermediate major positions all : PartNumbers} where
+  pub all-shown : ((its : Lists) → IsWiredBy lines setup its → TakesShown lines setup kind.Storage none units)
+      → ((its : Lists) → IsWiredBy lines setup its → TakesShown lines setup kind.Split units splits)
+      → ((its : Lists) → IsWiredBy lines setup its → TakesShown lines setup (kind.Indicate control.Minor) splits minor)
+      → ((its : Lists) → IsWiredBy lines setup its → TakesShown lines setup (kind.Indicate control.Intermediate) minor intermediate)
+      → ((its : Lists) → IsWiredBy lines setup its → TakesShown lines setup (kind.Indicate control.Major) intermediate major)
+      → ((its : Lists) → IsWiredBy lines setup its → TakesShown lines setup kind.Comparing major positions)
+      → ((its : Lists) → IsWiredBy lines setup its → TakesShown lines setup kind.Pilot positions all)
+      → (its : Lists) → IsWiredBy lines setup its → IsWiredBy lines setup (with_numbers its all)
+  all-shown u s m i j p l its wired =
+      let first = u its wired in
+      let second = s its wired in
+      let third = m its wired in
+      let fourth = i its wired in
+      let fifth = j its wired in
+      let sixth = p its wired in
+      let last = l its wired in
+      let same : all
+      ≡ record {
+        pilots = last.numbers;
+        comparing = sixth.numbers;
+        storage = first.numbers;
+        splits = second.numbers;
+        minor = third.numbers;
+        intermediate = fourth.numbers;
+        major = fifth.numbers;
+      }
+      =
+      last.is_new
+      ∙ ap (λ n. renumbered n kind.Pilot last.numbers) (sixth.is_new
+      ∙ ap (λ n. renumbered n kind.Comparing sixth.numbers) (fifth.is_new
+      ∙ ap (λ n. renumbered n (kind.Indicate control.Major) fifth.numbers) (fourth.is_new
+      ∙ ap (λ n. renumbered n (kind.Indicate control.Intermediate) fourth.numbers) (third.is_new
+      ∙ ap (λ n. renumbered n (kind.Indicate control.Minor) third.numbers) (second.is_new
+      ∙ ap (λ n. renumbered n kind.Split second.numbers) first.is_new))))) in
+      subst (λ n. IsWiredBy lines setup (with_numbers its n)) (sym same)
+      (last.are _ (sixth.are _ (fifth.are _ (fourth.are _ (third.are _ (second.are _ (first.are its wired)))))))
 
-pub ordered-columns : (lines : List Line) (its : Lists) (parts : Parts) (numbers : PartNumbers) → TakesOthersInOrder lines its
-    → its.parts ≡ parts → numbers.comparing ≡ first_numbers parts.comparing
-    → HaveOwnColumns lines ⊎ (numbers.comparing ≡ its.numbers.comparing)
-ordered-columns lines its parts numbers ordered same first = by ordered.comparing
-  where
-    by : HaveOwnColumns lines ⊎ (its.numbers.comparing ≡ first_numbers its.parts.comparing)
-        → HaveOwnColumns lines ⊎ (numbers.comparing ≡ its.numbers.comparing)
-    by (inl own) = inl own
-    by (inr all) = inr (first ∙ ap (λ (p : Parts). first_numbers p.comparing) (sym same) ∙ sym all)
-
--- what is told with the pilots, the comparing positions and the storage units of a plan that takes the others in order is told of all
-pub others-in-order : (lines : List Line) (its : Lists) (parts : Parts) → TakesOthersInOrder lines its → its.parts ≡ parts
-    → renumbered
-    (renumbered (renumbered (in_order parts) kind.Pilot its.numbers.pilots) kind.Comparing its.numbers.comparing)
-    kind.Storage its.numbers.storage
-    ≡ its.numbers
-others-in-order lines its parts ordered same =
-    let splits = ap (λ (p : Parts). first_numbers p.splits) (sym same) ∙ sym ordered.splits in
-    let minor = ap (λ (p : Parts). first_numbers p.minor) (sym same) ∙ sym ordered.minor in
-    let intermediate = ap (λ (p : Parts). first_numbers p.intermediate) (sym same) ∙ sym ordered.intermediate in
-    let major = ap (λ (p : Parts). first_numbers p.major) (sym same) ∙ sym ordered.major in
-    λ i. record {
-      pilots = its.numbers.pilots;
-      comparing = its.numbers.comparing;
-      storage = its.numbers.storage;
-      splits = splits i;
-      minor = minor i;
-      intermediate = intermediate i;
-      major = major i;
-    }
+-- a plan with the counters and the parts of one by which a setup is wired, and with numbers that go with these
+pub plan-wired : (lines : List Line) (setup : Wiring) (its plan : Lists) → IsWiredBy lines setup its → plan.counters ≡ its.counters
+    → plan.parts ≡ its.parts → IsWiredBy lines setup (with_numbers its plan.numbers) → IsWiredBy lines setup plan
+plan-wired lines setup its plan wired counters parts shown =
+    let same : with_numbers its plan.numbers ≡ plan = λ i. record { counters = sym counters i; parts = sym parts i; numbers = plan.numbers } in
+    subst (IsWiredBy lines setup) same shown

@@ -64,3 +64,9 @@ pub none-numbered : (P : ℕ → Type 0) {bound last : ℕ} → last ≤ bound �
 none-numbered P {bound} {last} all none n from to holds =
     let same : n ≡ (n - 1) + 1 = omega (arith, from) in
     none (n - 1) (omega (arith, from, to, all)) (subst P same holds)
+
+-- what holds of each place holds of each number of a part
+pub each-numbered : (P : ℕ → Type 0) {bound last : ℕ} → last ≤ bound → ((p : ℕ) → p < bound → P (p + 1)) → (n : ℕ) → 1 ≤ n → n ≤ last → P n
+each-numbered P {bound} {last} all each n from to =
+    let same : n ≡ (n - 1) + 1 = omega (arith, from) in
+    subst P (sym same) (each (n - 1) (omega (arith, from, to, all)))

@@ -1,13 +1,11 @@
 -- A setup that is wired for a chart by a plan of it, and the counters of a plan line by line.
-use Rattle.std.specs.Prelude.{◌≡◌, ◌⊎◌, ℕ, List, Contains, Option, Some, None}
+use Rattle.std.specs.Prelude.{◌≡◌, ℕ, List, Option, Some, None}
 use Rattle.charts.specs.Field.{decimals_of}
 use Rattle.charts.specs.declared.chart.Line.{Line}
 use Rattle.charts.specs.declared.level.Level.{Level}
 use Rattle.charts.specs.declared.statement.Field.{Field}
 use Rattle.charts.specs.declared.statement.Mark.{Mark}
 use Rattle.charts.specs.declared.statement.Statement.TheVariants as says
-use Rattle.panel_plans.specs.Columns.{HaveOwnColumns, HaveOwnSigns}
-use Rattle.plans.specs.PartNumbers.{first_numbers}
 use Rattle.plans.specs.Plans.{IsFor, Lists}
 use Rattle.plans.specs.declared.counter.TotalCounter.{TotalCounter}
 use Rattle.setups.specs.Wiring.{Wiring}
@@ -21,17 +19,6 @@ use Rattle.wiring_table.specs.WiredFor.{WiredFor}
 pub record IsWiredBy (lines : List Line) (setup : Wiring) (plan : Lists) : Type 0 where
   pub planned : IsFor lines plan
   pub wired : WiredFor lines plan setup
-
--- A plan of a chart takes in order what the wires don't tell apart: of the pilots, the comparing positions, the splits and the indicate
--- positions the parts 1, 2 and so on, but for the pilots where no two amounts have one sign column, and for the comparing positions where
--- no column is compared twice. Its counters and its storage units may be any.
-pub record TakesOthersInOrder (lines : List Line) (plan : Lists) : Type 0 where
-  pub pilots : HaveOwnSigns lines ⊎ (plan.numbers.pilots ≡ first_numbers plan.parts.pilots)
-  pub comparing : HaveOwnColumns lines ⊎ (plan.numbers.comparing ≡ first_numbers plan.parts.comparing)
-  pub splits : plan.numbers.splits ≡ first_numbers plan.parts.splits
-  pub minor : plan.numbers.minor ≡ first_numbers plan.parts.minor
-  pub intermediate : plan.numbers.intermediate ≡ first_numbers plan.parts.intermediate
-  pub major : plan.numbers.major ≡ first_numbers plan.parts.major
 
 -- a line of a chart is a total of an amount
 pub record TotalOn (lines : List Line) (line : Line) : Type 0 where

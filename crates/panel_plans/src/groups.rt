@@ -34,8 +34,8 @@ pub(crate) fn group_at(place: u8) -> CounterGroup
     }
 }
 
-// A counter group of a plan as a group of the panel.
-fn panel_group(group: CounterGroup) -> Group
+/// A counter group of a plan as a group of the panel.
+pub(crate) fn panel_group(group: CounterGroup) -> Group
     ensures { result ≡ panel_group group }
 {
     Group {

@@ -1,7 +1,8 @@
 //! The plan that a setup shows.
 
 ghost use Rattle.std.specs.Prelude.{◌≡◌, IfOk, ◌∷◌};
-ghost use Rattle.panel_plans.specs.Wired.{IsWiredBy, TakesOthersInOrder};
+ghost use Rattle.panel_plans.specs.Renumbered.{with_numbers};
+ghost use Rattle.panel_plans.specs.Wired.{IsWiredBy};
 ghost use Rattle.plans.specs.PartNumbers.{in_order};
 ghost use Rattle.plans.specs.Plans.{IsFor, IsWithinMachine, Lists};
 ghost use Rattle.std.specs.Option.{IsSomeAnd};
@@ -141,8 +142,8 @@ fn shown_plan(
     requires { IsFor chart.now.lines own.now }
     ensures counters { IfOk result (λ plan. plan.counters ≡ counters.items) }
     ensures parts { IfOk result (λ plan. plan.parts ≡ own.now.parts) }
-    ensures numbers { IfOk result (λ plan. (its : Lists) → IsWiredBy chart.now.lines setup.now its → TakesOthersInOrder chart.now.lines its
-        → plan.numbers ≡ its.numbers) }
+    ensures numbers { IfOk result (λ plan. (its : Lists) → IsWiredBy chart.now.lines setup.now its
+        → IsWiredBy chart.now.lines setup.now (with_numbers its plan.numbers)) }
 {
     // What is known of the parts of every plan is told with them.
     let _pilots = own.pilots();
@@ -162,8 +163,8 @@ fn planned(
 ) -> Result<Plan, AllocError>
     requires { IsFor chart.now.lines own.now }
     ensures planned { IfOk result (IsFor chart.now.lines) }
-    ensures kept { IfOk result (λ plan. (its : Lists) → IsWiredBy chart.now.lines setup.now its → TakesOthersInOrder chart.now.lines its
-        → counters.items ≡ its.counters → plan ≡ its) }
+    ensures kept { IfOk result (λ plan. (its : Lists) → IsWiredBy chart.now.lines setup.now its → counters.items ≡ its.counters
+        → IsWiredBy chart.now.lines setup.now plan) }
 {
     let plan = shown_plan(alloc, chart, own, setup, counters)?;
     if plan.is_for(chart) {
@@ -186,10 +187,9 @@ fn near_plan(alloc: Global, chart: &Chart, own: &Plan, setup: &Setup) -> Result<
     }
 }
 
-/// The plan of a chart that the wires of a setup show, of those that take in order what is not read: the splits, the indicate positions,
-/// the pilots where two amounts have one sign column, and the comparing positions where a column is compared twice. Where they show none,
-/// one that is near: what shows no counter of its own has a free one, and where that is no plan of the chart, it has the counters of a
-/// plan of it that is given. Its only refusal is memory.
+/// The plan of a chart that the wires of a setup show: where the setup is wired by some plan, one by which it is. Where they show none, one
+/// that is near: what shows no counter of its own has a free one, and where that is no plan of the chart, it has the counters of a plan of
+/// it that is given. Its only refusal is memory.
 pub fn read_plan(
     alloc: Global,
     chart: &Chart,
@@ -198,7 +198,7 @@ pub fn read_plan(
 ) -> Result<Plan, AllocError>
     requires { IsFor chart.now.lines own.now }
     ensures planned { IfOk result (IsFor chart.now.lines) }
-    ensures found { IfOk result (λ plan. (its : Lists) → IsWiredBy chart.now.lines setup.now its → TakesOthersInOrder chart.now.lines its → plan ≡ its) }
+    ensures found { IfOk result (λ plan. (its : Lists) → IsWiredBy chart.now.lines setup.now its → IsWiredBy chart.now.lines setup.now plan) }
 {
     match shown_counters(alloc, chart, setup)? {
         Some(counters) => planned(alloc, chart, own, setup, counters),

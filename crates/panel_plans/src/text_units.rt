@@ -1,16 +1,15 @@
 //! The storage units that a setup shows.
 
 ghost use Rattle.std.specs.Prelude.{◌≡◌, ◌↔◌, ◌≤◌, ℕ, IsTrue, IfNone, IfOk, IfSome};
-ghost use Rattle.std.specs.Option.{IsSomeAnd};
 ghost use Rattle.panel_plans.specs.Shown.{ShowsText};
 ghost use Rattle.panel_plans.specs.Texts.{text_of};
-ghost use Rattle.panel_plans.specs.Wired.{IsWiredBy};
+ghost use Rattle.panel_plans.specs.Renumbered.{AreShown, IsUnwired};
 ghost use Rattle.plans.specs.PartNumbers.{AreThere};
-ghost use Rattle.plans.specs.Plans.{Lists};
 
 use chart_rules::Chart;
 use charts::Statement;
 use hubs::Hub;
+use plans::PartKind;
 use setups::Setup;
 use std::alloc::{AllocError, Global};
 
@@ -78,8 +77,8 @@ pub(crate) fn shown_units(
     setup: &Setup,
 ) -> Result<Option<Vec<u8>>, AllocError>
     ensures there { IfOk result (λ shown. IfSome shown (λ list. AreThere 4 list.items)) }
-    ensures found { IfOk result (λ shown. (its : Lists) → IsWiredBy chart.now.lines setup.now its
-        → IsSomeAnd shown (λ list. list.items ≡ its.numbers.storage)) }
+    ensures shown { IfOk result (λ found. IfSome found (λ list. AreShown chart.now.lines setup.now PartKind.Storage list.items)) }
+    ensures none { IfOk result (λ found. IfNone found (IsUnwired chart.now.lines setup.now)) }
 {
     let lines = chart.lines();
     let mut units = Vec::new(alloc);

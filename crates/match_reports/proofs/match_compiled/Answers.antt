@@ -2,7 +2,7 @@ use Rattle.std.proofs.Common.{IfOk, subst}
 use Rattle.charts.specs.Chart.{Chart}
 use Rattle.matching.specs.Answers.{IsMatched, IsMatchingOf}
 use Rattle.matching.proofs.Told.{wired-of}
-use Rattle.panel_plans.specs.Wired.{IsWiredBy, TakesOthersInOrder}
+use Rattle.panel_plans.specs.Wired.{IsWiredBy}
 use Rattle.plans.specs.Plans.{Lists}
 use Rattle.match_reports.proofs.Onward.{if-ok}
 use Rattle.match_reports.proofs.match_compiled.Goals as goal
@@ -31,5 +31,5 @@ pub returns-clause-found : goal.returns-clause-found
 returns-clause-found c =
     subst
     (λ (chart : Chart). IfOk c.match_setup.result
-    (λ matching. (its : Lists) → IsWiredBy chart.lines c.args.setup.now its → TakesOthersInOrder chart.lines its → IsMatched matching))
+    (λ matching. (its : Lists) → IsWiredBy chart.lines c.args.setup.now its → IsMatched matching))
     c.chart-chart.ensures.value c.match_setup.ensures.found

@@ -1,7 +1,5 @@
-use Rattle.std.proofs.Common.{refl, subst, sym, true≢false}
+use Rattle.std.proofs.Common.{refl, sym, true≢false}
 use Rattle.matching.proofs.Compared.{extra-is, missing-is, same-wired, wired-same}
-use Rattle.plans.specs.Plans.{Lists}
-use Rattle.wiring_table.specs.WiredFor.{WiredFor}
 use Rattle.matching.proofs.comparing.match_setup.Goals as goal
 
 pub returns-then-is_same-clause-told : goal.returns-then-is_same-clause-told
@@ -23,8 +21,8 @@ returns-clause-told c = record {
 }
 
 pub returns-clause-found : goal.returns-clause-found
-returns-clause-found c = λ its wired ordered.
-    let plan = c.in_ok-plan.ensures.found its wired ordered in
+returns-clause-found c = λ its wired.
+    let shown = c.in_ok-plan.ensures.found its wired in
     true≢false (sym (c.if-is_same.ensures.1
     (same-wired c.args.chart.now.lines c.in_ok-plan.plan c.in_ok-wanted.wanted c.args.setup.now c.in_ok-wanted.ensures
-    (subst (λ (p : Lists). WiredFor c.args.chart.now.lines p c.args.setup.now) (sym plan) wired.wired))))
+    shown.wired)))

@@ -8,6 +8,6 @@ use Rattle.panel_plans.proofs.plan.read_plan.Goals as goal
 pub returns-in-Some-clause-found : goal.returns-in-Some-clause-found
 returns-in-Some-clause-found c =
     if-ok c.planned.result _ _
-    (λ plan kept its wired ordered.
-    kept its wired ordered (subst (λ o. IsSomeAnd o (λ list. list.items ≡ its.counters)) c.in-Some.is (c.in_ok-counters.ensures its wired)))
+    (λ plan kept its wired.
+    kept its wired (subst (λ o. IsSomeAnd o (λ list. list.items ≡ its.counters)) c.in-Some.is (c.in_ok-counters.ensures its wired)))
     c.planned.ensures.kept

@@ -1,5 +1,9 @@
-use Rattle.std.proofs.Common.{◌∙◌}
+use Rattle.std.proofs.Common.{subst, sym}
+use Rattle.panel_plans.specs.Renumbered.{with_numbers}
+use Rattle.panel_plans.specs.Wired.{IsWiredBy}
 use Rattle.panel_plans.proofs.plan.shown_plan.Goals as goal
 
 pub returns-clause-numbers : goal.returns-clause-numbers
-returns-clause-numbers c = λ its wired ordered. c.of-2.ensures.numbers ∙ c.in_ok-numbers.ensures its wired ordered
+returns-clause-numbers c = λ its wired.
+    subst (λ n. IsWiredBy c.args.chart.now.lines c.args.setup.now (with_numbers its n)) (sym c.of-2.ensures.numbers)
+    (c.in_ok-numbers.ensures its wired)

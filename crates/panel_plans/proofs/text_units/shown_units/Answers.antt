@@ -1,10 +1,14 @@
-use Rattle.std.proofs.Common.{Contains, IfSome, List, Some, ◌≤◌, ap, filter_map, subst, sym, ◌++◌, ◌∙◌, ◌≡◌}
+use Rattle.std.proofs.Common.{append-nil, Contains, IfSome, List, Some, ◌≤◌, ap, filter_map, subst, sym, ◌++◌, ◌∙◌, ◌≡◌}
 use Rattle.std.specs.Option.{option_and_then}
+use Rattle.std.proofs.lemmas.List.{drop_all}
 use Rattle.charts.specs.declared.chart.Line.{Line}
 use Rattle.panel_plans.specs.declared.text_units.TextPlace.{TextPlace}
 use Rattle.panel_plans.proofs.Steps.{no-more, one-more, there-more, there-none}
 use Rattle.panel_plans.proofs.Texts.{all-units, unit-found-on, unit-there, unit_on}
+use Rattle.panel_plans.specs.Renumbered.{with_kind}
+use Rattle.panel_plans.specs.Wired.{IsWiredBy}
 use Rattle.plans.specs.PartNumbers.{AreThere}
+use Rattle.plans.specs.declared.part_numbers.PartKind.TheVariants as kind
 use Rattle.wiring_table.specs.Parts.{unit_for}
 use Rattle.panel_plans.proofs.text_units.shown_units.Goals as goal
 use Rattle.panel_plans.proofs.text_units.shown_units.Goals.{in-Some+in-Some-shown_unit+in_ok-push-in-Some-shown_unit, in_default}
@@ -18,8 +22,8 @@ loop-line-init c = (
       ∙ all-units c.args.chart.now c.args.setup.now c.lines-lines.ensures.lawful c.lines-lines.ensures.rising its wired,
 )
 
-pub returns-in-None-clause-found : goal.returns-in-None-clause-found
-returns-in-None-clause-found c = λ its wired.
+pub returns-in-None-clause-none : goal.returns-in-None-clause-none
+returns-in-None-clause-none c = λ its wired.
     let listed : Contains c.args.chart.now.lines c.line-item.result =
     subst (λ (ls : List Line). Contains ls c.line-item.result) c.lines-lines.ensures.value
     (c.loop-line.line-index, c.loop-line-test.true, sym c.line-item.is) in
@@ -57,3 +61,11 @@ loop-line-preserved c =
                 c.line-item.is c.loop-line.units.items its.numbers.storage gives (c.loop-line.invariant.1 its wired),
           )
     ]
+
+pub returns-clause-shown : goal.returns-clause-shown
+returns-clause-shown c = λ its wired.
+    let past = drop_all c.loop-line.line-index c.lines-lines.result.now c.loop-line-test.false in
+    let all : c.loop-line.units.items ≡ its.numbers.storage =
+    sym (append-nil c.loop-line.units.items) ∙ ap (λ rest. c.loop-line.units.items ++ filter_map (unit_on its) rest) (sym past)
+    ∙ c.loop-line.invariant.1 its wired in
+    subst (λ numbers. IsWiredBy c.args.chart.now.lines c.args.setup.now (with_kind its kind.Storage numbers)) (sym all) wired

@@ -1,0 +1,13 @@
+use Rattle.std.proofs.Common.{ℕ, ◌≡◌, ◌<◌, Some, get_or}
+use Rattle.charts.specs.declared.chart.Line.{Line}
+use Rattle.panel_plans.specs.Alike.{TellsPilot}
+use Rattle.panel_plans.specs.Wired.{IsWiredBy}
+use Rattle.plans.specs.Plans.{Lists}
+use Rattle.wiring_table.specs.Parts.{pilot_for}
+use Rattle.panel_plans.proofs.pilots.is_told.Given as goal
+
+-- no line so far tells the pilot
+abbrev pub invariant-loop-line : goal.invariant-loop-line
+invariant-loop-line l =
+    (k : ℕ) (line : Line) → k < l.line-index → get_or l.line-items k line ≡ line → (its : Lists) → IsWiredBy l.chart.lines l.setup its
+    → pilot_for its l.amount.field.name ≡ Some l.pilot → TellsPilot l.chart.lines l.amount.field.name line → ⊥

@@ -1,0 +1,40 @@
+use Rattle.std.proofs.Common.{refl, subst, sym, ◌∙◌, ◌≡◌}
+use Rattle.charts.specs.declared.level.ControlLevel.{ControlLevel}
+use Rattle.charts.specs.declared.level.ControlLevel.TheVariants as control
+use Rattle.panel_plans.specs.Renumbered.{with_kind}
+use Rattle.panel_plans.specs.WheelParts.{AreLed}
+use Rattle.panel_plans.specs.declared.wheel_parts.WheelPart.TheVariants as by_wheel
+use Rattle.panel_plans.proofs.Steps.{if-ok}
+use Rattle.panel_plans.proofs.Told.{none-by, shown-by}
+use Rattle.panel_plans.proofs.WheelParts.{indicates-led}
+use Rattle.plans.specs.PartNumbers.{numbers_at}
+use Rattle.plans.specs.Plans.{Lists}
+use Rattle.plans.specs.declared.part_numbers.PartKind.TheVariants as kind
+use Rattle.panel_plans.proofs.wheel_parts.shown_indicates.Goals as goal
+
+still : (its : Lists) (level : ControlLevel) → with_kind its (kind.Indicate level) (numbers_at its.numbers level) ≡ its
+still its control.Minor = refl
+still its control.Intermediate = refl
+still its control.Major = refl
+
+pub returns-clause-shown : goal.returns-clause-shown
+returns-clause-shown c =
+    if-ok c.led_numbers.result _ _
+    (λ shown found.
+    shown-by c.args.chart.now.lines c.args.setup.now (kind.Indicate c.args.level) (λ list. list.items) (λ (its : Lists). (numbers_at its.numbers c.args.level)) shown (λ its. still its c.args.level)
+    (λ its wired.
+    found (numbers_at its.numbers c.args.level)
+    (subst (λ wheels. AreLed c.args.setup.now (by_wheel.Indicated c.args.level) 30 wheels (numbers_at its.numbers c.args.level)) (sym (c.as_slice.ensures.value ∙ c.in_ok-wheels.ensures))
+    (indicates-led c.args.chart.now c.args.setup.now c.lines-lines.ensures.lawful c.lines-lines.ensures.rising its wired c.args.level))))
+    c.led_numbers.ensures.found
+
+pub returns-clause-none : goal.returns-clause-none
+returns-clause-none c =
+    if-ok c.led_numbers.result _ _
+    (λ shown found.
+    none-by c.args.chart.now.lines c.args.setup.now (kind.Indicate c.args.level) (λ list. list.items) (λ (its : Lists). (numbers_at its.numbers c.args.level)) shown
+    (λ its wired.
+    found (numbers_at its.numbers c.args.level)
+    (subst (λ wheels. AreLed c.args.setup.now (by_wheel.Indicated c.args.level) 30 wheels (numbers_at its.numbers c.args.level)) (sym (c.as_slice.ensures.value ∙ c.in_ok-wheels.ensures))
+    (indicates-led c.args.chart.now c.args.setup.now c.lines-lines.ensures.lawful c.lines-lines.ensures.rising its wired c.args.level))))
+    c.led_numbers.ensures.found

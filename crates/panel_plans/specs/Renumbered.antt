@@ -1,0 +1,30 @@
+-- Plans with other numbers of a kind of part, and numbers that a setup shows.
+use Rattle.std.specs.Prelude.{◌≡◌, ℕ, List}
+use Rattle.charts.specs.declared.chart.Line.{Line}
+use Rattle.panel_plans.specs.Wired.{IsWiredBy}
+use Rattle.plans.specs.PartNumbers.{PartNumbers, renumbered}
+use Rattle.plans.specs.Plans.{Lists}
+use Rattle.plans.specs.declared.part_numbers.PartKind.{PartKind}
+use Rattle.setups.specs.Wiring.{Wiring}
+
+-- a plan with other numbers
+abbrev pub with_numbers : Lists → PartNumbers → Lists
+with_numbers plan numbers = record { counters = plan.counters; parts = plan.parts; numbers = numbers }
+
+-- a plan with others of one kind
+abbrev pub with_kind : Lists → PartKind → List ℕ → Lists
+with_kind plan kind numbers = with_numbers plan (renumbered plan.numbers kind numbers)
+
+-- A setup shows these numbers of a kind: whatever plan it is wired by, with these in place of its own it is one by which it is wired.
+abbrev pub AreShown : List Line → Wiring → PartKind → List ℕ → Type 0
+AreShown lines setup kind numbers = (its : Lists) → IsWiredBy lines setup its → IsWiredBy lines setup (with_kind its kind numbers)
+
+-- no plan is one by which a setup is wired
+abbrev pub IsUnwired : List Line → Wiring → Type 0
+IsUnwired lines setup = (its : Lists) → ¬ IsWiredBy lines setup its
+
+-- numbers in which those of a kind are some that a setup shows
+pub record TakesShown (lines : List Line) (setup : Wiring) (kind : PartKind) (old new : PartNumbers) : Type 0 where
+  pub numbers : List ℕ
+  pub are : AreShown lines setup kind numbers
+  pub is_new : new ≡ renumbered old kind numbers

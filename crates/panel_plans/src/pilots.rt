@@ -1,0 +1,291 @@
+//! The pilots that a setup shows for the amounts with a sign. The sign column of an amount leads to its pilot; where two amounts have one
+//! sign column, the lowest total of an amount tells its pilot, or its mark on the line of a card. Of amounts with neither any of their
+//! pilots will do: the first that is not yet taken.
+
+ghost use Rattle.std.specs.Prelude.{◌≡◌, ◌≢◌, ◌↔◌, ◌≤◌, ℕ, Contains, IsTrue, IfNone, IfOk, IfSome, Some};
+ghost use Rattle.std.specs.List.{list_any};
+ghost use Rattle.charts.specs.Field.{column_of_rule, columns_of, decimals_of};
+ghost use Rattle.charts.specs.declared.chart.Line.{Line};
+ghost use Rattle.charts.specs.declared.statement.Field.{Field};
+ghost use Rattle.charts.specs.declared.statement.SignRule.{SignRule};
+ghost use Rattle.field_rules.specs.Fields.{field_named};
+ghost use Rattle.hubs.specs.declared.hub.Hub.TheVariants.{FR, PIX, W};
+ghost use Rattle.panel_plans.specs.Alike.{IsPilotLike, IsPlain, IsSignedOf, LeadsToTotal, TellsPilot, bears_sign, shows_sign};
+ghost use Rattle.panel_plans.specs.Shown.{units_group};
+ghost use Rattle.panel_plans.specs.Renumbered.{AreShown, IsUnwired};
+ghost use Rattle.panel_plans.specs.Wired.{IsWiredBy};
+ghost use Rattle.plans.specs.PartNumbers.{AreThere};
+ghost use Rattle.plans.specs.Plans.{Lists};
+ghost use Rattle.setups.specs.Wiring.{HasWire};
+ghost use Rattle.wanted.specs.ChartTotals.{line_total};
+ghost use Rattle.wanted.specs.Pilots.{pilots_of};
+ghost use Rattle.wanted.specs.declared.total.Total.{Total};
+ghost use Rattle.wiring_table.specs.Figures.{mark_wheel, rule_of};
+ghost use Rattle.wiring_table.specs.Parts.{negative_side, panel_group, pilot_for};
+
+use crate::counters::shown_on;
+use crate::groups::panel_group;
+use crate::parts::is_taken;
+use chart_rules::Chart;
+use charts::{DetailOption, Field, FieldKind, Line, Name, SignRule, Statement};
+use hubs::{Group, Hub};
+use plans::{PartKind, TotalCounter};
+use setups::Setup;
+use std::alloc::{AllocError, Global};
+
+/// An amount with a sign rule.
+#[derive(Clone, Copy, Debug, PartialEq, Eq)]
+pub struct SignedAmount {
+    /// Its field.
+    pub field: Field,
+    /// The rule.
+    pub rule: SignRule,
+}
+
+// The sign rule of a field, if it has one.
+fn rule_of(kind: FieldKind) -> Option<SignRule>
+    ensures { result ≡ rule_of kind }
+{
+    match kind {
+        FieldKind::Text => None,
+        FieldKind::Amount { sign, .. } => sign,
+    }
+}
+
+// The amount of a name, if it has a sign rule.
+fn signed_amount(chart: &Chart, name: Name) -> Option<SignedAmount>
+    ensures some { IfSome result (λ amount. (field_named chart.now.lines name ≡ Some amount.field) × (rule_of amount.field.kind ≡ Some amount.rule)) }
+    ensures none { IfNone result ((field : Field) (rule : SignRule) → field_named chart.now.lines name ≡ Some field → rule_of field.kind ≢ Some rule) }
+{
+    let field = chart.field(name)?;
+    let rule = rule_of(field.kind)?;
+    Some(SignedAmount { field, rule })
+}
+
+// The contact of a pilot's position that is closed while its amount is below 0.
+fn negative_side(rule: SignRule, pilot: u8, position: u8) -> Hub
+    ensures { result ≡ negative_side rule pilot position }
+{
+    match rule {
+        SignRule::X(_) => Hub::PIT(pilot, position),
+        SignRule::NX(_) => Hub::PIN(pilot, position),
+    }
+}
+
+// The group of the units of a counter.
+fn units_group(counter: TotalCounter) -> Group
+    ensures { result ≡ panel_group (units_group counter) }
+{
+    match counter {
+        TotalCounter::Single { group } => panel_group(group),
+        TotalCounter::Coupled { lower, .. } => panel_group(lower),
+    }
+}
+
+// Whether a pilot has the counter of the total on a line subtract while the amount is below 0.
+fn leads_to_total(chart: &Chart, setup: &Setup, line: &Line, rule: SignRule, pilot: u8) -> bool
+    ensures { (its : Lists) (total : Total) → IsWiredBy chart.now.lines setup.now its → Contains chart.now.lines line.now
+        → line_total chart.now.lines line.now.number line.now.statement ≡ Some total
+        → IsTrue result ↔ LeadsToTotal chart.now.lines its setup.now rule pilot line.now.number }
+{
+    // What is known of the lines of a chart is told with them.
+    let _lines = chart.lines();
+    match shown_on(chart, setup, line) {
+        Some(counter) => setup.has(negative_side(rule, pilot, 1), Hub::MI(units_group(counter))),
+        None => false,
+    }
+}
+
+// The wheel of the mark of an amount from a wheel on.
+fn mark_wheel(wheel: u16, field: Field) -> u32
+    ensures { result ≡ mark_wheel wheel (columns_of field) (decimals_of field.kind) }
+{
+    let Field {
+        first,
+        last,
+        kind,
+        ..
+    } = field;
+    let digits = (u32::from(last) + 1).saturating_sub(u32::from(first));
+    let point = if kind.decimals() > 0 { 1 } else { 0 };
+    u32::from(wheel) + digits + point
+}
+
+// Whether a pilot leads to the wheel of a mark while its amount is below 0.
+fn leads_to_mark(setup: &Setup, mark: u32, rule: SignRule, pilot: u8) -> bool
+    ensures { IsTrue result ↔ HasWire setup.now (negative_side rule pilot 2) (W mark) }
+{
+    mark < 256 && setup.has(negative_side(rule, pilot, 2), Hub::W(mark as u8))
+}
+
+// Whether a line of the chart tells that a pilot is that of an amount: by its total, or by its mark on the line of a card.
+fn tells_pilot(chart: &Chart, setup: &Setup, line: &Line, amount: &SignedAmount, pilot: u8) -> bool
+    requires { IsSignedOf chart.now.lines amount.now }
+    ensures yes { (its : Lists) → IsWiredBy chart.now.lines setup.now its → Contains chart.now.lines line.now → IsTrue result
+        → pilot_for its amount.now.field.name ≡ Some pilot }
+    ensures no { (its : Lists) → IsWiredBy chart.now.lines setup.now its → Contains chart.now.lines line.now
+        → pilot_for its amount.now.field.name ≡ Some pilot → TellsPilot chart.now.lines amount.now.field.name line.now → IsTrue result }
+{
+    // What is known of the lines of a chart is told with them.
+    let _lines = chart.lines();
+    let wanted = amount.field.name;
+    let rule = amount.rule;
+    match &line.statement {
+        Statement::DetailField { wheel, name, shown } => match shown {
+            DetailOption::Marked(_) => {
+                let mark = mark_wheel(*wheel, amount.field);
+                name.is(wanted) && leads_to_mark(setup, mark, rule, pilot)
+            }
+            _ => false,
+        },
+        Statement::TotalAmount { name, .. } => {
+            name.is(wanted) && leads_to_total(chart, setup, line, rule, pilot)
+        }
+        _ => false,
+    }
+}
+
+// Whether some line of the chart tells that a pilot is that of an amount.
+fn is_told(chart: &Chart, setup: &Setup, amount: &SignedAmount, pilot: u8) -> bool
+    requires { IsSignedOf chart.now.lines amount.now }
+    ensures yes { (its : Lists) → IsWiredBy chart.now.lines setup.now its → IsTrue result → pilot_for its amount.now.field.name ≡ Some pilot }
+    ensures no { (its : Lists) (line : Line) → IsWiredBy chart.now.lines setup.now its → Contains chart.now.lines line
+        → pilot_for its amount.now.field.name ≡ Some pilot → TellsPilot chart.now.lines amount.now.field.name line → IsTrue result }
+{
+    for line in chart.lines() {
+        if tells_pilot(chart, setup, line, amount, pilot) {
+            return true;
+        }
+    }
+    false
+}
+
+// Whether a line prints a total of the amount of a name, or its mark on the line of a card.
+fn bears_sign(wanted: Name, statement: &Statement) -> bool
+    ensures { result ≡ bears_sign wanted statement.now }
+{
+    match statement {
+        Statement::DetailField {
+            name,
+            shown: DetailOption::Marked(_),
+            ..
+        } => name.is(wanted),
+        Statement::TotalAmount { name, .. } => name.is(wanted),
+        _ => false,
+    }
+}
+
+// Whether a chart prints a total of the amount of a name, or its mark on the line of a card.
+fn shows_sign(chart: &Chart, name: Name) -> bool
+    ensures { result ≡ shows_sign chart.now.lines name }
+{
+    chart
+        .lines()
+        .iter()
+        .any(|line| bears_sign(name, &line.statement))
+}
+
+// Whether a pilot serves no total and no mark.
+fn is_plain(setup: &Setup, pilot: u8) -> bool
+    ensures { IsTrue result ↔ IsPlain setup.now pilot }
+{
+    !setup.has(Hub::CC, Hub::PIC(pilot, 1))
+        && !setup.has(Hub::EM(4, 11), Hub::PIC(pilot, 2))
+        && !setup.has(Hub::EM(4, 12), Hub::PIC(pilot, 2))
+}
+
+// The column of a sign rule.
+fn column_of(rule: SignRule) -> u16
+    ensures { result ≡ column_of_rule rule }
+{
+    match rule {
+        SignRule::X(column) => column,
+        SignRule::NX(column) => column,
+    }
+}
+
+// Whether a column leads to a pilot.
+fn picks_up(setup: &Setup, column: u16, pilot: u8) -> bool
+    ensures { IsTrue result ↔ HasWire setup.now (FR column) (PIX pilot) }
+{
+    column < 256 && setup.has(Hub::FR(column as u8), Hub::PIX(pilot))
+}
+
+// Whether a pilot may be that of an amount.
+fn may_serve(chart: &Chart, setup: &Setup, amount: &SignedAmount, pilot: u8) -> bool
+    requires { IsSignedOf chart.now.lines amount.now }
+    ensures yes { (its : Lists) → IsWiredBy chart.now.lines setup.now its → IsTrue result
+        → IsPilotLike chart.now.lines its amount.now.field.name pilot }
+    ensures no { (its : Lists) → IsWiredBy chart.now.lines setup.now its → pilot_for its amount.now.field.name ≡ Some pilot → IsTrue result }
+{
+    // What is known of the lines of a chart is told with them.
+    let _lines = chart.lines();
+    if !picks_up(setup, column_of(amount.rule), pilot) {
+        return false;
+    }
+    if shows_sign(chart, amount.field.name) {
+        is_told(chart, setup, amount, pilot)
+    } else {
+        is_plain(setup, pilot)
+    }
+}
+
+// The first pilot that may be that of an amount and is not taken.
+fn free_pilot(chart: &Chart, setup: &Setup, amount: &SignedAmount, taken: &[u8]) -> Option<u8>
+    requires { IsSignedOf chart.now.lines amount.now }
+    ensures there { IfSome result (λ pilot. (1 ≤ pilot) × (pilot ≤ 16)) }
+    ensures shown { IfSome result (λ pilot. (its : Lists) → IsWiredBy chart.now.lines setup.now its
+        → IsPilotLike chart.now.lines its amount.now.field.name pilot) }
+    ensures free { IfSome result (λ pilot. ¬ Contains taken.now pilot) }
+    ensures none { IfNone result ((its : Lists) (pilot : ℕ) → IsWiredBy chart.now.lines setup.now its → 1 ≤ pilot → pilot ≤ 16
+        → pilot_for its amount.now.field.name ≡ Some pilot → Contains taken.now pilot) }
+{
+    for place in 0..16 {
+        if may_serve(chart, setup, amount, place + 1) && !is_taken(taken, place + 1) {
+            return Some(place + 1);
+        }
+    }
+    None
+}
+
+// The first pilot that may be that of the amount of a name and is not taken.
+fn shown_pilot(chart: &Chart, setup: &Setup, name: Name, taken: &[u8]) -> Option<u8>
+    ensures there { IfSome result (λ pilot. (1 ≤ pilot) × (pilot ≤ 16)) }
+    ensures shown { IfSome result (λ pilot. (its : Lists) → IsWiredBy chart.now.lines setup.now its
+        → IsPilotLike chart.now.lines its name pilot) }
+    ensures free { IfSome result (λ pilot. ¬ Contains taken.now pilot) }
+    ensures none { Contains (pilots_of chart.now.lines) name → IfNone result ((its : Lists) (pilot : ℕ)
+        → IsWiredBy chart.now.lines setup.now its → 1 ≤ pilot → pilot ≤ 16 → pilot_for its name ≡ Some pilot → Contains taken.now pilot) }
+{
+    // What is known of the lines of a chart is told with them.
+    let _lines = chart.lines();
+    match signed_amount(chart, name) {
+        Some(amount) => free_pilot(chart, setup, &amount, taken),
+        None => None,
+    }
+}
+
+/// The pilots that a setup shows for amounts, in their order, each the first that is not yet taken; none where it shows none for one of
+/// them.
+pub(crate) fn shown_pilots(
+    alloc: Global,
+    chart: &Chart,
+    setup: &Setup,
+    names: &[Name],
+) -> Result<Option<Vec<u8>>, AllocError>
+    requires { names.now ≡ pilots_of chart.now.lines }
+    ensures there { IfOk result (λ shown. IfSome shown (λ list. AreThere 16 list.items)) }
+    ensures shown { IfOk result (λ found. IfSome found (λ list. AreShown chart.now.lines setup.now PartKind.Pilot list.items)) }
+    ensures none { IfOk result (λ found. IfNone found (IsUnwired chart.now.lines setup.now)) }
+{
+    // What is known of the lines of a chart is told with them.
+    let _lines = chart.lines();
+    let mut pilots = Vec::new(alloc);
+    for name in names {
+        match shown_pilot(chart, setup, *name, pilots.as_slice()) {
+            Some(pilot) => pilots.push(pilot)?,
+            None => return Ok(None),
+        }
+    }
+    Ok(Some(pilots))
+}
