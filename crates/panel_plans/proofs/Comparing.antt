@@ -20,13 +20,13 @@ use Rattle.charts.proofs.Rising.{one-line as line-by-number}
 use Rattle.field_rules.specs.Fields.{field_named}
 use Rattle.hubs.specs.declared.hub.Hub.{Hub}
 use Rattle.hubs.specs.declared.hub.Hub.TheVariants.{CA, CX, FR, ST}
-use Rattle.panel_plans.specs.Alike.{IsCompared, columns_for, columns_on, compared_columns, level_of}
+use Rattle.panel_plans.specs.ComparedColumns.{IsCompared, columns_for, columns_on, compared_columns, level_of}
 use Rattle.panel_plans.specs.Renumbered.{with_kind}
 use Rattle.panel_plans.specs.Wired.{IsWiredBy}
 use Rattle.panel_plans.specs.declared.compared.ComparedColumn.{ComparedColumn}
 use Rattle.panel_plans.proofs.Apart.{HasOwnPlaces, number-at, own-place, positions-apart}
 use Rattle.panel_plans.proofs.Exchange.{Exchanged, Goes, Holds, Whose, ahead, back, from-where, goes-all, goes-more, goes-on, numbers-exchanged, stays, turned}
-use Rattle.panel_plans.proofs.Rewired.{Rewired, kept_wire, of_comparing, of_pickup, of_sign, other, rewired}
+use Rattle.panel_plans.proofs.Rewired.{Rewired, kept_wire, of_comparing, other, rewired}
 use Rattle.panel_plans.proofs.Zipped.{get-map, map-get, part-at, parts-many, range-at, range-get}
 use Rattle.plans.specs.PartNumbers.{AreNumbers}
 use Rattle.plans.specs.declared.part_numbers.PartKind.TheVariants as kind
@@ -220,18 +220,11 @@ module _ (chart : Chart) (rise : NumbersRise chart.lines chart.end) (plan : List
       (partner : (k : ℕ) → Partner chart.lines plan.numbers.comparing others k) where
     rewire : {exit entry : Hub} → ChartWire chart.lines plan exit entry
         → ChartWire chart.lines (with_kind plan kind.Comparing others) exit entry
-    rewire {exit} {entry} c = by (rewired chart.lines plan plan.numbers.pilots others c.wire)
+    rewire {exit} {entry} c = by (rewired chart.lines plan others c.wire)
       where
-        by : Rewired chart.lines plan plan.numbers.pilots others c.line.number c.line.statement exit entry
+        by : Rewired chart.lines plan others c.line.number c.line.statement exit entry
             → ChartWire chart.lines (with_kind plan kind.Comparing others) exit entry
         by (kept_wire wire) = record { line = c.line; listed = c.listed; wire = wire }
-        by (of_sign name pilot bears served again) = record { line = c.line; listed = c.listed; wire = again served }
-        by (of_pickup field rule pilot said ruled served again) = record {
-          line = c.line;
-          listed = c.listed;
-          wire = subst (λ s. LineWire chart.lines (other chart.lines plan plan.numbers.pilots others) c.line.number s exit entry) (sym said)
-              (again c.line.number field rule ruled refl served);
-        }
         by (of_comparing level name field j position said named within served again) =
             let serving = number-serves (λ each. is_same_position each (column_on c.line.number (field.first + j))) plan.parts.comparing
             plan.numbers.comparing position served in
@@ -262,7 +255,7 @@ module _ (chart : Chart) (rise : NumbersRise chart.lines chart.end) (plan : List
             record {
               line = theirs.line;
               listed = theirs.listed;
-              wire = subst (λ s. LineWire chart.lines (other chart.lines plan plan.numbers.pilots others) theirs.line.number s exit entry)
+              wire = subst (λ s. LineWire chart.lines (other chart.lines plan others) theirs.line.number s exit entry)
                   (sym theirs.says_control)
                   (again theirs.line.number theirs.level theirs.name theirs.field theirs.j theirs.named theirs.within (theirs.is_column ∙ columns)
                   numbers its_served);

@@ -1,4 +1,4 @@
--- An amount of which a chart prints a total has a lowest one, so that some line tells its pilot.
+-- An amount of which a chart prints a total has a lowest one, and that tells its pilot.
 use Rattle.std.proofs.Common.{◌≡◌, ◌∙◌, refl, sym, ap, subst, ℕ, zero, suc, ◌+◌, ◌<◌, ◌≤◌, ◌==◌, ◌&&◌, ◌⊎◌, inl, inr, Bool, true, false, true≢false, List, [], ◌∷◌, Contains, arith}
 use Rattle.std.proofs.lemmas.Bool.{and_parts, cases_lt}
 use Rattle.std.proofs.lemmas.Bool.Decides.{nat_tests}
@@ -6,11 +6,10 @@ use Rattle.charts.specs.Levels.{level_number}
 use Rattle.charts.specs.Name.{is_same_name}
 use Rattle.charts.specs.declared.chart.Line.{Line}
 use Rattle.charts.specs.declared.level.Level.{Level}
-use Rattle.charts.specs.declared.statement.DetailOption.TheVariants as shown
 use Rattle.charts.specs.declared.statement.Statement.{Statement}
 use Rattle.charts.specs.declared.statement.Statement.TheVariants as says
-use Rattle.charts.proofs.Listed.{any-passing, listed-after, listed-cases, listed-first, listed-none}
-use Rattle.panel_plans.specs.Alike.{TellsPilot, bears_sign, lowest, marked, shows_sign}
+use Rattle.charts.proofs.Listed.{listed-after, listed-cases, listed-first, listed-none}
+use Rattle.panel_plans.specs.PilotWires.{IsTold, lowest}
 use Rattle.wiring_table.specs.Parts.{HasTotal, IsLowest}
 
 -- whether a line is a total of the amount of a name at a level
@@ -107,46 +106,14 @@ module _ (lines : List Line) (name : List ℕ) where
       let same : level ≡ 0 + level = omega arith in
       lowest-from level 0 (λ n less its has. omega (arith, less)) number (subst (λ n. HasTotal lines name n number) same total)
 
-  -- so a line tells the pilot of an amount with a sign
-  pub record TellingLine : Type 0 where
-    pub line : Line
-    pub listed : Contains lines line
-    pub tells : TellsPilot lines name line
-
-  pub telling-line : shows_sign lines name ≡ true → TellingLine
-  telling-line shows =
-      let some = any-passing (λ (line : Line). bears_sign name line.statement) lines shows in
-      by some.element some.listed some.element.statement refl some.passes
-    where
-      by : (line : Line) → Contains lines line → (statement : Statement) → line.statement ≡ statement → bears_sign name statement ≡ true → TellingLine
-      by line listed (says.DetailField wheel its (shown.Marked mark)) said names = record {
-        line = line;
-        listed = listed;
-        tells = marked wheel its mark said names;
+  -- so a line tells the pilot of an amount of which there is a total
+  pub total-told : (level number : ℕ) → HasTotal lines name level number → IsTold lines name
+  total-told level number total =
+      let l = lowest-total level number total in
+      let t = l.total in
+      record {
+        line = t.line;
+        listed = t.listed;
+        tells = lowest t.its_level t.wheel t.its_name t.digits t.mark t.says_total t.same_name
+            (subst (IsLowest lines name) (sym t.same_level) l.lowest_one);
       }
-      by line listed (says.TotalAmount level wheel its digits mark) said names =
-          let l = lowest-total (level_number level) line.number (record {
-            line = line;
-            listed = listed;
-            is_number = refl;
-            its_level = level;
-            wheel = wheel;
-            its_name = its;
-            digits = digits;
-            mark = mark;
-            says_total = said;
-            same_level = refl;
-            same_name = names;
-          }) in
-          let t = l.total in
-          record {
-            line = t.line;
-            listed = t.listed;
-            tells = lowest t.its_level t.wheel t.its_name t.digits t.mark t.says_total t.same_name
-                (subst (IsLowest lines name) (sym t.same_level) l.lowest_one);
-          }
-      by line listed other said names = cc
-
-  pub bears-sign : (line : Line) → Contains lines line → TellsPilot lines name line → bears_sign name line.statement ≡ true
-  bears-sign line listed (lowest level wheel its digits mark said names low) = ap (bears_sign name) said ∙ names
-  bears-sign line listed (marked wheel its mark said names) = ap (bears_sign name) said ∙ names

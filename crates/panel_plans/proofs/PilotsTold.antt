@@ -1,14 +1,14 @@
--- On a panel that is wired for a chart by a plan, what tells the pilot of an amount names that of the plan; and where neither a total nor a
--- mark does, pilots of one sign column may change places.
-use Rattle.std.proofs.Common.{◌≡◌, ◌∙◌, refl, sym, ap, subst, ℕ, ◌+◌, ◌<◌, ◌≤◌, ◌⊎◌, inl, inr, Bool, true, false, true≢false, List, [], ◌∷◌, ◌++◌, Contains, Option, Some, None, is_some, length, filter, get_or, slice_get, nat_lt, if◌then◌else◌, arith}
+-- On a panel that is wired for a chart by a plan, what tells the pilot of an amount names that of the plan; and something does, since an
+-- amount with a sign bears its mark wherever it is printed.
+use Rattle.std.proofs.Common.{◌≡◌, ◌∙◌, refl, sym, ap, subst, ℕ, ◌+◌, ◌<◌, ◌≤◌, inl, Bool, true, false, List, Contains, Option, Some, None, IfNone, is_some, filter, filter_map, nat_lt, if◌then◌else◌, arith}
 use Rattle.std.proofs.lemmas.Bool.{and_parts}
-use Rattle.std.proofs.lemmas.Bool.Decides.{nat_tests}
-use Rattle.std.proofs.lemmas.Option.{same_Some, slice_get-get_or, slice_get_within}
+use Rattle.std.proofs.lemmas.Option.{same_Some}
 use Rattle.card_code.specs.CardCode.{code, rows_of}
-use Rattle.chart_rules.specs.Rules.{IsLawful}
-use Rattle.chart_rules.proofs.Laws.{field-line, statement-field}
+use Rattle.chart_rules.specs.Rules.{IsLawful, breaks}
+use Rattle.chart_rules.specs.declared.rule.Rule.TheVariants as rule_of_chart
+use Rattle.chart_rules.proofs.Laws.{field-line, kept-line, statement-field}
 use Rattle.charts.specs.Chart.{Chart, NumbersRise}
-use Rattle.charts.specs.Field.{column_of_rule, columns_of, decimals_of, is_amount, sign_column}
+use Rattle.charts.specs.Field.{column_of_rule, columns_of, decimals_of, sign_column}
 use Rattle.charts.specs.Levels.{level_number}
 use Rattle.charts.specs.Name.{is_same_name}
 use Rattle.charts.specs.declared.chart.Line.{Line}
@@ -24,44 +24,40 @@ use Rattle.charts.specs.declared.statement.SignRule.{SignRule}
 use Rattle.charts.specs.declared.statement.SignRule.TheVariants as sign
 use Rattle.charts.specs.declared.statement.Statement.{Statement}
 use Rattle.charts.specs.declared.statement.Statement.TheVariants as says
-use Rattle.charts.proofs.Listed.{any-listed, given-by, listed-at, listed-none}
+use Rattle.charts.proofs.Listed.{any-passing, given-by}
 use Rattle.charts.proofs.Rising.{one-line as line-by-number}
 use Rattle.field_rules.specs.Fields.{field_named, field_of, fields_of}
 use Rattle.field_rules.proofs.Places.{is_same_name-equal, is_same_name-own}
 use Rattle.hubs.specs.declared.hub.Group.{Group}
 use Rattle.hubs.specs.declared.hub.Hub.{Hub}
-use Rattle.hubs.specs.declared.hub.Hub.TheVariants.{CC, EM, FR, MI, PIC, PIX, W}
-use Rattle.panel_plans.specs.Alike.{IsPilotLike, IsPlain, IsSignedOf, LeadsToTotal, TellsPilot, bears_sign, column_or_none, its_own, lowest, marked, of_another, shows_sign, sign_in, sign_of}
-use Rattle.panel_plans.specs.Renumbered.{with_kind}
+use Rattle.hubs.specs.declared.hub.Hub.TheVariants.{FR, MI, PIX, W}
+use Rattle.panel_plans.specs.PilotWires.{IsSignedOf, IsTold, LeadsToTotal, TellsPilot, lowest, marked}
+use Rattle.panel_plans.specs.Renumbered.{IsUnwired}
 use Rattle.panel_plans.specs.Shown.{units_group}
 use Rattle.panel_plans.specs.Wired.{IsWiredBy}
 use Rattle.panel_plans.specs.declared.pilots.SignedAmount.{SignedAmount}
-use Rattle.panel_plans.proofs.Apart.{HasOwnPlaces, number-at}
-use Rattle.panel_plans.proofs.Exchange.{Exchanged, Goes, Holds, Whose, ahead, back, from-where, goes-all, goes-more, numbers-exchanged, stays, turned}
-use Rattle.panel_plans.proofs.Lowest.{bears-sign, telling-line}
+use Rattle.panel_plans.proofs.Apart.{HasOwnPlaces, all-numbers}
+use Rattle.panel_plans.proofs.Lowest.{total-told}
 use Rattle.panel_plans.proofs.OwnNames.{names-apart}
-use Rattle.panel_plans.proofs.Rewired.{Rewired, kept_wire, of_comparing, of_pickup, of_sign, other, rewired}
 use Rattle.panel_plans.proofs.WheelParts.{detail-on, same-detail}
 use Rattle.panel_plans.proofs.Zipped.{filter-listed, map-listed}
-use Rattle.plans.specs.PartNumbers.{AreNumbers}
-use Rattle.plans.specs.declared.part_numbers.PartKind.TheVariants as kind
 use Rattle.plans.specs.declared.counter.TotalCounter.{TotalCounter}
 use Rattle.plans.specs.declared.counter.TotalCounter.TheVariants as of
-use Rattle.plans.specs.Plans.{IsFor, Lists}
-use Rattle.plans.proofs.Numbers.{number-serves}
-use Rattle.print_rules.specs.Items.{detail_item}
+use Rattle.plans.specs.Plans.{Lists}
+use Rattle.plans.proofs.Numbers.{HasNumber, number-given}
+use Rattle.print_rules.specs.Items.{detail_item, mark_shown}
+use Rattle.print_rules.specs.Marks.{is_mismatched, is_mismatched_kind}
 use Rattle.print_rules.specs.Wheels.{HasWheel}
 use Rattle.printed_lines.proofs.Meeting.{one-line}
 use Rattle.setups.specs.Wiring.{HasWire, Wiring}
-use Rattle.wanted.specs.Pilots.{pilots_of, prints_name, wants_pilot}
+use Rattle.wanted.specs.Pilots.{pilots_of, prints_name, shows, wants_pilot}
 use Rattle.wanted.specs.Wanted.{Parts}
-use Rattle.wiring_table.specs.Figures.{HasPunchAt, IsSigned, detail_emitter, mark_text, mark_wheel, rule_of}
+use Rattle.wiring_table.specs.Figures.{HasPunchAt, IsSigned, mark_text, mark_wheel, rule_of}
 use Rattle.wiring_table.specs.Parts.{HasPanelGroup, IsLowest, ServesTotal, counter_for, negative_side, panel_group, pilot_for}
 use Rattle.wiring_table.specs.Wires.{ChartWire, LineWire}
-use Rattle.wiring_table.specs.Wires.LineWire.{conversion_minus, detail_mark_in, detail_mark_out, entry_minus, entry_sign, pickup, transfer_minus}
+use Rattle.wiring_table.specs.Wires.LineWire.{detail_mark_out, entry_minus, pickup}
 use Rattle.wiring_table.proofs.ChartLines.{field-own}
 use Rattle.wiring_table.proofs.Groups.{counter-given, serves-own}
-use Rattle.wiring_table.proofs.Parts.{pilot-own}
 use Rattle.wiring_table.proofs.Totals.{total-of}
 
 -- the rule of an amount with a sign column, and its column
@@ -69,16 +65,6 @@ ruled-by : (kind : FieldKind) → is_some (sign_column kind) ≡ true → (rule 
 ruled-by holds.Text some = cc
 ruled-by (holds.Amount decimals None) some = cc
 ruled-by (holds.Amount decimals (Some rule)) some = (rule, refl)
-
-column-by : (kind : FieldKind) (rule : SignRule) → rule_of kind ≡ Some rule → sign_column kind ≡ Some (column_of_rule rule)
-column-by holds.Text rule ruled = cc
-column-by (holds.Amount decimals None) rule ruled = cc
-column-by (holds.Amount decimals (Some own)) rule ruled =
-    let same : own ≡ rule = cc in ap (λ (r : SignRule). Some (column_of_rule r)) same
-
-signed-column : (lines : List Line) (name : List ℕ) (field : Field) (rule : SignRule) → field_named lines name ≡ Some field
-    → rule_of field.kind ≡ Some rule → sign_of lines name ≡ column_of_rule rule
-signed-column lines name field rule named ruled = ap sign_in named ∙ ap column_or_none (column-by field.kind rule ruled)
 
 -- the amount of a name has that name
 pub same-name : (lines : List Line) (name : List ℕ) (field : Field) → field_named lines name ≡ Some field → field.name ≡ name
@@ -122,23 +108,6 @@ mark-punched mark_kind.Credit = record { character = 67; there = refl; punch = r
 mark-punched mark_kind.Minus = record { character = 45; there = refl; punch = record { set = _; coded = refl; punched = refl } }
 
 module _ (lines : List Line) (plan : Lists) where
-  -- an amount whose sign column picks a pilot up
-  record PickupOf (statement : Statement) (column pilot : ℕ) : Type 0 where
-    field : Field
-    rule : SignRule
-    says_field : statement ≡ says.Field field
-    ruled : rule_of field.kind ≡ Some rule
-    at : column_of_rule rule ≡ column
-    served : pilot_for plan field.name ≡ Some pilot
-
-  pickup-of : {number : ℕ} {statement : Statement} {exit entry : Hub} (column pilot : ℕ)
-      → LineWire lines plan number statement exit entry → exit ≡ FR column → entry ≡ PIX pilot → PickupOf statement column pilot
-  pickup-of column pilot (pickup field rule its ruled served) e f =
-      let same_column : column_of_rule rule ≡ column = cc in
-      let same_pilot : its ≡ pilot = cc in
-      record { field = field; rule = rule; says_field = refl; ruled = ruled; at = same_column; served = served ∙ ap Some same_pilot }
-  pickup-of column pilot other e f = cc
-
   -- a total that a pilot has a group subtract from
   record MinusOf (number : ℕ) (statement : Statement) (pilot : ℕ) (group : Group) : Type 0 where
     level : Level
@@ -227,26 +196,6 @@ module _ (lines : List Line) (plan : Lists) where
   mark-of (sign.X c) pilot v other e f = cc
   mark-of (sign.NX c) pilot v other e f = cc
 
-  -- a line that gives position 1 or 2 of a pilot an impulse bears the sign of its amount
-  record BearsFor (statement : Statement) (pilot : ℕ) : Type 0 where
-    name : List ℕ
-    bears : bears_sign name statement ≡ true
-    its_pilot : pilot_for plan name ≡ Some pilot
-
-  total-bears : {number : ℕ} {statement : Statement} {exit entry : Hub} (pilot : ℕ) → LineWire lines plan number statement exit entry
-      → exit ≡ CC → entry ≡ PIC pilot 1 → BearsFor statement pilot
-  total-bears pilot (entry_sign level wheel name digits mark rule its low signed its_pilot) e f =
-      let same_pilot : its ≡ pilot = cc in
-      record { name = name; bears = is_same_name-own name; its_pilot = its_pilot ∙ ap Some same_pilot }
-  total-bears pilot other e f = cc
-
-  mark-bears : {number : ℕ} {statement : Statement} {exit entry : Hub} (row pilot : ℕ) → LineWire lines plan number statement exit entry
-      → exit ≡ EM detail_emitter row → entry ≡ PIC pilot 2 → BearsFor statement pilot
-  mark-bears row pilot (detail_mark_in wheel name mark rule its k its_row signed its_pilot punch) e f =
-      let same_pilot : its ≡ pilot = cc in
-      record { name = name; bears = is_same_name-own name; its_pilot = its_pilot ∙ ap Some same_pilot }
-  mark-bears row pilot other e f = cc
-
 module _ (chart : Chart) (setup : Wiring) (lawful : IsLawful chart) (rise : NumbersRise chart.lines chart.end) (its : Lists)
     (wired : IsWiredBy chart.lines setup its) where
   asks : (line : Line) → Contains chart.lines line → {statement : Statement} → line.statement ≡ statement → {exit entry : Hub}
@@ -333,69 +282,6 @@ module _ (chart : Chart) (setup : Wiring) (lawful : IsLawful chart) (rise : Numb
       let f = field-line chart.lines name field named in
       asks f.line f.listed f.is_field (pickup field rule pilot ruled (ap (pilot_for its) f.own_name ∙ served))
 
-  -- the pilot of an amount without total and mark serves none
-  pub plain-served : (name : List ℕ) (pilot : ℕ) → shows_sign chart.lines name ≡ false → pilot_for its name ≡ Some pilot → IsPlain setup pilot
-  plain-served name pilot plain served = record {
-    total = λ wire.
-        let its_wire : ChartWire chart.lines its CC (PIC pilot 1) = (wired.wired.wires CC (PIC pilot 1)).0 wire in
-        not-plain its_wire.line its_wire.listed (total-bears chart.lines its pilot its_wire.wire refl refl);
-    minus = λ wire.
-        let its_wire : ChartWire chart.lines its (EM detail_emitter 11) (PIC pilot 2) = (wired.wired.wires (EM detail_emitter 11) (PIC pilot 2)).0 wire in
-        not-plain its_wire.line its_wire.listed (mark-bears chart.lines its 11 pilot its_wire.wire refl refl);
-    credit = λ wire.
-        let its_wire : ChartWire chart.lines its (EM detail_emitter 12) (PIC pilot 2) = (wired.wired.wires (EM detail_emitter 12) (PIC pilot 2)).0 wire in
-        not-plain its_wire.line its_wire.listed (mark-bears chart.lines its 12 pilot its_wire.wire refl refl);
-  }
-    where
-      not-plain : (line : Line) → Contains chart.lines line → BearsFor chart.lines its line.statement pilot → ⊥
-      not-plain line listed b =
-          let names = pilot-own chart.lines its wired.planned b.name name pilot b.its_pilot served in
-          true≢false (sym (any-listed (λ (each : Line). bears_sign name each.statement) chart.lines line listed
-          (ap (λ n. bears_sign n line.statement) (sym names) ∙ b.bears)) ∙ plain)
-
-  -- and a pilot that serves none is that of such an amount
-  pub plain-name : (name : List ℕ) (field : Field) (rule : SignRule) (pilot : ℕ) → field_named chart.lines name ≡ Some field
-      → rule_of field.kind ≡ Some rule → pilot_for its name ≡ Some pilot → IsPlain setup pilot → shows_sign chart.lines name ≡ false
-  plain-name name field rule pilot named ruled served plain = by (shows_sign chart.lines name) refl
-    where
-      signed_name : (its_name : List ℕ) → is_same_name its_name name ≡ true → IsSigned chart.lines its_name rule
-      signed_name its_name same =
-          record { field = field; named = ap (field_named chart.lines) (is_same_name-equal its_name name same) ∙ named; ruled = ruled }
-
-      no-lines : (line : Line) → Contains chart.lines line → TellsPilot chart.lines name line → ⊥
-      no-lines line listed (lowest level wheel own_name digits mark said same low) =
-          let names = is_same_name-equal own_name name same in
-          plain.total (asks line listed said
-          (entry_sign level wheel own_name digits mark rule pilot (subst (λ n. IsLowest chart.lines n (level_number level)) (sym names) low)
-          (signed_name own_name same) (ap (pilot_for its) names ∙ served)))
-      no-lines line listed (marked wheel own_name mark said same) = by_mark mark said
-        where
-          by_mark : (m : Mark) → line.statement ≡ says.DetailField wheel own_name (shown.Marked m) → ⊥
-          by_mark mark_kind.Credit said =
-              plain.credit (asks line listed said
-              (detail_mark_in wheel own_name mark_kind.Credit rule pilot 0 12 (signed_name own_name same)
-              (ap (pilot_for its) (is_same_name-equal own_name name same) ∙ served) (mark-punched mark_kind.Credit)))
-          by_mark mark_kind.Minus said =
-              plain.minus (asks line listed said
-              (detail_mark_in wheel own_name mark_kind.Minus rule pilot 0 11 (signed_name own_name same)
-              (ap (pilot_for its) (is_same_name-equal own_name name same) ∙ served) (mark-punched mark_kind.Minus)))
-
-      by : (b : Bool) → shows_sign chart.lines name ≡ b → shows_sign chart.lines name ≡ false
-      by false is = is
-      by true is = let t = telling-line chart.lines name is in absurd (no-lines t.line t.listed t.tells)
-
-  -- so a pilot to which the sign column of such an amount leads, and which serves none, is like its own
-  pub plain-like : (name : List ℕ) (field : Field) (rule : SignRule) (pilot : ℕ) → field_named chart.lines name ≡ Some field
-      → rule_of field.kind ≡ Some rule → shows_sign chart.lines name ≡ false → HasWire setup (FR (column_of_rule rule)) (PIX pilot)
-      → IsPlain setup pilot → IsPilotLike chart.lines its name pilot
-  plain-like name field rule pilot named ruled plain picks serves =
-      let wire : ChartWire chart.lines its (FR (column_of_rule rule)) (PIX pilot) = (wired.wired.wires (FR (column_of_rule rule)) (PIX pilot)).0 picks in
-      let p = pickup-of chart.lines its (column_of_rule rule) pilot wire.wire refl refl in
-      let own_field = field-own chart lawful wire.line p.field wire.listed p.says_field in
-      of_another p.field.name p.served
-      (signed-column chart.lines p.field.name p.field p.rule own_field p.ruled ∙ p.at ∙ sym (signed-column chart.lines name field rule named ruled))
-      plain (plain-name p.field.name p.field p.rule pilot own_field p.ruled p.served serves)
-
   -- for an amount by its own name, whatever name a line has
   module _ (amount : SignedAmount) (is : IsSignedOf chart.lines amount) (name : List ℕ) (names : is_same_name name amount.field.name ≡ true) where
     equal-names : name ≡ amount.field.name
@@ -461,249 +347,107 @@ by-counter lines its setup rule pilot number counter exit group served same_exit
       (subst (λ c. HasWire setup (negative_side rule pilot 1) (MI (panel_group (units_group c)))) counters leads.leads))),
 )
 
--- a place whose number is that of another: its own, or one of an amount like it
-pub data Like (lines : List Line) (m k : ℕ) : Type 0 where
-  itself : m ≡ k → Like lines m k
-  beside :
-      (one other : List ℕ) → slice_get (pilots_of lines) m ≡ Some one → slice_get (pilots_of lines) k ≡ Some other
-      → sign_of lines one ≡ sign_of lines other → shows_sign lines one ≡ false → shows_sign lines other ≡ false → Like lines m k
+module _ (chart : Chart) (lawful : IsLawful chart) where
+  -- an amount that wants a pilot has a sign rule, and stands on a line
+  pub record Wanting (name : List ℕ) : Type 0 where
+    pub field : Field
+    pub rule : SignRule
+    pub named : field_named chart.lines name ≡ Some field
+    pub ruled : rule_of field.kind ≡ Some rule
+    pub line : Line
+    pub listed : Contains chart.lines line
+    pub shown_on : shows name line.statement ≡ true
 
-like-turned : {lines : List Line} {m k : ℕ} → Like lines m k → Like lines k m
-like-turned (itself same) = itself (sym same)
-like-turned (beside one other here there columns plain plain_too) = beside other one there here (sym columns) plain_too plain
-
-record Partner (lines : List Line) (numbers others : List ℕ) (k : ℕ) : Type 0 where
-  m : ℕ
-  is : slice_get others m ≡ slice_get numbers k
-  like : Like lines m k
-
--- two places of amounts that are alike
-abbrev pub AreLike : List Line → ℕ → ℕ → Type 0
-AreLike lines one other = Like lines one other
-
-partner-of : (lines : List Line) {numbers others : List ℕ} {one other : ℕ} → Exchanged numbers others one other → Like lines one other
-    → (k : ℕ) → Partner lines numbers others k
-partner-of lines {numbers} {others} {one} {other} e like k =
-    let f = from-where (turned e) k in
-    record { m = f.k; is = sym f.is; like = by f.whose }
-  where
-    by : {m : ℕ} → Whose one other k m → Like lines m k
-    by (stays not_one not_other same) = itself same
-    by (ahead at_one same) = subst (λ n. Like lines n k) (sym same) (subst (Like lines other) (sym at_one) (like-turned like))
-    by (back at_other same) = subst (λ n. Like lines n k) (sym same) (subst (Like lines one) (sym at_other) like)
-
--- a plan with other pilots
-abbrev pub pilots-by : Lists → List ℕ → Lists
-pilots-by its numbers = with_kind its kind.Pilot numbers
-
-module _ (chart : Chart) (lawful : IsLawful chart) (plan : Lists) (planned : IsFor chart.lines plan) where
-  served-names : plan.parts.pilots ≡ pilots_of chart.lines
-  served-names = ap (λ (p : Parts). p.pilots) planned.parts
-
-  -- the pilot of a name by its place
-  pilot-at : (numbers : List ℕ) (name : List ℕ) (place : ℕ) → length numbers ≡ length plan.parts.pilots → HasOwnPlaces plan.parts.pilots
-      → slice_get (pilots_of chart.lines) place ≡ Some name → pilot_for (pilots-by plan numbers) name ≡ slice_get numbers place
-  pilot-at numbers name place many own_places here =
-      number-at (λ one other. is_same_name other one) is_same_name-own (λ one other same. is_same_name-equal other one same) plan.parts.pilots
-      numbers many own_places name place (ap (λ list. slice_get list place) served-names ∙ here)
-
-  -- an amount that wants a pilot has a sign rule
-  pub wanting : (name : List ℕ) → Contains (pilots_of chart.lines) name
-      → (field : Field) × (rule : SignRule) × (field_named chart.lines name ≡ Some field) × (rule_of field.kind ≡ Some rule)
+  pub wanting : (name : List ℕ) → Contains (pilots_of chart.lines) name → Wanting name
   unfolding wants_pilot
   wanting name there =
       let (field, passing, is_name) = map-listed (λ (field : Field). field.name) (filter (wants_pilot chart.lines) (fields_of chart.lines)) name there in
       let (among, wants) = filter-listed (wants_pilot chart.lines) (fields_of chart.lines) field passing in
-      let has_column = (and_parts (is_some (sign_column field.kind)) (prints_name chart.lines field.name) wants).0 in
+      let (has_column, printed) = and_parts (is_some (sign_column field.kind)) (prints_name chart.lines field.name) wants in
       let from = given-by (λ (line : Line). field_of line.statement) chart.lines field among in
       let own_field = field-own chart lawful from.element field from.listed (statement-field from.element.statement field from.gives) in
       let ruled = ruled-by field.kind has_column in
-      (field, ruled.0, ap (field_named chart.lines) (sym is_name) ∙ own_field, ruled.1)
-
-  module _ (own_places : HasOwnPlaces plan.parts.pilots) (others : List ℕ) (many : length others ≡ length plan.parts.pilots)
-      (partner : (k : ℕ) → Partner chart.lines plan.numbers.pilots others k) where
-    rewire : {exit entry : Hub} → ChartWire chart.lines plan exit entry → ChartWire chart.lines (pilots-by plan others) exit entry
-    rewire {exit} {entry} c = by (rewired chart.lines plan others plan.numbers.comparing c.wire)
-      where
-        -- where the pilot of a name stands now
-        placed : (name : List ℕ) (pilot : ℕ) → pilot_for plan name ≡ Some pilot
-            → (k : ℕ) × (slice_get (pilots_of chart.lines) k ≡ Some name) × (slice_get plan.numbers.pilots k ≡ Some pilot)
-        placed name pilot served =
-            let serving = number-serves (λ each. is_same_name each name) plan.parts.pilots plan.numbers.pilots pilot served in (
-              serving.place,
-              ap (λ list. slice_get list serving.place) (sym served-names) ∙ serving.stands.there
-                  ∙ ap Some (is_same_name-equal serving.stands.element name serving.stands.passes),
-              serving.given,
-            )
-
-        bears-still : (name : List ℕ) (pilot : ℕ) → bears_sign name c.line.statement ≡ true → pilot_for plan name ≡ Some pilot
-            → pilot_for (pilots-by plan others) name ≡ Some pilot
-        bears-still name pilot bears served =
-            let (k, here, given) = placed name pilot served in
-            let q = partner k in
-            on k here given q.m (q.is ∙ given) q.like
-          where
-            on : (k : ℕ) → slice_get (pilots_of chart.lines) k ≡ Some name → slice_get plan.numbers.pilots k ≡ Some pilot → (m : ℕ)
-                → slice_get others m ≡ Some pilot → Like chart.lines m k → pilot_for (pilots-by plan others) name ≡ Some pilot
-            on k here given m is (itself same_place) =
-                pilot-at others name k many own_places here ∙ ap (slice_get others) (sym same_place) ∙ is
-            on k here given m is (beside one other at_one at_other columns plain plain_too) =
-                let names : other ≡ name = same_Some other name (sym at_other ∙ here) in
-                absurd (true≢false (sym (any-listed (λ (each : Line). bears_sign name each.statement) chart.lines c.line c.listed bears)
-                ∙ ap (shows_sign chart.lines) (sym names) ∙ plain_too))
-
-        by : Rewired chart.lines plan others plan.numbers.comparing c.line.number c.line.statement exit entry
-            → ChartWire chart.lines (pilots-by plan others) exit entry
-        by (kept_wire wire) = record { line = c.line; listed = c.listed; wire = wire }
-        by (of_comparing level name field j position said named within served again) = record {
-          line = c.line;
-          listed = c.listed;
-          wire = subst (λ s. LineWire chart.lines (other chart.lines plan others plan.numbers.comparing) c.line.number s exit entry) (sym said)
-              (again c.line.number level name field j named within refl refl served);
-        }
-        by (of_sign name pilot bears served again) =
-            record { line = c.line; listed = c.listed; wire = again (bears-still name pilot bears served) }
-        by (of_pickup field rule pilot said ruled served again) =
-            let (k, here, given) = placed field.name pilot served in
-            let q = partner k in
-            on k here given q.m (q.is ∙ given) q.like
-          where
-            on : (k : ℕ) → slice_get (pilots_of chart.lines) k ≡ Some field.name → slice_get plan.numbers.pilots k ≡ Some pilot → (m : ℕ)
-                → slice_get others m ≡ Some pilot → Like chart.lines m k → ChartWire chart.lines (pilots-by plan others) exit entry
-            on k here given m is (itself same_place) = record {
-              line = c.line;
-              listed = c.listed;
-              wire = subst (λ s. LineWire chart.lines (other chart.lines plan others plan.numbers.comparing) c.line.number s exit entry) (sym said)
-                  (again c.line.number field rule ruled refl
-                  (pilot-at others field.name k many own_places here ∙ ap (slice_get others) (sym same_place) ∙ is));
-            }
-            on k here given m is (beside one its_name at_one at_other columns plain plain_too) =
-                let names : its_name ≡ field.name = same_Some its_name field.name (sym at_other ∙ here) in
-                let (one_field, one_rule, one_named, one_ruled) = wanting one (listed-at (pilots_of chart.lines) m one at_one) in
-                let f = field-line chart.lines one one_field one_named in
-                let own_field = field-own chart lawful c.line field c.listed said in
-                let same_columns : column_of_rule one_rule ≡ column_of_rule rule =
-                sym (signed-column chart.lines one one_field one_rule one_named one_ruled) ∙ columns ∙ ap (sign_of chart.lines) names
-                ∙ signed-column chart.lines field.name field rule own_field ruled in
-                record {
-                  line = f.line;
-                  listed = f.listed;
-                  wire = subst (λ s. LineWire chart.lines (other chart.lines plan others plan.numbers.comparing) f.line.number s exit entry)
-                      (sym f.is_field)
-                      (again f.line.number one_field one_rule one_ruled same_columns
-                      (ap (pilot_for (pilots-by plan others)) f.own_name ∙ pilot-at others one m many own_places at_one ∙ is));
-                }
-
--- the setup is wired by the plan with these in place of its own
-abbrev pub IsGood : Chart → Wiring → Lists → List ℕ → Type 0
-IsGood chart setup its numbers = IsWiredBy chart.lines setup (pilots-by its numbers)
-
--- what is taken so far goes with those of such a plan
-abbrev pub GoOn : Chart → Wiring → Lists → List ℕ → Type 0
-GoOn chart setup its items = Goes (IsGood chart setup its) (length (pilots_of chart.lines)) items
-
-module _ (chart : Chart) (setup : Wiring) (lawful : IsLawful chart) (its : Lists) where
-  its-places : (plan : Lists) → IsFor chart.lines plan → HasOwnPlaces plan.parts.pilots
-  its-places plan planned = subst HasOwnPlaces (sym (served-names chart lawful plan planned)) (names-apart chart lawful)
-
-  planned-by : (numbers others : List ℕ) → IsFor chart.lines (pilots-by its numbers) → AreNumbers 16 (length its.parts.pilots) others
-      → IsFor chart.lines (pilots-by its others)
-  planned-by numbers others planned numbered = record {
-    counters = planned.counters;
-    parts = planned.parts;
-    numbers = record {
-      pilots = numbered;
-      comparing = planned.numbers.comparing;
-      storage = planned.numbers.storage;
-      splits = planned.numbers.splits;
-      minor = planned.numbers.minor;
-      intermediate = planned.numbers.intermediate;
-      major = planned.numbers.major;
-    };
-    pilots = planned.pilots;
-    comparing = planned.comparing;
-    storage_width = planned.storage_width;
-    storage_units = planned.storage_units;
-    splits = planned.splits;
-    minor = planned.minor;
-    intermediate = planned.intermediate;
-    major = planned.major;
-  }
-
-  -- two amounts that are alike may change their pilots
-  pub pilots-change : (numbers others : List ℕ) (one other : ℕ) → IsGood chart setup its numbers → AreLike chart.lines one other
-      → Exchanged numbers others one other → IsGood chart setup its others
-  pilots-change numbers others one other good like e =
-      let numbered = numbers-exchanged 16 (length its.parts.pilots) e good.planned.numbers.pilots in
-      let planned = planned-by numbers others good.planned numbered in
+      let some = any-passing (λ (line : Line). shows field.name line.statement) chart.lines printed in
       record {
-        planned = planned;
-        wired = record {
-          wires = λ exit entry. (
-            λ wire. rewire chart lawful (pilots-by its numbers) good.planned (its-places (pilots-by its numbers) good.planned) others numbered.many (partner-of chart.lines e like)
-                ((good.wired.wires exit entry).0 wire),
-            λ wire. (good.wired.wires exit entry).1
-                (rewire chart lawful (pilots-by its others) planned (its-places (pilots-by its others) planned) numbers good.planned.numbers.pilots.many
-                (partner-of chart.lines (turned e) like) wire),
-          );
-          jacks = good.wired.jacks;
-          tape = good.wired.tape;
-        };
+        field = field;
+        rule = ruled.0;
+        named = ap (field_named chart.lines) (sym is_name) ∙ own_field;
+        ruled = ruled.1;
+        line = some.element;
+        listed = some.listed;
+        shown_on = ap (λ n. shows n some.element.statement) (sym is_name) ∙ some.passes;
       }
 
-  -- a pilot like that of a name is that of a place like its own
-  pub pilot-held : (numbers : List ℕ) (place number : ℕ) (name : List ℕ) → IsGood chart setup its numbers → slice_get (pilots_of chart.lines) place ≡ Some name
-      → IsPilotLike chart.lines (pilots-by its numbers) name number → Holds (AreLike chart.lines) numbers place number
-  pilot-held numbers place number name good here (its_own served) =
-      let at = pilot-at chart lawful (pilots-by its numbers) good.planned numbers name place good.planned.numbers.pilots.many
-      (its-places (pilots-by its numbers) good.planned) here in
-      record { other = place; is = sym at ∙ served; alike = itself refl }
-  pilot-held numbers place number name good here (of_another its_name served columns plain plain_too) =
-      let plan = pilots-by its numbers in
-      let serving = number-serves (λ each. is_same_name each its_name) plan.parts.pilots numbers number served in
-      let there : slice_get (pilots_of chart.lines) serving.place ≡ Some its_name =
-      ap (λ list. slice_get list serving.place) (sym (served-names chart lawful plan good.planned)) ∙ serving.stands.there
-      ∙ ap Some (is_same_name-equal serving.stands.element its_name serving.stands.passes) in
-      record { other = serving.place; is = serving.given; alike = beside name its_name here there (sym columns) plain plain_too }
+  -- an amount with a sign rule bears its mark on the line of a card
+  marked-with : (kind : FieldKind) (rule : SignRule) (how : DetailOption) → rule_of kind ≡ Some rule
+      → is_mismatched_kind kind (mark_shown how) ≡ false → (mark : Mark) × (how ≡ shown.Marked mark)
+  marked-with holds.Text rule how ruled kept = cc
+  marked-with (holds.Amount decimals None) rule how ruled kept = cc
+  marked-with (holds.Amount decimals (Some own)) rule (shown.Marked mark) ruled kept = (mark, refl)
+  marked-with (holds.Amount decimals (Some own)) rule shown.Plain ruled kept = cc
+  marked-with (holds.Amount decimals (Some own)) rule (shown.Indicated level) ruled kept = cc
 
-  -- the pilot of a name by its place
-  pub pilot-served : (numbers : List ℕ) (place number : ℕ) (name : List ℕ) → IsGood chart setup its numbers → slice_get (pilots_of chart.lines) place ≡ Some name
-      → slice_get numbers place ≡ Some number → pilot_for (pilots-by its numbers) name ≡ Some number
-  pilot-served numbers place number name good here at =
-      pilot-at chart lawful (pilots-by its numbers) good.planned numbers name place good.planned.numbers.pilots.many
-      (its-places (pilots-by its numbers) good.planned) here ∙ at
+  -- so a line tells its pilot
+  pub told-of : (name : List ℕ) → Contains (pilots_of chart.lines) name → IsTold chart.lines name
+  told-of name there = let w = wanting name there in by w w.line.statement refl w.shown_on
+    where
+      by : (w : Wanting name) (statement : Statement) → w.line.statement ≡ statement → shows name statement ≡ true → IsTold chart.lines name
+      by w (says.DetailField wheel its how) said same =
+          let (earlier, kept) = kept-line chart lawful w.line w.listed rule_of_chart.MarkMismatch in
+          let names = is_same_name-equal its name same in
+          let here : is_mismatched (field_named chart.lines its) (mark_shown how) ≡ false =
+          sym (ap (breaks rule_of_chart.MarkMismatch chart.lines earlier) said) ∙ kept in
+          let field_here : is_mismatched_kind w.field.kind (mark_shown how) ≡ false =
+          sym (ap (λ o. is_mismatched o (mark_shown how)) (ap (field_named chart.lines) names ∙ w.named)) ∙ here in
+          let (mark, is) = marked-with w.field.kind w.rule how w.ruled field_here in
+          record {
+            line = w.line;
+            listed = w.listed;
+            tells = marked wheel its mark (said ∙ ap (says.DetailField wheel its) is) same;
+          }
+      by w (says.TotalAmount level wheel its digits mark) said same =
+          total-told chart.lines name (level_number level) w.line.number (record {
+            line = w.line;
+            listed = w.listed;
+            is_number = refl;
+            its_level = level;
+            wheel = wheel;
+            its_name = its;
+            digits = digits;
+            mark = mark;
+            says_total = said;
+            same_level = refl;
+            same_name = same;
+          })
+      by w other said same = cc
 
-  pub go-none : IsWiredBy chart.lines setup its → GoOn chart setup its []
-  go-none wired = record {
-    numbers = its.numbers.pilots;
-    good = wired;
-    many = wired.planned.numbers.pilots.many ∙ ap length (served-names chart lawful its wired.planned);
-    begins = λ place number at. absurd (listed-none number (listed-at [] place number at));
-  }
+  module _ (setup : Wiring) (its : Lists) (wired : IsWiredBy chart.lines setup its) where
+    served-names : its.parts.pilots ≡ pilots_of chart.lines
+    served-names = ap (λ (p : Parts). p.pilots) wired.planned.parts
 
-  pub go-more : (items : List ℕ) (number : ℕ) (name : List ℕ) → slice_get (pilots_of chart.lines) (length items) ≡ Some name
-      → ((plan : Lists) → IsWiredBy chart.lines setup plan → IsPilotLike chart.lines plan name number) → ¬ Contains items number → GoOn chart setup its items
-      → GoOn chart setup its (items ++ number ∷ [])
-  go-more items number name here like fresh goes =
-      goes-more (IsGood chart setup its) (AreLike chart.lines) (length (pilots_of chart.lines)) pilots-change number
-      (slice_get_within (pilots_of chart.lines) (length items) name here) fresh
-      (λ numbers good. pilot-held numbers (length items) number name good here (like (pilots-by its numbers) good)) goes
+    -- an amount that wants a pilot has one
+    pub pilot-there : (name : List ℕ) → Contains (pilots_of chart.lines) name → HasNumber (pilot_for its name) 16
+    pilot-there name there =
+        number-given (λ served. is_same_name served name) its.parts.pilots its.numbers.pilots 16 name wired.planned.numbers.pilots
+        (subst (λ list. Contains list name) (sym served-names) there) (is_same_name-own name)
 
-  pub go-stuck : (items : List ℕ) (name : List ℕ) → slice_get (pilots_of chart.lines) (length items) ≡ Some name
-      → ((plan : Lists) (number : ℕ) → IsWiredBy chart.lines setup plan → 1 ≤ number → number ≤ 16 → pilot_for plan name ≡ Some number
-      → Contains items number)
-      → GoOn chart setup its items → ⊥
-  go-stuck items name here none goes =
-      let few = goes.many in
-      let less = slice_get_within (pilots_of chart.lines) (length items) name here in
-      let at = slice_get-get_or goes.numbers (length items) 0 (omega (arith, few, less)) in
-      let own = get_or goes.numbers (length items) 0 in
-      let range = goes.good.planned.numbers.pilots.there (length items) own at in
-      let (k, inside, is) = none (pilots-by its goes.numbers) own goes.good range.0 range.1
-      (pilot-served goes.numbers (length items) own name goes.good here at) in
-      let here_too : slice_get items k ≡ Some own = slice_get-get_or items k own inside ∙ ap Some is in
-      let same_place = goes.good.planned.numbers.pilots.own (length items) k own at (goes.begins k own here_too) in
-      omega (arith, same_place, inside)
+    -- all pilots of the plan
+    pub all-pilots : filter_map (pilot_for its) (pilots_of chart.lines) ≡ its.numbers.pilots
+    all-pilots =
+        ap (filter_map (pilot_for its)) (sym served-names)
+        ∙ all-numbers (λ one other. is_same_name other one) is_same_name-own (λ one other same. is_same_name-equal other one same)
+        its.parts.pilots its.numbers.pilots wired.planned.numbers.pilots.many
+        (subst HasOwnPlaces (sym served-names) (names-apart chart lawful))
 
-  pub go-all : (items : List ℕ) → length (pilots_of chart.lines) ≤ length items → GoOn chart setup its items → IsGood chart setup its items
-  go-all items all goes = goes-all (IsGood chart setup its) (AreLike chart.lines) (length (pilots_of chart.lines)) pilots-change all goes
+  -- a panel on which no pilot is that of an amount is wired by no plan
+  pub none-for : (setup : Wiring) (name : List ℕ) (field : Field) → Contains (pilots_of chart.lines) name → field_named chart.lines name ≡ Some field
+      → (result : Option ℕ)
+      → IfNone result ((its : Lists) (pilot : ℕ) → IsWiredBy chart.lines setup its → 1 ≤ pilot → pilot ≤ 16 → IsTold chart.lines field.name
+      → ¬ (pilot_for its field.name ≡ Some pilot))
+      → IfNone result (IsUnwired chart.lines setup)
+  none-for setup name field there named (Some pilot) none = tt
+  none-for setup name field there named None none = λ its wired.
+      let own_name = same-name chart.lines name field named in
+      let given = pilot-there setup its wired name there in
+      none its given.n wired given.from given.to (subst (IsTold chart.lines) (sym own_name) (told-of name there))
+      (ap (pilot_for its) own_name ∙ given.is)

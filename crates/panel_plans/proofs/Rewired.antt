@@ -1,43 +1,28 @@
--- The wires of a chart by two plans that differ in pilots and comparing positions alone: a wire of the one is one of the other, unless it
--- is that of a comparing position or of a pilot.
-use Rattle.std.proofs.Common.{◌≡◌, refl, ap, subst, ℕ, ◌+◌, ◌<◌, Bool, true, false, List, Option, Some}
-use Rattle.charts.specs.Field.{column_of_rule, columns_of}
+-- The wires of a chart by two plans that differ in comparing positions alone: a wire of the one is one of the other, unless it is that of a
+-- comparing position.
+use Rattle.std.proofs.Common.{◌≡◌, refl, subst, ℕ, ◌+◌, ◌<◌, List, Option, Some}
+use Rattle.charts.specs.Field.{columns_of}
 use Rattle.charts.specs.Levels.{control_number}
-use Rattle.charts.specs.Name.{is_same_name}
 use Rattle.charts.specs.declared.chart.Line.{Line}
 use Rattle.charts.specs.declared.level.ControlLevel.{ControlLevel}
-use Rattle.charts.specs.declared.statement.DetailOption.TheVariants as shown
 use Rattle.charts.specs.declared.statement.Field.{Field}
-use Rattle.charts.specs.declared.statement.SignRule.{SignRule}
 use Rattle.charts.specs.declared.statement.Statement.{Statement}
 use Rattle.charts.specs.declared.statement.Statement.TheVariants as says
 use Rattle.field_rules.specs.Fields.{field_named}
-use Rattle.field_rules.proofs.Places.{is_same_name-own}
 use Rattle.hubs.specs.declared.hub.Group.{Group}
 use Rattle.hubs.specs.declared.hub.Hub.{Hub}
-use Rattle.hubs.specs.declared.hub.Hub.TheVariants.{CA, CB, CX, FR, PIX, SR, ST}
-use Rattle.panel_plans.specs.Alike.{bears_sign}
-use Rattle.panel_plans.specs.Renumbered.{with_numbers}
-use Rattle.plans.specs.PartNumbers.{PartNumbers}
+use Rattle.hubs.specs.declared.hub.Hub.TheVariants.{CA, CB, CX, FR, SR, ST}
+use Rattle.panel_plans.specs.Renumbered.{with_kind}
 use Rattle.plans.specs.Plans.{Lists}
-use Rattle.wiring_table.specs.Figures.{rule_of}
-use Rattle.wiring_table.specs.Parts.{ServesPosition, ServesTotal, comparing_for, pilot_for}
+use Rattle.plans.specs.declared.part_numbers.PartKind.TheVariants as kind
+use Rattle.wiring_table.specs.Parts.{ServesPosition, ServesTotal, comparing_for}
 use Rattle.wiring_table.specs.Wires.{LineWire}
 use Rattle.wiring_table.specs.Wires.LineWire.{detail_text, indicated_text_in, indicated_text_out, literal, point, detail_digit, split_digit_in, split_digit_out, detail_mark_in, detail_mark_out, pickup, entry, entry_adds, entry_sign, entry_plus, entry_minus, read_out, total_digit, carry_up, ring, carry_round, balance_test, conversion, conversion_read_out, conversion_minus, feedback, total_mark_in, total_mark_out, transfer, transfer_adds, transfer_sign, transfer_plus, transfer_minus, total_text_in, total_text_taken, total_text_given, total_text_out, compared_first, compared_second, level_called, double_space, triple_space, page, skip}
 
-module _ (lines : List Line) (plan : Lists) (pilots comparing : List ℕ) where
-  -- the plan with other pilots and comparing positions
+module _ (lines : List Line) (plan : Lists) (comparing : List ℕ) where
+  -- the plan with other comparing positions
   abbrev pub other : Lists
-  other =
-      with_numbers plan (record {
-        pilots = pilots;
-        comparing = comparing;
-        storage = plan.numbers.storage;
-        splits = plan.numbers.splits;
-        minor = plan.numbers.minor;
-        intermediate = plan.numbers.intermediate;
-        major = plan.numbers.major;
-      })
+  other = with_kind plan kind.Comparing comparing
 
   position-kept : {number position : ℕ} {group : Group} {place : ℕ} → ServesPosition lines plan number position group place
       → ServesPosition lines other number position group place
@@ -58,16 +43,6 @@ module _ (lines : List Line) (plan : Lists) (pilots comparing : List ℕ) where
         → comparing_for other its (its_field.first + its_j) ≡ Some position
         → LineWire lines other its (says.Control its_level its_name) exit entry)
         → Rewired number statement exit entry
-    -- of a pilot by which the line of the wire has a sign
-    of_sign : (name : List ℕ) (pilot : ℕ) → bears_sign name statement ≡ true → pilot_for plan name ≡ Some pilot
-        → (pilot_for other name ≡ Some pilot → LineWire lines other number statement exit entry) → Rewired number statement exit entry
-    -- of the pickup of a pilot: it is one of each field with the same sign column that has this pilot
-    of_pickup : (field : Field) (rule : SignRule) (pilot : ℕ) → statement ≡ says.Field field → rule_of field.kind ≡ Some rule
-        → pilot_for plan field.name ≡ Some pilot
-        → ((its : ℕ) (its_field : Field) (its_rule : SignRule) → rule_of its_field.kind ≡ Some its_rule
-        → column_of_rule its_rule ≡ column_of_rule rule → pilot_for other its_field.name ≡ Some pilot
-        → LineWire lines other its (says.Field its_field) exit entry)
-        → Rewired number statement exit entry
 
   pub rewired : {number : ℕ} {statement : Statement} {exit entry : Hub} → LineWire lines plan number statement exit entry
       → Rewired number statement exit entry
@@ -79,23 +54,14 @@ module _ (lines : List Line) (plan : Lists) (pilots comparing : List ℕ) where
   rewired (detail_digit wheel name how field position p1 p2 p3 p4) = kept_wire (detail_digit wheel name how field position p1 p2 p3 p4)
   rewired (split_digit_in wheel name how field position split p1 p2 p3 p4 p5) = kept_wire (split_digit_in wheel name how field position split p1 p2 p3 p4 p5)
   rewired (split_digit_out wheel name how field position split p1 p2 p3 p4 p5) = kept_wire (split_digit_out wheel name how field position split p1 p2 p3 p4 p5)
-  rewired (detail_mark_in wheel name mark rule pilot k row p1 p2 p3) =
-      of_sign name pilot (is_same_name-own name) p2 (λ served. detail_mark_in wheel name mark rule pilot k row p1 served p3)
-  rewired (detail_mark_out wheel name mark rule field pilot k row p1 p2 p3 p4) =
-      of_sign name pilot (is_same_name-own name) p3 (λ served. detail_mark_out wheel name mark rule field pilot k row p1 p2 served p4)
-  rewired (pickup field rule pilot p1 p2) =
-      of_pickup field rule pilot refl p1 p2
-      (λ its its_field its_rule ruled columns served.
-      subst (λ c. LineWire lines other its (says.Field its_field) (FR c) (PIX pilot)) columns
-      (pickup its_field its_rule pilot ruled served))
+  rewired (detail_mark_in wheel name mark rule pilot k row p1 p2 p3) = kept_wire (detail_mark_in wheel name mark rule pilot k row p1 p2 p3)
+  rewired (detail_mark_out wheel name mark rule field pilot k row p1 p2 p3 p4) = kept_wire (detail_mark_out wheel name mark rule field pilot k row p1 p2 p3 p4)
+  rewired (pickup field rule pilot p1 p2) = kept_wire (pickup field rule pilot p1 p2)
   rewired (entry level wheel name digits mark field group position place p1 p2 p3 p4 p5) = kept_wire (entry level wheel name digits mark field group position place p1 (position-kept p2) p3 p4 p5)
   rewired (entry_adds level wheel name digits mark group p1 p2 p3) = kept_wire (entry_adds level wheel name digits mark group p1 (total-kept p2) p3)
-  rewired (entry_sign level wheel name digits mark rule pilot p1 p2 p3) =
-      of_sign name pilot (is_same_name-own name) p3 (λ served. entry_sign level wheel name digits mark rule pilot p1 p2 served)
-  rewired (entry_plus level wheel name digits mark rule pilot group p1 p2 p3 p4) =
-      of_sign name pilot (is_same_name-own name) p4 (λ served. entry_plus level wheel name digits mark rule pilot group p1 (total-kept p2) p3 served)
-  rewired (entry_minus level wheel name digits mark rule pilot group p1 p2 p3 p4) =
-      of_sign name pilot (is_same_name-own name) p4 (λ served. entry_minus level wheel name digits mark rule pilot group p1 (total-kept p2) p3 served)
+  rewired (entry_sign level wheel name digits mark rule pilot p1 p2 p3) = kept_wire (entry_sign level wheel name digits mark rule pilot p1 p2 p3)
+  rewired (entry_plus level wheel name digits mark rule pilot group p1 p2 p3 p4) = kept_wire (entry_plus level wheel name digits mark rule pilot group p1 (total-kept p2) p3 p4)
+  rewired (entry_minus level wheel name digits mark rule pilot group p1 p2 p3 p4) = kept_wire (entry_minus level wheel name digits mark rule pilot group p1 (total-kept p2) p3 p4)
   rewired (read_out level wheel name digits mark group p1) = kept_wire (read_out level wheel name digits mark group (total-kept p1))
   rewired (total_digit level wheel name digits mark field group position place p1 p2 p3 p4) = kept_wire (total_digit level wheel name digits mark field group position place (position-kept p1) p2 p3 p4)
   rewired (carry_up level wheel name digits mark lower upper p1) = kept_wire (carry_up level wheel name digits mark lower upper p1)

@@ -1,5 +1,6 @@
-pub mod Alike
+pub mod ComparedColumns
 pub mod Groups
+pub mod PilotWires
 pub mod Renumbered
 pub mod Shown
 pub mod Texts

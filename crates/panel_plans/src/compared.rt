@@ -2,12 +2,11 @@
 //! them will do: the first that is not yet taken.
 
 ghost use Rattle.std.specs.Prelude.{◌≡◌, ◌↔◌, ◌≤◌, ◌++◌, ℕ, Contains, IsTrue, IfNone, IfOk, IfSome, OnOk, Some};
-ghost use Rattle.panel_plans.specs.Alike.{IsCompared, columns_for, compared_columns, level_of};
+ghost use Rattle.panel_plans.specs.ComparedColumns.{IsCompared, columns_for, compared_columns, level_of};
 ghost use Rattle.panel_plans.specs.Renumbered.{AreShown, IsUnwired};
 ghost use Rattle.plans.specs.PartNumbers.{AreThere};
 ghost use Rattle.wanted.specs.Positions.{compared_field};
 
-use crate::parts::is_taken;
 use chart_rules::Chart;
 use charts::{Field, Statement};
 use hubs::Hub;
@@ -78,6 +77,13 @@ fn is_compared(setup: &Setup, column: u8, level: u8, position: u8) -> bool
     ensures { IsTrue result ↔ IsCompared setup.now column level position }
 {
     setup.has(Hub::FR(column), Hub::CA(position)) && setup.has(Hub::CX(position), Hub::ST(level))
+}
+
+// Whether a number is among those that are taken.
+fn is_taken(taken: &[u8], number: u8) -> bool
+    ensures { IsTrue result ↔ Contains taken.now number }
+{
+    taken.contains(&number)
 }
 
 // The first position that compares a column for a level and is not taken.

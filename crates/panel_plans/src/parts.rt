@@ -1,6 +1,6 @@
 //! The parts other than the counters that a setup shows.
 
-ghost use Rattle.std.specs.Prelude.{◌≡◌, ◌↔◌, Contains, IfNone, IfOk, IfSome, IsTrue};
+ghost use Rattle.std.specs.Prelude.{◌≡◌, IfNone, IfOk, IfSome};
 ghost use Rattle.panel_plans.specs.Renumbered.{AreShown, IsUnwired, TakesShown, with_numbers};
 ghost use Rattle.panel_plans.specs.Wired.{IsWiredBy};
 ghost use Rattle.plans.specs.PartNumbers.{AreThere, last_of};
@@ -17,13 +17,6 @@ use plans::{PartKind, PartNumbers};
 use setups::Setup;
 use std::alloc::{AllocError, Global};
 use wanted::Parts;
-
-/// Whether a number is among those that are taken.
-pub(crate) fn is_taken(taken: &[u8], number: u8) -> bool
-    ensures { IsTrue result ↔ Contains taken.now number }
-{
-    taken.contains(&number)
-}
 
 // These numbers, but of a kind those that a setup shows, where it shows some.
 fn with_shown(

@@ -1,16 +1,14 @@
 //! The pilots that a setup shows for the amounts with a sign. The sign column of an amount leads to its pilot; where two amounts have one
-//! sign column, the lowest total of an amount tells its pilot, or its mark on the line of a card. Of amounts with neither any of their
-//! pilots will do: the first that is not yet taken.
+//! sign column, the lowest total of an amount tells its pilot, or its mark on the line of a card.
 
 ghost use Rattle.std.specs.Prelude.{◌≡◌, ◌≢◌, ◌↔◌, ◌≤◌, ℕ, Contains, IsTrue, IfNone, IfOk, IfSome, Some};
-ghost use Rattle.std.specs.List.{list_any};
 ghost use Rattle.charts.specs.Field.{column_of_rule, columns_of, decimals_of};
 ghost use Rattle.charts.specs.declared.chart.Line.{Line};
 ghost use Rattle.charts.specs.declared.statement.Field.{Field};
 ghost use Rattle.charts.specs.declared.statement.SignRule.{SignRule};
 ghost use Rattle.field_rules.specs.Fields.{field_named};
 ghost use Rattle.hubs.specs.declared.hub.Hub.TheVariants.{FR, PIX, W};
-ghost use Rattle.panel_plans.specs.Alike.{IsPilotLike, IsPlain, IsSignedOf, LeadsToTotal, TellsPilot, bears_sign, shows_sign};
+ghost use Rattle.panel_plans.specs.PilotWires.{IsSignedOf, IsTold, LeadsToTotal, TellsPilot};
 ghost use Rattle.panel_plans.specs.Shown.{units_group};
 ghost use Rattle.panel_plans.specs.Renumbered.{AreShown, IsUnwired};
 ghost use Rattle.panel_plans.specs.Wired.{IsWiredBy};
@@ -25,7 +23,6 @@ ghost use Rattle.wiring_table.specs.Parts.{negative_side, panel_group, pilot_for
 
 use crate::counters::shown_on;
 use crate::groups::panel_group;
-use crate::parts::is_taken;
 use chart_rules::Chart;
 use charts::{DetailOption, Field, FieldKind, Line, Name, SignRule, Statement};
 use hubs::{Group, Hub};
@@ -160,40 +157,6 @@ fn is_told(chart: &Chart, setup: &Setup, amount: &SignedAmount, pilot: u8) -> bo
     false
 }
 
-// Whether a line prints a total of the amount of a name, or its mark on the line of a card.
-fn bears_sign(wanted: Name, statement: &Statement) -> bool
-    ensures { result ≡ bears_sign wanted statement.now }
-{
-    match statement {
-        Statement::DetailField {
-            name,
-            shown: DetailOption::Marked(_),
-            ..
-        } => name.is(wanted),
-        Statement::TotalAmount { name, .. } => name.is(wanted),
-        _ => false,
-    }
-}
-
-// Whether a chart prints a total of the amount of a name, or its mark on the line of a card.
-fn shows_sign(chart: &Chart, name: Name) -> bool
-    ensures { result ≡ shows_sign chart.now.lines name }
-{
-    chart
-        .lines()
-        .iter()
-        .any(|line| bears_sign(name, &line.statement))
-}
-
-// Whether a pilot serves no total and no mark.
-fn is_plain(setup: &Setup, pilot: u8) -> bool
-    ensures { IsTrue result ↔ IsPlain setup.now pilot }
-{
-    !setup.has(Hub::CC, Hub::PIC(pilot, 1))
-        && !setup.has(Hub::EM(4, 11), Hub::PIC(pilot, 2))
-        && !setup.has(Hub::EM(4, 12), Hub::PIC(pilot, 2))
-}
-
 // The column of a sign rule.
 fn column_of(rule: SignRule) -> u16
     ensures { result ≡ column_of_rule rule }
@@ -211,62 +174,50 @@ fn picks_up(setup: &Setup, column: u16, pilot: u8) -> bool
     column < 256 && setup.has(Hub::FR(column as u8), Hub::PIX(pilot))
 }
 
-// Whether a pilot may be that of an amount.
-fn may_serve(chart: &Chart, setup: &Setup, amount: &SignedAmount, pilot: u8) -> bool
+// Whether a pilot is that of an amount: its sign column leads to it, and a line tells it.
+fn is_pilot(chart: &Chart, setup: &Setup, amount: &SignedAmount, pilot: u8) -> bool
     requires { IsSignedOf chart.now.lines amount.now }
-    ensures yes { (its : Lists) → IsWiredBy chart.now.lines setup.now its → IsTrue result
-        → IsPilotLike chart.now.lines its amount.now.field.name pilot }
-    ensures no { (its : Lists) → IsWiredBy chart.now.lines setup.now its → pilot_for its amount.now.field.name ≡ Some pilot → IsTrue result }
+    ensures yes { (its : Lists) → IsWiredBy chart.now.lines setup.now its → IsTrue result → pilot_for its amount.now.field.name ≡ Some pilot }
+    ensures no { (its : Lists) → IsWiredBy chart.now.lines setup.now its → pilot_for its amount.now.field.name ≡ Some pilot
+        → IsTold chart.now.lines amount.now.field.name → IsTrue result }
 {
     // What is known of the lines of a chart is told with them.
     let _lines = chart.lines();
-    if !picks_up(setup, column_of(amount.rule), pilot) {
-        return false;
-    }
-    if shows_sign(chart, amount.field.name) {
-        is_told(chart, setup, amount, pilot)
-    } else {
-        is_plain(setup, pilot)
-    }
+    picks_up(setup, column_of(amount.rule), pilot) && is_told(chart, setup, amount, pilot)
 }
 
-// The first pilot that may be that of an amount and is not taken.
-fn free_pilot(chart: &Chart, setup: &Setup, amount: &SignedAmount, taken: &[u8]) -> Option<u8>
+// The pilot of an amount, if there is one: the first by number.
+fn pilot_of(chart: &Chart, setup: &Setup, amount: &SignedAmount) -> Option<u8>
     requires { IsSignedOf chart.now.lines amount.now }
     ensures there { IfSome result (λ pilot. (1 ≤ pilot) × (pilot ≤ 16)) }
     ensures shown { IfSome result (λ pilot. (its : Lists) → IsWiredBy chart.now.lines setup.now its
-        → IsPilotLike chart.now.lines its amount.now.field.name pilot) }
-    ensures free { IfSome result (λ pilot. ¬ Contains taken.now pilot) }
+        → pilot_for its amount.now.field.name ≡ Some pilot) }
     ensures none { IfNone result ((its : Lists) (pilot : ℕ) → IsWiredBy chart.now.lines setup.now its → 1 ≤ pilot → pilot ≤ 16
-        → pilot_for its amount.now.field.name ≡ Some pilot → Contains taken.now pilot) }
+        → IsTold chart.now.lines amount.now.field.name → ¬ (pilot_for its amount.now.field.name ≡ Some pilot)) }
 {
     for place in 0..16 {
-        if may_serve(chart, setup, amount, place + 1) && !is_taken(taken, place + 1) {
+        if is_pilot(chart, setup, amount, place + 1) {
             return Some(place + 1);
         }
     }
     None
 }
 
-// The first pilot that may be that of the amount of a name and is not taken.
-fn shown_pilot(chart: &Chart, setup: &Setup, name: Name, taken: &[u8]) -> Option<u8>
+// The pilot of the amount of a name, if there is one.
+fn shown_pilot(chart: &Chart, setup: &Setup, name: Name) -> Option<u8>
     ensures there { IfSome result (λ pilot. (1 ≤ pilot) × (pilot ≤ 16)) }
-    ensures shown { IfSome result (λ pilot. (its : Lists) → IsWiredBy chart.now.lines setup.now its
-        → IsPilotLike chart.now.lines its name pilot) }
-    ensures free { IfSome result (λ pilot. ¬ Contains taken.now pilot) }
-    ensures none { Contains (pilots_of chart.now.lines) name → IfNone result ((its : Lists) (pilot : ℕ)
-        → IsWiredBy chart.now.lines setup.now its → 1 ≤ pilot → pilot ≤ 16 → pilot_for its name ≡ Some pilot → Contains taken.now pilot) }
+    ensures shown { IfSome result (λ pilot. (its : Lists) → IsWiredBy chart.now.lines setup.now its → pilot_for its name ≡ Some pilot) }
+    ensures none { Contains (pilots_of chart.now.lines) name → IfNone result (IsUnwired chart.now.lines setup.now) }
 {
     // What is known of the lines of a chart is told with them.
     let _lines = chart.lines();
     match signed_amount(chart, name) {
-        Some(amount) => free_pilot(chart, setup, &amount, taken),
+        Some(amount) => pilot_of(chart, setup, &amount),
         None => None,
     }
 }
 
-/// The pilots that a setup shows for amounts, in their order, each the first that is not yet taken; none where it shows none for one of
-/// them.
+/// The pilots that a setup shows for amounts, in their order; none where it shows none for one of them.
 pub(crate) fn shown_pilots(
     alloc: Global,
     chart: &Chart,
@@ -282,7 +233,7 @@ pub(crate) fn shown_pilots(
     let _lines = chart.lines();
     let mut pilots = Vec::new(alloc);
     for name in names {
-        match shown_pilot(chart, setup, *name, pilots.as_slice()) {
+        match shown_pilot(chart, setup, *name) {
             Some(pilot) => pilots.push(pilot)?,
             None => return Ok(None),
         }

@@ -1,6 +1,6 @@
 use Rattle.std.proofs.Common.{List, Some, ap, flat_map, sym, ◌++◌, ◌∙◌, ◌≡◌}
 use Rattle.charts.specs.declared.chart.Line.{Line}
-use Rattle.panel_plans.specs.Alike.{columns_for, columns_on, level_of}
+use Rattle.panel_plans.specs.ComparedColumns.{columns_for, columns_on, level_of}
 use Rattle.panel_plans.proofs.Steps.{parts-all, parts-more, parts-none}
 use Rattle.panel_plans.proofs.compared.compared_columns.Goals as goal
 use Rattle.panel_plans.proofs.compared.compared_columns.Goals.{in-Some+in_ok-push_columns, in_default}

@@ -1,6 +1,6 @@
 use Rattle.std.proofs.Common.{◌≡◌, ◌++◌, drop, flat_map}
 use Rattle.charts.specs.declared.chart.Line.{Line}
-use Rattle.panel_plans.specs.Alike.{columns_on, compared_columns}
+use Rattle.panel_plans.specs.ComparedColumns.{columns_on, compared_columns}
 use Rattle.panel_plans.proofs.compared.compared_columns.Given as goal
 
 abbrev pub invariant-loop-line : goal.invariant-loop-line

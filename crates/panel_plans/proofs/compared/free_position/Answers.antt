@@ -1,5 +1,5 @@
 use Rattle.std.proofs.Common.{ℕ, Contains, arith}
-use Rattle.panel_plans.specs.Alike.{IsCompared}
+use Rattle.panel_plans.specs.ComparedColumns.{IsCompared}
 use Rattle.panel_plans.proofs.Shown.{each-numbered}
 use Rattle.panel_plans.proofs.compared.free_position.Goals as goal
 

@@ -1,5 +1,5 @@
 use Rattle.std.proofs.Common.{ℕ, ◌+◌, ◌<◌, Contains}
-use Rattle.panel_plans.specs.Alike.{IsCompared}
+use Rattle.panel_plans.specs.ComparedColumns.{IsCompared}
 use Rattle.panel_plans.proofs.compared.free_position.Given as goal
 
 abbrev pub invariant-loop-place : goal.invariant-loop-place

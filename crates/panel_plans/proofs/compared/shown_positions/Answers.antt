@@ -1,6 +1,6 @@
 use Rattle.std.proofs.Common.{Contains, List, ap, get_or, length, subst, sym, ◌++◌, ◌∷◌, [], ◌+◌, ◌≤◌, ◌∙◌, ◌≡◌, arith}
 use Rattle.std.proofs.lemmas.List.{length-append}
-use Rattle.panel_plans.specs.Alike.{compared_columns}
+use Rattle.panel_plans.specs.ComparedColumns.{compared_columns}
 use Rattle.panel_plans.proofs.Comparing.{GoOn, go-all, go-more, go-none, go-stuck}
 use Rattle.panel_plans.proofs.Steps.{item-or, there-more, there-none}
 use Rattle.plans.specs.PartNumbers.{AreThere}

@@ -1,6 +1,6 @@
 use Rattle.std.proofs.Common.{Contains, List, Some, ◌≡◌, ◌∙◌, ap, arith, get_or, length, subst, sym, true≢false}
 use Rattle.charts.specs.declared.chart.Line.{Line}
-use Rattle.panel_plans.specs.Alike.{TellsPilot}
+use Rattle.panel_plans.specs.PilotWires.{TellsPilot}
 use Rattle.panel_plans.specs.Wired.{IsWiredBy}
 use Rattle.panel_plans.proofs.Steps.{told-more}
 use Rattle.plans.specs.Plans.{Lists}

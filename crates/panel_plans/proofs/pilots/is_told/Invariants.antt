@@ -1,6 +1,6 @@
 use Rattle.std.proofs.Common.{ℕ, ◌≡◌, ◌<◌, Some, get_or}
 use Rattle.charts.specs.declared.chart.Line.{Line}
-use Rattle.panel_plans.specs.Alike.{TellsPilot}
+use Rattle.panel_plans.specs.PilotWires.{TellsPilot}
 use Rattle.panel_plans.specs.Wired.{IsWiredBy}
 use Rattle.plans.specs.Plans.{Lists}
 use Rattle.wiring_table.specs.Parts.{pilot_for}
