@@ -1,7 +1,7 @@
 //! Makes pages for a browser, and tells of each whether it is well-formed XML.
 //!
 //! The file `index` names the planning charts and wiring charts, one a line, each in a file `text` beside its `deck`. Their pages were
-//! built by a script, from printed pages, wiring charts, legends and explanations that were worked out by hand.
+//! built by a script, from printed pages, wiring charts, legends, explanations and traces that were worked out by hand.
 
 use crate::answered::Served;
 use crate::read_case;

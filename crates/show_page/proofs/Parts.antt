@@ -1,19 +1,21 @@
 -- The parts of the page.
-use Rattle.std.proofs.Common.{◌≡◌, ◌∙◌, refl, sym, ap, subst, Bool, true, false, ℕ, ◌+◌, ◌<◌, List, [], ◌∷◌, ◌++◌, length, take, get_or}
-use Rattle.std.specs.Prelude.{All, Contains, if◌then◌else◌, map, nat_le}
+use Rattle.std.proofs.Common.{◌≡◌, ◌∙◌, sym, ap, subst, Bool, true, false, ℕ, ◌+◌, ◌<◌, List, [], ◌∷◌, ◌++◌, length, take, get_or}
+use Rattle.std.specs.Prelude.{All, if◌then◌else◌, map, nat_le}
 use Rattle.std.specs.List.{range_with_len}
 use Rattle.std.proofs.lemmas.List.{map-append, take_more}
 use Rattle.std.proofs.lemmas.List.Elements.{All-cons, All-head, All-nil, All-tail, Contains-get_or}
 use Rattle.explanations.specs.PlacedInRun.{PrintsLine}
 use Rattle.hubs.specs.declared.hub.Hub.{Hub}
 use Rattle.machine.specs.Runs.{MachineLines}
-use Rattle.markup.specs.Pieces.{GainsEach, GainsOne}
+use Rattle.markup.specs.Pieces.{GainsEach}
 use Rattle.markup.proofs.Pieces.{and_more, each_more, each_none}
 use Rattle.placed_lines.specs.declared.placed_line.PlacedLine.{PlacedLine}
 use Rattle.setups.specs.Wiring.{Wiring}
 use Rattle.wheel_sections.specs.Sections.{IsOfLine, IsOfWheel}
 use Rattle.panel_drawing.specs.Helper.{GainsDrawing}
 use Rattle.panel_drawing.specs.declared.drawing.PanelWire.{PanelWire}
+use Rattle.traces.specs.Traces.{IsTrace}
+use Rattle.show_page.specs.Cycles.{shown_cycles}
 use Rattle.show_page.specs.Frame.{document_close, why_open}
 use Rattle.show_page.specs.Page.{IsPage, front, front_text, page_text, shown, unasked}
 
@@ -65,14 +67,15 @@ unasked_item pairs place d old new wire less before is pushed =
 
 -- the pieces of the page
 pub page_whole : (wiring : Wiring) (deck : List (List ℕ)) (lines : List PlacedLine) (wires : List PanelWire)
-    (legend none one two three four five new : List ℕ) → MachineLines wiring deck lines → none ≡ []
-    → one ≡ none ++ front_text (length deck) (shown (length deck) lines) wiring.tape.lines
+    (trace legend none one two three four five six new : List ℕ) → MachineLines wiring deck lines → IsTrace wiring deck trace → none ≡ []
+    → one ≡ none ++ front_text (length deck) trace (shown (length deck) lines) wiring.tape.lines
     → GainsDrawing wires one two → three ≡ two ++ legend → four ≡ three ++ why_open
-    → GainsEach (IsOfLine wiring deck) (shown (length deck) lines) four five → new ≡ five ++ document_close
-    → IsPage wiring deck wires legend new
+    → GainsEach (IsOfLine wiring deck) (shown (length deck) lines) four five → six ≡ five ++ shown_cycles (length deck) trace
+    → new ≡ six ++ document_close → IsPage wiring deck wires legend new
 unfolding page_text
-page_whole wiring deck lines wires legend none one two three four five new run empty h1 h2 h3 h4 h5 h6 =
-    let first = front_text (length deck) (shown (length deck) lines) wiring.tape.lines in
+page_whole wiring deck lines wires trace legend none one two three four five six new run traced empty h1 h2 h3 h4 h5 h6 h7 =
+    let first = front_text (length deck) trace (shown (length deck) lines) wiring.tape.lines in
+    let cycles = shown_cycles (length deck) trace in
     let begun : one ≡ [] ++ first = h1 ∙ ap (λ (l : List ℕ). l ++ first) empty in
     record {
       lines = lines;
@@ -81,10 +84,13 @@ page_whole wiring deck lines wires legend none one two three four five new run e
       drawn = h2.is;
       sections = h5.text;
       told = h5.each;
+      trace = trace;
+      traced = traced;
       spelled =
-          and_more [] five new (first ++ h2.drawing ++ legend ++ why_open ++ h5.text) document_close
+          and_more [] six new (first ++ h2.drawing ++ legend ++ why_open ++ h5.text ++ cycles) document_close
+          (and_more [] five six (first ++ h2.drawing ++ legend ++ why_open ++ h5.text) cycles
           (and_more [] four five (first ++ h2.drawing ++ legend ++ why_open) h5.text
           (and_more [] three four (first ++ h2.drawing ++ legend) why_open
           (and_more [] two three (first ++ h2.drawing) legend
-          (and_more [] one two first h2.drawing begun h2.gained) h3) h4) h5.gained) h6;
+          (and_more [] one two first h2.drawing begun h2.gained) h3) h4) h5.gained) h6) h7;
     }

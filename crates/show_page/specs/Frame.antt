@@ -33,13 +33,16 @@ style_h = codes ".why svg{display:block;width:100%;height:auto;background:#fff}.
 unfoldable pub style_i : List ℕ
 style_i = codes "@page{margin:1cm}@media print{body{margin:0}.why{display:none}.sheets,.board{overflow:visible}#panel{min-width:0}.sheets pre{font-size:6.5pt;break-after:page}}\n"
 
+unfoldable pub style_k : List ℕ
+style_k = codes ".why section[id^=cycle] a{display:inline-block;margin-right:1em}.why section[id^=cycle] pre{white-space:pre;overflow-x:auto}.why section[id^=cycle] pre::first-line{font-weight:bold}\n@media(max-width:74.99em){.why section[id^=cycle]:target{height:40vh}}@media print{.step{display:none}.legend pre{break-inside:avoid}}\n"
+
 -- the end of the head, and the front of the body
 unfoldable pub body_open : List ℕ
-body_open = codes "</style></head><body>\n<p>Choose a printed character to see the way of each impulse that printed it. The drawing of the panel is our own schematic, not the real layout of the machine.</p>\n<h1>The report</h1>\n"
+body_open = codes "</style></head><body>\n<p>Choose a printed character to see the way of each impulse that printed it. The drawing of the panel is our own schematic, not the real layout of the machine.</p>\n<h1 id=\"report\">The report</h1>\n"
 
--- what is said where only the first pages are shown
+-- what is said where only the first pages and cycles are shown
 unfoldable pub cut_words : List ℕ
-cut_words = codes "<p>The deck has more than 200 cards: its first two pages are shown.</p>\n"
+cut_words = codes "<p>The deck has more than 200 cards: its first two pages and its first 200 cycles are shown.</p>\n"
 
 -- what stands before the sheets
 unfoldable pub sheets_open : List ℕ
@@ -70,4 +73,4 @@ document_close = codes "</div>\n</body></html>\n"
 
 -- the head of the page
 unfoldable pub style : List ℕ
-style = style_a ++ style_b ++ style_c ++ style_d ++ style_e ++ style_f ++ style_g ++ style_h ++ style_i
+style = style_a ++ style_b ++ style_c ++ style_d ++ style_e ++ style_f ++ style_g ++ style_h ++ style_i ++ style_k

@@ -1,4 +1,5 @@
--- The page of a setup and a deck: the printed pages, the drawing of the panel, the legend, and an explanation of each printed character.
+-- The page of a setup and a deck: the printed pages, the drawing of the panel, the legend, an explanation of each printed character, and
+-- the cycles of the run.
 use Rattle.std.specs.Prelude.{◌≡◌, ℕ, List, [], ◌∷◌, ◌++◌, if◌then◌else◌, length, map, nat_le}
 use Rattle.charts.specs.declared.chart.Line.{Line}
 use Rattle.hubs.specs.declared.hub.Hub.{Hub}
@@ -14,8 +15,10 @@ use Rattle.placed_lines.specs.declared.placed_line.PlacedLine.{PlacedLine}
 use Rattle.plans.specs.Plans.{Lists}
 use Rattle.report_sheets.specs.Sheets.{sheets_text}
 use Rattle.setups.specs.Wiring.{Wiring}
+use Rattle.traces.specs.Traces.{IsTrace}
 use Rattle.wheel_sections.specs.Sections.{IsOfLine}
 use Rattle.wiring_text.specs.declared.statement.Version.{Version}
+use Rattle.show_page.specs.Cycles.{shown_cycles, step_text}
 use Rattle.show_page.specs.Frame.{body_open, cut_words, document_close, document_open, legend_open, panel_open, sheets_open, style, why_open, wiring_close, wiring_open}
 
 -- the lines of the first two pages
@@ -32,17 +35,23 @@ unfoldable pub cut_text : ℕ → List ℕ
 cut_text cards = if nat_le cards 200 then [] else cut_words
 
 -- the page up to the drawing
-unfoldable pub front_text : ℕ → List PlacedLine → ℕ → List ℕ
-front_text cards lines long =
-    document_open ++ style ++ body_open ++ cut_text cards ++ sheets_open ++ sheets_text lines long ++ panel_open
+unfoldable pub front_text : (cards : ℕ) → (trace : List ℕ) → List PlacedLine → (long : ℕ) → List ℕ
+front_text cards trace lines long =
+    document_open ++ style ++ body_open ++ cut_text cards ++ step_text trace ++ sheets_open ++ sheets_text lines long ++ panel_open
 
 -- the page, by its parts
-unfoldable pub page_text : (cards : ℕ) → List PlacedLine → (long : ℕ) → (drawing legend sections : List ℕ) → List ℕ
-page_text cards lines long drawing legend sections =
-    front_text cards lines long ++ drawing ++ legend ++ why_open ++ sections ++ document_close
+unfoldable pub page_text : (cards : ℕ) → (trace : List ℕ) → List PlacedLine → (long : ℕ) → (drawing legend sections : List ℕ) → List ℕ
+page_text cards trace lines long drawing legend sections =
+    front_text cards trace lines long
+    ++ drawing
+    ++ legend
+    ++ why_open
+    ++ sections
+    ++ shown_cycles cards trace
+    ++ document_close
 
--- The page of a setup and a deck: the lines are those that the machine prints, each wire of the list is drawn once, and each printed
--- character that is shown has its element.
+-- The page of a setup and a deck: the lines are those that the machine prints, each wire of the list is drawn once, each printed character
+-- that is shown has its element, and the cycles are those of the run.
 pub record IsPage (wiring : Wiring) (deck : List (List ℕ)) (wires : List PanelWire) (legend text : List ℕ) : Type 0 where
   pub lines : List PlacedLine
   pub run : MachineLines wiring deck lines
@@ -50,7 +59,9 @@ pub record IsPage (wiring : Wiring) (deck : List (List ℕ)) (wires : List Panel
   pub drawn : IsDrawing wires drawing
   pub sections : List ℕ
   pub told : EachText (IsOfLine wiring deck) (shown (length deck) lines) sections
-  pub spelled : text ≡ page_text (length deck) (shown (length deck) lines) wiring.tape.lines drawing legend sections
+  pub trace : List ℕ
+  pub traced : IsTrace wiring deck trace
+  pub spelled : text ≡ page_text (length deck) trace (shown (length deck) lines) wiring.tape.lines drawing legend sections
 
 -- The page of a chart, its plan and its setup, and a deck: the wires are those of the setup, and the legend that of the chart.
 pub record ShowsChart (version : Version) (lines : List Line) (plan : Lists) (setup : Wiring) (source : List ℕ)

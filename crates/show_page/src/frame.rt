@@ -2,7 +2,7 @@
 
 ghost use Rattle.std.specs.Prelude.{◌≡◌, ◌++◌, OnOk};
 ghost use Rattle.std.specs.String.{string_bytes};
-ghost use Rattle.show_page.specs.Frame.{document_open, style_a, style_b, style_c, style_d, style_e, style_f, style_g, style_h, style_i, body_open, cut_words, sheets_open, panel_open, legend_open, wiring_open, wiring_close, why_open, document_close, style};
+ghost use Rattle.show_page.specs.Frame.{document_open, style_a, style_b, style_c, style_d, style_e, style_f, style_g, style_h, style_i, style_k, body_open, cut_words, sheets_open, panel_open, legend_open, wiring_open, wiring_close, why_open, document_close, style};
 
 use std::alloc::AllocError;
 
@@ -106,13 +106,23 @@ fn write_style_i(text: &mut String) -> Result<(), AllocError>
     )
 }
 
+#[tactic(auto, unfolding(crate::specs::Frame::style_k))]
+// A part of the style.
+fn write_style_k(text: &mut String) -> Result<(), AllocError>
+    ensures { OnOk result (string_bytes text.new ≡ string_bytes text.old ++ style_k) }
+{
+    text.push_str(
+        ".why section[id^=cycle] a{display:inline-block;margin-right:1em}.why section[id^=cycle] pre{white-space:pre;overflow-x:auto}.why section[id^=cycle] pre::first-line{font-weight:bold}\n@media(max-width:74.99em){.why section[id^=cycle]:target{height:40vh}}@media print{.step{display:none}.legend pre{break-inside:avoid}}\n",
+    )
+}
+
 #[tactic(auto, unfolding(crate::specs::Frame::body_open))]
 // The end of the head, and the front of the body.
 pub(crate) fn write_body_open(text: &mut String) -> Result<(), AllocError>
     ensures { OnOk result (string_bytes text.new ≡ string_bytes text.old ++ body_open) }
 {
     text.push_str(
-        "</style></head><body>\n<p>Choose a printed character to see the way of each impulse that printed it. The drawing of the panel is our own schematic, not the real layout of the machine.</p>\n<h1>The report</h1>\n",
+        "</style></head><body>\n<p>Choose a printed character to see the way of each impulse that printed it. The drawing of the panel is our own schematic, not the real layout of the machine.</p>\n<h1 id=\"report\">The report</h1>\n",
     )
 }
 
@@ -121,7 +131,9 @@ pub(crate) fn write_body_open(text: &mut String) -> Result<(), AllocError>
 pub(crate) fn write_cut_words(text: &mut String) -> Result<(), AllocError>
     ensures { OnOk result (string_bytes text.new ≡ string_bytes text.old ++ cut_words) }
 {
-    text.push_str("<p>The deck has more than 200 cards: its first two pages are shown.</p>\n")
+    text.push_str(
+        "<p>The deck has more than 200 cards: its first two pages and its first 200 cycles are shown.</p>\n",
+    )
 }
 
 #[tactic(auto, unfolding(crate::specs::Frame::sheets_open))]
@@ -195,5 +207,6 @@ pub(crate) fn write_style(text: &mut String) -> Result<(), AllocError>
     write_style_f(text)?;
     write_style_g(text)?;
     write_style_h(text)?;
-    write_style_i(text)
+    write_style_i(text)?;
+    write_style_k(text)
 }

@@ -1,10 +1,12 @@
-//! One page for a browser: the report, the panel and the way of each impulse.
+//! One page for a browser: the report, the panel, the way of each impulse and the cycles of the run.
 //!
 //! [`show_chart`] makes the page of a chart and a deck, [`show_panel`] that of a panel that is wired as a wiring chart says. It is one file
-//! of XHTML without scripts, and needs no network: the printed pages, the drawing of the panel, the legend or the wiring chart, and for
-//! each printed character an element with its explanation, to which the character links. `specs/Page.antt` says what is written.
+//! of XHTML without scripts, and needs no network: the printed pages, the drawing of the panel, the legend or the wiring chart, for
+//! each printed character an element with its explanation, to which the character links, and an element for each cycle of the run.
+//! `specs/Page.antt` says what is written.
 #![tactic(auto)]
 
+mod cycles;
 mod frame;
 mod page;
 mod show;

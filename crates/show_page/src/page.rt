@@ -8,6 +8,7 @@ ghost use Rattle.markup.specs.Pieces.{GainsEach};
 ghost use Rattle.wheel_sections.specs.Sections.{IsOfLine};
 ghost use Rattle.show_page.specs.Page.{cut_text, front, front_text, shown};
 
+use crate::cycles::write_step;
 use crate::frame::{
     write_body_open, write_cut_words, write_document_open, write_panel_open, write_sheets_open,
     write_style,
@@ -55,16 +56,18 @@ fn write_cut(text: &mut String, cards: usize) -> Result<(), AllocError>
 pub(crate) fn write_front(
     text: &mut String,
     cards: usize,
+    trace: &[u8],
     lines: &[PlacedLine],
     form_lines: u32,
 ) -> Result<(), AllocError>
     requires { form_lines ≤ 144 }
-    ensures { OnOk result (string_bytes text.new ≡ string_bytes text.old ++ front_text cards lines.now form_lines) }
+    ensures { OnOk result (string_bytes text.new ≡ string_bytes text.old ++ front_text cards trace.now lines.now form_lines) }
 {
     write_document_open(text)?;
     write_style(text)?;
     write_body_open(text)?;
     write_cut(text, cards)?;
+    write_step(text, trace)?;
     write_sheets_open(text)?;
     write_sheets(text, lines, form_lines)?;
     write_panel_open(text)

@@ -7,6 +7,7 @@ ghost use Rattle.panel_drawing.specs.Wires.{AreWiresOf};
 ghost use Rattle.plans.specs.Plans.{IsFor};
 ghost use Rattle.show_page.specs.Page.{IsPage, ShowsChart, ShowsPanel, unasked, wiring_text};
 
+use crate::cycles::{traced, write_shown_cycles};
 use crate::frame::{
     write_document_close, write_legend_open, write_why_open, write_wiring_close, write_wiring_open,
 };
@@ -35,22 +36,25 @@ fn page(
     ensures { IfOk result (λ text. IsPage setup.now cards.now wires.now legend.now (string_bytes text)) }
 {
     let printed = simulate(alloc, setup, cards)?;
+    let trace = traced(alloc, setup, cards)?;
     let lines = shown(cards.len(), &printed);
     let form_lines = u32::from(setup.tape().lines());
     let mut text = String::new(alloc);
-    write_front(&mut text, cards.len(), lines, form_lines)?;
+    write_front(&mut text, cards.len(), &trace, lines, form_lines)?;
     write_drawing(&mut text, wires)?;
     text.push_str(legend)?;
     write_why_open(&mut text)?;
     write_sections(alloc, &mut text, setup, cards, lines)?;
+    write_shown_cycles(alloc, &mut text, cards.len(), &trace)?;
     write_document_close(&mut text)?;
     Ok(text)
 }
 
 /// The page of a chart with its plan and its setup, and a deck of at most 999,999 cards, as a file of XHTML: the pages that the machine
 /// prints, wired so, the drawing of the panel with each wire of the setup once, the legend of the chart, in a version of the language of
-/// wiring charts, and for each printed character its explanation. `source` is the text of the chart. Of a deck of more than 200 cards the
-/// first two pages are shown, and the page says so. Its only refusal is memory.
+/// wiring charts, for each printed character its explanation, and for each cycle of the run what happened in it. `source` is the text of
+/// the chart. Of a deck of more than 200 cards the first two pages and the first 200 cycles are shown, and the page says so. Its only
+/// refusal is memory.
 pub fn show_chart(
     alloc: Global,
     version: Version,
