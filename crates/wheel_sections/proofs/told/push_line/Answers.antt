@@ -1,7 +1,7 @@
-use Rattle.std.proofs.Common.{◌≡◌, ◌∙◌, ap, Option, None}
-use Rattle.std.specs.Prelude.{Result, Ok}
+use Rattle.std.proofs.Common.{◌∙◌, ap}
+use Rattle.std.specs.Prelude.{Ok}
 use Rattle.wheel_sections.proofs.Gains.{stands_there}
-use Rattle.wheel_sections.proofs.wheels.write_line_sections.Goals as goal
+use Rattle.wheel_sections.proofs.told.push_line.Goals as goal
 
 pub unreachable-requires : goal.unreachable-requires
 unreachable-requires c =
