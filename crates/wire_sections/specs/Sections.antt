@@ -1,11 +1,12 @@
 -- The elements of wires and of hubs. That of a wire has its name and the line of the chart that asks for it, that of a hub its name and its
--- wires, with their lines. Both have links to the printed characters of which an impulse came through.
+-- wires, with their lines. Both have links to the printed characters of which an impulse came through, and a picture, the panel with the wire
+-- or the wires over it.
 use Rattle.std.specs.Prelude.{◌≡◌, ℕ, ◌==◌, List, [], ◌∷◌, ◌++◌, codes, decimal, if◌then◌else◌}
 use Rattle.std.specs.List.{flat_map}
 use Rattle.hubs.specs.declared.hub.Hub.{Hub}
 use Rattle.markup.specs.Escapes.{escaped}
 use Rattle.markup.specs.Pieces.{numbered_words}
-use Rattle.panel_drawing.specs.Drawing.{AreHubs, ends_at, has_wire_at, wire_name}
+use Rattle.panel_drawing.specs.Drawing.{AreHubs, ends_at, has_wire_at, way_curve, wire_name}
 use Rattle.panel_drawing.specs.Names.{hub_text}
 use Rattle.panel_drawing.specs.declared.drawing.PanelWire.{PanelWire}
 use Rattle.report_sheets.specs.Sheets.{link_text}
@@ -56,6 +57,17 @@ line_link line = line_open line ++ line_words line
 abbrev pub asking_text : ℕ → List ℕ
 asking_text line = if line == 0 then [] else line_link line
 
+-- a wire over the panel
+abbrev pub path_text : PanelWire → List ℕ
+path_text wire = codes "<path d=\"" ++ way_curve (wire.exit ∷ wire.entry ∷ []) ++ codes "\"/>"
+
+-- what stands around the wires of a picture
+unfoldable pub picture_open : List ℕ
+picture_open = codes "<svg xmlns=\"http://www.w3.org/2000/svg\" viewBox=\"0 0 87 77\"><use href=\"#board\"/>"
+
+unfoldable pub section_close : List ℕ
+section_close = codes "</svg></section>\n"
+
 -- the front of the element of a wire by its number
 abbrev pub wire_open : ℕ → List ℕ
 wire_open number = codes "<section id=\"wire" ++ decimal number ++ codes "\"><a href=\"#panel\">back</a>\n<p>The wire "
@@ -67,7 +79,7 @@ wire_head number wire = wire_open number ++ wire_name wire ++ asking_text wire.l
 -- the element of a wire, and those of all wires; the first wire has number 1
 abbrev pub wire_section : List ToldWheel → ℕ → PanelWire → List ℕ
 wire_section told number wire =
-    wire_head number wire ++ through_text (through_links (part.Wire wire) told) ++ codes "</section>\n"
+    wire_head number wire ++ through_text (through_links (part.Wire wire) told) ++ picture_open ++ path_text wire ++ section_close
 
 abbrev pub wire_sections_text : List PanelWire → List ToldWheel → List ℕ
 wire_sections_text wires told = numbered_words (wire_section told) 1 wires
@@ -83,6 +95,10 @@ wire_link number wire = wire_link_open number ++ wire_name wire ++ codes "</a>" 
 abbrev pub link_at : (hub : ℕ) → ℕ → PanelWire → List ℕ
 link_at hub number wire = if ends_at hub wire then wire_link number wire else []
 
+-- the same wire over the panel
+abbrev pub path_at : (hub : ℕ) → PanelWire → List ℕ
+path_at hub wire = if ends_at hub wire then path_text wire else []
+
 -- the front of the element of a hub
 abbrev pub hub_open : ℕ → List ℕ
 hub_open number = codes "<section id=\"hub" ++ decimal number ++ codes "\"><a href=\"#panel\">back</a>\n<p>The hub "
@@ -93,8 +109,8 @@ hub_head number hub = hub_open number ++ hub_text hub ++ codes ". Its wires:</p>
 -- the element of a hub by its number, where a wire has an end there
 abbrev pub hub_element : List PanelWire → List ToldWheel → ℕ → Hub → List ℕ
 hub_element wires told number hub =
-    hub_head number hub ++ numbered_words (link_at number) 1 wires ++ through_text (through_links (part.Hub number) told)
-    ++ codes "</section>\n"
+    hub_head number hub ++ numbered_words (link_at number) 1 wires ++ through_text (through_links (part.Hub number) told) ++ picture_open
+    ++ flat_map (path_at number) wires ++ section_close
 
 abbrev pub hub_section : List PanelWire → List ToldWheel → ℕ → Hub → List ℕ
 hub_section wires told number hub = if has_wire_at number wires then hub_element wires told number hub else []

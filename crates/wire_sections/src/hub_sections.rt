@@ -1,15 +1,16 @@
 //! The elements of hubs, and all elements.
 
 ghost use Rattle.std.specs.Prelude.{◌≡◌, ◌++◌, OnOk};
+ghost use Rattle.std.specs.List.{flat_map};
 ghost use Rattle.std.specs.String.{string_bytes};
 ghost use Rattle.markup.specs.Pieces.{numbered_words};
 ghost use Rattle.panel_drawing.specs.Helper.{GainsHubs};
 ghost use Rattle.wire_sections.specs.Helper.{GainsWireSections};
-ghost use Rattle.wire_sections.specs.Sections.{hub_element, hub_head, hub_open, hub_section, link_at, wire_link, wire_link_open};
+ghost use Rattle.wire_sections.specs.Sections.{hub_element, hub_head, hub_open, hub_section, link_at, path_at, wire_link, wire_link_open};
 
 use crate::passing::Part;
 use crate::through::write_through;
-use crate::wire_sections::{write_all, write_asking};
+use crate::wire_sections::{write_all, write_asking, write_close, write_path, write_picture_open};
 use hubs::Hub;
 use panel_drawing::{PanelWire, ends_at, has_wire_at, write_hub, write_wire_name};
 use std::alloc::{AllocError, Global};
@@ -59,6 +60,27 @@ fn write_links(text: &mut String, hub: u32, wires: &[PanelWire]) -> Result<(), A
     Ok(())
 }
 
+// A wire over the panel, where it has an end at a hub.
+fn write_path_at(text: &mut String, hub: u32, wire: PanelWire) -> Result<(), AllocError>
+    ensures { OnOk result (string_bytes text.new ≡ string_bytes text.old ++ path_at hub wire) }
+{
+    if !ends_at(hub, wire) {
+        return Ok(());
+    }
+    write_path(text, wire)
+}
+
+#[tactic(auto, using(markup::proofs::Pieces::one_more))]
+// The wires of a hub over the panel.
+fn write_paths(text: &mut String, hub: u32, wires: &[PanelWire]) -> Result<(), AllocError>
+    ensures { OnOk result (string_bytes text.new ≡ string_bytes text.old ++ flat_map (path_at hub) wires.now) }
+{
+    for wire in wires {
+        write_path_at(text, hub, *wire)?;
+    }
+    Ok(())
+}
+
 // The front of the element of a hub.
 fn write_open(text: &mut String, number: u32) -> Result<(), AllocError>
     ensures { OnOk result (string_bytes text.new ≡ string_bytes text.old ++ hub_open number) }
@@ -92,7 +114,9 @@ fn write_element(
     write_head(text, number, hub)?;
     write_links(text, number, wires)?;
     write_through(alloc, text, Part::Hub(number), told)?;
-    text.push_str("</section>\n")
+    write_picture_open(text)?;
+    write_paths(text, number, wires)?;
+    write_close(text)
 }
 
 // The element of a hub, where a wire has an end there.

@@ -2,11 +2,11 @@
 
 ghost use Rattle.std.specs.Prelude.{◌≡◌, ◌++◌, OnOk};
 ghost use Rattle.std.specs.String.{string_bytes};
-ghost use Rattle.wire_sections.specs.Sections.{asking_text, line_link, line_open, line_words, wire_head, wire_open, wire_section, wire_sections_text};
+ghost use Rattle.wire_sections.specs.Sections.{asking_text, line_link, line_open, line_words, path_text, picture_open, section_close, wire_head, wire_open, wire_section, wire_sections_text};
 
 use crate::passing::Part;
 use crate::through::write_through;
-use panel_drawing::{PanelWire, write_wire_name};
+use panel_drawing::{PanelWire, write_way, write_wire_name};
 use std::alloc::{AllocError, Global};
 use wheel_sections::ToldWheel;
 
@@ -42,6 +42,33 @@ pub(crate) fn write_asking(text: &mut String, line: u16) -> Result<(), AllocErro
     write_line(text, line)
 }
 
+// A wire over the panel.
+pub(crate) fn write_path(text: &mut String, wire: PanelWire) -> Result<(), AllocError>
+    ensures { OnOk result (string_bytes text.new ≡ string_bytes text.old ++ path_text wire) }
+{
+    text.push_str("<path d=\"")?;
+    write_way(text, &[wire.exit, wire.entry])?;
+    text.push_str("\"/>")
+}
+
+#[tactic(auto, unfolding(crate::specs::Sections::picture_open))]
+// What stands before the wires of a picture.
+pub(crate) fn write_picture_open(text: &mut String) -> Result<(), AllocError>
+    ensures { OnOk result (string_bytes text.new ≡ string_bytes text.old ++ picture_open) }
+{
+    text.push_str(
+        "<svg xmlns=\"http://www.w3.org/2000/svg\" viewBox=\"0 0 87 77\"><use href=\"#board\"/>",
+    )
+}
+
+#[tactic(auto, unfolding(crate::specs::Sections::section_close))]
+// The end of an element.
+pub(crate) fn write_close(text: &mut String) -> Result<(), AllocError>
+    ensures { OnOk result (string_bytes text.new ≡ string_bytes text.old ++ section_close) }
+{
+    text.push_str("</svg></section>\n")
+}
+
 // The front of the element of a wire.
 fn write_open(text: &mut String, number: usize) -> Result<(), AllocError>
     ensures { OnOk result (string_bytes text.new ≡ string_bytes text.old ++ wire_open number) }
@@ -74,7 +101,9 @@ fn write_section(
 {
     write_head(text, number, wire)?;
     write_through(alloc, text, Part::Wire(wire), told)?;
-    text.push_str("</section>\n")
+    write_picture_open(text)?;
+    write_path(text, wire)?;
+    write_close(text)
 }
 
 #[tactic(auto, using(markup::proofs::Pieces::numbered_more))]

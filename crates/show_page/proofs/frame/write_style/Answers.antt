@@ -1,4 +1,4 @@
-use Rattle.std.proofs.Common.{◌≡◌, ◌++◌, List}
+use Rattle.std.proofs.Common.{◌≡◌, ◌++◌}
 use Rattle.std.specs.String.{string_bytes}
 use Rattle.markup.proofs.Pieces.{and_more, where_ok}
 use Rattle.show_page.specs.Frame.{style, style_a, style_b, style_c, style_d, style_e, style_f, style_g, style_h, style_i}

@@ -1,4 +1,4 @@
-use Rattle.std.proofs.Common.{◌≡◌, ◌++◌, List}
+use Rattle.std.proofs.Common.{◌≡◌, ◌++◌}
 use Rattle.std.specs.String.{string_bytes}
 use Rattle.markup.proofs.Pieces.{and_more, where_ok}
 use Rattle.report_sheets.specs.Sheets.{sheets_text}
