@@ -1,10 +1,12 @@
 -- What a text gains, piece by piece.
-use Rattle.std.proofs.Common.{◌≡◌, ◌∙◌, sym, ap, subst, refl, arith, ℕ, ◌+◌, ◌<◌, List, [], ◌∷◌, ◌++◌, append_assoc, append-nil, length, flat_map, take, get_or}
-use Rattle.std.specs.Prelude.{OnOk, Result, Ok, Err, map}
+use Rattle.std.proofs.Common.{add-one, ◌≡◌, ◌∙◌, sym, ap, subst, refl, arith, ℕ, ◌+◌, ◌<◌, List, [], ◌∷◌, ◌++◌, append_assoc, append-nil, length, flat_map, take, get_or}
+use Rattle.std.specs.Prelude.{OnOk, Result, Ok, Err, drop, if◌then◌else◌, map}
+use Rattle.std.specs.Result.{is_ok}
 use Rattle.std.specs.List.{range_with_len}
+use Rattle.std.proofs.Math.Seq.{drop-cons}
 use Rattle.std.proofs.lemmas.List.{take_more, flat_map_more}
 use Rattle.std.proofs.lemmas.List.FromFn.{map-range_with_len_more}
-use Rattle.markup.specs.Pieces.{EachText, GainsEach, GainsOne}
+use Rattle.markup.specs.Pieces.{GainsEach, GainsOne, numbered_words}
 use Rattle.markup.specs.Pieces.EachText.{none as no-text, more as more-text}
 
 -- one word more, of those of a list of things
@@ -16,13 +18,41 @@ one_more {A} word old mid new things place thing less item before one =
     ∙ ap (λ (l : List A). old ++ flat_map word l)
     (sym (take_more things place thing less ∙ ap (λ (a : A). take place things ++ a ∷ []) item))
 
+-- one word more, of those of a list of things by their numbers
+pub numbered_more : {A : Type 0} (word : ℕ → A → List ℕ) (mid new : List ℕ) (number : ℕ) (things : List A) (place : ℕ) (thing : A)
+    (whole : List ℕ) → place < length things → get_or things place thing ≡ thing
+    → mid ++ numbered_words word number (drop place things) ≡ whole → new ≡ mid ++ word number thing
+    → new ++ numbered_words word (number + 1) (drop (place + 1) things) ≡ whole
+numbered_more {A} word mid new number things place thing whole less item before one =
+    let left : drop place things ≡ thing ∷ drop (place + 1) things =
+    let parts : drop place things ≡ get_or things place thing ∷ drop (place + 1) things = rw (add-one, drop-cons things place thing) in
+    parts ∙ ap (λ (a : A). a ∷ drop (place + 1) things) item in
+    ap (λ (l : List ℕ). l ++ numbered_words word (number + 1) (drop (place + 1) things)) one
+    ∙ append_assoc mid (word number thing) (numbered_words word (number + 1) (drop (place + 1) things))
+    ∙ sym (ap (λ (l : List A). mid ++ numbered_words word number l) left) ∙ before
+
+-- a last thing more
+pub numbered_last : {A : Type 0} (word : ℕ → A → List ℕ) (number : ℕ) (things : List A) (thing : A)
+    → numbered_words word number (things ++ thing ∷ []) ≡ numbered_words word number things ++ word (number + length things) thing
+numbered_last word number [] thing = append-nil (word number thing) ∙ ap (λ (n : ℕ). word n thing) (omega arith)
+numbered_last word number (first ∷ others) thing =
+    ap (λ (l : List ℕ). word number first ++ l) (numbered_last word (number + 1) others thing)
+    ∙ sym (append_assoc (word number first) (numbered_words word (number + 1) others) (word (number + 1 + length others) thing))
+    ∙ ap (λ (n : ℕ). (word number first ++ numbered_words word (number + 1) others) ++ word n thing) (omega arith)
+
 -- a piece more
 pub and_more : (old mid new pieces piece : List ℕ) → mid ≡ old ++ pieces → new ≡ mid ++ piece → new ≡ old ++ (pieces ++ piece)
 and_more old mid new pieces piece before one = one ∙ ap (λ (l : List ℕ). l ++ piece) before ∙ append_assoc old pieces piece
 
 pub where_ok : {A E : Type 0} (P Q : Type 0) (result : Result A E) → (P → Q) → OnOk result P → OnOk result Q
-where_ok P Q (Ok x) then was = then was
-where_ok P Q (Err e) then was = was
+where_ok P Q (Ok x) goes_on was = goes_on was
+where_ok P Q (Err e) goes_on was = was
+
+-- what was pushed, where that gave no error
+pub pushed : {A E : Type 0} (result : Result A E) (new more less : List ℕ) → new ≡ (if is_ok result then more else less)
+    → OnOk result (new ≡ more)
+pushed (Ok x) new more less e = e
+pushed (Err f) new more less e = tt
 
 pub each_none : {A : Type 0} (Is : A → List ℕ → Type 0) (old : List ℕ) → GainsEach Is [] old old
 each_none Is old = record { text = []; each = no-text; gained = sym (append-nil old) }
@@ -48,7 +78,7 @@ map_same : (xs : List ℕ) → map (λ (n : ℕ). n) xs ≡ xs
 map_same [] = refl
 map_same (x ∷ xs) = ap (λ (l : List ℕ). x ∷ l) (map_same xs)
 
-numbers_more : (from count : ℕ) → range_with_len from (count + 1) ≡ range_with_len from count ++ (from + count) ∷ []
+pub numbers_more : (from count : ℕ) → range_with_len from (count + 1) ≡ range_with_len from count ++ (from + count) ∷ []
 numbers_more from count =
     sym (map_same (range_with_len from (count + 1)))
     ∙ map-range_with_len_more (λ (n : ℕ). n) from count (from + count) refl

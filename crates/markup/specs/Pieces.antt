@@ -1,5 +1,10 @@
--- Texts that have a piece for each thing of a list. What the pieces are is a relation.
-use Rattle.std.specs.Prelude.{◌≡◌, ℕ, List, [], ◌∷◌, ◌++◌}
+-- Texts that have a piece for each thing of a list. What the pieces are is a relation, or a word by the number of the thing.
+use Rattle.std.specs.Prelude.{◌≡◌, ℕ, ◌+◌, List, [], ◌∷◌, ◌++◌}
+
+-- a word for each thing of a list, by its number: the first thing has this one
+abbrev pub numbered_words : {A : Type 0} → (ℕ → A → List ℕ) → ℕ → List A → List ℕ
+numbered_words word number [] = []
+numbered_words word number (thing ∷ others) = word number thing ++ numbered_words word (number + 1) others
 
 -- one text for each thing of a list, one behind the other
 pub data EachText {A : Type 0} (Is : A → List ℕ → Type 0) : List A → List ℕ → Type 0 where

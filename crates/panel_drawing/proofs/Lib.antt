@@ -1,4 +1,4 @@
 mod Ordered
 mod Places
 mod WireLists
-mod Written
+pub mod Written

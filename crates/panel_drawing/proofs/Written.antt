@@ -1,44 +1,40 @@
 -- What a text gains thing by thing.
-use Rattle.std.proofs.Common.{add-one, ◌≡◌, ◌∙◌, refl, arith, append_assoc, append-nil, sym, ap, ℕ, ◌+◌, ◌<◌, List, [], ◌∷◌, ◌++◌, length, flat_map, take, get_or}
-use Rattle.std.specs.Prelude.{OnOk, Option, Result, Ok, Err, Some, None, drop, map}
+use Rattle.std.proofs.Common.{add-one, ◌≡◌, ◌∙◌, refl, arith, append_assoc, append-nil, sym, ap, ℕ, ◌+◌, ◌<◌, List, [], ◌∷◌, ◌++◌, length, flat_map, get_or}
+use Rattle.std.specs.Prelude.{Option, Some, None, drop, map}
 use Rattle.std.specs.List.{range_with_len}
 use Rattle.std.proofs.Math.Seq.{drop-cons}
-use Rattle.std.proofs.lemmas.List.{take_more, flat_map_more, map-append}
+use Rattle.std.proofs.lemmas.List.{length-append, map-append}
 use Rattle.std.proofs.lemmas.List.FromFn.{map-range_with_len_more}
 use Rattle.hubs.specs.Hubs.{number_of}
 use Rattle.hubs.specs.declared.hub.Hub.{Hub}
 use Rattle.hubs.proofs.HubLemmas.{hub_numbered}
 use Rattle.panel_drawing.specs.Blocks.{blocks}
-use Rattle.panel_drawing.specs.Drawing.{block_text, dot_text, drawing_between, drawing_close, drawing_open, step_text, steps_text, wire_text}
-use Rattle.panel_drawing.specs.Helper.{GainsDots, GainsDrawing}
+use Rattle.markup.specs.Pieces.{numbered_words}
+use Rattle.markup.proofs.Pieces.{and_more, numbered_last}
+use Rattle.panel_drawing.specs.Drawing.{block_text, drawing_between, drawing_close, drawing_open, hub_dot, step_text, steps_text, wire_text}
+use Rattle.panel_drawing.specs.Helper.{GainsDrawing, GainsHubs}
 use Rattle.panel_drawing.specs.declared.drawing.PanelWire.{PanelWire}
 
-pub one_more : {A : Type 0} (word : A → List ℕ) (old mid new : List ℕ) (things : List A) (place : ℕ) (thing : A)
-    → place < length things → get_or things place thing ≡ thing → mid ≡ old ++ flat_map word (take place things)
-    → new ≡ mid ++ word thing → new ≡ old ++ flat_map word (take (place + 1) things)
-one_more {A} word old mid new things place thing less item before one =
-    one ∙ ap (λ (l : List ℕ). l ++ word thing) before ∙ flat_map_more word old (take place things) thing
-    ∙ ap (λ (l : List A). old ++ flat_map word l)
-    (sym (take_more things place thing less ∙ ap (λ (a : A). take place things ++ a ∷ []) item))
+-- one hub more
+pub hubs_none : (word : ℕ → Hub → List ℕ) (old : List ℕ) → GainsHubs word 0 old old
+hubs_none word old = record { hubs = []; long = refl; all = refl; gained = sym (append-nil old) }
 
--- a piece more
-pub and_more : (old mid new pieces piece : List ℕ) → mid ≡ old ++ pieces → new ≡ mid ++ piece → new ≡ old ++ (pieces ++ piece)
-and_more old mid new pieces piece before one = one ∙ ap (λ (l : List ℕ). l ++ piece) before ∙ append_assoc old pieces piece
-
--- one dot more
-pub dots_none : (old : List ℕ) → GainsDots 0 old old
-dots_none old = record { hubs = []; all = refl; gained = sym (append-nil old) }
-
-pub dots_more : (last : ℕ) (old mid new : List ℕ) (hub : Hub) → GainsDots last old mid → number_of hub ≡ Some (last + 1)
-    → new ≡ mid ++ dot_text hub → GainsDots (last + 1) old new
-dots_more last old mid new hub before numbered one = record {
+pub hubs_more : (word : ℕ → Hub → List ℕ) (last : ℕ) (old mid new : List ℕ) (hub : Hub) → GainsHubs word last old mid
+    → number_of hub ≡ Some (last + 1) → new ≡ mid ++ word (last + 1) hub → GainsHubs word (last + 1) old new
+hubs_more word last old mid new hub before numbered one = record {
   hubs = before.hubs ++ hub ∷ [];
+  long = length-append before.hubs (hub ∷ []) ∙ ap (λ (n : ℕ). n + 1) before.long;
   all =
       map-append number_of before.hubs (hub ∷ [])
       ∙ ap (λ (l : List (Option ℕ)). l ++ number_of hub ∷ []) before.all
       ∙ ap (λ (o : Option ℕ). map (λ number. Some number) (range_with_len 1 last) ++ o ∷ []) numbered
       ∙ sym (map-range_with_len_more (λ (number : ℕ). Some number) 1 last (last + 1) (omega arith));
-  gained = one ∙ ap (λ (l : List ℕ). l ++ dot_text hub) before.gained ∙ flat_map_more dot_text old before.hubs hub;
+  gained =
+      one ∙ ap (λ (l : List ℕ). l ++ word (last + 1) hub) before.gained
+      ∙ append_assoc old (numbered_words word 1 before.hubs) (word (last + 1) hub)
+      ∙ ap (λ (l : List ℕ). old ++ l)
+      (sym (numbered_last word 1 before.hubs hub ∙ ap (λ (n : ℕ). numbered_words word 1 before.hubs ++ word n hub)
+      (ap (λ (n : ℕ). 1 + n) before.long ∙ omega arith)));
 }
 
 -- one step more
@@ -55,15 +51,15 @@ steps_more old mid new from to others place whole less item before one =
 
 -- the pieces of a drawing
 pub drawing_whole : (wires : List PanelWire) (old one two three four five new : List ℕ)
-    → one ≡ old ++ drawing_open → two ≡ one ++ flat_map block_text blocks → GainsDots 1936 two three
-    → four ≡ three ++ drawing_between → five ≡ four ++ flat_map wire_text wires → new ≡ five ++ drawing_close
+    → one ≡ old ++ drawing_open → two ≡ one ++ flat_map block_text blocks → GainsHubs (hub_dot wires) 1936 two three
+    → four ≡ three ++ drawing_between → five ≡ four ++ numbered_words wire_text 1 wires → new ≡ five ++ drawing_close
     → GainsDrawing wires old new
 drawing_whole wires old one two three four five new first second third fourth fifth sixth = record {
-  drawing = drawing_open ++ flat_map block_text blocks ++ flat_map dot_text third.hubs ++ drawing_between ++ flat_map wire_text wires
-      ++ drawing_close;
+  drawing = drawing_open ++ flat_map block_text blocks ++ numbered_words (hub_dot wires) 1 third.hubs ++ drawing_between
+      ++ numbered_words wire_text 1 wires ++ drawing_close;
   is = record { hubs = third.hubs; all = third.all; spelled = refl };
-  gained = by old drawing_open (flat_map block_text blocks) (flat_map dot_text third.hubs) drawing_between (flat_map wire_text wires)
-      drawing_close first second third.gained fourth fifth sixth;
+  gained = by old drawing_open (flat_map block_text blocks) (numbered_words (hub_dot wires) 1 third.hubs) drawing_between
+      (numbered_words wire_text 1 wires) drawing_close first second third.gained fourth fifth sixth;
 }
   where
     by : (o a b c d e f : List ℕ) → one ≡ o ++ a → two ≡ one ++ b → three ≡ two ++ c → four ≡ three ++ d → five ≡ four ++ e
@@ -80,8 +76,3 @@ some_hub number less none =
   where
     none_some : (hub : Hub) → None ≡ Some hub → ⊥
     none_some hub e = cc
-
--- what follows where a call gave no error
-pub where_ok : {A E : Type 0} (P Q : Type 0) (result : Result A E) → (P → Q) → OnOk result P → OnOk result Q
-where_ok P Q (Ok x) then was = then was
-where_ok P Q (Err e) then was = was

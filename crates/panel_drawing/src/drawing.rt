@@ -4,8 +4,9 @@ ghost use Rattle.std.specs.Prelude.{◌≡◌, ◌++◌, ◌≤◌, codes, decim
 ghost use Rattle.std.specs.List.{flat_map};
 ghost use Rattle.std.specs.String.{string_bytes};
 ghost use Rattle.panel_drawing.specs.Blocks.{blocks, place_of};
-ghost use Rattle.panel_drawing.specs.Drawing.{block_text, box_text, centre_text, colour_text, curve_between, dot_text, drawing_between, drawing_close, drawing_open, label_text, line_to, link_close, link_text, pen_at, step_text, steps_text, way_curve, width_text, wire_name, wire_path, wire_text};
-ghost use Rattle.panel_drawing.specs.Helper.{GainsDots, GainsDrawing};
+ghost use Rattle.markup.specs.Pieces.{numbered_words};
+ghost use Rattle.panel_drawing.specs.Drawing.{block_text, box_text, centre_text, colour_text, curve_between, dot_text, drawing_between, drawing_close, drawing_open, ends_at, has_number, has_wire_at, hub_dot, label_text, line_to, link_text, linked_dot, pen_at, step_text, steps_text, way_curve, width_text, wire_name, wire_path, wire_text};
+ghost use Rattle.panel_drawing.specs.Helper.{GainsDrawing, GainsHubs};
 
 use crate::blocks::{BLOCKS, Block, Place, hub_place};
 use crate::names::write_hub;
@@ -19,8 +20,7 @@ pub struct PanelWire {
     pub exit: Hub,
     /// The hub that it enters.
     pub entry: Hub,
-    /// The line of the chart that asks for it, 0 where none does. It gives the wire its colour, and the drawing links to the element `line`
-    /// with this number, but not for 0.
+    /// The line of the chart that asks for it, 0 where none does. It gives the wire its colour.
     pub line: u16,
 }
 
@@ -69,7 +69,7 @@ fn write_block(text: &mut String, block: &Block) -> Result<(), AllocError>
     write_label(text, block)
 }
 
-#[tactic(auto, using(crate::proofs::Written::one_more))]
+#[tactic(auto, using(markup::proofs::Pieces::one_more))]
 // The blocks of a table.
 fn write_blocks(text: &mut String, table: &[Block]) -> Result<(), AllocError>
     ensures { OnOk result (string_bytes text.new ≡ string_bytes text.old ++ flat_map block_text table.now) }
@@ -90,7 +90,7 @@ fn write_centre(text: &mut String, place: Place) -> Result<(), AllocError>
 }
 
 #[tactic(auto, unfolding(crate::specs::Drawing::dot_text))]
-// A hub.
+// A dot.
 fn write_dot(text: &mut String, hub: Hub) -> Result<(), AllocError>
     ensures { OnOk result (string_bytes text.new ≡ string_bytes text.old ++ dot_text hub) }
 {
@@ -98,19 +98,73 @@ fn write_dot(text: &mut String, hub: Hub) -> Result<(), AllocError>
     write_centre(text, hub_place(hub))?;
     text.push_str("<title>")?;
     write_hub(text, hub)?;
-    text.push_str("</title></circle>\n")
+    text.push_str("</title></circle>")
 }
 
-#[tactic(auto, using(crate::proofs::Written::dots_none, crate::proofs::Written::dots_more, crate::proofs::Written::some_hub))]
+/// Whether a hub has this number.
+pub fn has_number(number: u32, hub: Hub) -> bool
+    ensures { result ≡ has_number number hub }
+{
+    match hub.number() {
+        Some(other) => number == other,
+        None => false,
+    }
+}
+
+/// Whether a wire has an end at the hub with this number.
+pub fn ends_at(number: u32, wire: PanelWire) -> bool
+    ensures { result ≡ ends_at number wire }
+{
+    has_number(number, wire.exit) || has_number(number, wire.entry)
+}
+
+/// Whether one of some wires has an end at the hub with this number.
+pub fn has_wire_at(number: u32, wires: &[PanelWire]) -> bool
+    ensures { result ≡ has_wire_at number wires.now }
+{
+    for wire in wires {
+        if ends_at(number, *wire) {
+            return true;
+        }
+    }
+    false
+}
+
+// The dot of a hub, with a link.
+fn write_linked_dot(text: &mut String, number: u32, hub: Hub) -> Result<(), AllocError>
+    ensures { OnOk result (string_bytes text.new ≡ string_bytes text.old ++ linked_dot number hub) }
+{
+    write!(text, "<a href=\"#hub{number}\">")?;
+    write_dot(text, hub)?;
+    text.push_str("</a>\n")
+}
+
+// A hub.
+fn write_hub_dot(
+    text: &mut String,
+    wires: &[PanelWire],
+    number: u32,
+    hub: Hub,
+) -> Result<(), AllocError>
+    ensures { OnOk result (string_bytes text.new ≡ string_bytes text.old ++ hub_dot wires.now number hub) }
+{
+    if has_wire_at(number, wires) {
+        return write_linked_dot(text, number, hub);
+    }
+    write_dot(text, hub)?;
+    text.push_str("\n")
+}
+
+#[tactic(auto, using(crate::proofs::Written::hubs_none, crate::proofs::Written::hubs_more, crate::proofs::Written::some_hub))]
 // All hubs of the panel.
-fn write_dots(text: &mut String) -> Result<(), AllocError>
-    ensures { OnOk result (GainsDots 1936 (string_bytes text.old) (string_bytes text.new)) }
+fn write_hubs(text: &mut String, wires: &[PanelWire]) -> Result<(), AllocError>
+    ensures { OnOk result (GainsHubs (hub_dot wires.now) 1936 (string_bytes text.old) (string_bytes text.new)) }
 {
     for passed in 0..1936 {
         let Some(hub) = Hub::of_number(passed + 1) else {
             unreachable!();
         };
-        write_dot(text, hub)?;
+        write_hub_dot(text, wires, passed + 1, hub)?;
     }
     Ok(())
 }
@@ -143,25 +197,11 @@ fn write_line(text: &mut String, place: Place) -> Result<(), AllocError>
     write!(text, "L{x} {y}")
 }
 
-// The link of a wire, where a line asks for it.
-fn write_link(text: &mut String, line: u16) -> Result<(), AllocError>
-    ensures { OnOk result (string_bytes text.new ≡ string_bytes text.old ++ link_text line) }
+// The link of a wire.
+fn write_link(text: &mut String, number: usize) -> Result<(), AllocError>
+    ensures { OnOk result (string_bytes text.new ≡ string_bytes text.old ++ link_text number) }
 {
-    if line == 0 {
-        return Ok(());
-    }
-    write!(text, "<a href=\"#line{line}\">")
-}
-
-// What stands behind the name of a wire.
-fn write_link_close(text: &mut String, line: u16) -> Result<(), AllocError>
-    ensures { OnOk result (string_bytes text.new ≡ string_bytes text.old ++ link_close line) }
-{
-    if line == 0 {
-        text.push_str("</title></path>\n")
-    } else {
-        text.push_str("</title></path></a>\n")
-    }
+    write!(text, "<a href=\"#wire{number}\">")
 }
 
 // The front of a wire's curve, with its colour.
@@ -172,8 +212,8 @@ fn write_colour(text: &mut String, line: u16) -> Result<(), AllocError>
     write!(text, "<path class=\"c{colour}\" d=\"")
 }
 
-// The name of a wire.
-fn write_name(text: &mut String, wire: PanelWire) -> Result<(), AllocError>
+/// Writes the name of a wire, as `FR.5 -&gt; W.3` of XHTML. Fails only where no memory is left.
+pub fn write_wire_name(text: &mut String, wire: PanelWire) -> Result<(), AllocError>
     ensures { OnOk result (string_bytes text.new ≡ string_bytes text.old ++ wire_name wire) }
 {
     write_hub(text, wire.exit)?;
@@ -192,24 +232,24 @@ fn write_path(text: &mut String, wire: PanelWire) -> Result<(), AllocError>
 
 #[tactic(auto, unfolding(crate::specs::Drawing::wire_text))]
 // A wire.
-fn write_wire(text: &mut String, wire: PanelWire) -> Result<(), AllocError>
-    ensures { OnOk result (string_bytes text.new ≡ string_bytes text.old ++ wire_text wire) }
+fn write_wire(text: &mut String, number: usize, wire: PanelWire) -> Result<(), AllocError>
+    ensures { OnOk result (string_bytes text.new ≡ string_bytes text.old ++ wire_text number wire) }
 {
-    write_link(text, wire.line)?;
+    write_link(text, number)?;
     write_colour(text, wire.line)?;
     write_path(text, wire)?;
     text.push_str("\"><title>")?;
-    write_name(text, wire)?;
-    write_link_close(text, wire.line)
+    write_wire_name(text, wire)?;
+    text.push_str("</title></path></a>\n")
 }
 
-#[tactic(auto, using(crate::proofs::Written::one_more))]
+#[tactic(auto, using(markup::proofs::Pieces::numbered_more))]
 // All wires of a list.
 fn write_wires(text: &mut String, wires: &[PanelWire]) -> Result<(), AllocError>
-    ensures { OnOk result (string_bytes text.new ≡ string_bytes text.old ++ flat_map wire_text wires.now) }
+    ensures { OnOk result (string_bytes text.new ≡ string_bytes text.old ++ numbered_words wire_text 1 wires.now) }
 {
-    for wire in wires {
-        write_wire(text, *wire)?;
+    for place in 0..wires.len() {
+        write_wire(text, place + 1, wires[place])?;
     }
     Ok(())
 }
@@ -242,8 +282,9 @@ fn write_close(text: &mut String) -> Result<(), AllocError>
 
 #[tactic(auto, using(crate::proofs::Written::drawing_whole))]
 /// Writes the drawing of the panel as an SVG element: a box with a label for each block of hubs, a dot with its name for each hub, and
-/// for each wire of the list, in its order, a curve with its name, which links to its line of the chart, where one asks for it. What is
-/// drawn has the id `board`, the element `panel`.
+/// for each wire of the list, in its order, a curve with its name. What is drawn has the id `board`, the element `panel`. A wire links to
+/// the element `wire` with its number in the list, from 1, and a dot at which a wire has an end to the element `hub` with the number of the
+/// hub.
 ///
 /// Fails only where no memory is left; a front of the drawing may then have been written.
 pub fn write_drawing(text: &mut String, wires: &[PanelWire]) -> Result<(), AllocError>
@@ -251,7 +292,7 @@ pub fn write_drawing(text: &mut String, wires: &[PanelWire]) -> Result<(), Alloc
 {
     write_open(text)?;
     write_blocks(text, &BLOCKS)?;
-    write_dots(text)?;
+    write_hubs(text, wires)?;
     write_between(text)?;
     write_wires(text, wires)?;
     write_close(text)

@@ -13,7 +13,9 @@ mod names;
 mod wires;
 
 pub use blocks::{Block, Place, hub_place};
-pub use drawing::{PanelWire, write_drawing, write_way};
+pub use drawing::{
+    PanelWire, ends_at, has_number, has_wire_at, write_drawing, write_way, write_wire_name,
+};
 pub use laws::{
     blocks_have_all_hubs, exits_stand_above_entries, hubs_have_places_of_their_own,
     places_are_on_the_drawing,

@@ -6,4 +6,4 @@
 
 mod sheets;
 
-pub use sheets::{write_row_name, write_sheets, write_wheel_name};
+pub use sheets::{write_row_name, write_sheets, write_wheel_link, write_wheel_name};

@@ -29,8 +29,13 @@ pub fn write_wheel_name(
     write!(text, "p{page}l{line}w{wheel}")
 }
 
-// The link of a wheel of a line.
-fn write_link(text: &mut String, page: u64, line: u32, wheel: u8) -> Result<(), AllocError>
+/// Writes the front of a link to a wheel of a row. Fails only where no memory is left.
+pub fn write_wheel_link(
+    text: &mut String,
+    page: u64,
+    line: u32,
+    wheel: u8,
+) -> Result<(), AllocError>
     ensures { OnOk result (string_bytes text.new ≡ string_bytes text.old ++ link_text page line wheel) }
 {
     text.push_str("<a href=\"#")?;
@@ -48,7 +53,7 @@ fn write_printed(
 ) -> Result<(), AllocError>
     ensures { OnOk result (string_bytes text.new ≡ string_bytes text.old ++ printed_text page line wheel character) }
 {
-    write_link(text, page, line, wheel)?;
+    write_wheel_link(text, page, line, wheel)?;
     push_escaped(text, &[character])?;
     text.push_str("</a>")
 }

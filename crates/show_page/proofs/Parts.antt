@@ -1,17 +1,19 @@
 -- The parts of the page.
-use Rattle.std.proofs.Common.{◌≡◌, ◌∙◌, sym, ap, subst, Bool, true, false, ℕ, ◌+◌, ◌<◌, List, [], ◌∷◌, ◌++◌, length, take, get_or}
-use Rattle.std.specs.Prelude.{All, if◌then◌else◌, map, nat_le}
-use Rattle.std.specs.List.{range_with_len}
+use Rattle.std.proofs.Common.{◌≡◌, ◌∙◌, sym, ap, Bool, true, false, ℕ, ◌+◌, ◌<◌, List, [], ◌∷◌, ◌++◌, length, take, get_or}
+use Rattle.std.specs.Prelude.{All, String, if◌then◌else◌, map, nat_le}
+use Rattle.std.specs.declared.alloc.Global.{Global}
 use Rattle.std.proofs.lemmas.List.{map-append, take_more}
 use Rattle.std.proofs.lemmas.List.Elements.{All-cons, All-head, All-nil, All-tail, Contains-get_or}
 use Rattle.explanations.specs.PlacedInRun.{PrintsLine}
 use Rattle.hubs.specs.declared.hub.Hub.{Hub}
 use Rattle.machine.specs.Runs.{MachineLines}
-use Rattle.markup.specs.Pieces.{GainsEach}
-use Rattle.markup.proofs.Pieces.{and_more, each_more, each_none}
+use Rattle.markup.proofs.Pieces.{and_more}
 use Rattle.placed_lines.specs.declared.placed_line.PlacedLine.{PlacedLine}
 use Rattle.setups.specs.Wiring.{Wiring}
-use Rattle.wheel_sections.specs.Sections.{IsOfLine, IsOfWheel}
+use Rattle.wheel_sections.specs.Sections.{told_sections}
+use Rattle.wheel_sections.specs.Told.{AreTold, printed_places}
+use Rattle.wheel_sections.specs.declared.told.ToldWheel.{ToldWheel}
+use Rattle.wire_sections.specs.Helper.{GainsWireSections}
 use Rattle.panel_drawing.specs.Helper.{GainsDrawing}
 use Rattle.panel_drawing.specs.declared.drawing.PanelWire.{PanelWire}
 use Rattle.traces.specs.Traces.{IsTrace}
@@ -43,19 +45,6 @@ shown_prints wiring deck cards lines run = by (nat_le cards 200)
     by true = run_prints wiring deck lines run
     by false = front_all (PrintsLine wiring deck) lines (run_prints wiring deck lines run)
 
--- one line more is explained
-pub lines_none : (wiring : Wiring) (deck : List (List ℕ)) (old : List ℕ) → GainsEach (IsOfLine wiring deck) [] old old
-lines_none wiring deck old = each_none (IsOfLine wiring deck) old
-
-pub lines_more : (wiring : Wiring) (deck : List (List ℕ)) (lines : List PlacedLine) (place : ℕ) (d : PlacedLine)
-    (old mid new : List ℕ) → place < length lines → GainsEach (IsOfLine wiring deck) (take place lines) old mid
-    → GainsEach (IsOfWheel wiring deck (get_or lines place d)) (range_with_len 1 120) mid new
-    → GainsEach (IsOfLine wiring deck) (take (place + 1) lines) old new
-lines_more wiring deck lines place d old mid new less before one =
-    subst (λ (l : List PlacedLine). GainsEach (IsOfLine wiring deck) l old new) (sym (take_more lines place d less))
-    (each_more (IsOfLine wiring deck) (take place lines) (get_or lines place d) old mid new before
-    (record { text = one.text; is = one.each; gained = one.gained }))
-
 -- one wire more that no line asks for
 pub unasked_item : (pairs : List (Hub × Hub)) (place : ℕ) (d : Hub × Hub) (old new : List PanelWire) (wire : PanelWire)
     → place < length pairs → old ≡ map unasked (take place pairs) → wire ≡ unasked (get_or pairs place d) → new ≡ old ++ wire ∷ []
@@ -66,31 +55,36 @@ unasked_item pairs place d old new wire less before is pushed =
     ∙ ap (λ (l : List (Hub × Hub)). map unasked l) (sym (take_more pairs place d less))
 
 -- the pieces of the page
-pub page_whole : (wiring : Wiring) (deck : List (List ℕ)) (lines : List PlacedLine) (wires : List PanelWire)
-    (trace legend none one two three four five six new : List ℕ) → MachineLines wiring deck lines → IsTrace wiring deck trace → none ≡ []
+pub page_whole : (wiring : Wiring) (asked : List (String Global × Wiring)) (deck : List (List ℕ)) (lines : List PlacedLine)
+    (wires : List PanelWire) (told : List ToldWheel) (trace legend none one two three four five six seven new : List ℕ)
+    → MachineLines wiring deck lines → IsTrace wiring deck trace
+    → AreTold wiring asked deck (printed_places (shown (length deck) lines)) told → none ≡ []
     → one ≡ none ++ front_text (length deck) trace (shown (length deck) lines) wiring.tape.lines
-    → GainsDrawing wires one two → three ≡ two ++ legend → four ≡ three ++ why_open
-    → GainsEach (IsOfLine wiring deck) (shown (length deck) lines) four five → six ≡ five ++ shown_cycles (length deck) trace
-    → new ≡ six ++ document_close → IsPage wiring deck wires legend new
+    → GainsDrawing wires one two → three ≡ two ++ legend → four ≡ three ++ why_open → five ≡ four ++ told_sections told
+    → GainsWireSections wires told five six → seven ≡ six ++ shown_cycles (length deck) trace → new ≡ seven ++ document_close
+    → IsPage wiring asked deck wires legend new
 unfolding page_text
-page_whole wiring deck lines wires trace legend none one two three four five six new run traced empty h1 h2 h3 h4 h5 h6 h7 =
+page_whole wiring asked deck lines wires told trace legend none one two three four five six seven new run traced are empty h1 h2 h3 h4 h5 h6 h7 h8 =
     let first = front_text (length deck) trace (shown (length deck) lines) wiring.tape.lines in
     let cycles = shown_cycles (length deck) trace in
     let begun : one ≡ [] ++ first = h1 ∙ ap (λ (l : List ℕ). l ++ first) empty in
     record {
       lines = lines;
       run = run;
+      told = told;
+      are_told = are;
       drawing = h2.drawing;
       drawn = h2.is;
-      sections = h5.text;
-      told = h5.each;
+      ways = h6.text;
+      are_ways = h6.are;
       trace = trace;
       traced = traced;
       spelled =
-          and_more [] six new (first ++ h2.drawing ++ legend ++ why_open ++ h5.text ++ cycles) document_close
-          (and_more [] five six (first ++ h2.drawing ++ legend ++ why_open ++ h5.text) cycles
-          (and_more [] four five (first ++ h2.drawing ++ legend ++ why_open) h5.text
+          and_more [] seven new (first ++ h2.drawing ++ legend ++ why_open ++ told_sections told ++ h6.text ++ cycles) document_close
+          (and_more [] six seven (first ++ h2.drawing ++ legend ++ why_open ++ told_sections told ++ h6.text) cycles
+          (and_more [] five six (first ++ h2.drawing ++ legend ++ why_open ++ told_sections told) h6.text
+          (and_more [] four five (first ++ h2.drawing ++ legend ++ why_open) (told_sections told)
           (and_more [] three four (first ++ h2.drawing ++ legend) why_open
           (and_more [] two three (first ++ h2.drawing) legend
-          (and_more [] one two first h2.drawing begun h2.gained) h3) h4) h5.gained) h6) h7;
+          (and_more [] one two first h2.drawing begun h2.gained) h3) h4) h5) h6.gained) h7) h8;
     }

@@ -13,7 +13,7 @@ unfoldable pub style_b : List ℕ
 style_b = codes ".sheets pre{width:max-content;padding:0 1.5em;margin:0 0 1em;border:1px solid #bbb;line-height:1.5em;background:repeating-linear-gradient(#fff 0 4.5em,#e2f0e0 4.5em 9em);print-color-adjust:exact}\n.sheets a{color:inherit;text-decoration:none}.sheets a:hover,.sheets a:focus,.sheets span:target{background:#fd6}\n"
 
 unfoldable pub style_c : List ℕ
-style_c = codes "#panel{display:block;width:100%;min-width:44em;max-width:80em;height:auto}.board{overflow-x:auto}\n.hubs rect{fill:#f3f1ec;stroke:#ccc;stroke-width:.1;transform:translate(-.5px,-.5px)}\n.hubs text{font:1.4px sans-serif;transform:translate(-.4px,-.8px)}.hubs circle{fill:#777}\n"
+style_c = codes "#panel{display:block;width:100%;min-width:44em;max-width:80em;height:auto}.board{overflow-x:auto}\n.hubs rect{fill:#f3f1ec;stroke:#ccc;stroke-width:.1;transform:translate(-.5px,-.5px)}\n.hubs text{font:1.4px sans-serif;transform:translate(-.4px,-.8px)}.hubs circle{fill:#777}\n.hubs a circle{fill:#222}.hubs a:hover circle,.hubs a:focus circle{fill:#d00}\n"
 
 unfoldable pub style_d : List ℕ
 style_d = codes ".wires path{fill:none;stroke-width:.2;stroke-opacity:.75}.wires path:hover,.wires a:focus path{stroke-width:.6;stroke-opacity:1}\n.c0{stroke:#555;border-color:#555}.c1{stroke:#c0392b;border-color:#c0392b}.c2{stroke:#2471a3;border-color:#2471a3}\n"
@@ -28,7 +28,7 @@ unfoldable pub style_g : List ℕ
 style_g = codes ".legend pre:target{background:#fd6}.why section{display:none}.why pre{white-space:pre-wrap;margin:.3em 0}\n.why section:target{display:block;position:fixed;left:0;right:0;bottom:0;max-height:60vh;overflow:auto;box-sizing:border-box;padding:.5em 1em;background:#fffbe8;border-top:3px solid #c90}\n"
 
 unfoldable pub style_h : List ℕ
-style_h = codes ".why svg{display:block;width:100%;height:auto;background:#fff}.why use{opacity:.3}\n.why path{fill:none;stroke:#d00;stroke-width:.5;stroke-linejoin:round}\n@media(min-width:75em){body:has(.why :target){margin-right:46vw}.why section:target{left:auto;top:0;width:44vw;max-height:none;border-top:0;border-left:3px solid #c90}}\n"
+style_h = codes ".why svg{display:block;width:100%;height:auto;background:#fff}.why use{opacity:.3}\n.why path{fill:none;stroke:#d00;stroke-width:.5;stroke-linejoin:round}.why p{margin:.3em 0}.why div{columns:15em}.why div a{display:block}\n@media(min-width:75em){body:has(.why :target){margin-right:46vw}.why section:target{left:auto;top:0;width:44vw;max-height:none;border-top:0;border-left:3px solid #c90}}\n"
 
 unfoldable pub style_i : List ℕ
 style_i = codes "@page{margin:1cm}@media print{body{margin:0}.why{display:none}.sheets,.board{overflow:visible}#panel{min-width:0}.sheets pre{font-size:6.5pt;break-after:page}}\n"
@@ -38,7 +38,7 @@ style_k = codes ".why section[id^=cycle] a{display:inline-block;margin-right:1em
 
 -- the end of the head, and the front of the body
 unfoldable pub body_open : List ℕ
-body_open = codes "</style></head><body>\n<p>Choose a printed character to see the way of each impulse that printed it. The drawing of the panel is our own schematic, not the real layout of the machine.</p>\n<h1 id=\"report\">The report</h1>\n"
+body_open = codes "</style></head><body>\n<p>Choose a printed character to see the way of each impulse that printed it, and a wire or a hub of the panel to see what came through it. The drawing of the panel is our own schematic, not the real layout of the machine.</p>\n<h1 id=\"report\">The report</h1>\n"
 
 -- what is said where only the first pages and cycles are shown
 unfoldable pub cut_words : List ℕ
@@ -54,7 +54,7 @@ panel_open = codes "</div>\n<h1>The panel</h1>\n<div class=\"board\">\n"
 
 -- what stands before the legend of a chart
 unfoldable pub legend_open : List ℕ
-legend_open = codes "</div>\n<h1>What each line asks for</h1>\n<p>A wire of the panel leads to the line that asks for it.</p>\n<div class=\"legend\">\n"
+legend_open = codes "</div>\n<h1>What each line asks for</h1>\n<p>The wires for which a line asks have its colour.</p>\n<div class=\"legend\">\n"
 
 -- what stands around the text of a wiring chart
 unfoldable pub wiring_open : List ℕ

@@ -1,10 +1,12 @@
 -- The page of a setup and a deck: the printed pages, the drawing of the panel, the legend, an explanation of each printed character, and
--- the cycles of the run.
-use Rattle.std.specs.Prelude.{◌≡◌, ℕ, List, [], ◌∷◌, ◌++◌, if◌then◌else◌, length, map, nat_le}
+-- what came through each wire, and the cycles of the run.
+use Rattle.std.specs.Prelude.{◌≡◌, ℕ, List, [], ◌∷◌, ◌++◌, String, if◌then◌else◌, length, map, nat_le}
+use Rattle.std.specs.declared.alloc.Global.{Global}
 use Rattle.charts.specs.declared.chart.Line.{Line}
 use Rattle.hubs.specs.declared.hub.Hub.{Hub}
 use Rattle.chart_panels.specs.Asking.{AreChartWires}
 use Rattle.chart_panels.specs.Legends.{IsLegendSection}
+use Rattle.legend.specs.LineSetups.{AreLineSetups}
 use Rattle.machine.specs.Runs.{MachineLines}
 use Rattle.markup.specs.Escapes.{escaped}
 use Rattle.markup.specs.Pieces.{EachText}
@@ -16,7 +18,10 @@ use Rattle.plans.specs.Plans.{Lists}
 use Rattle.report_sheets.specs.Sheets.{sheets_text}
 use Rattle.setups.specs.Wiring.{Wiring}
 use Rattle.traces.specs.Traces.{IsTrace}
-use Rattle.wheel_sections.specs.Sections.{IsOfLine}
+use Rattle.wheel_sections.specs.Sections.{told_sections}
+use Rattle.wheel_sections.specs.Told.{AreTold, printed_places}
+use Rattle.wheel_sections.specs.declared.told.ToldWheel.{ToldWheel}
+use Rattle.wire_sections.specs.Sections.{AreWireSections}
 use Rattle.wiring_text.specs.declared.statement.Version.{Version}
 use Rattle.show_page.specs.Cycles.{shown_cycles, step_text}
 use Rattle.show_page.specs.Frame.{body_open, cut_words, document_close, document_open, legend_open, panel_open, sheets_open, style, why_open, wiring_close, wiring_open}
@@ -40,37 +45,46 @@ front_text cards trace lines long =
     document_open ++ style ++ body_open ++ cut_text cards ++ step_text trace ++ sheets_open ++ sheets_text lines long ++ panel_open
 
 -- the page, by its parts
-unfoldable pub page_text : (cards : ℕ) → (trace : List ℕ) → List PlacedLine → (long : ℕ) → (drawing legend sections : List ℕ) → List ℕ
-page_text cards trace lines long drawing legend sections =
+unfoldable pub page_text : (cards : ℕ) → (trace : List ℕ) → List PlacedLine → (long : ℕ) → (drawing legend : List ℕ) → List ToldWheel
+    → (ways : List ℕ) → List ℕ
+page_text cards trace lines long drawing legend told ways =
     front_text cards trace lines long
     ++ drawing
     ++ legend
     ++ why_open
-    ++ sections
+    ++ told_sections told
+    ++ ways
     ++ shown_cycles cards trace
     ++ document_close
 
 -- The page of a setup and a deck: the lines are those that the machine prints, each wire of the list is drawn once, each printed character
--- that is shown has its element, and the cycles are those of the run.
-pub record IsPage (wiring : Wiring) (deck : List (List ℕ)) (wires : List PanelWire) (legend text : List ℕ) : Type 0 where
+-- that is shown is told of, where it is known who asks for wires, and has its element, and so has each wire, with what came through it; and
+-- the cycles are those of the run.
+pub record IsPage (wiring : Wiring) (asked : List (String Global × Wiring)) (deck : List (List ℕ)) (wires : List PanelWire)
+    (legend text : List ℕ) : Type 0 where
   pub lines : List PlacedLine
   pub run : MachineLines wiring deck lines
+  pub told : List ToldWheel
+  pub are_told : AreTold wiring asked deck (printed_places (shown (length deck) lines)) told
   pub drawing : List ℕ
   pub drawn : IsDrawing wires drawing
-  pub sections : List ℕ
-  pub told : EachText (IsOfLine wiring deck) (shown (length deck) lines) sections
+  pub ways : List ℕ
+  pub are_ways : AreWireSections wires told ways
   pub trace : List ℕ
   pub traced : IsTrace wiring deck trace
-  pub spelled : text ≡ page_text (length deck) trace (shown (length deck) lines) wiring.tape.lines drawing legend sections
+  pub spelled : text ≡ page_text (length deck) trace (shown (length deck) lines) wiring.tape.lines drawing legend told ways
 
--- The page of a chart, its plan and its setup, and a deck: the wires are those of the setup, and the legend that of the chart.
+-- The page of a chart, its plan and its setup, and a deck: the wires are those of the setup, the legend is that of the chart, and its lines
+-- are those that ask for wires.
 pub record ShowsChart (version : Version) (lines : List Line) (plan : Lists) (setup : Wiring) (source : List ℕ)
     (deck : List (List ℕ)) (text : List ℕ) : Type 0 where
   pub wires : List PanelWire
   pub are : AreChartWires lines plan setup wires
   pub legend : List ℕ
   pub is_legend : EachText (IsLegendSection version lines plan source) lines legend
-  pub page : IsPage setup deck wires (legend_open ++ legend) text
+  pub asked : List (String Global × Wiring)
+  pub are_asked : AreLineSetups lines plan source (length lines) asked
+  pub page : IsPage setup asked deck wires (legend_open ++ legend) text
 
 -- a wire that no line of a chart asks for
 abbrev pub unasked : Hub × Hub → PanelWire
@@ -80,9 +94,9 @@ unasked pair = record { exit = pair.0; entry = pair.1; line = 0 }
 unfoldable pub wiring_text : List ℕ → List ℕ
 wiring_text source = wiring_open ++ escaped source ++ wiring_close
 
--- The page of a panel that is wired as a wiring chart says, and a deck: the wires are those of the panel, and the wiring chart stands in
--- place of the legend.
+-- The page of a panel that is wired as a wiring chart says, and a deck: the wires are those of the panel, nobody is known who asks for
+-- them, and the wiring chart stands in place of the legend.
 pub record ShowsPanel (setup : Wiring) (source : List ℕ) (deck : List (List ℕ)) (text : List ℕ) : Type 0 where
   pub pairs : List (Hub × Hub)
   pub all : AreWiresOf setup pairs
-  pub page : IsPage setup deck (map unasked pairs) (wiring_text source) text
+  pub page : IsPage setup [] deck (map unasked pairs) (wiring_text source) text

@@ -42,7 +42,7 @@ fn write_style_c(text: &mut String) -> Result<(), AllocError>
     ensures { OnOk result (string_bytes text.new ≡ string_bytes text.old ++ style_c) }
 {
     text.push_str(
-        "#panel{display:block;width:100%;min-width:44em;max-width:80em;height:auto}.board{overflow-x:auto}\n.hubs rect{fill:#f3f1ec;stroke:#ccc;stroke-width:.1;transform:translate(-.5px,-.5px)}\n.hubs text{font:1.4px sans-serif;transform:translate(-.4px,-.8px)}.hubs circle{fill:#777}\n",
+        "#panel{display:block;width:100%;min-width:44em;max-width:80em;height:auto}.board{overflow-x:auto}\n.hubs rect{fill:#f3f1ec;stroke:#ccc;stroke-width:.1;transform:translate(-.5px,-.5px)}\n.hubs text{font:1.4px sans-serif;transform:translate(-.4px,-.8px)}.hubs circle{fill:#777}\n.hubs a circle{fill:#222}.hubs a:hover circle,.hubs a:focus circle{fill:#d00}\n",
     )
 }
 
@@ -92,7 +92,7 @@ fn write_style_h(text: &mut String) -> Result<(), AllocError>
     ensures { OnOk result (string_bytes text.new ≡ string_bytes text.old ++ style_h) }
 {
     text.push_str(
-        ".why svg{display:block;width:100%;height:auto;background:#fff}.why use{opacity:.3}\n.why path{fill:none;stroke:#d00;stroke-width:.5;stroke-linejoin:round}\n@media(min-width:75em){body:has(.why :target){margin-right:46vw}.why section:target{left:auto;top:0;width:44vw;max-height:none;border-top:0;border-left:3px solid #c90}}\n",
+        ".why svg{display:block;width:100%;height:auto;background:#fff}.why use{opacity:.3}\n.why path{fill:none;stroke:#d00;stroke-width:.5;stroke-linejoin:round}.why p{margin:.3em 0}.why div{columns:15em}.why div a{display:block}\n@media(min-width:75em){body:has(.why :target){margin-right:46vw}.why section:target{left:auto;top:0;width:44vw;max-height:none;border-top:0;border-left:3px solid #c90}}\n",
     )
 }
 
@@ -122,7 +122,7 @@ pub(crate) fn write_body_open(text: &mut String) -> Result<(), AllocError>
     ensures { OnOk result (string_bytes text.new ≡ string_bytes text.old ++ body_open) }
 {
     text.push_str(
-        "</style></head><body>\n<p>Choose a printed character to see the way of each impulse that printed it. The drawing of the panel is our own schematic, not the real layout of the machine.</p>\n<h1 id=\"report\">The report</h1>\n",
+        "</style></head><body>\n<p>Choose a printed character to see the way of each impulse that printed it, and a wire or a hub of the panel to see what came through it. The drawing of the panel is our own schematic, not the real layout of the machine.</p>\n<h1 id=\"report\">The report</h1>\n",
     )
 }
 
@@ -158,7 +158,7 @@ pub(crate) fn write_legend_open(text: &mut String) -> Result<(), AllocError>
     ensures { OnOk result (string_bytes text.new ≡ string_bytes text.old ++ legend_open) }
 {
     text.push_str(
-        "</div>\n<h1>What each line asks for</h1>\n<p>A wire of the panel leads to the line that asks for it.</p>\n<div class=\"legend\">\n",
+        "</div>\n<h1>What each line asks for</h1>\n<p>The wires for which a line asks have its colour.</p>\n<div class=\"legend\">\n",
     )
 }
 

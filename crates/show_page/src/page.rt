@@ -1,11 +1,7 @@
 //! The parts of the page.
 
-ghost use Rattle.std.specs.Prelude.{◌≡◌, ◌≤◌, ◌++◌, All, OnOk, length};
+ghost use Rattle.std.specs.Prelude.{◌≡◌, ◌≤◌, ◌++◌, OnOk};
 ghost use Rattle.std.specs.String.{string_bytes};
-ghost use Rattle.card_code.specs.MostCards.{most_cards};
-ghost use Rattle.explanations.specs.PlacedInRun.{PrintsLine};
-ghost use Rattle.markup.specs.Pieces.{GainsEach};
-ghost use Rattle.wheel_sections.specs.Sections.{IsOfLine};
 ghost use Rattle.show_page.specs.Page.{cut_text, front, front_text, shown};
 
 use crate::cycles::write_step;
@@ -13,12 +9,9 @@ use crate::frame::{
     write_body_open, write_cut_words, write_document_open, write_panel_open, write_sheets_open,
     write_style,
 };
-use card_code::Card;
 use placed_lines::PlacedLine;
 use report_sheets::write_sheets;
-use setups::Setup;
-use std::alloc::{AllocError, Global};
-use wheel_sections::write_line_sections;
+use std::alloc::AllocError;
 
 // The lines of the first two pages.
 fn front(lines: &[PlacedLine]) -> &[PlacedLine]
@@ -71,23 +64,4 @@ pub(crate) fn write_front(
     write_sheets_open(text)?;
     write_sheets(text, lines, form_lines)?;
     write_panel_open(text)
-}
-
-#[tactic(auto, using(crate::proofs::Parts::lines_none))]
-// The explanations of lines that the setup prints of the deck.
-pub(crate) fn write_sections(
-    alloc: Global,
-    text: &mut String,
-    setup: &Setup,
-    cards: &[Card],
-    lines: &[PlacedLine],
-) -> Result<(), AllocError>
-    requires few { length cards.now ≤ most_cards }
-    requires printed { All (PrintsLine setup.now cards.now) lines.now }
-    ensures { OnOk result (GainsEach (IsOfLine setup.now cards.now) lines.now (string_bytes text.old) (string_bytes text.new)) }
-{
-    for line in lines {
-        write_line_sections(alloc, text, setup, cards, line)?;
-    }
-    Ok(())
 }

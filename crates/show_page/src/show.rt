@@ -11,40 +11,46 @@ use crate::cycles::{traced, write_shown_cycles};
 use crate::frame::{
     write_document_close, write_legend_open, write_why_open, write_wiring_close, write_wiring_open,
 };
-use crate::page::{shown, write_front, write_sections};
+use crate::page::{shown, write_front};
 use card_code::Card;
 use chart_panels::{chart_wires, write_legend};
 use chart_rules::Chart;
 use hubs::Hub;
+use legend::line_setups;
 use machine::simulate;
 use markup::push_escaped;
 use panel_drawing::{PanelWire, panel_wires, write_drawing};
 use plans::Plan;
 use setups::Setup;
 use std::alloc::{AllocError, Global};
+use wheel_sections::{told_wheels, write_told_sections};
+use wire_sections::write_wire_sections;
 use wiring_text::Version;
 
-// The page of a setup and a deck, with these wires and this legend.
+// The page of a setup and a deck, with those who ask for wires, these wires and this legend.
 fn page(
     alloc: Global,
     setup: &Setup,
+    asked: &[(String, Setup)],
     cards: &[Card],
     wires: &[PanelWire],
     legend: &str,
 ) -> Result<String, AllocError>
     requires { length cards.now ≤ most_cards }
-    ensures { IfOk result (λ text. IsPage setup.now cards.now wires.now legend.now (string_bytes text)) }
+    ensures { IfOk result (λ text. IsPage setup.now asked.now cards.now wires.now legend.now (string_bytes text)) }
 {
     let printed = simulate(alloc, setup, cards)?;
     let trace = traced(alloc, setup, cards)?;
     let lines = shown(cards.len(), &printed);
     let form_lines = u32::from(setup.tape().lines());
+    let told = told_wheels(alloc, setup, asked, cards, lines)?;
     let mut text = String::new(alloc);
     write_front(&mut text, cards.len(), &trace, lines, form_lines)?;
     write_drawing(&mut text, wires)?;
     text.push_str(legend)?;
     write_why_open(&mut text)?;
-    write_sections(alloc, &mut text, setup, cards, lines)?;
+    write_told_sections(&mut text, &told)?;
+    write_wire_sections(alloc, &mut text, wires, &told)?;
     write_shown_cycles(alloc, &mut text, cards.len(), &trace)?;
     write_document_close(&mut text)?;
     Ok(text)
@@ -52,9 +58,9 @@ fn page(
 
 /// The page of a chart with its plan and its setup, and a deck of at most 999,999 cards, as a file of XHTML: the pages that the machine
 /// prints, wired so, the drawing of the panel with each wire of the setup once, the legend of the chart, in a version of the language of
-/// wiring charts, for each printed character its explanation, and for each cycle of the run what happened in it. `source` is the text of
-/// the chart. Of a deck of more than 200 cards the first two pages and the first 200 cycles are shown, and the page says so. Its only
-/// refusal is memory.
+/// wiring charts, for each printed character its explanation, which names the lines of the chart that ask for its wires, for each wire what
+/// came through it, and for each cycle of the run what happened in it. `source` is the text of the chart. Of a deck of more than 200 cards
+/// the first two pages and the first 200 cycles are shown, and the page says so. Its only refusal is memory.
 pub fn show_chart(
     alloc: Global,
     version: Version,
@@ -72,7 +78,8 @@ pub fn show_chart(
     let mut legend = String::new(alloc);
     write_legend_open(&mut legend)?;
     write_legend(alloc, &mut legend, version, chart, plan, source)?;
-    page(alloc, setup, cards, &wires, &legend)
+    let asked = line_setups(alloc, chart, plan, source)?;
+    page(alloc, setup, &asked, cards, &wires, &legend)
 }
 
 // A wire that no line of a chart asks for.
@@ -124,5 +131,5 @@ pub fn show_panel(
     let wires = unasked_wires(alloc, &pairs)?;
     let mut legend = String::new(alloc);
     write_wiring(&mut legend, source)?;
-    page(alloc, setup, cards, &wires, &legend)
+    page(alloc, setup, &[], cards, &wires, &legend)
 }

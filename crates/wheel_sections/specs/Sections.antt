@@ -1,18 +1,14 @@
--- The explanations of printed lines as markup: for each printed character an element with the words of its explanation and a picture, the
--- panel with the ways of its impulses over it.
-use Rattle.std.specs.Prelude.{◌≡◌, ℕ, ◌+◌, List, [], ◌∷◌, ◌++◌, Option, Some, None, Vec, codes}
-use Rattle.std.specs.List.{flat_map, range_with_len}
+-- Explanations as markup: for each printed character an element with the words of its explanation and a picture, the panel with the ways
+-- of its impulses over it.
+use Rattle.std.specs.Prelude.{ℕ, List, [], ◌++◌, Option, Some, None, Vec, codes}
+use Rattle.std.specs.List.{flat_map}
+use Rattle.std.specs.String.{string_bytes}
 use Rattle.std.specs.declared.alloc.Global.{Global}
 use Rattle.hubs.specs.declared.hub.Hub.{Hub}
 use Rattle.markup.specs.Escapes.{escaped}
-use Rattle.markup.specs.Pieces.{EachText}
 use Rattle.panel_drawing.specs.Drawing.{way_curve}
-use Rattle.placed_lines.specs.declared.placed_line.PlacedLine.{PlacedLine}
 use Rattle.report_sheets.specs.Sheets.{row_name, wheel_name}
-use Rattle.setups.specs.Wiring.{Wiring}
-use Rattle.explanations.specs.Explanations.{IsExplanation, character_on}
-use Rattle.explanations.specs.declared.explanation.Explanation.{Explanation}
-use Rattle.explanation_text.specs.Text.{IsTextOf}
+use Rattle.wheel_sections.specs.declared.told.ToldWheel.{ToldWheel}
 
 -- the way at a row as a path; nothing where none is told
 unfoldable pub way_text : Option (Vec Hub Global) → List ℕ
@@ -44,21 +40,9 @@ unfoldable pub section_text : (page line wheel : ℕ) → List ℕ → List (Opt
 section_text page line wheel words rows =
     section_open page line wheel ++ words_open ++ escaped words ++ picture_open ++ flat_map way_text rows ++ section_close
 
--- The element of a wheel of a printed line: its words are those of an explanation of the wheel, and its ways those that are told.
-pub record IsSection (wiring : Wiring) (deck : List (List ℕ)) (page line wheel : ℕ) (text : List ℕ) : Type 0 where
-  pub told : Explanation
-  pub words : List ℕ
-  pub right : IsExplanation wiring deck page line wheel told
-  pub worded : IsTextOf [] told words
-  pub spelled : text ≡ section_text page line wheel words told.rows.items
+-- the element of a wheel that is told of, and those of some
+abbrev pub told_section : ToldWheel → List ℕ
+told_section told = section_text told.why.line.page told.why.line.line told.why.wheel (string_bytes told.words) told.why.rows.items
 
--- what is written for a wheel of a line: nothing for a blank, else the element of the wheel
-pub data IsOfWheel (wiring : Wiring) (deck : List (List ℕ)) (placed : PlacedLine) : ℕ → List ℕ → Type 0 where
-  blank : (wheel : ℕ) → character_on placed wheel ≡ 32 → IsOfWheel wiring deck placed wheel []
-  printed :
-      (wheel : ℕ) (text : List ℕ) → (character_on placed wheel ≡ 32 → ⊥) → IsSection wiring deck placed.page placed.line wheel text
-      → IsOfWheel wiring deck placed wheel text
-
--- what is written for a line: for each of its wheels
-abbrev pub IsOfLine : Wiring → List (List ℕ) → PlacedLine → List ℕ → Type 0
-IsOfLine wiring deck placed text = EachText (IsOfWheel wiring deck placed) (range_with_len 1 120) text
+abbrev pub told_sections : List ToldWheel → List ℕ
+told_sections told = flat_map told_section told

@@ -1,10 +1,11 @@
-//! An element.
+//! The elements.
 
 ghost use Rattle.std.specs.Prelude.{◌≡◌, ◌++◌, codes, OnOk};
 ghost use Rattle.std.specs.List.{flat_map};
 ghost use Rattle.std.specs.String.{string_bytes};
-ghost use Rattle.wheel_sections.specs.Sections.{back_text, name_open, picture_open, section_close, section_open, section_text, way_text, words_open};
+ghost use Rattle.wheel_sections.specs.Sections.{back_text, name_open, picture_open, section_close, section_open, section_text, told_section, told_sections, way_text, words_open};
 
+use crate::told::ToldWheel;
 use hubs::Hub;
 use markup::push_escaped;
 use panel_drawing::write_way;
@@ -92,7 +93,7 @@ fn write_close(text: &mut String) -> Result<(), AllocError>
 
 #[tactic(auto, unfolding(crate::specs::Sections::section_text))]
 // The element of a wheel, with these words and these ways.
-pub(crate) fn write_section(
+fn write_section(
     text: &mut String,
     page: u64,
     line: u32,
@@ -108,4 +109,31 @@ pub(crate) fn write_section(
     write_picture_open(text)?;
     write_ways(text, rows)?;
     write_close(text)
+}
+
+// The element of a wheel that is told of.
+fn write_told(text: &mut String, told: &ToldWheel) -> Result<(), AllocError>
+    ensures { OnOk result (string_bytes text.new ≡ string_bytes text.old ++ told_section told.now) }
+{
+    write_section(
+        text,
+        told.why.line.page,
+        told.why.line.line,
+        told.why.wheel,
+        told.words.as_bytes(),
+        &told.why.rows,
+    )
+}
+
+#[tactic(auto, using(markup::proofs::Pieces::one_more))]
+/// Writes the elements of wheels that are told of, in their order: each with the words of its explanation, and its ways over the panel.
+///
+/// Fails only where no memory is left; a front of the elements may then have been written.
+pub fn write_told_sections(text: &mut String, told: &[ToldWheel]) -> Result<(), AllocError>
+    ensures { OnOk result (string_bytes text.new ≡ string_bytes text.old ++ told_sections told.now) }
+{
+    for one in told {
+        write_told(text, one)?;
+    }
+    Ok(())
 }

@@ -3,7 +3,8 @@ use Rattle.std.specs.String.{string_bytes}
 use Rattle.panel_drawing.specs.Blocks.{blocks}
 use Rattle.panel_drawing.specs.Drawing.{drawing_close}
 use Rattle.panel_drawing.specs.Helper.{GainsDrawing}
-use Rattle.panel_drawing.proofs.Written.{drawing_whole, where_ok}
+use Rattle.markup.proofs.Pieces.{where_ok}
+use Rattle.panel_drawing.proofs.Written.{drawing_whole}
 use Rattle.panel_drawing.proofs.drawing.write_drawing.Goals as goal
 
 pub returns : goal.returns
@@ -12,11 +13,11 @@ returns c =
     let old = string_bytes c.args.text.now in
     let one = string_bytes c.write_open.new.text in
     let two = string_bytes c.write_blocks.new.text in
-    let three = string_bytes c.write_dots.new.text in
+    let three = string_bytes c.write_hubs.new.text in
     let four = string_bytes c.write_between.new.text in
     let five = string_bytes c.write_wires.new.text in
     let new = string_bytes c.write_close.new.text in
     where_ok (new ≡ five ++ drawing_close) (GainsDrawing c.args.wires.now old new) c.write_close.result
     (drawing_whole c.args.wires.now old one two three four five new c.in_ok-write_open.ensures c.in_ok-write_blocks.ensures
-    c.in_ok-write_dots.ensures c.in_ok-write_between.ensures c.in_ok-write_wires.ensures)
+    c.in_ok-write_hubs.ensures c.in_ok-write_between.ensures c.in_ok-write_wires.ensures)
     c.write_close.ensures

@@ -1,9 +1,11 @@
-use Rattle.std.specs.Prelude.{◌≡◌, ◌++◌, take}
-use Rattle.std.specs.List.{flat_map}
+use Rattle.std.specs.Prelude.{◌≡◌, ◌+◌, ◌++◌, drop}
 use Rattle.std.specs.String.{string_bytes}
+use Rattle.markup.specs.Pieces.{numbered_words}
 use Rattle.panel_drawing.specs.Drawing.{wire_text}
 use Rattle.panel_drawing.proofs.drawing.write_wires.Given as goal
 
--- those so far are written
-abbrev pub invariant-loop-wire : goal.invariant-loop-wire
-invariant-loop-wire l = string_bytes l.text ≡ string_bytes l.initial.text ++ flat_map wire_text (take l.wire-index l.wires)
+-- what is written, and the wires that are left
+abbrev pub invariant-loop-place : goal.invariant-loop-place
+invariant-loop-place l =
+    string_bytes l.text ++ numbered_words wire_text (l.place + 1) (drop l.place l.wires)
+    ≡ string_bytes l.initial.text ++ numbered_words wire_text 1 l.wires

@@ -1,7 +1,7 @@
 use Rattle.std.proofs.Common.{arith, length, sym}
 use Rattle.std.proofs.lemmas.Bool.{eqb-true}
 use Rattle.panel_drawing.proofs.WireLists.{no_exit, none_listed, wires_from}
-use Rattle.panel_drawing.proofs.Written.{where_ok}
+use Rattle.markup.proofs.Pieces.{where_ok}
 use Rattle.panel_drawing.proofs.wires.list_from.Goals as goal
 
 pub returns-in_default : goal.returns-in_default

@@ -1,7 +1,6 @@
-use Rattle.std.proofs.Common.{◌≡◌, ◌++◌, List, codes}
+use Rattle.std.proofs.Common.{◌≡◌, ◌++◌, codes}
 use Rattle.std.specs.String.{string_bytes}
-use Rattle.markup.proofs.Pieces.{and_more, where_ok}
-use Rattle.wheel_sections.proofs.Gains.{pushed}
+use Rattle.markup.proofs.Pieces.{and_more, pushed, where_ok}
 use Rattle.report_sheets.specs.Sheets.{wheel_name}
 use Rattle.wheel_sections.specs.Sections.{name_open}
 use Rattle.wheel_sections.proofs.sections.write_name.Goals as goal

@@ -1,0 +1,9 @@
+use Rattle.std.specs.Prelude.{[], take}
+use Rattle.wheel_sections.specs.Helper.{GainsTold}
+use Rattle.wheel_sections.specs.Told.{printed_places}
+use Rattle.wheel_sections.proofs.told.told_wheels.Given as goal
+
+-- the lines so far are told of
+abbrev pub invariant-loop-placed : goal.invariant-loop-placed
+invariant-loop-placed l =
+    GainsTold l.setup l.asked l.cards (printed_places (take l.placed-index l.lines)) [] l.told.items
