@@ -140,3 +140,22 @@ pub(crate) fn shown_positions(
     }
     Ok(Some(positions))
 }
+
+/// The comparing position that a setup shows for each column that is compared, in their order, each the first that is not yet taken.
+pub(crate) fn near_positions(
+    alloc: Global,
+    chart: &Chart,
+    setup: &Setup,
+) -> Result<Vec<Option<u8>>, AllocError> {
+    let columns = compared_columns(alloc, chart)?;
+    let mut taken = Vec::new(alloc);
+    let mut shown = Vec::new(alloc);
+    for at in &columns {
+        let its = shown_position(setup, *at, taken.as_slice());
+        if let Some(position) = its {
+            taken.push(position)?;
+        }
+        shown.push(its)?;
+    }
+    Ok(shown)
+}

@@ -4,14 +4,15 @@
 //! prints the level reads the group out, and its first place leads to the wheel of the units. The carry wire names the upper one. Of a
 //! text on a total line the cycle and the first wheel name the storage unit, in the same way; a split and an indicate position are named by
 //! the wheel to which they lead. A column of a control field and its level name the comparing position, and the sign column of an amount
-//! its pilot, together with its lowest total or its mark. Where two things are named alike, their parts may change places, and the first
-//! that is not yet taken will do. Where a total has no counter group, a free one stands in for it, if there is one with some of the wires
-//! rather that one: so what is wrong can still be told.
+//! its pilot, together with its lowest total or its mark. Where a column is compared twice for a level, the two positions may change places,
+//! and the first that is not yet taken will do. Where nothing shows the part of a thing, a free one stands in for it, for a counter group one
+//! with some of the wires rather, if there is one: so what is wrong can still be told.
 #![tactic(auto)]
 
 mod compared;
 mod counters;
 mod groups;
+mod near;
 mod parts;
 mod pilots;
 mod plan;

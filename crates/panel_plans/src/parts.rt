@@ -7,10 +7,11 @@ ghost use Rattle.plans.specs.PartNumbers.{AreThere, last_of};
 ghost use Rattle.plans.specs.Plans.{IsWithinMachine, Lists};
 ghost use Rattle.wanted.specs.Wanted.{parts_of};
 
-use crate::compared::shown_positions;
-use crate::pilots::shown_pilots;
-use crate::text_units::shown_units;
-use crate::wheel_parts::{shown_indicates, shown_splits};
+use crate::compared::{near_positions, shown_positions};
+use crate::near::filled;
+use crate::pilots::{near_pilots, shown_pilots};
+use crate::text_units::{near_units, shown_units};
+use crate::wheel_parts::{near_indicates, near_splits, shown_indicates, shown_splits};
 use chart_rules::Chart;
 use charts::ControlLevel;
 use plans::{PartKind, PartNumbers};
@@ -18,42 +19,96 @@ use setups::Setup;
 use std::alloc::{AllocError, Global};
 use wanted::Parts;
 
-// These numbers, but of a kind those that a setup shows, where it shows some.
-fn with_shown(
-    _chart: &Chart,
-    _setup: &Setup,
+// The numbers of the parts of a kind that a setup shows for some things, and free ones for the others; none where too few are left.
+fn near_numbers(
+    alloc: Global,
+    chart: &Chart,
+    setup: &Setup,
+    parts: &Parts,
     kind: PartKind,
-    numbers: PartNumbers,
-    shown: Option<Vec<u8>>,
-) -> PartNumbers
-    requires there { IfSome shown (λ list. AreThere (last_of kind) list.items) }
-    requires shown { IfSome shown (λ list. AreShown _chart.now.lines _setup.now kind list.items) }
-    requires none { IfNone shown (IsUnwired _chart.now.lines _setup.now) }
-    ensures { (its : Lists) → IsWiredBy _chart.now.lines _setup.now its → TakesShown _chart.now.lines _setup.now kind numbers result }
+) -> Result<Option<Vec<u8>>, AllocError>
+    ensures { IfOk result (λ numbers. IfSome numbers (λ list. AreThere (last_of kind) list.items)) }
 {
-    match shown {
-        Some(list) => numbers.with(kind, list),
-        None => numbers,
+    match kind {
+        PartKind::Pilot => {
+            let shown = near_pilots(alloc, chart, setup, parts.pilots())?;
+            filled(alloc, &shown, 16)
+        }
+        PartKind::Comparing => {
+            let shown = near_positions(alloc, chart, setup)?;
+            filled(alloc, &shown, 30)
+        }
+        PartKind::Storage => {
+            let shown = near_units(alloc, chart, setup)?;
+            filled(alloc, &shown, 4)
+        }
+        PartKind::Split => {
+            let shown = near_splits(alloc, chart, setup)?;
+            filled(alloc, &shown, 16)
+        }
+        PartKind::Indicate(level) => {
+            let shown = near_indicates(alloc, chart, setup, level)?;
+            filled(alloc, &shown, 30)
+        }
     }
 }
 
-// These numbers, but the indicate positions of a level are those that a setup shows.
+// These numbers, but of a kind those that are near to what a setup shows, where there are enough parts.
+fn with_near(
+    alloc: Global,
+    chart: &Chart,
+    setup: &Setup,
+    parts: &Parts,
+    kind: PartKind,
+    numbers: PartNumbers,
+) -> Result<PartNumbers, AllocError> {
+    match near_numbers(alloc, chart, setup, parts, kind)? {
+        Some(list) => Ok(numbers.with(kind, list)),
+        None => Ok(numbers),
+    }
+}
+
+// These numbers, but of a kind those that a setup shows, where it shows some, else near ones.
+fn with_shown(
+    alloc: Global,
+    chart: &Chart,
+    setup: &Setup,
+    parts: &Parts,
+    kind: PartKind,
+    numbers: PartNumbers,
+    shown: Option<Vec<u8>>,
+) -> Result<PartNumbers, AllocError>
+    requires there { IfSome shown (λ list. AreThere (last_of kind) list.items) }
+    requires shown { IfSome shown (λ list. AreShown chart.now.lines setup.now kind list.items) }
+    requires none { IfNone shown (IsUnwired chart.now.lines setup.now) }
+    ensures { IfOk result (λ told. (its : Lists) → IsWiredBy chart.now.lines setup.now its
+        → TakesShown chart.now.lines setup.now kind numbers told) }
+{
+    match shown {
+        Some(list) => Ok(numbers.with(kind, list)),
+        None => with_near(alloc, chart, setup, parts, kind, numbers),
+    }
+}
+
+// These numbers, but the indicate positions of a level are those that a setup shows, else near ones.
 fn with_indicates(
     alloc: Global,
     chart: &Chart,
     setup: &Setup,
+    parts: &Parts,
     level: ControlLevel,
     numbers: PartNumbers,
 ) -> Result<PartNumbers, AllocError>
-    ensures { IfOk result (λ shown. (its : Lists) → IsWiredBy chart.now.lines setup.now its
-        → TakesShown chart.now.lines setup.now (PartKind.Indicate level) numbers shown) }
+    ensures { IfOk result (λ told. (its : Lists) → IsWiredBy chart.now.lines setup.now its
+        → TakesShown chart.now.lines setup.now (PartKind.Indicate level) numbers told) }
 {
     let shown = shown_indicates(alloc, chart, setup, level)?;
-    Ok(with_shown(chart, setup, PartKind::Indicate(level), numbers, shown))
+    let kind = PartKind::Indicate(level);
+    with_shown(alloc, chart, setup, parts, kind, numbers, shown)
 }
 
-/// The numbers of the parts that a setup shows for what a chart asks for; those in order of the kinds of which it shows none for some
-/// thing.
+/// The numbers of the parts that a setup shows for what a chart asks for; of a kind of which it shows none for some thing, those that it
+/// shows for the others, and a free one for that.
 pub(crate) fn shown_numbers(
     alloc: Global,
     chart: &Chart,
@@ -65,16 +120,34 @@ pub(crate) fn shown_numbers(
     ensures { IfOk result (λ numbers. (its : Lists) → IsWiredBy chart.now.lines setup.now its
         → IsWiredBy chart.now.lines setup.now (with_numbers its numbers)) }
 {
-    let in_order = PartNumbers::in_order(alloc, parts)?;
+    let none = PartNumbers::in_order(alloc, parts)?;
     let units = shown_units(alloc, chart, setup)?;
-    let with_units = with_shown(chart, setup, PartKind::Storage, in_order, units);
+    let kind = PartKind::Storage;
+    let with_units = with_shown(alloc, chart, setup, parts, kind, none, units)?;
     let splits = shown_splits(alloc, chart, setup)?;
-    let with_splits = with_shown(chart, setup, PartKind::Split, with_units, splits);
-    let minor = with_indicates(alloc, chart, setup, ControlLevel::Minor, with_splits)?;
-    let intermediate = with_indicates(alloc, chart, setup, ControlLevel::Intermediate, minor)?;
-    let major = with_indicates(alloc, chart, setup, ControlLevel::Major, intermediate)?;
+    let kind = PartKind::Split;
+    let with_splits = with_shown(alloc, chart, setup, parts, kind, with_units, splits)?;
+    let minor = with_indicates(alloc, chart, setup, parts, ControlLevel::Minor, with_splits)?;
+    let intermediate = with_indicates(
+        alloc,
+        chart,
+        setup,
+        parts,
+        ControlLevel::Intermediate,
+        minor,
+    )?;
+    let major = with_indicates(
+        alloc,
+        chart,
+        setup,
+        parts,
+        ControlLevel::Major,
+        intermediate,
+    )?;
     let positions = shown_positions(alloc, chart, setup)?;
-    let with_positions = with_shown(chart, setup, PartKind::Comparing, major, positions);
+    let kind = PartKind::Comparing;
+    let with_positions = with_shown(alloc, chart, setup, parts, kind, major, positions)?;
     let pilots = shown_pilots(alloc, chart, setup, parts.pilots())?;
-    Ok(with_shown(chart, setup, PartKind::Pilot, with_positions, pilots))
+    let kind = PartKind::Pilot;
+    with_shown(alloc, chart, setup, parts, kind, with_positions, pilots)
 }

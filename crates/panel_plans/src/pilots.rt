@@ -240,3 +240,17 @@ pub(crate) fn shown_pilots(
     }
     Ok(Some(pilots))
 }
+
+/// The pilot that a setup shows for each amount of some names, in their order.
+pub(crate) fn near_pilots(
+    alloc: Global,
+    chart: &Chart,
+    setup: &Setup,
+    names: &[Name],
+) -> Result<Vec<Option<u8>>, AllocError> {
+    let mut shown = Vec::new(alloc);
+    for name in names {
+        shown.push(shown_pilot(chart, setup, *name))?;
+    }
+    Ok(shown)
+}

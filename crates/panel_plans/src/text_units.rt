@@ -92,3 +92,18 @@ pub(crate) fn shown_units(
     }
     Ok(Some(units))
 }
+
+/// The storage unit that a setup shows for each text on a total line, in the order of their lines.
+pub(crate) fn near_units(
+    alloc: Global,
+    chart: &Chart,
+    setup: &Setup,
+) -> Result<Vec<Option<u8>>, AllocError> {
+    let mut shown = Vec::new(alloc);
+    for line in chart.lines() {
+        if let Some(text) = text_of(&line.statement) {
+            shown.push(shown_unit(setup, text))?;
+        }
+    }
+    Ok(shown)
+}

@@ -255,3 +255,47 @@ pub(crate) fn shown_indicates(
         30,
     )
 }
+
+// The part that leads to each wheel.
+fn led_each(
+    alloc: Global,
+    setup: &Setup,
+    wheels: &[u32],
+    part: WheelPart,
+    last: u8,
+) -> Result<Vec<Option<u8>>, AllocError>
+    requires { last ≤ 30 }
+{
+    let mut shown = Vec::new(alloc);
+    for wheel in wheels {
+        shown.push(shown_number(setup, *wheel, part, last))?;
+    }
+    Ok(shown)
+}
+
+/// The column split that a setup shows for each amount whose sign column is one of its own, in the order of their lines.
+pub(crate) fn near_splits(
+    alloc: Global,
+    chart: &Chart,
+    setup: &Setup,
+) -> Result<Vec<Option<u8>>, AllocError> {
+    let wheels = split_wheels(alloc, chart)?;
+    led_each(alloc, setup, wheels.as_slice(), WheelPart::Split, 16)
+}
+
+/// The indicate position of a level that a setup shows for each column that is indicated at it, in their order.
+pub(crate) fn near_indicates(
+    alloc: Global,
+    chart: &Chart,
+    setup: &Setup,
+    level: ControlLevel,
+) -> Result<Vec<Option<u8>>, AllocError> {
+    let wheels = indicated_wheels(alloc, chart, level)?;
+    led_each(
+        alloc,
+        setup,
+        wheels.as_slice(),
+        WheelPart::Indicated(level),
+        30,
+    )
+}

@@ -1,7 +1,19 @@
+use Rattle.panel_plans.specs.Renumbered.{TakesShown, with_numbers}
+use Rattle.panel_plans.specs.Wired.{IsWiredBy}
 use Rattle.panel_plans.proofs.Planned.{all-shown}
+use Rattle.panel_plans.proofs.Steps.{if-ok}
+use Rattle.plans.specs.Plans.{Lists}
+use Rattle.plans.specs.declared.part_numbers.PartKind.TheVariants as kind
 use Rattle.panel_plans.proofs.parts.shown_numbers.Goals as goal
 
 pub returns : goal.returns
 returns c =
-    all-shown c.with_shown-with_units.ensures c.with_shown-with_splits.ensures c.in_ok-minor.ensures c.in_ok-intermediate.ensures
-    c.in_ok-major.ensures c.with_shown-with_positions.ensures c.with_shown.ensures
+    let lines = c.args.chart.now.lines in
+    let setup = c.args.setup.now in
+    if-ok c.with_shown-4.result
+    (λ told. (its : Lists) → IsWiredBy lines setup its → TakesShown lines setup kind.Pilot c.in_ok-with_positions.with_positions told)
+    (λ numbers. (its : Lists) → IsWiredBy lines setup its → IsWiredBy lines setup (with_numbers its numbers))
+    (λ numbers told.
+    all-shown c.in_ok-with_units.ensures c.in_ok-with_splits.ensures c.in_ok-minor.ensures c.in_ok-intermediate.ensures
+    c.in_ok-major.ensures c.in_ok-with_positions.ensures told)
+    c.with_shown-4.ensures
