@@ -43,8 +43,8 @@ returns c =
     c.new-text.ensures.bytes
     (c.in_ok-write_front.ensures
     ∙ ap (λ (t : List ℕ). none ++ front_text cards t c.shown-lines.result.now c.from-form_lines.result) c.deref-2.ensures.value
-    ∙ ap (λ (l : List PlacedLine). none ++ front_text cards told l c.from-form_lines.result) same
-    ∙ ap (λ (n : ℕ). none ++ front_text cards told (shown cards printed) n) long)
+    ∙ ap (λ (l : List PlacedLine). none ++ front_text cards trace l c.from-form_lines.result) same
+    ∙ ap (λ (n : ℕ). none ++ front_text cards trace (shown cards printed) n) long)
     c.in_ok-write_drawing.ensures c.in_ok-push_str.ensures.bytes c.in_ok-write_why_open.ensures
     (c.in_ok-write_told_sections.ensures ∙ ap (λ (l : List ToldWheel). four ++ told_sections l) c.deref-3.ensures.value)
     (subst (λ (l : List ToldWheel). GainsWireSections c.args.wires.now l five six) c.deref-4.ensures.value
