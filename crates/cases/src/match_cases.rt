@@ -2,8 +2,7 @@
 //!
 //! The file `index` has a line for each: the name of the wiring chart, which stands in `matches`, the path of the planning chart, and that of
 //! a deck where one is run too, divided by `|`. Of some wiring charts copies stand beside, in which the counter groups have other numbers, or
-//! the pilots, comparing positions and storage units; of others copies from which a wire, a jack or the form was taken, or in which one is
-//! more, or another.
+//! all other parts; of others copies from which a wire, a jack or the form was taken, or in which one is more, or another.
 
 use crate::answered::Served;
 use crate::read_case;
