@@ -141,7 +141,33 @@ pub(crate) fn shown_positions(
     Ok(Some(positions))
 }
 
-/// The comparing position that a setup shows for each column that is compared, in their order, each the first that is not yet taken.
+// Whether most wires of a column speak for a position: second reading leads to it, and one of the wires that show it is there.
+fn is_near(setup: &Setup, at: ComparedColumn, position: u8) -> bool {
+    if at.column > 255 {
+        return false;
+    }
+    let second = setup.has(Hub::SR(at.column as u8), Hub::CB(position));
+    let first = setup.has(Hub::FR(at.column as u8), Hub::CA(position));
+    let calls = setup.has(Hub::CX(position), Hub::ST(at.level));
+    second && (first || calls)
+}
+
+// The position that is shown for a column, else the first for which most of its wires speak, of those that are not taken.
+fn near_position(setup: &Setup, at: ComparedColumn, taken: &[u8]) -> Option<u8> {
+    let shown = shown_position(setup, at, taken);
+    if shown.is_some() {
+        return shown;
+    }
+    for place in 0..30 {
+        if is_near(setup, at, place + 1) && !is_taken(taken, place + 1) {
+            return Some(place + 1);
+        }
+    }
+    None
+}
+
+/// The comparing position that a setup shows for each column that is compared, or for which most of its wires speak, in their order, each
+/// the first that is not yet taken.
 pub(crate) fn near_positions(
     alloc: Global,
     chart: &Chart,
@@ -149,13 +175,13 @@ pub(crate) fn near_positions(
 ) -> Result<Vec<Option<u8>>, AllocError> {
     let columns = compared_columns(alloc, chart)?;
     let mut taken = Vec::new(alloc);
-    let mut shown = Vec::new(alloc);
+    let mut near = Vec::new(alloc);
     for at in &columns {
-        let its = shown_position(setup, *at, taken.as_slice());
+        let its = near_position(setup, *at, taken.as_slice());
         if let Some(position) = its {
             taken.push(position)?;
         }
-        shown.push(its)?;
+        near.push(its)?;
     }
-    Ok(shown)
+    Ok(near)
 }

@@ -1,5 +1,5 @@
-//! Numbers of parts where a setup doesn't show one for each thing: those that it shows, and free ones for the others. So what is wrong with a
-//! panel can be told beside what is right with it.
+//! Numbers of parts where a setup doesn't show one for each thing: those that it shows, or that most of its wires speak for, and free ones for
+//! the others. So what is wrong with a panel can be told beside what is right with it.
 
 ghost use Rattle.std.specs.Prelude.{◌≤◌, IfOk, IfSome};
 ghost use Rattle.plans.specs.PartNumbers.{AreThere};
@@ -24,17 +24,17 @@ fn free_number(shown: &[Option<u8>], taken: &[u8], last: u8) -> Option<u8>
     None
 }
 
-// A number of so many for a thing: the one that is shown, else a free one.
+// A number of so many for a thing: the one that is shown, if it isn't taken, else a free one.
 fn number_for(shown: &[Option<u8>], taken: &[u8], its: Option<u8>, last: u8) -> Option<u8>
     requires { last ≤ 30 }
     ensures { IfSome result (λ number. (1 ≤ number) × (number ≤ last)) }
 {
     match its {
         Some(number) => {
-            if 1 <= number && number <= last {
+            if 1 <= number && number <= last && !taken.contains(&number) {
                 Some(number)
             } else {
-                None
+                free_number(shown, taken, last)
             }
         }
         None => free_number(shown, taken, last),

@@ -241,16 +241,45 @@ pub(crate) fn shown_pilots(
     Ok(Some(pilots))
 }
 
-/// The pilot that a setup shows for each amount of some names, in their order.
+// The first pilot that a line tells to be that of an amount, else the first to which its sign column leads.
+fn near_pilot(chart: &Chart, setup: &Setup, amount: &SignedAmount) -> Option<u8>
+    requires { IsSignedOf chart.now.lines amount.now }
+{
+    for place in 0..16 {
+        if is_told(chart, setup, amount, place + 1) {
+            return Some(place + 1);
+        }
+    }
+    for place in 0..16 {
+        if picks_up(setup, column_of(amount.rule), place + 1) {
+            return Some(place + 1);
+        }
+    }
+    None
+}
+
+// The pilot that is shown for the amount of a name, else one for which a wire of it speaks.
+fn pilot_near(chart: &Chart, setup: &Setup, name: Name) -> Option<u8> {
+    let shown = shown_pilot(chart, setup, name);
+    if shown.is_some() {
+        return shown;
+    }
+    match signed_amount(chart, name) {
+        Some(amount) => near_pilot(chart, setup, &amount),
+        None => None,
+    }
+}
+
+/// The pilot that a setup shows for each amount of some names, or for which a wire of it speaks, in their order.
 pub(crate) fn near_pilots(
     alloc: Global,
     chart: &Chart,
     setup: &Setup,
     names: &[Name],
 ) -> Result<Vec<Option<u8>>, AllocError> {
-    let mut shown = Vec::new(alloc);
+    let mut near = Vec::new(alloc);
     for name in names {
-        shown.push(shown_pilot(chart, setup, *name))?;
+        near.push(pilot_near(chart, setup, *name))?;
     }
-    Ok(shown)
+    Ok(near)
 }

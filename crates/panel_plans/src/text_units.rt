@@ -93,17 +93,54 @@ pub(crate) fn shown_units(
     Ok(Some(units))
 }
 
-/// The storage unit that a setup shows for each text on a total line, in the order of their lines.
+// Whether most wires of a text speak for a storage unit: it takes the first column, and one of the wires that show the text is there.
+fn is_near(setup: &Setup, text: TextPlace, column: u16, unit: u8) -> bool {
+    if text.wheel > 255 || column > 255 {
+        return false;
+    }
+    let takes = setup.has(Hub::SR(column as u8), Hub::SE(unit, 1));
+    let gives = setup.has(Hub::PX(text.level, 3), Hub::SO(unit));
+    let prints = setup.has(Hub::SX(unit, 1), Hub::W(text.wheel as u8));
+    takes && (gives || prints)
+}
+
+// The first column of the field of a text on a total line; 0 where there is none.
+fn first_column(chart: &Chart, statement: &Statement) -> u16 {
+    match statement {
+        Statement::TotalText { name, .. } => match chart.field(*name) {
+            Some(field) => field.first,
+            None => 0,
+        },
+        _ => 0,
+    }
+}
+
+// The storage unit that is shown for a text, else one for which most of its wires speak.
+fn near_unit(setup: &Setup, text: TextPlace, column: u16) -> Option<u8> {
+    let shown = shown_unit(setup, text);
+    if shown.is_some() {
+        return shown;
+    }
+    for place in 0..4 {
+        if is_near(setup, text, column, place + 1) {
+            return Some(place + 1);
+        }
+    }
+    None
+}
+
+/// The storage unit that a setup shows for each text on a total line, or for which most of its wires speak, in the order of their lines.
 pub(crate) fn near_units(
     alloc: Global,
     chart: &Chart,
     setup: &Setup,
 ) -> Result<Vec<Option<u8>>, AllocError> {
-    let mut shown = Vec::new(alloc);
+    let mut near = Vec::new(alloc);
     for line in chart.lines() {
         if let Some(text) = text_of(&line.statement) {
-            shown.push(shown_unit(setup, text))?;
+            let column = first_column(chart, &line.statement);
+            near.push(near_unit(setup, text, column))?;
         }
     }
-    Ok(shown)
+    Ok(near)
 }

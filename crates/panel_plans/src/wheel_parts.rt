@@ -256,46 +256,98 @@ pub(crate) fn shown_indicates(
     )
 }
 
-// The part that leads to each wheel.
-fn led_each(
-    alloc: Global,
-    setup: &Setup,
-    wheels: &[u32],
-    part: WheelPart,
-    last: u8,
-) -> Result<Vec<Option<u8>>, AllocError>
-    requires { last ≤ 30 }
-{
-    let mut shown = Vec::new(alloc);
-    for wheel in wheels {
-        shown.push(shown_number(setup, *wheel, part, last))?;
+// The entry of the part of a number.
+fn entry_of(part: WheelPart, number: u8) -> Hub {
+    match part {
+        WheelPart::Split => Hub::CSE(number),
+        WheelPart::Indicated(level) => Hub::IE(level.number(), number),
     }
-    Ok(shown)
 }
 
-/// The column split that a setup shows for each amount whose sign column is one of its own, in the order of their lines.
+// Whether a column at second reading enters the part of a number.
+fn enters(setup: &Setup, column: u32, part: WheelPart, number: u8) -> bool {
+    column < 256 && setup.has(Hub::SR(column as u8), entry_of(part, number))
+}
+
+// The part that leads to a wheel, else the first that its column enters.
+fn near_number(setup: &Setup, wheel: u32, column: u32, part: WheelPart, last: u8) -> Option<u8>
+    requires { last ≤ 30 }
+{
+    let shown = shown_number(setup, wheel, part, last);
+    if shown.is_some() {
+        return shown;
+    }
+    for place in 0..last {
+        if enters(setup, column, part, place + 1) {
+            return Some(place + 1);
+        }
+    }
+    None
+}
+
+// The sign column of the amount that a line puts on the line of a card; 0 where there is none.
+fn sign_column(chart: &Chart, statement: &Statement) -> u16 {
+    match statement {
+        Statement::DetailField { name, .. } => match chart.field(*name) {
+            Some(field) => field.kind.sign_column().unwrap_or(0),
+            None => 0,
+        },
+        _ => 0,
+    }
+}
+
+/// The column split that a setup shows for each amount whose sign column is one of its own, or that this column enters, in the order of their
+/// lines.
 pub(crate) fn near_splits(
     alloc: Global,
     chart: &Chart,
     setup: &Setup,
 ) -> Result<Vec<Option<u8>>, AllocError> {
-    let wheels = split_wheels(alloc, chart)?;
-    led_each(alloc, setup, wheels.as_slice(), WheelPart::Split, 16)
+    let mut near = Vec::new(alloc);
+    for line in chart.lines() {
+        if let Some(wheel) = split_wheel(chart, &line.statement) {
+            let column = u32::from(sign_column(chart, &line.statement));
+            near.push(near_number(setup, wheel, column, WheelPart::Split, 16))?;
+        }
+    }
+    Ok(near)
 }
 
-/// The indicate position of a level that a setup shows for each column that is indicated at it, in their order.
+// Puts the indicate positions of the columns of a field behind others.
+fn push_near(
+    near: &mut Vec<Option<u8>>,
+    setup: &Setup,
+    wheel: u16,
+    field: Field,
+    level: ControlLevel,
+) -> Result<(), AllocError> {
+    let first = u32::from(field.first);
+    let start = u32::from(wheel);
+    for place in 0..field.columns() {
+        let part = WheelPart::Indicated(level);
+        near.push(near_number(setup, start + place, first + place, part, 30))?;
+    }
+    Ok(())
+}
+
+/// The indicate position of a level that a setup shows for each column that is indicated at it, or that the column enters, in their order.
 pub(crate) fn near_indicates(
     alloc: Global,
     chart: &Chart,
     setup: &Setup,
     level: ControlLevel,
 ) -> Result<Vec<Option<u8>>, AllocError> {
-    let wheels = indicated_wheels(alloc, chart, level)?;
-    led_each(
-        alloc,
-        setup,
-        wheels.as_slice(),
-        WheelPart::Indicated(level),
-        30,
-    )
+    let mut near = Vec::new(alloc);
+    for line in chart.lines() {
+        if let Some(field) = indicated_field(chart, level, &line.statement) {
+            push_near(
+                &mut near,
+                setup,
+                detail_wheel(&line.statement),
+                field,
+                level,
+            )?;
+        }
+    }
+    Ok(near)
 }
