@@ -44,7 +44,8 @@ impl Units {
         self.step(net, &closed, cycle, Point::K);
     }
 
-    // The points of the rows. They are taken all at once where no impulse passes one contact behind another, else one by one.
+    // The points of the rows. They are taken all at once where no impulse passes one contact behind another and there are not too many
+    // wires, else one by one.
     fn run_rows(&mut self, net: &Net, closed: &Closed, cycle: Cycle)
         requires { AreSteady cycle closed.now self.old }
         ensures ran { (wiring : Wiring) → IsNetOf wiring net.now → RunsRows wiring cycle self.old self.new }

@@ -5,7 +5,8 @@ use thiserror::Error;
 /// Why a feed fails.
 #[derive(Clone, Copy, Debug, PartialEq, Eq, Error)]
 pub enum FeedFault {
-    /// Memory was refused in a feed before, and what that feed left to do is lost.
+    /// A feed before was not run to its end, as memory was refused in it or it was one up to a line that it found; what it left to do is
+    /// lost.
     #[error("an earlier feed ran out of memory")]
     Spoiled,
     /// A card after the 999,999th.

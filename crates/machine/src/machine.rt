@@ -12,7 +12,8 @@ use std::marker::Model;
 
 /// A machine with a setup of the panel. It is fed the cards of a deck one by one, and then the end.
 ///
-/// Where memory is refused in a feed, the machine is spoiled, and takes nothing more.
+/// Where memory is refused in a feed, the machine is spoiled, and takes nothing more. So it is where [`Machine::feed_to`] has answered a
+/// cycle, since the rest of that feed isn't run.
 #[derive(Drop)]
 pub struct Machine {
     net: Net,
@@ -72,9 +73,10 @@ impl Machine {
     /// heading cycles that precede that and the cycles after it, up to those of the next card. The end as the first
     /// feed runs nothing.
     ///
-    /// Refused with `Spoiled` where memory was refused before, else with `TooManyCards` for a card after 999,999 of
-    /// them, else with `Ended` where the end was fed before: then nothing changes. With `Memory` where memory is
-    /// refused in this feed: then `out` has gained the first of the lines that were due, and the machine is spoiled.
+    /// Refused with `Spoiled` where a feed before this one was not run to its end, as memory was refused in it or `feed_to` answered a
+    /// cycle, else with `TooManyCards` for a card after 999,999 of them, else with `Ended` where the end was fed before: then nothing
+    /// changes. With `Memory` where memory is refused in this feed: then `out` has gained the first of the lines that were due, and the
+    /// machine is spoiled.
     pub fn feed(&mut self, next: Option<Card>, out: &mut Vec<PlacedLine>) -> Result<(), FeedFault>
         ensures lines { OnOk result (GainsFeed self.old.net self.old.machine next self.new.machine out.old.items out.new.items) }
         ensures goes_on { OnOk result (self.new ≡ fed next self.new.machine self.old) }

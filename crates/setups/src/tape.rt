@@ -123,7 +123,7 @@ impl Tape {
         self.lines
     }
 
-    /// The first line that is printed on a page, 1 to `lines`.
+    /// The first line of the form, where channel 1 has its hole, 1 to `lines`: the first heading cycle goes there.
     pub fn first(&self) -> u8
         ensures value { result ≡ self.now.first }
         ensures form { IsCarriageTape self.now }
@@ -131,7 +131,7 @@ impl Tape {
         self.first
     }
 
-    /// The overflow line, 1 to `lines`.
+    /// The overflow line, where channel 12 has its hole, 1 to `lines`.
     pub fn overflow(&self) -> u8
         ensures value { result ≡ self.now.overflow }
         ensures form { IsCarriageTape self.now }
