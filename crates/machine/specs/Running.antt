@@ -1,5 +1,5 @@
--- A machine that runs: it is fed at most 999,999 cards and then the end, and takes nothing more after the end. Where memory
--- was refused in a feed it is spoiled, and takes nothing from then on.
+-- A machine that runs: it is fed at most 999,999 cards and then the end, and takes nothing more after the end. A feed that
+-- is not run to its end, as memory was refused in it or it was run up to a line alone, spoils it: it takes nothing from then on.
 use Rattle.std.specs.Prelude.{◌≡◌, ℕ, ◌+◌, ◌==◌, ◌&&◌, Bool, true, false, List, Option, Some, None, is_some, if◌then◌else◌}
 use Rattle.card_code.specs.MostCards.{most_cards}
 use Rattle.setups.specs.Wiring.{Wiring}

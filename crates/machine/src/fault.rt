@@ -7,7 +7,7 @@ use thiserror::Error;
 pub enum FeedFault {
     /// A feed before was not run to its end, as memory was refused in it or it was one up to a line that it found; what it left to do is
     /// lost.
-    #[error("an earlier feed ran out of memory")]
+    #[error("an earlier feed was not run to its end")]
     Spoiled,
     /// A card after the 999,999th.
     #[error("more than 999,999 cards")]

@@ -120,6 +120,7 @@ impl Machine {
         ensures past { (wiring : Wiring) → IsNetOf wiring self.old.net → result ≡ Ok None
             → FeedsPast wiring self.old.machine next self.new.machine page line }
         ensures goes_on { result ≡ Ok None → self.new ≡ fed next self.new.machine self.old }
+        ensures spoiled { IfOk result (λ found. IfSome found (λ _. self.new.is_spoiled ≡ true)) }
         ensures refused { (fault : FeedFault) → refusal self.old next ≡ Some fault → result ≡ Err fault }
         ensures faults { IfErr result (λ fault. refusal self.old next ≡ Some fault) }
         ensures unchanged { (fault : FeedFault) → refusal self.old next ≡ Some fault → self.new ≡ self.old }

@@ -10,6 +10,7 @@ use guides::fault_to_end;
 use match_calls::{match_deck_to_end, match_to_end};
 use panel_guides::{Place, explain_to_end, legend_to_end};
 use std::io::{ErrorKind as IoErrorKind, Write};
+use std::fs::File;
 use std::{fs, io};
 use trace_calls::trace_to_end;
 
@@ -27,213 +28,169 @@ fn unopened<'a>(error: &io::Error, path: &'a str) -> Fault<'a>
     }
 }
 
+// A file, opened.
+fn open<'a>(rt: &HostRuntime, path: &'a str) -> Result<File, Fault<'a>> {
+    fs::open(rt, path).map_err(|error| unopened(&error, path))
+}
+
 // The bytes of a file.
 fn read_file<'a>(rt: &HostRuntime, path: &'a str) -> Result<Vec<u8>, Fault<'a>> {
-    match fs::open(rt, path) {
-        Ok(file) => read_whole(rt.alloc(), file, path),
-        Err(error) => Err(unopened(&error, path)),
-    }
+    read_whole(rt.alloc(), open(rt, path)?, path)
 }
 
 // Does a command that runs a deck through a chart, or through a wiring chart.
-fn serve_deck(rt: &HostRuntime, command: &str, chart: &str, deck: &str) -> u8 {
-    let mut faults = rt.stderr();
-    let text = match read_file(rt, chart) {
-        Ok(text) => text,
-        Err(fault) => return tell(&fault, &mut faults).status,
-    };
-    let cards = match fs::open(rt, deck) {
-        Ok(cards) => cards,
-        Err(error) => return tell(&unopened(&error, deck), &mut faults).status,
-    };
-    let mut out = rt.stdout();
-    serve(
+fn serve_deck<'a>(
+    rt: &HostRuntime,
+    command: &str,
+    chart: &'a str,
+    deck: &'a str,
+) -> Result<u8, Fault<'a>> {
+    let text = read_file(rt, chart)?;
+    let cards = open(rt, deck)?;
+    Ok(serve(
         rt.alloc(),
         command,
         text.as_slice(),
         deck,
         cards,
-        &mut out,
-        &mut faults,
-    )
+        &mut rt.stdout(),
+        &mut rt.stderr(),
+    ))
 }
 
 // Replays a deck through a wiring chart by orders. Both are read whole and the deck is opened before a fault of any of them is told.
-fn serve_orders(rt: &HostRuntime, wiring: &str, orders: &str, deck: &str) -> u8 {
-    let mut faults = rt.stderr();
-    let text = match read_file(rt, wiring) {
-        Ok(text) => text,
-        Err(fault) => return tell(&fault, &mut faults).status,
-    };
-    let lists = match read_file(rt, orders) {
-        Ok(lists) => lists,
-        Err(fault) => return tell(&fault, &mut faults).status,
-    };
-    let cards = match fs::open(rt, deck) {
-        Ok(cards) => cards,
-        Err(error) => return tell(&unopened(&error, deck), &mut faults).status,
-    };
-    let mut out = rt.stdout();
-    replay_by_orders(
+fn serve_orders<'a>(
+    rt: &HostRuntime,
+    wiring: &'a str,
+    orders: &'a str,
+    deck: &'a str,
+) -> Result<u8, Fault<'a>> {
+    let text = read_file(rt, wiring)?;
+    let lists = read_file(rt, orders)?;
+    let cards = open(rt, deck)?;
+    Ok(replay_by_orders(
         rt.alloc(),
         text.as_slice(),
         lists.as_slice(),
         deck,
         cards,
-        &mut out,
-        &mut faults,
-    )
+        &mut rt.stdout(),
+        &mut rt.stderr(),
+    ))
 }
 
 // Does a command that reads a chart alone, or a wiring chart.
-fn serve_chart(rt: &HostRuntime, command: &str, chart: &str) -> u8 {
-    let mut faults = rt.stderr();
-    let text = match read_file(rt, chart) {
-        Ok(text) => text,
-        Err(fault) => return tell(&fault, &mut faults).status,
-    };
-    let mut out = rt.stdout();
-    serve(
+fn serve_chart<'a>(rt: &HostRuntime, command: &str, chart: &'a str) -> Result<u8, Fault<'a>> {
+    let text = read_file(rt, chart)?;
+    Ok(serve(
         rt.alloc(),
         command,
         text.as_slice(),
         "-",
         b"".as_slice(),
-        &mut out,
-        &mut faults,
-    )
+        &mut rt.stdout(),
+        &mut rt.stderr(),
+    ))
 }
 
 // Matches a panel with a chart.
-fn match_panel(rt: &HostRuntime, chart: &str, wiring: &str) -> u8 {
-    let mut faults = rt.stderr();
-    let text = match read_file(rt, chart) {
-        Ok(text) => text,
-        Err(fault) => return tell(&fault, &mut faults).status,
-    };
-    let panel = match read_file(rt, wiring) {
-        Ok(panel) => panel,
-        Err(fault) => return tell(&fault, &mut faults).status,
-    };
-    let mut out = rt.stdout();
-    match_to_end(
+fn match_panel<'a>(rt: &HostRuntime, chart: &'a str, wiring: &'a str) -> Result<u8, Fault<'a>> {
+    let text = read_file(rt, chart)?;
+    let panel = read_file(rt, wiring)?;
+    let done = match_to_end(
         rt.alloc(),
         text.as_slice(),
         panel.as_slice(),
-        &mut out,
-        &mut faults,
-    )
-    .status
+        &mut rt.stdout(),
+        &mut rt.stderr(),
+    );
+    Ok(done.status)
 }
 
 // Matches a panel with a chart, and runs a deck on both panels. Both texts are read whole and the deck is opened before a fault of any of
 // them is told.
-fn match_deck(rt: &HostRuntime, chart: &str, wiring: &str, deck: &str) -> u8 {
-    let mut faults = rt.stderr();
-    let text = match read_file(rt, chart) {
-        Ok(text) => text,
-        Err(fault) => return tell(&fault, &mut faults).status,
-    };
-    let panel = match read_file(rt, wiring) {
-        Ok(panel) => panel,
-        Err(fault) => return tell(&fault, &mut faults).status,
-    };
-    let cards = match fs::open(rt, deck) {
-        Ok(cards) => cards,
-        Err(error) => return tell(&unopened(&error, deck), &mut faults).status,
-    };
-    let mut out = rt.stdout();
-    match_deck_to_end(
+fn match_deck<'a>(
+    rt: &HostRuntime,
+    chart: &'a str,
+    wiring: &'a str,
+    deck: &'a str,
+) -> Result<u8, Fault<'a>> {
+    let text = read_file(rt, chart)?;
+    let panel = read_file(rt, wiring)?;
+    let cards = open(rt, deck)?;
+    let done = match_deck_to_end(
         rt.alloc(),
         text.as_slice(),
         panel.as_slice(),
         deck,
         cards,
-        &mut out,
-        &mut faults,
-    )
-    .status
+        &mut rt.stdout(),
+        &mut rt.stderr(),
+    );
+    Ok(done.status)
 }
 
 // Prints the legend of a chart.
-fn tell_legend(rt: &HostRuntime, chart: &str) -> u8 {
-    let mut faults = rt.stderr();
-    let text = match read_file(rt, chart) {
-        Ok(text) => text,
-        Err(fault) => return tell(&fault, &mut faults).status,
-    };
-    let mut out = rt.stdout();
-    legend_to_end(rt.alloc(), text.as_slice(), &mut out, &mut faults).status
+fn tell_legend<'a>(rt: &HostRuntime, chart: &'a str) -> Result<u8, Fault<'a>> {
+    let text = read_file(rt, chart)?;
+    let done = legend_to_end(
+        rt.alloc(),
+        text.as_slice(),
+        &mut rt.stdout(),
+        &mut rt.stderr(),
+    );
+    Ok(done.status)
 }
 
 // Prints why a wheel printed its character. The text is read whole and the deck is opened before a fault of either is told.
-fn explain(rt: &HostRuntime, text: &str, deck: &str, place: Place) -> u8 {
-    let mut faults = rt.stderr();
-    let panel = match read_file(rt, text) {
-        Ok(panel) => panel,
-        Err(fault) => return tell(&fault, &mut faults).status,
-    };
-    let cards = match fs::open(rt, deck) {
-        Ok(cards) => cards,
-        Err(error) => return tell(&unopened(&error, deck), &mut faults).status,
-    };
-    let mut out = rt.stdout();
-    explain_to_end(
+fn explain<'a>(
+    rt: &HostRuntime,
+    text: &'a str,
+    deck: &'a str,
+    place: Place,
+) -> Result<u8, Fault<'a>> {
+    let panel = read_file(rt, text)?;
+    let cards = open(rt, deck)?;
+    let done = explain_to_end(
         rt.alloc(),
         panel.as_slice(),
         deck,
         cards,
         place,
-        &mut out,
-        &mut faults,
-    )
-    .status
+        &mut rt.stdout(),
+        &mut rt.stderr(),
+    );
+    Ok(done.status)
 }
 
 // Prints what each cycle of a run did. The text is read whole and the deck is opened before a fault of either is told.
-fn trace(rt: &HostRuntime, text: &str, deck: &str) -> u8 {
-    let mut faults = rt.stderr();
-    let panel = match read_file(rt, text) {
-        Ok(panel) => panel,
-        Err(fault) => return tell(&fault, &mut faults).status,
-    };
-    let cards = match fs::open(rt, deck) {
-        Ok(cards) => cards,
-        Err(error) => return tell(&unopened(&error, deck), &mut faults).status,
-    };
-    let mut out = rt.stdout();
-    trace_to_end(
+fn trace<'a>(rt: &HostRuntime, text: &'a str, deck: &'a str) -> Result<u8, Fault<'a>> {
+    let panel = read_file(rt, text)?;
+    let cards = open(rt, deck)?;
+    let done = trace_to_end(
         rt.alloc(),
         panel.as_slice(),
         deck,
         cards,
-        &mut out,
-        &mut faults,
-    )
-    .status
+        &mut rt.stdout(),
+        &mut rt.stderr(),
+    );
+    Ok(done.status)
 }
 
 // Writes the page for a browser. The text is read whole and the deck is opened before a fault of either is told.
-fn show(rt: &HostRuntime, text: &str, deck: &str) -> u8 {
-    let mut faults = rt.stderr();
-    let panel = match read_file(rt, text) {
-        Ok(panel) => panel,
-        Err(fault) => return tell(&fault, &mut faults).status,
-    };
-    let cards = match fs::open(rt, deck) {
-        Ok(cards) => cards,
-        Err(error) => return tell(&unopened(&error, deck), &mut faults).status,
-    };
-    let mut out = rt.stdout();
-    show_to_end(
+fn show<'a>(rt: &HostRuntime, text: &'a str, deck: &'a str) -> Result<u8, Fault<'a>> {
+    let panel = read_file(rt, text)?;
+    let cards = open(rt, deck)?;
+    let done = show_to_end(
         rt.alloc(),
         panel.as_slice(),
         deck,
         cards,
-        &mut out,
-        &mut faults,
-    )
-    .status
+        &mut rt.stdout(),
+        &mut rt.stderr(),
+    );
+    Ok(done.status)
 }
 
 // Prints what the guide to faults says of a fault.
@@ -243,19 +200,23 @@ fn guide(rt: &HostRuntime, number: u8) -> u8 {
     fault_to_end(rt.alloc(), number, &mut out, &mut faults).status
 }
 
-fn run_standard_input(rt: &HostRuntime) -> u8 {
-    let mut faults = rt.stderr();
-    let text = match read_whole(rt.alloc(), rt.stdin(), "-") {
-        Ok(text) => text,
-        Err(fault) => return tell(&fault, &mut faults).status,
-    };
+// Runs the deck after the END of a chart, both on standard input.
+fn run_standard_input<'a>(rt: &HostRuntime) -> Result<u8, Fault<'a>> {
+    let text = read_whole(rt.alloc(), rt.stdin(), "-")?;
     let (chart, deck) = chart_and_deck(text.as_slice());
-    let mut out = rt.stdout();
-    serve(rt.alloc(), "run", chart, "-", deck, &mut out, &mut faults)
+    Ok(serve(
+        rt.alloc(),
+        "run",
+        chart,
+        "-",
+        deck,
+        &mut rt.stdout(),
+        &mut rt.stderr(),
+    ))
 }
 
-// Does what the words ask for, and answers the status.
-fn obey(rt: &HostRuntime, wanted: Wanted) -> u8 {
+// Does what the words ask for, and answers the status, or the fault of a file that can't be read.
+fn obey<'a>(rt: &HostRuntime, wanted: Wanted<'a>) -> Result<u8, Fault<'a>> {
     match wanted {
         Wanted::Run { chart, deck } => serve_deck(rt, "run", chart, deck),
         Wanted::Check { chart } => serve_chart(rt, "check", chart),
@@ -283,7 +244,7 @@ fn obey(rt: &HostRuntime, wanted: Wanted) -> u8 {
         } => explain(rt, text, deck, Place { page, line, wheel }),
         Wanted::Trace { text, deck } => trace(rt, text, deck),
         Wanted::Show { text, deck } => show(rt, text, deck),
-        Wanted::Fault { number } => guide(rt, number),
+        Wanted::Fault { number } => Ok(guide(rt, number)),
         Wanted::StandardInput => run_standard_input(rt),
     }
 }
@@ -332,7 +293,10 @@ pub fn perform(rt: &HostRuntime) -> u8 {
         Err(error) => return tell_wordless(rt, &error),
     };
     match read_words(rt, words.as_slice()) {
-        Ok(wanted) => obey(rt, wanted),
+        Ok(wanted) => match obey(rt, wanted) {
+            Ok(status) => status,
+            Err(fault) => tell(&fault, &mut rt.stderr()).status,
+        },
         Err(refused) => tell_refused(rt, &refused),
     }
 }
