@@ -77,8 +77,9 @@ fn page_by_chart<'a>(alloc: Global, chart: &[u8], deck: &[u8]) -> Result<String,
 
 /// The page for a browser of a text and a deck, a file of XHTML: of a planning chart and its report of the deck, or of a panel wired by a
 /// wiring chart and its pages of the deck, as [`is_wiring_text`] tells them apart. The printed pages, the drawing of the panel, the legend
-/// of the chart or else the wiring chart, and for each printed character that is shown its explanation. Of a deck of more than 200 cards
-/// the first two pages are shown, and the page says so.
+/// of the chart or else the wiring chart, for each printed character that is shown its explanation, for each wire and each of their hubs
+/// what came through it, and the cycles of the run. Of a deck of more than 200 cards the first two pages and the first 200 cycles are
+/// shown, and the page says so.
 ///
 /// # Errors
 ///

@@ -55,7 +55,7 @@ fn print_entry<'a, W: Write>(
 /// Prints the entry of the fault with a number: its name, its cause, its cure and an example.
 ///
 /// The statuses are 0 done, and then nothing is told, 2 where no fault has the number, 4 where the output can't be written, 5 memory.
-/// Nothing is printed by status 2. Where the output can't be written, a part of the entry may have been.
+/// Nothing is printed by status 2. Where the output can't be written or memory runs out, a part of the entry may have been.
 pub fn fault_to_end<W: Write, V: Write>(
     alloc: Global,
     number: u8,

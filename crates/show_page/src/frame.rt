@@ -127,7 +127,7 @@ pub(crate) fn write_body_open(text: &mut String) -> Result<(), AllocError>
 }
 
 #[tactic(auto, unfolding(crate::specs::Frame::cut_words))]
-// What is said where only the first pages are shown.
+// What is said where only the first pages and cycles are shown.
 pub(crate) fn write_cut_words(text: &mut String) -> Result<(), AllocError>
     ensures { OnOk result (string_bytes text.new ≡ string_bytes text.old ++ cut_words) }
 {

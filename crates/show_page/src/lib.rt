@@ -2,7 +2,8 @@
 //!
 //! [`show_chart`] makes the page of a chart and a deck, [`show_panel`] that of a panel that is wired as a wiring chart says. It is one file
 //! of XHTML without scripts, and needs no network: the printed pages, the drawing of the panel, the legend or the wiring chart, for
-//! each printed character an element with its explanation, to which the character links, and an element for each cycle of the run.
+//! each printed character an element with its explanation, to which the character links, for each wire and each of their hubs an element
+//! with what came through it, and an element for each cycle of the run.
 //! `specs/Page.antt` says what is written.
 #![tactic(auto)]
 

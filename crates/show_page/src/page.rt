@@ -34,7 +34,7 @@ pub(crate) fn shown(cards: usize, lines: &[PlacedLine]) -> &[PlacedLine]
 }
 
 #[tactic(auto, unfolding(crate::specs::Page::cut_text))]
-// What is said where only the first pages are shown.
+// What is said where only the first pages and cycles are shown.
 fn write_cut(text: &mut String, cards: usize) -> Result<(), AllocError>
     ensures { OnOk result (string_bytes text.new ≡ string_bytes text.old ++ cut_text cards) }
 {
