@@ -1,7 +1,7 @@
 //! Decks read card by card from any source of bytes.
 //!
-//! [`CardLines`] holds one line at most of what was not given yet, in a buffer of a fixed size, and gives the cards of the deck
-//! that the source's bytes are, one by one, however the source cuts them. It asks for no memory.
+//! [`CardLines`] holds what was read and not given yet, at most 4,096 bytes, in a buffer of that size, and gives the cards of the
+//! deck that the source's bytes are, one by one, however the source cuts them. It asks for no memory.
 //!
 //! ```text
 //! let mut lines = CardLines::new(FromRead::new(file));

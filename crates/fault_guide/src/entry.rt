@@ -28,7 +28,8 @@ pub fn fault_entry(number: u8) -> Option<FaultEntry>
     }
 }
 
-/// Each number that a fault line can have is that of a fault with an entry. The function does nothing: its contract is the law.
+/// Each number on the line of a fault of a chart, a deck or a wiring chart is that of a fault with an entry, also that of a cause. The
+/// function does nothing: its contract is the law. Of 84 and 92 to 95, which the commands tell that have them, it says nothing.
 pub fn told_faults_have_entries()
     ensures { ToldFaultsHaveEntries }
 {}

@@ -15,11 +15,11 @@ use wiring_text::WiringFault;
 /// Why a command was not carried out. Each is told on one line.
 #[derive(Clone, Copy, Debug, PartialEq, Eq)]
 pub enum Fault<'a> {
-    /// A numbered fault of the whole chart or deck.
+    /// A numbered fault of a whole text: a chart, a deck, a wiring chart or orders.
     Whole {
         number: u8,
     },
-    /// A numbered fault of a line of the chart, from 1.
+    /// A numbered fault of a line, from 1, of a chart, a wiring chart or orders.
     Line {
         number: u8,
         line: u32,

@@ -89,6 +89,8 @@ impl OpenSums {
 
     /// Takes a card of the chart's deck, given the one after it, and ends the groups that end with it; after the last card of the deck all
     /// groups end. Tells the first of their totals that does not fit: by its level, the lowest first, then by its line of the chart.
+    ///
+    /// At most 999,998 cards were taken before.
     pub fn take(&mut self, chart: &Chart, card: &Card, next: Option<Card>) -> Option<Misfit>
         requires { self.old.cards < most_cards }
         ensures told { (so_far : ℕ → List (List ℕ)) → AreSumsOf chart.now.lines so_far self.old →

@@ -13,7 +13,8 @@ use wanted::{Parts, Position, has_narrow_texts, total_place};
 /// Which counter, pilot, comparing position, storage unit, column split and indicate position serves what of a chart.
 ///
 /// Contracts see a counter for each TOTAL amount, in the order of their lines; what the other parts serve, in the order in which the
-/// chart asks for it; and the numbers of the parts that serve it. No list of these is longer than the standard machine has parts.
+/// chart asks for it; and the numbers of the parts that serve it. What the other parts serve is no more than the standard machine has
+/// parts. Whether the counters and the numbers go with that, and with a chart, [`is_for`](Plan::is_for) tells.
 #[derive(Drop)]
 pub struct Plan {
     counters: Vec<TotalCounter>,
@@ -70,8 +71,8 @@ impl Plan {
     }
 
     /// Whether this is a plan of the chart: each total has a counter of its own of the standard machine that is enough for
-    /// it, and there are no more counters; the other parts serve what the chart asks for, each thing by a part of its own;
-    /// and it asks for no more of them than the standard machine has.
+    /// it, and there are no more counters; the other parts serve what the chart asks for, each thing by a part of its own of the
+    /// standard machine, whichever that is; and no text on a total line of the chart is wider than a storage unit, which has 16 columns.
     pub fn is_for(&self, chart: &Chart) -> bool
         ensures { IsTrue result ↔ IsFor chart.now.lines self.now }
     {
