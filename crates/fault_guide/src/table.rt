@@ -27,15 +27,15 @@ pub(crate) fn deck_text_entry(number: u8) -> FaultEntry
         1 => FaultEntry {
             number: 1,
             name: "CardTooLong",
-            cause: "line K of the deck has more than 80 characters",
-            cure: "a card has 80 columns: shorten the line, or look for a missing line end",
+            cause: "line K of the deck has more than 80 bytes; an accented letter, or a mark in front of the file (byte order mark), counts as two or three",
+            cure: "a card has 80 columns: shorten the line, also where the rest of it is blank, or look for a missing line end",
             example: "a line of 81 letters",
         },
         2 => FaultEntry {
             number: 2,
             name: "NoSuchCharacter",
             cause: "the byte at column C of card K is no deck character",
-            cure: "decks have capital letters, digits, blanks and & - / . $ * , % # @ !; small letters, tabs and accents have no card code",
+            cure: "decks have capital letters, digits, blanks and & - / . $ * , % # @ !; small letters, tabs and accents have no card code. Row 11 over 0 is typed !, and a plus of row 12 &; cut off a ctrl-Z behind the last card, and a byte order mark in front of the first",
             example: "bolt",
         },
         3 => FaultEntry {
@@ -73,14 +73,14 @@ pub(crate) fn chart_text_entry(number: u8) -> FaultEntry
             number: 12,
             name: "NoFirstLine",
             cause: "the first line is neither CHART407 1 nor CHART407 2",
-            cure: "put one of them there; not even an empty line may come before it",
+            cure: "put one of them there; not even an empty line or a byte order mark may come before it; or the files are in the wrong order",
             example: "an empty file",
         },
         13 => FaultEntry {
             number: 13,
             name: "NotALine",
-            cause: "line K has none of the forms of a chart, or stands after END",
-            cure: "compare it with CHART.md: a misspelt or missing word, a number with a leading zero, a small letter, a level that there isn't, in version 1 the word COUPLED",
+            cause: "line K has none of the forms of a chart, or stands after END without being empty",
+            cure: "compare it with CHART.md: a misspelt or missing word, a comment, a small letter, a tab, a number with a leading zero, a level that there isn't; a name of more than 8 letters and digits, or with other characters; a literal that is empty or not closed, in quotation marks, or with a character that the machine doesn't print; the name before the wheel; digits of a total on a DETAIL line; CR or - without the word MARK, or in apostrophes; in version 1 the word COUPLED",
             example: "DETAIL 1",
         },
         _ => FaultEntry {
@@ -239,14 +239,14 @@ pub(crate) fn card_entry(number: u8) -> FaultEntry
         41 => FaultEntry {
             number: 41,
             name: "NotText",
-            cause: "a text field of card K, the field that begins at column C, holds a column that is no printable character",
+            cause: "a text field of card K holds a column that is neither a print character nor blank; C is the first column of the field",
             cure: "repunch the card, or let the field end before that column",
             example: "10! where column 3 is a text field",
         },
         42 => FaultEntry {
             number: 42,
             name: "NotAmount",
-            cause: "an amount of card K, the field that begins at column C, is not blanks and then digits, has too few digits for its decimals, or has a row 11 or 12 punch where none belongs",
+            cause: "an amount of card K, the field that begins at column C, is neither blank nor blanks and then digits, has too few digits for its decimals, or has a row 11 or 12 punch where none belongs; row 12 belongs nowhere, not over a digit either (A to I)",
             cure: "repunch the card; look through the whole field: a sign stands in the sign column alone, and a decimal point or a comma is never punched",
             example: "1- in two columns",
         },
@@ -375,7 +375,7 @@ pub(crate) fn wiring_text_entry(number: u8) -> FaultEntry
             number: 72,
             name: "NoFirstLine",
             cause: "line 1 is neither WIRING407 1 nor WIRING407 2, or line 2 is not FORM with three numbers",
-            cure: "put them there; not even an empty line may come before or between them",
+            cure: "put them there; not even an empty line may come before or between them; or the files are in the wrong order",
             example: "FORM 12 1 on line 2",
         },
         73 => FaultEntry {
@@ -457,7 +457,7 @@ pub(crate) fn match_entry(number: u8) -> FaultEntry
             number: 94,
             name: "Unwired",
             cause: "no plan is found by which the panel is wired for the chart: A wires, jacks and stops are missing and B are too much, by the plan that is printed; another form counts once as missing and once as too much",
-            cure: "wire what stands under missing, by the line of the chart that asks for it, and take out what stands under too much. Where all wires of a part seem wrong, look which group the first wires of that part name: the plan is read off them",
+            cure: "wire what stands under missing, by the line of the chart that asks for it, and take out what stands under too much. Where all wires of a part seem wrong, look which group the first wires of that part name: the plan is read off them; or the group that the panel's wires name is too narrow for the total",
             example: "run407 match my.chart my.wiring where the wiring chart lacks a wire",
         },
         _ => FaultEntry {
