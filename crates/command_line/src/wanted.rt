@@ -95,6 +95,25 @@ pub enum Refused {
     Unwritten(io::Error),
 }
 
+impl Refused {
+    ghost use Rattle.std.specs.Prelude.{◌≡◌};
+
+    /// The status that the program ends with: 0 where the help or the version is printed, 2 where the words are no command, 4 where the
+    /// help or the version could not be written, 5 where memory ran out.
+    pub fn status(&self) -> u8
+        ensures answered { self.now ≡ Refused.Answered → result ≡ 0 }
+        ensures mistaken { self.now ≡ Refused.Mistaken → result ≡ 2 }
+        ensures memory { self.now ≡ Refused.Memory → result ≡ 5 }
+    {
+        match self {
+            Refused::Answered => 0,
+            Refused::Mistaken => 2,
+            Refused::Unwritten(error) if error.kind() != IoErrorKind::OutOfMemory => 4,
+            Refused::Memory | Refused::Unwritten(_) => 5,
+        }
+    }
+}
+
 // Tells what is wrong with the words, or prints the help or the version that they ask for. Where standard error can't be written, the
 // status alone tells of mistaken words.
 fn told(rt: &HostRuntime, error: &Error) -> Refused

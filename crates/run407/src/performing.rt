@@ -249,18 +249,22 @@ fn obey<'a>(rt: &HostRuntime, wanted: Wanted<'a>) -> Result<u8, Fault<'a>> {
     }
 }
 
-// The status where the words ask for nothing that is still to be done; want of memory is told here.
+// The status where the words ask for nothing that is still to be done; want of memory, and that the help can't be written, are told here.
 fn tell_refused(rt: &HostRuntime, refused: &Refused) -> u8
     ensures memory { refused.now ≡ Refused.Memory → result ≡ 5 }
     ensures mistaken { refused.now ≡ Refused.Mistaken → result ≡ 2 }
     ensures answered { refused.now ≡ Refused.Answered → result ≡ 0 }
 {
     match refused {
-        Refused::Memory => tell(&Fault::Memory, &mut rt.stderr()).status,
-        Refused::Mistaken => USAGE,
-        Refused::Answered => 0,
-        Refused::Unwritten(error) => tell(&unprinted(error), &mut rt.stderr()).status,
+        Refused::Memory => {
+            tell(&Fault::Memory, &mut rt.stderr());
+        }
+        Refused::Unwritten(error) => {
+            tell(&unprinted(error), &mut rt.stderr());
+        }
+        Refused::Mistaken | Refused::Answered => {}
     }
+    refused.status()
 }
 
 // The words, the program's name first.
