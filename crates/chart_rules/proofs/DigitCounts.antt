@@ -1,13 +1,15 @@
 -- How many digits are punched in a column, by the rows 0 to 9 alone.
-use Rattle.std.proofs.Common.{◌≡◌, ◌∙◌, ◌⊎◌, ℕ, ◌+◌, ◌<◌, ◌==◌, inl, inr, arith, refl, sym, ap, true, nat_lt, List, [], ◌∷◌, bit_and, min, if◌then◌else◌}
+use Rattle.std.proofs.Common.{◌≡◌, ◌≢◌, ◌∙◌, ℕ, ◌+◌, ◌-◌, ◌^◌, ◌%◌, ◌<◌, ◌==◌, ◌||◌, not, arith, refl, sym, ap, Bool, true, nat_lt, List, [], ◌∷◌, bit_and, min, if◌then◌else◌}
 use Rattle.std.specs.Int.{bit_at}
-use Rattle.std.specs.List.{fold, list_all, list_any}
-use Rattle.std.proofs.lemmas.Bool.{and_parts, false≢true, or_cases}
+use Rattle.std.specs.List.{fold, list_all}
+use Rattle.std.proofs.lemmas.Bool.{and_parts}
 use Rattle.std.proofs.lemmas.Bool.Decides.{nat_tests}
+use Rattle.std.proofs.lemmas.Nat.{and_mask}
 use Rattle.std.proofs.lemmas.Nat.Bits.{bit_at-lt, bit_at_and, bit_at_ones}
 use Rattle.card_code.specs.CardCode.{has_row}
 use Rattle.card_code.specs.Rows.{row_number}
 use Rattle.card_code.specs.declared.row.Row.{Row}
+use Rattle.chart_rules.proofs.PrintedRows.{passes_all, passes-at}
 use Rattle.chart_rules.specs.ValidCard.{digit_count, digit_rows, punched_among}
 
 -- the rows 0 to 9 of a column
@@ -39,23 +41,21 @@ pub no_digit : (n digits : ℕ) → digits ≡ bit_and n 1023 → digits ≡ 0 �
 unfolding digit_count digit_rows
 no_digit n digits is none = sym (ap (λ (d : ℕ). digit_count d) none) ∙ digits-masked n digits is
 
--- a set that is one of some has one digit where each of them has
-one-among : (sets : List ℕ) (set : ℕ) → list_all (λ one. digit_count one == 1) sets ≡ true → list_any (λ one. one == set) sets ≡ true
-    → digit_count set ≡ 1
-one-among [] set all among = absurd (false≢true among)
-one-among (one ∷ sets) set all among =
-    let both = and_parts (digit_count one == 1) (list_all (λ s. digit_count s == 1) sets) all in
-    by both.0 (λ later. one-among sets set both.1 later) (or_cases (one == set) (list_any (λ s. s == set) sets) among)
-  where
-    equal : (m n : ℕ) → (m == n) ≡ true → m ≡ n
-    equal m n e = grind (arith, nat_tests, e)
+-- whether a set of some of the ten rows that has nothing left without its lowest row has one digit, or is empty
+is_single : ℕ → Bool
+is_single digits = (digits == 0) || (not (bit_and digits (digits - 1) == 0) || (digit_count digits == 1))
 
-    by : (digit_count one == 1) ≡ true → (list_any (λ s. s == set) sets ≡ true → digit_count set ≡ 1)
-        → ((one == set) ≡ true) ⊎ (list_any (λ s. s == set) sets ≡ true) → digit_count set ≡ 1
-    by here there (inl same) = sym (ap (λ (s : ℕ). digit_count s) (equal one set same)) ∙ equal (digit_count one) 1 here
-    by here there (inr later) = there later
+singles : passes_all 10 is_single ≡ true
+unfolding is_single passes_all digit_count digit_rows
+singles = refl
 
 -- where one is punched
-pub one_digit : (n digits : ℕ) (sets : List ℕ) → digits ≡ bit_and n 1023 → list_all (λ one. digit_count one == 1) sets ≡ true
-    → list_any (λ one. one == digits) sets ≡ true → 1 ≡ digit_count n
-one_digit n digits sets is all among = sym (one-among sets digits all among) ∙ digits-masked n digits is
+pub one_digit : (n digits : ℕ) → digits ≡ bit_and n 1023 → digits ≢ 0 → bit_and digits (digits - 1) ≡ 0 → 1 ≡ digit_count n
+unfolding is_single
+one_digit n digits is some left =
+    let whole : bit_and n 1023 ≡ n % 2 ^ 10 = and_mask n 10 in
+    let small : digits < 2 ^ 10 = omega (arith, is, whole) in
+    by (digit_count digits) (passes-at 10 is_single digits singles small) ∙ digits-masked n digits is
+  where
+    by : (count : ℕ) → ((digits == 0) || (not (bit_and digits (digits - 1) == 0) || (count == 1))) ≡ true → 1 ≡ count
+    by count all = grind (arith, nat_tests, all, some, left)

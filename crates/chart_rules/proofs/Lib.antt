@@ -6,3 +6,6 @@ pub mod ValidCards
 pub mod OneFault
 pub mod Versions
 pub mod DigitCounts
+pub mod TextMarks
+pub mod PrintedRows
+pub mod ControlFields

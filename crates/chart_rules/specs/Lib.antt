@@ -4,6 +4,8 @@ pub mod RuleFaults
 pub mod ValidCard
 pub mod Outcomes
 pub mod Versions
+pub mod Controls
+pub mod HelperTexts
 pub mod HelperChecked
 pub mod HelperOnCard
 pub mod HelperOrder

@@ -6,6 +6,7 @@ ghost use Rattle.card_code.specs.CardCode.{deck_character};
 ghost use Rattle.field_rules.specs.Fields.{fields_of};
 ghost use Rattle.charts.specs.Field.{sign_column, decimals_of};
 ghost use Rattle.chart_rules.specs.HelperOnCard.{IsOnCard, AreOnCard};
+ghost use Rattle.chart_rules.specs.HelperTexts.{AreAmountsValid};
 ghost use Rattle.chart_rules.specs.ValidCard as valid;
 
 use crate::chart::Chart;
@@ -18,9 +19,6 @@ use thiserror::Error;
 static DIGIT_ROWS: [Row; 10] = [
     Row::Zero, Row::One, Row::Two, Row::Three, Row::Four, Row::Five, Row::Six, Row::Seven, Row::Eight, Row::Nine,
 ];
-
-/// The sets of rows that have a single digit.
-const DIGIT_SETS: [u16; 10] = [1, 2, 4, 8, 16, 32, 64, 128, 256, 512];
 
 /// Why a card is not valid for a chart.
 #[derive(Clone, Copy, Debug, PartialEq, Eq, Error)]
@@ -63,7 +61,24 @@ pub fn valid_card(chart: &Chart, card: &Card) -> Result<(), CardFault>
     ensures valid { IsOk result ↔ valid.IsValidCard chart.now card.now }
     ensures first { IfErr result (valid.IsFirstInvalid (fields_of chart.now.lines) card.now) }
 {
+    // Nearly all cards are valid, and that they are is seen soonest where texts are tested all at once.
+    if chart.texts().are_printed(card) && are_amounts_valid(chart.fields(), card) {
+        return Ok(());
+    }
     valid_fields(chart.fields(), card)
+}
+
+/// Whether each of the amounts among some fields is valid on a card.
+fn are_amounts_valid(fields: &[Field], card: &Card) -> bool
+    requires { AreOnCard fields.now }
+    ensures { IsTrue result → AreAmountsValid fields.now (length fields.now) card.now }
+{
+    for field in fields {
+        if field.kind.is_amount() && !is_valid(*field, card) {
+            return false;
+        }
+    }
+    true
 }
 
 /// Whether each of some fields is valid on a card, and else what to tell of the first that is not.
@@ -150,27 +165,15 @@ fn punched_among(rows: &[Row], column: Column) -> usize
 fn digit_count(column: Column) -> usize
     ensures { result ≡ valid.digit_count column }
 {
-    // Nearly all columns have no digit or a single one.
+    // Nearly all columns have no digit or a single one, and then no row is left without the lowest.
     let digits = column.rows() & 0x3ff;
     if digits == 0 {
         0
-    } else if is_among(&DIGIT_SETS, digits) {
+    } else if digits & (digits - 1) == 0 {
         1
     } else {
         punched_among(&DIGIT_ROWS, column)
     }
-}
-
-/// Whether a set of rows is one of some.
-fn is_among(sets: &[u16], set: u16) -> bool
-    ensures { result ≡ list_any (λ one. one == set) sets.now }
-{
-    for one in sets {
-        if *one == set {
-            return true;
-        }
-    }
-    false
 }
 
 /// The first of some columns that has a row 0 to 9, or the column after them.

@@ -1,6 +1,8 @@
 //! Charts that break no rule.
 
-use charts::{Field, Line, Name, RawChart, Statement};
+use crate::controls::Controls;
+use crate::texts::TextColumns;
+use charts::{ControlLevel, Field, Line, Name, RawChart, Statement};
 use field_rules::Fields;
 use print_rules::Item;
 use std::marker::Model;
@@ -13,6 +15,8 @@ use std::marker::Model;
 pub struct Chart {
     raw: RawChart,
     fields: Fields,
+    controls: Controls,
+    texts: TextColumns,
 }
 
 impl Model for Chart {
@@ -23,23 +27,33 @@ impl Model for Chart {
 
     ghost view = { λ chart. chart.raw };
 
-    ghost invariant = { λ chart. IsChecked chart.raw chart.fields };
+    ghost invariant = { λ chart. IsChecked chart.raw chart.fields chart.controls chart.texts };
 }
 
 impl Chart {
-    ghost use Rattle.std.specs.Prelude.{◌≡◌};
+    ghost use Rattle.std.specs.Prelude.{◌≡◌, length};
     ghost use Rattle.charts.specs.Chart.{NumbersRise};
+    ghost use Rattle.charts.specs.Levels.{control_number};
     ghost use Rattle.field_rules.specs.Fields.{fields_of, field_named};
     ghost use Rattle.print_rules.specs.Items.{item_of};
-    ghost use Rattle.chart_rules.specs.HelperChecked.{IsChecked};
+    ghost use Rattle.chart_rules.specs.Controls.{AreControlsOf, controls_of};
+    ghost use Rattle.chart_rules.specs.HelperTexts.{AreMarked};
     ghost use Rattle.chart_rules.specs.Rules.{IsLawful};
 
-    /// The chart of lines that break no rule, and of their fields.
-    pub(crate) fn of(raw: RawChart, fields: Fields) -> Chart
-        requires { IsChecked raw fields }
+    /// The chart of lines that break no rule, of their fields, and of the control fields among these.
+    pub(crate) fn of(raw: RawChart, fields: Fields, controls: Controls) -> Chart
+        requires fields { fields ≡ fields_of raw.lines }
+        requires lawful { IsLawful raw }
+        requires controls { AreControlsOf raw.lines controls }
         ensures { result ≡ raw }
     {
-        Chart { raw, fields }
+        let texts = TextColumns::of(fields.as_slice());
+        Chart {
+            raw,
+            fields,
+            controls,
+            texts,
+        }
     }
 
     /// The lines that say something, in order. They break no rule.
@@ -71,6 +85,21 @@ impl Chart {
         ensures { result ≡ field_named self.now.lines name }
     {
         self.fields.get(name)
+    }
+
+    /// The control fields of a level, in the order of their lines.
+    pub fn control_fields(&self, level: ControlLevel) -> &[Field]
+        ensures value { result.now ≡ controls_of self.now.lines (control_number level) }
+        ensures lawful { IsLawful self.now }
+    {
+        self.controls.at(level)
+    }
+
+    /// The columns of its texts.
+    pub(crate) fn texts(&self) -> &TextColumns
+        ensures { AreMarked (fields_of self.now.lines) (length (fields_of self.now.lines)) result.now.masks result.now.end }
+    {
+        &self.texts
     }
 
     /// What a line of the chart puts on a line of the report, if it is an item.

@@ -8,6 +8,7 @@ ghost use Rattle.chart_rules.specs.Rules as law;
 ghost use Rattle.chart_rules.specs.HelperOrder as order;
 
 use crate::chart::Chart;
+use crate::controls::Controls;
 use crate::fault::RuleFault;
 use crate::rule::Rule;
 use charts::{Line, RawChart};
@@ -58,7 +59,10 @@ pub fn check(alloc: Global, raw: RawChart) -> Result<Chart, RuleFault>
     let fields = Fields::of(alloc, raw.lines())?;
     match first_broken(&fields, &raw) {
         Some((rule, line)) => Err(RuleFault::Rule { rule, line }),
-        None => Ok(Chart::of(raw, fields)),
+        None => {
+            let controls = Controls::of(alloc, raw.lines(), &fields)?;
+            Ok(Chart::of(raw, fields, controls))
+        }
     }
 }
 

@@ -13,9 +13,11 @@
 mod card;
 mod chart;
 mod checking;
+mod controls;
 mod fault;
 mod outcomes;
 mod rule;
+mod texts;
 
 pub use card::{CardFault, valid_card};
 pub use chart::Chart;
