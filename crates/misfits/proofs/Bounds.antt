@@ -41,7 +41,7 @@ signed_within true number most small = (omega (arith, ints), omega (arith, ints)
 signed_within false number most small = (omega (arith, ints), omega (arith, ints))
 
 -- an amount on a card is small
-value_within : (field : Field) (card : List ℕ) → IsGoodAmount field → IsWithin above_amounts (value_of field card)
+pub value_within : (field : Field) (card : List ℕ) → IsGoodAmount field → IsWithin above_amounts (value_of field card)
 value_within field card good =
     let long : length (columns_in field) ≡ columns_of field = length-range_with_len field.first (columns_of field) in
     let small = below_power (number_in (digits_on field card)) (length (columns_in field)) 8 (number_below card (columns_in field))

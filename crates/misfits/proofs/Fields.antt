@@ -1,24 +1,23 @@
 -- The control fields of a level.
-use Rattle.std.proofs.Common.{◌≡◌, ◌∙◌, refl, ap, ℕ, ◌&&◌, List, [], ◌∷◌, Option, Some, None}
+use Rattle.std.proofs.Common.{◌≡◌, refl, ap, ap₂, ℕ, List, [], ◌∷◌}
 use Rattle.std.specs.List.{cons_option, filter_map, list_all}
-use Rattle.report.specs.Groups.{control_field, is_same_on}
-use Rattle.misfits.specs.HelperGroups.{all_stay_same, is_same_where}
 use Rattle.charts.specs.declared.chart.Line.{Line}
-use Rattle.charts.specs.declared.statement.Field.{Field}
+use Rattle.charts.specs.declared.statement.Statement.{Statement}
+use Rattle.charts.specs.declared.statement.Statement.TheVariants as says
+use Rattle.chart_rules.specs.Controls.{control_on, controls_of, controls_among}
+use Rattle.report.specs.Groups.{control_field, is_same_at, is_same_on}
 
--- the control fields of a level are those that the lines name one by one
-pub stay_same : (lines some : List Line) (level : ℕ) (one other : List ℕ)
-    → all_stay_same lines level one other some
-    ≡ list_all (λ field. is_same_on field one other) (filter_map (λ line. control_field lines level line.statement) some)
-stay_same lines [] level one other = refl
-stay_same lines (line ∷ some) level one other =
-    ap (λ b. is_same_where one other (control_field lines level line.statement) && b) (stay_same lines some level one other)
-    ∙ by (control_field lines level line.statement)
-  where
-    others : List Field
-    others = filter_map (λ each. control_field lines level each.statement) some
+-- a line names the same control field for the chart and for the report
+same_control : (lines : List Line) (level : ℕ) (statement : Statement) → control_on lines level statement ≡ control_field lines level statement
+same_control lines level (says.Control its name) = refl
+same_control lines level other = refl
 
-    by : (o : Option Field) → (is_same_where one other o && list_all (λ field. is_same_on field one other) others)
-        ≡ list_all (λ field. is_same_on field one other) (cons_option o others)
-    by None = refl
-    by (Some field) = refl
+same_controls : (lines some : List Line) (level : ℕ)
+    → controls_among lines level some ≡ filter_map (λ line. control_field lines level line.statement) some
+same_controls lines [] level = refl
+same_controls lines (line ∷ some) level = ap₂ cons_option (same_control lines level line.statement) (same_controls lines some level)
+
+-- so two cards are equal on those of a level where they are equal on all that the chart has for it
+pub same-at : (lines : List Line) (level : ℕ) (one other : List ℕ)
+    → list_all (λ field. is_same_on field one other) (controls_of lines level) ≡ is_same_at lines level one other
+same-at lines level one other = ap (list_all (λ field. is_same_on field one other)) (same_controls lines lines level)

@@ -1,11 +1,14 @@
 -- What a loop over a list leaves.
-use Rattle.std.proofs.Common.{◌≡◌, ◌∙◌, refl, sym, ap, ℕ, zero, suc, ◌+◌, ◌-◌, ◌<◌, ◌≤◌, nat_le, Bool, true, false, List, [], ◌∷◌, ◌++◌, length, map, take, drop, drop-cons, get_or, Option, Some, None, arith}
+use Rattle.std.proofs.Common.{◌≡◌, ◌∙◌, refl, sym, ap, ap₂, ℕ, zero, suc, ◌+◌, ◌-◌, ◌<◌, ◌≤◌, nat_le, Bool, true, false, List, [], ◌∷◌, ◌++◌, length, map, take, drop, drop-cons, get_or, Option, Some, None, pos, if◌then◌else◌, arith}
 use Rattle.std.specs.List.{cons_option, filter_map}
 use Rattle.std.proofs.lemmas.Bool.Decides.{nat_tests}
 use Rattle.std.proofs.lemmas.Grind.{common_steps}
+use Rattle.charts.specs.Levels.{level_number}
+use Rattle.charts.specs.declared.level.Level.{Level}
+use Rattle.charts.specs.declared.level.Level.TheVariants as level
 use Rattle.report.specs.Misfits.{Misfit, first_of}
 use Rattle.misfits.specs.HelperTotals.{misfits_among}
-use Rattle.misfits.specs.OpenTotals.{misfit_at}
+use Rattle.misfits.specs.OpenTotals.{closed_to, misfit_at}
 use Rattle.misfits.specs.declared.open_total.OpenTotal.{OpenTotal}
 
 -- an element that the loop has not come to is as it was
@@ -73,3 +76,18 @@ first_at_level totals card level ended misfit some few none first =
   where
     next : suc (level - 1) ≡ level
     next = omega (arith, some)
+
+-- where no group ends, all totals stay
+pub none-closed : (totals : List OpenTotal) (ended : ℕ) → ended ≡ 0 → totals ≡ map (closed_to ended) totals
+none-closed totals ended none = all totals ∙ ap (λ n. map (closed_to n) totals) (sym none)
+  where
+    open_yet : (total : OpenTotal) → total ≡ closed_to 0 total
+    open_yet total = by total.level
+      where
+        by : (level : Level) → total ≡ (if nat_le (level_number level) 0 then record total { sum = pos 0 } else total)
+        by level.Minor = refl
+        by other = refl
+
+    all : (some : List OpenTotal) → some ≡ map (closed_to 0) some
+    all [] = refl
+    all (total ∷ some) = ap₂ (λ first others. first ∷ others) (open_yet total) (all some)

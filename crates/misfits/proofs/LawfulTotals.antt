@@ -22,7 +22,7 @@ use Rattle.field_rules.specs.Names.{names_text}
 use Rattle.field_rules.proofs.DigitsKept.{AreGoodDigits, digits-kept}
 use Rattle.chart_rules.specs.Rules.{breaks, IsLawful}
 use Rattle.chart_rules.specs.declared.rule.Rule.TheVariants as rule
-use Rattle.chart_rules.proofs.Laws.{breaks-lawful, good-field}
+use Rattle.chart_rules.proofs.Laws.{breaks-lawful, field-line, good-field}
 use Rattle.report.specs.Breaks.{no_cards}
 use Rattle.report.specs.Totals.{total_of}
 use Rattle.misfits.specs.HelperAmounts.{IsColumn, IsGoodAmount}
@@ -86,24 +86,32 @@ from_line chart so_far line total opens = by line.statement refl opens
     by (says.TotalAmount level wheel name digits mark) is some = of level wheel name digits mark (field_named chart.lines name) is refl some
     by other is none = cc
 
+-- before the first card the open total of a line keeps the bounds
+pub kept_line : (chart : Chart) (line : Line) (total : OpenTotal) → IsLawful chart → Contains chart.lines line
+    → open_on chart.lines no_cards line.statement ≡ Some total → IsKept 0 total
+kept_line chart line total lawful there opens =
+    let from = from_line chart no_cards line total opens in
+    let place = listed-place line chart.lines there in
+    let good = good_total chart place.earlier line place.later total.level from.wheel from.name total.digits from.mark total.field lawful
+    place.parts from.says_so from.named in
+    let few = good.1.few in
+    record {
+      amount = good.0;
+      few_digits = omega (arith, few);
+      small = subst (IsWithin 0) (sym from.is_sum) (omega (arith, ints), omega (arith, ints));
+    }
+
+-- and its amount is what its name stands for
+pub named_line : (chart : Chart) (line : Line) (total : OpenTotal) → open_on chart.lines no_cards line.statement ≡ Some total
+    → field_named chart.lines total.field.name ≡ Some total.field
+named_line chart line total opens =
+    let from = from_line chart no_cards line total opens in
+    ap (field_named chart.lines) (field-line chart.lines from.name total.field from.named).own_name ∙ from.named
+
 -- before the first card the open totals of a lawful chart keep the bounds
 pub kept_at_first : (chart : Chart) → IsLawful chart → All (IsKept 0) (open_totals chart.lines no_cards chart.lines)
 kept_at_first chart lawful = all chart.lines (λ line there. there)
   where
-    on : (line : Line) (total : OpenTotal) → Contains chart.lines line → open_on chart.lines no_cards line.statement ≡ Some total
-        → IsKept 0 total
-    on line total there opens =
-        let from = from_line chart no_cards line total opens in
-        let place = listed-place line chart.lines there in
-        let good = good_total chart place.earlier line place.later total.level from.wheel from.name total.digits from.mark total.field lawful
-        place.parts from.says_so from.named in
-        let few = good.1.few in
-        record {
-          amount = good.0;
-          few_digits = omega (arith, few);
-          small = subst (IsWithin 0) (sym from.is_sum) (omega (arith, ints), omega (arith, ints));
-        }
-
     all : (some : List Line) → ((line : Line) → Contains some line → Contains chart.lines line)
         → All (IsKept 0) (open_totals chart.lines no_cards some)
     all [] there = All-nil (IsKept 0)
@@ -114,4 +122,5 @@ kept_at_first chart lawful = all chart.lines (λ line there. there)
             → All (IsKept 0) (cons_option o (open_totals chart.lines no_cards some))
         by None none rest = rest
         by (Some total) opens rest =
-            All-cons (IsKept 0) total (open_totals chart.lines no_cards some) (on line total (there line (listed-first line some)) opens) rest
+            All-cons (IsKept 0) total (open_totals chart.lines no_cards some)
+            (kept_line chart line total lawful (there line (listed-first line some)) opens) rest

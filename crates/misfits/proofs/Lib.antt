@@ -9,4 +9,6 @@ pub mod Opening
 pub mod Deck
 pub mod Following
 pub mod Fields
+pub mod Digits
+pub mod Numbering
 pub mod OpenTotals

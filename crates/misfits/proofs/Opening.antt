@@ -1,5 +1,5 @@
 -- The open totals of a chart before the first card, line by line.
-use Rattle.std.proofs.Common.{◌≡◌, ◌∙◌, sym, ap, subst, ℕ, ◌+◌, ◌<◌, ◌≤◌, List, [], ◌∷◌, ◌++◌, Option, Some, None, length, length-append, get_or, take, drop, append-nil, arith}
+use Rattle.std.proofs.Common.{◌≡◌, ◌∙◌, sym, ap, subst, ℕ, ◌+◌, ◌<◌, ◌≤◌, List, [], ◌∷◌, ◌++◌, Contains, Option, Some, None, slice_get, length, length-append, get_or, take, drop, append-nil, arith}
 use Rattle.std.specs.List.{All, cons_option}
 use Rattle.std.proofs.lemmas.List.{take-append-drop, take_all, take_more}
 use Rattle.std.proofs.lemmas.List.Elements.{filter_map-append}
@@ -7,11 +7,14 @@ use Rattle.charts.specs.Chart.{Chart}
 use Rattle.charts.specs.declared.chart.Line.{Line}
 use Rattle.chart_rules.specs.Rules.{IsLawful}
 use Rattle.report.specs.Breaks.{no_cards}
+use Rattle.misfits.specs.HelperNumbers.{AreNumbered, AreWith, IsNamedAmount, fields_of_amounts}
 use Rattle.misfits.specs.HelperTotals.{IsKept}
 use Rattle.misfits.specs.OpenTotals.{open_on, open_totals}
+use Rattle.misfits.specs.declared.open_total.Amount.{Amount}
 use Rattle.misfits.specs.declared.open_total.OpenTotal.{OpenTotal}
 use Rattle.misfits.proofs.FewTotals.{few_totals}
-use Rattle.misfits.proofs.LawfulTotals.{kept_at_first}
+use Rattle.misfits.proofs.LawfulTotals.{kept_at_first, kept_line, named_line}
+use Rattle.misfits.proofs.Numbering.{few-more, named-more, numbered-more}
 
 -- one line more
 more : (lines given : List Line) (i : ℕ) (line : Line) (o : Option OpenTotal) → given ≡ lines → i < length given
@@ -53,6 +56,50 @@ has_room chart given i line total old lawful same within at so_far opens =
     let parts = length-append (open_totals chart.lines no_cards (take i chart.lines)) (total ∷ []) in
     let long = ap length so_far in
     omega (arith, most, is, parts, long)
+
+-- What is kept once some lines were read: the open totals, the places of their amounts, and the amounts.
+pub record IsOpened (lines : List Line) (i : ℕ) (totals : List OpenTotal) (places : List ℕ) (amounts : List Amount) : Type 0 where
+  pub opened : totals ≡ open_totals lines no_cards (take i lines)
+  pub numbered : AreNumbered totals places amounts
+  pub named : All (IsNamedAmount lines) amounts
+  pub few : length amounts ≤ length totals
+
+-- an element of a list that is another
+element : {X : Type 0} (xs given : List X) (i : ℕ) (x : X) → given ≡ xs → i < length given → x ≡ get_or given i x → Contains xs x
+element xs given i x same within at = subst (λ l. Contains l x) same (i, within, sym at)
+
+-- one total more
+pub opened-one : (chart : Chart) (given : List Line) (i : ℕ) (line : Line) (total : OpenTotal) (place : ℕ)
+    (totals more_totals : List OpenTotal) (places more_places : List ℕ) (amounts more_amounts : List Amount)
+    → IsLawful chart → given ≡ chart.lines → i < length given → line ≡ get_or given i line → IsOpened chart.lines i totals places amounts
+    → open_on chart.lines no_cards line.statement ≡ Some total → more_totals ≡ totals ++ total ∷ [] → more_places ≡ places ++ place ∷ []
+    → AreWith total.field amounts more_amounts → slice_get (fields_of_amounts more_amounts) place ≡ Some total.field
+    → IsOpened chart.lines (i + 1) more_totals more_places more_amounts
+opened-one chart given i line total place totals more_totals places more_places amounts more_amounts lawful same within at so_far opens is is_place grows there =
+    let numbered = numbered-more totals places amounts more_amounts total place so_far.numbered grows there in
+    let kept = kept_line chart line total lawful (element chart.lines given i line same within at) opens in
+    record {
+      opened = one_line chart.lines given i line total totals more_totals same within at so_far.opened opens is;
+      numbered = subst (λ l. AreNumbered l more_places more_amounts) (sym is)
+          (subst (λ l. AreNumbered (totals ++ total ∷ []) l more_amounts) (sym is_place) numbered);
+      named = named-more chart.lines amounts more_amounts total.field so_far.named grows kept.amount (named_line chart line total opens);
+      few =
+          let most = few-more amounts more_amounts total.field (length totals) grows so_far.few in
+          let long = length-append totals (total ∷ []) in
+          let e = ap length is in
+          omega (arith, most, long, e);
+    }
+
+-- a line without one
+pub opened-none : (lines given : List Line) (i : ℕ) (line : Line) (totals : List OpenTotal) (places : List ℕ) (amounts : List Amount)
+    → given ≡ lines → i < length given → line ≡ get_or given i line → IsOpened lines i totals places amounts
+    → open_on lines no_cards line.statement ≡ None → IsOpened lines (i + 1) totals places amounts
+opened-none lines given i line totals places amounts same within at so_far none = record {
+  opened = no_line lines given i line totals same within at so_far.opened none;
+  numbered = so_far.numbered;
+  named = so_far.named;
+  few = so_far.few;
+}
 
 pub all_open : (lines given : List Line) (i : ℕ) (old : List OpenTotal) → given ≡ lines → length given ≤ i
     → old ≡ open_totals lines no_cards (take i lines) → old ≡ open_totals lines no_cards lines

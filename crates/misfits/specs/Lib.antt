@@ -1,6 +1,7 @@
 pub mod Below
 pub mod HelperAmounts
-pub mod HelperGroups
+pub mod HelperNumbers
+pub mod HelperSums
 pub mod HelperTotals
 pub mod Laws
 pub mod OpenSums

@@ -1,6 +1,6 @@
 -- Open totals: what is kept of the totals of a chart between two cards. Each is the sum of its amount over the cards so far of the
 -- unfinished group of its level.
-use Rattle.std.specs.Prelude.{ℕ, pos, ◌+ℤ◌, ◌==◌, nat_le, List, Option, Some, None, option_map, if◌then◌else◌}
+use Rattle.std.specs.Prelude.{ℕ, ℤ, pos, ◌+ℤ◌, ◌==◌, nat_le, List, Option, Some, None, option_map, if◌then◌else◌}
 use Rattle.std.specs.List.{filter_map}
 use Rattle.charts.specs.Levels.{level_number}
 use Rattle.charts.specs.declared.chart.Line.{Line}
@@ -29,9 +29,13 @@ open_on lines so_far other = None
 abbrev pub open_totals : (lines : List Line) → (ℕ → List (List ℕ)) → (some : List Line) → List OpenTotal
 open_totals lines so_far some = filter_map (λ line. open_on lines so_far line.statement) some
 
+-- an open total with a value more
+abbrev pub with_value : ℤ → OpenTotal → OpenTotal
+with_value value total = record total { sum = total.sum +ℤ value }
+
 -- an open total with the amount of one card more
 abbrev pub with_card : List ℕ → OpenTotal → OpenTotal
-with_card card total = record total { sum = total.sum +ℤ value_of total.field card }
+with_card card total = with_value (value_of total.field card) total
 
 -- an open total once the groups of the levels up to a given one have ended: 0 where its own is among them
 abbrev pub closed_to : ℕ → OpenTotal → OpenTotal

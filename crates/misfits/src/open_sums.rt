@@ -1,23 +1,25 @@
 //! The totals of a chart, card by card.
 
-ghost use Rattle.std.specs.Prelude.{◌≡◌, ◌+◌, ◌<◌, ◌≤◌, ℕ, List, [], length, map, option_map};
+ghost use Rattle.std.specs.Prelude.{◌≡◌, ◌+◌, ◌<◌, ◌≤◌, ℕ, IfSome, List, [], Some, length, map, option_map, position, slice_get, true};
 ghost use Rattle.std.specs.List.{All};
 ghost use Rattle.card_code.specs.MostCards.{most_cards};
 ghost use Rattle.chart_rules.specs.Rules.{IsLawful};
 ghost use Rattle.decks.specs.CardMisfits.{misfits_to};
 ghost use Rattle.report.specs.Breaks.{cleared, ended_after, no_cards, taking};
 ghost use Rattle.report.specs.Misfits.{first_of};
+ghost use Rattle.charts.specs.Name.{is_same_name};
+ghost use Rattle.misfits.specs.HelperNumbers.{AreWith, fields_of_amounts};
 ghost use Rattle.misfits.specs.OpenSums.{AreSumsOf};
 ghost use Rattle.misfits.specs.OpenTotals.{open_on};
 ghost use Rattle.misfits.specs.Told.{told};
 
 use crate::groups::ended_after;
 use crate::misfit::Misfit;
-use crate::open_total::{OpenTotal, add_card, end_groups, first_misfit_to};
+use crate::open_total::{Amount, OpenTotal, add_card, end_groups, first_misfit_to};
 use arrayvec::ArrayVec;
 use card_code::Card;
 use chart_rules::Chart;
-use charts::Statement;
+use charts::{Field, Name, Statement};
 use std::marker::Model;
 
 // How many totals of amounts a chart has at most: one for each wheel of each of the four total lines.
@@ -32,21 +34,22 @@ const MOST_TOTALS: usize = 480;
 #[derive(Drop)]
 pub struct OpenSums {
     totals: ArrayVec<OpenTotal, MOST_TOTALS>,
+    // The amounts that are totalled, each once.
+    amounts: ArrayVec<Amount, MOST_TOTALS>,
+    // For each total the place of its amount among them.
+    places: ArrayVec<u16, MOST_TOTALS>,
     cards: u32,
 }
 
 impl Model for OpenSums {
-    ghost use Rattle.std.specs.Prelude.{◌≤◌};
-    ghost use Rattle.std.specs.List.{All};
-    ghost use Rattle.card_code.specs.MostCards.{most_cards};
     ghost use Rattle.misfits.specs.OpenSums.{Sums};
-    ghost use Rattle.misfits.specs.HelperTotals.{IsKept};
+    ghost use Rattle.misfits.specs.HelperSums.{AreKeptSums};
 
     ghost Value = { Sums };
 
     ghost view = { λ sums. record { totals = sums.totals.items; cards = sums.cards } };
 
-    ghost invariant = { λ sums. (sums.cards ≤ most_cards) × All (IsKept sums.cards) sums.totals.items };
+    ghost invariant = { λ sums. AreKeptSums sums.totals.items sums.places.items sums.amounts.items sums.cards };
 }
 
 // The open total of a line of the chart before the first card, if the line is a total of an amount.
@@ -72,6 +75,29 @@ fn open_total(chart: &Chart, statement: &Statement) -> Option<OpenTotal>
     }
 }
 
+// The place of an amount among the amounts that are totalled: it is put after the others where it is not one of them yet.
+fn place_for(amounts: &mut ArrayVec<Amount, MOST_TOTALS>, field: Field) -> u16
+    requires room { length amounts.old.items < 480 }
+    requires by_name { All (λ amount. is_same_name amount.field.name field.name ≡ true → amount.field ≡ field) amounts.old.items }
+    ensures there { slice_get (fields_of_amounts amounts.new.items) result ≡ Some field }
+    ensures all { AreWith field amounts.old.items amounts.new.items }
+{
+    if let Some(place) = place_of(amounts.as_slice(), field.name) {
+        return place as u16;
+    }
+    let place = amounts.len();
+    amounts.push(Amount { field, value: 0 });
+    place as u16
+}
+
+// Where the amount with a name stands among some, if it does.
+fn place_of(amounts: &[Amount], name: Name) -> Option<usize>
+    ensures value { result ≡ position (λ amount. is_same_name amount.field.name name) amounts.now }
+    ensures within { IfSome result (λ place. place < length amounts.now) }
+{
+    amounts.iter().position(|amount| amount.field.name.is(name))
+}
+
 impl OpenSums {
     /// Before the first card: each total is 0.
     pub fn new(chart: &Chart) -> OpenSums
@@ -79,12 +105,20 @@ impl OpenSums {
         ensures no_cards { result.cards ≡ 0 }
     {
         let mut totals = ArrayVec::new();
+        let mut amounts = ArrayVec::new();
+        let mut places = ArrayVec::new();
         for line in chart.lines() {
             if let Some(total) = open_total(chart, &line.statement) {
+                places.push(place_for(&mut amounts, total.field));
                 totals.push(total);
             }
         }
-        OpenSums { totals, cards: 0 }
+        OpenSums {
+            totals,
+            amounts,
+            places,
+            cards: 0,
+        }
     }
 
     /// Takes a card of the chart's deck, given the one after it, and ends the groups that end with it; after the last card of the deck all
@@ -101,9 +135,14 @@ impl OpenSums {
             (cleared (ended_after chart.now.lines card.now next) (taking card.now so_far)) self.new }
         ensures counted { self.new.cards ≡ self.old.cards + 1 }
     {
-        add_card(self.totals.as_mut_slice(), card);
+        add_card(
+            self.totals.as_mut_slice(),
+            self.places.as_slice(),
+            self.amounts.as_mut_slice(),
+            card,
+        );
         self.cards += 1;
-        let ended = ended_after(chart, card, next);
+        let ended = ended_after(chart, card, &next);
         let misfit = first_misfit_to(self.totals.as_slice(), ended, self.cards);
         end_groups(self.totals.as_mut_slice(), ended);
         misfit

@@ -6,8 +6,9 @@ ghost use Rattle.card_code.specs.MostCards.{most_cards};
 ghost use Rattle.charts.specs.Levels.{level_number};
 ghost use Rattle.report.specs.Misfits.{first_of, fits_in};
 ghost use Rattle.misfits.specs.HelperAmounts.{IsGoodAmount};
+ghost use Rattle.misfits.specs.HelperNumbers.{AreNumbered, on_card};
 ghost use Rattle.misfits.specs.HelperTotals.{IsKept, IsWithin, most_digits, misfits_among};
-ghost use Rattle.misfits.specs.OpenTotals.{closed_to, misfit_at, with_card};
+ghost use Rattle.misfits.specs.OpenTotals.{closed_to, misfit_at, with_card, with_value};
 ghost use Rattle.misfits.specs.Told.{told};
 
 use crate::misfit::Misfit;
@@ -47,13 +48,13 @@ impl Default for OpenTotal {
 }
 
 impl OpenTotal {
-    // Adds the amount of a card. After fewer than 999,999 cards no sum is too large.
-    fn add(&mut self, card: &Card)
-        requires amount { IsGoodAmount self.old.field }
+    // Adds the value of its amount on a card. After fewer than 999,999 cards no sum is too large.
+    fn add(&mut self, amount: &Amount)
+        requires value { IsWithin 100000000 amount.now.value }
         requires small { IsWithin (most_cards * 100000000) self.old.sum }
-        ensures { self.new ≡ with_card card.now self.old }
+        ensures { self.new ≡ with_value amount.now.value self.old }
     {
-        self.sum += value_of(&self.field, card);
+        self.sum += amount.value;
     }
 
     // Whether the total line has room for the sum.
@@ -89,13 +90,62 @@ impl OpenTotal {
     }
 }
 
-// Adds the amounts of a card.
-pub(crate) fn add_card(totals: &mut [OpenTotal], card: &Card)
-    requires { All (IsKept most_cards) totals.old }
-    ensures { totals.new ≡ map (with_card card.now) totals.old }
+// An amount that is totalled, and its value on the card that was taken last.
+#[derive(Clone, Copy, Debug)]
+pub(crate) struct Amount {
+    // Its columns and its sign.
+    pub field: Field,
+    // Its value on the card.
+    pub value: i64,
+}
+
+impl Default for Amount {
+    // What stands where a chart has no further amount: it is never read.
+    fn default() -> Amount {
+        Amount {
+            field: OpenTotal::default().field,
+            value: 0,
+        }
+    }
+}
+
+impl Amount {
+    // Works out its value on a card.
+    fn work_out(&mut self, card: &Card)
+        requires { IsGoodAmount self.old.field }
+        ensures { self.new ≡ on_card card.now self.old }
+    {
+        self.value = value_of(&self.field, card);
+    }
+}
+
+// Works out the values of amounts on a card.
+fn work_out(amounts: &mut [Amount], card: &Card)
+    requires { All (λ amount. IsGoodAmount amount.field) amounts.old }
+    ensures { amounts.new ≡ map (on_card card.now) amounts.old }
 {
-    for total in totals.iter_mut() {
-        total.add(card);
+    for amount in amounts.iter_mut() {
+        amount.work_out(card);
+    }
+}
+
+// Adds the amounts of a card to their totals. Each is worked out once, however many totals it has.
+pub(crate) fn add_card(
+    totals: &mut [OpenTotal],
+    places: &[u16],
+    amounts: &mut [Amount],
+    card: &Card,
+)
+    requires kept { All (IsKept most_cards) totals.old }
+    requires numbered { AreNumbered totals.old places.now amounts.old }
+    requires good { All (λ amount. IsGoodAmount amount.field) amounts.old }
+    ensures totals { totals.new ≡ map (with_card card.now) totals.old }
+    ensures amounts { amounts.new ≡ map (on_card card.now) amounts.old }
+{
+    work_out(amounts, card);
+    for k in 0..totals.len() {
+        let place = usize::from(places[k]);
+        totals[k].add(&amounts[place]);
     }
 }
 
@@ -130,6 +180,9 @@ pub(crate) fn first_misfit_to(totals: &[OpenTotal], ended: u8, card: u32) -> Opt
 pub(crate) fn end_groups(totals: &mut [OpenTotal], ended: u8)
     ensures { totals.new ≡ map (closed_to ended) totals.old }
 {
+    if ended == 0 {
+        return;
+    }
     for total in totals.iter_mut() {
         total.close(ended);
     }

@@ -20,19 +20,16 @@ fn column_of(card: &Card, column: u16) -> Column
     card.column(column as u8)
 }
 
-/// Whether a digit is punched in a column.
-fn has_digit(column: Column, digit: u8) -> bool
-    requires { digit < 10 }
-    ensures { result ≡ has_row column digit }
-{
-    column.rows() >> digit & 1 == 1
-}
-
-/// The digit of a column, if it has one.
-fn digit_in(column: Column) -> Option<u8>
+/// The digit of a column, if it has one: the lowest of its rows 0 to 9.
+fn digit_in(column: Column) -> Option<u32>
     ensures { result ≡ digit_in column }
 {
-    (0..10).find(|digit| has_digit(column, *digit))
+    let digits = column.rows() & 0x3ff;
+    if digits == 0 {
+        None
+    } else {
+        Some(digits.trailing_zeros())
+    }
 }
 
 /// The digit of a column of a card, a blank one counting 0.
@@ -42,7 +39,7 @@ fn digit_at(card: &Card, column: u16) -> u32
     ensures value { result ≡ unwrap_or (digit_in (column_of card.now column)) 0 }
     ensures small { result < 10 }
 {
-    u32::from(digit_in(column_of(card, column)).unwrap_or(0))
+    digit_in(column_of(card, column)).unwrap_or(0)
 }
 
 /// The number that the columns of an amount spell, a blank one counting 0.

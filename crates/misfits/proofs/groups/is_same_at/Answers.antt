@@ -1,10 +1,19 @@
-use Rattle.std.proofs.Common.{◌∙◌, ap}
-use Rattle.misfits.specs.HelperGroups.{all_stay_same}
-use Rattle.misfits.proofs.Fields.{stay_same}
+use Rattle.std.proofs.Common.{◌∙◌, ap, subst, sym}
+use Rattle.std.specs.List.{list_all}
+use Rattle.charts.specs.Levels.{control_number}
+use Rattle.chart_rules.proofs.ControlFields.{controls-on_card}
+use Rattle.chart_rules.specs.HelperOnCard.{AreOnCard}
+use Rattle.report.specs.Groups.{is_same_on}
+use Rattle.misfits.proofs.Fields.{same-at}
 use Rattle.misfits.proofs.groups.is_same_at.Goals as goal
+
+pub are_same_on-requires : goal.are_same_on-requires
+are_same_on-requires c =
+    subst AreOnCard (sym c.control_fields.ensures.value)
+    (controls-on_card c.args.chart.now (control_number c.args.level) c.control_fields.ensures.lawful)
 
 pub returns : goal.returns
 returns c =
-    c.all_stay_same.ensures
-    ∙ ap (all_stay_same c.args.chart.now.lines c.args.level c.args.one.now c.args.other.now) c.lines.ensures.value
-    ∙ stay_same c.args.chart.now.lines c.args.chart.now.lines c.args.level c.args.one.now c.args.other.now
+    c.are_same_on.ensures
+    ∙ ap (list_all (λ field. is_same_on field c.args.one.now c.args.other.now)) c.control_fields.ensures.value
+    ∙ same-at c.args.chart.now.lines (control_number c.args.level) c.args.one.now c.args.other.now

@@ -1,7 +1,11 @@
 use Rattle.std.proofs.Common.{◌∙◌, sym, ap, set}
 use Rattle.std.proofs.lemmas.List.Edits.{map_over_more}
 use Rattle.misfits.specs.OpenTotals.{closed_to}
+use Rattle.misfits.proofs.InPlace.{none-closed}
 use Rattle.misfits.proofs.open_total.end_groups.Goals as goal
+
+pub returns-then-ended-eq0 : goal.returns-then-ended-eq0
+returns-then-ended-eq0 c = none-closed c.args.totals.now c.args.ended c.if-ended-eq0.true
 
 pub loop-total-preserved : goal.loop-total-preserved
 loop-total-preserved c =

@@ -1,55 +1,84 @@
 use Rattle.std.proofs.Common.{◌∙◌, sym, ap, arith}
-use Rattle.misfits.proofs.Opening.{has_room, one_line, no_line, all_open, all_kept}
+use Rattle.std.proofs.lemmas.List.Elements.{All-weaker}
+use Rattle.misfits.proofs.LawfulTotals.{named_line}
+use Rattle.misfits.proofs.Numbering.{by_name, numbered-long}
+use Rattle.misfits.proofs.Opening.{has_room, opened-one, opened-none, all_open, all_kept}
+use Rattle.misfits.specs.HelperAmounts.{IsGoodAmount}
+use Rattle.misfits.specs.HelperNumbers.{IsNamedAmount}
 use Rattle.misfits.proofs.open_sums.OpenSums.new.Goals as goal
 use Rattle.misfits.proofs.open_sums.OpenSums.new.Goals.{in-Some, in_default}
 
+pub place_for-requires-clause-room : goal.place_for-requires-clause-room
+place_for-requires-clause-room c =
+    let room = has_room c.args.chart.now c.lines-line-items.result.now c.loop-line.line-index c.line-item.result c.in-Some.total
+    c.loop-line.totals.items c.lines-line-items.ensures.lawful c.lines-line-items.ensures.value c.loop-line-test.true c.line-item.is
+    c.loop-line.invariant.opened (sym c.open_total.ensures ∙ c.in-Some.is) in
+    let few = c.loop-line.invariant.few in
+    omega (arith, room, few)
+
+pub place_for-requires-clause-by_name : goal.place_for-requires-clause-by_name
+place_for-requires-clause-by_name c =
+    by_name c.args.chart.now.lines c.loop-line.amounts.items c.in-Some.total.field c.loop-line.invariant.named
+    (named_line c.args.chart.now c.line-item.result c.in-Some.total (sym c.open_total.ensures ∙ c.in-Some.is))
+
 pub push-requires : goal.push-requires
-push-requires c = (
+push-requires c =
+    let room = has_room c.args.chart.now c.lines-line-items.result.now c.loop-line.line-index c.line-item.result c.in-Some.total
+    c.loop-line.totals.items c.lines-line-items.ensures.lawful c.lines-line-items.ensures.value c.loop-line-test.true c.line-item.is
+    c.loop-line.invariant.opened (sym c.open_total.ensures ∙ c.in-Some.is) in
+    let long = numbered-long c.loop-line.totals.items c.loop-line.places.items c.loop-line.amounts.items c.loop-line.invariant.numbered in
+    (omega arith, omega (arith, room, long))
+
+pub push-requires-in-Some : goal.push-requires-in-Some
+push-requires-in-Some c = (
   omega arith,
-  has_room c.args.chart.now c.lines-line-items.result.now c.loop-line.line-index c.line-item.result c.in-Some.total c.loop-line.totals.items
-      c.lines-line-items.ensures.lawful
-      c.lines-line-items.ensures.value
-      c.loop-line-test.true
-      c.line-item.is
-      c.loop-line.invariant
-      (sym c.open_total.ensures ∙ c.in-Some.is),
+  has_room c.args.chart.now c.lines-line-items.result.now c.loop-line.line-index c.line-item.result c.in-Some.total
+      c.loop-line.totals.items c.lines-line-items.ensures.lawful c.lines-line-items.ensures.value c.loop-line-test.true c.line-item.is
+      c.loop-line.invariant.opened (sym c.open_total.ensures ∙ c.in-Some.is),
 )
 
 pub loop-line-preserved : goal.loop-line-preserved
 loop-line-preserved c =
     elim c.match-open_total.branch [
       | in-Some w ↦
-          one_line c.args.chart.now.lines c.lines-line-items.result.now c.loop-line.line-index c.line-item.result w.in-Some.total
-          c.loop-line.totals.items c.match-open_total.totals.items
+          opened-one c.args.chart.now c.lines-line-items.result.now c.loop-line.line-index c.line-item.result w.in-Some.total
+          w.place_for.result c.loop-line.totals.items _ c.loop-line.places.items _ c.loop-line.amounts.items _
+          c.lines-line-items.ensures.lawful
           c.lines-line-items.ensures.value
           c.loop-line-test.true
           c.line-item.is
           c.loop-line.invariant
           (sym c.open_total.ensures ∙ w.in-Some.is)
-          (ap (λ v. v.items) w.totals-is ∙ w.push.ensures.items)
+          (ap (λ v. v.items) w.totals-is ∙ w.push-in-Some.ensures.items)
+          (ap (λ v. v.items) w.places-is ∙ w.push.ensures.items)
+          (rw w.amounts-is w.place_for.ensures.all)
+          (rw w.amounts-is w.place_for.ensures.there)
       | in_default w ↦
-          ap (λ v. v.items) w.totals-is
-          ∙ no_line c.args.chart.now.lines c.lines-line-items.result.now c.loop-line.line-index c.line-item.result c.loop-line.totals.items
+          rw (w.totals-is, w.places-is, w.amounts-is)
+          (opened-none c.args.chart.now.lines c.lines-line-items.result.now c.loop-line.line-index c.line-item.result
+          c.loop-line.totals.items c.loop-line.places.items c.loop-line.amounts.items
           c.lines-line-items.ensures.value
           c.loop-line-test.true
           c.line-item.is
           c.loop-line.invariant
-          (sym c.open_total.ensures ∙ w.in_default.is)
+          (sym c.open_total.ensures ∙ w.in_default.is))
     ]
 
 pub invariant_of-result : goal.invariant_of-result
-invariant_of-result c = (
-  omega arith,
-  all_kept c.args.chart.now c.lines-line-items.result.now c.loop-line.line-index c.loop-line.totals.items
-      c.lines-line-items.ensures.lawful
-      c.lines-line-items.ensures.value
-      c.loop-line-test.false
-      c.loop-line.invariant,
-)
+invariant_of-result c =
+    let opened = c.loop-line.invariant in
+    record {
+      few = omega arith;
+      kept = all_kept c.args.chart.now c.lines-line-items.result.now c.loop-line.line-index c.loop-line.totals.items
+          c.lines-line-items.ensures.lawful c.lines-line-items.ensures.value c.loop-line-test.false opened.opened;
+      numbered = opened.numbered;
+      good = All-weaker (IsNamedAmount c.args.chart.now.lines) (λ amount. IsGoodAmount amount.field) (λ amount is. is.good)
+          c.loop-line.amounts.items opened.named;
+    }
 
 pub returns-clause-begun : goal.returns-clause-begun
 returns-clause-begun c =
     all_open c.args.chart.now.lines c.lines-line-items.result.now c.loop-line.line-index c.loop-line.totals.items
     c.lines-line-items.ensures.value
     c.loop-line-test.false
-    c.loop-line.invariant
+    c.loop-line.invariant.opened
