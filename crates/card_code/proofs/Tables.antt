@@ -1,6 +1,6 @@
 -- The tables of the card code against its pairs.
-use Rattle.std.proofs.Common.{◌≡◌, ◌≢◌, ℕ, zero, suc, ◌+◌, ◌-◌, ◌%◌, ◌<◌, ◌≤◌, ◌⊎◌, inl, inr, arith, refl, sym, ap, ◌∙◌, Bool, true, false, ◌&&◌, List, [], ◌∷◌, length, Option, Some, None, if◌then◌else◌, ◌==◌, slice_index}
-use Rattle.std.specs.Prelude.{nat_lt, nat_le}
+use Rattle.std.proofs.Common.{◌≡◌, ◌≢◌, ℕ, zero, suc, ◌+◌, ◌%◌, ◌<◌, ◌≤◌, ◌⊎◌, inl, inr, arith, refl, sym, ap, ◌∙◌, Bool, true, false, ◌&&◌, List, [], ◌∷◌, length, Option, Some, None, if◌then◌else◌, ◌==◌, slice_index}
+use Rattle.std.specs.Prelude.{nat_lt}
 use Rattle.std.specs.List.{list_all}
 use Rattle.std.proofs.lemmas.Grind.{common_steps}
 use Rattle.std.proofs.lemmas.Bool.{false≢true}
@@ -46,36 +46,35 @@ lists-at pairs from (suc k) (rows ∷ table) is inside =
     let same : suc from + k ≡ from + suc k = omega arith in
     lists-at pairs (suc from) k table (both _ _ is).1 (omega (arith, inside)) ∙ ap (λ (c : ℕ). rows_in pairs c) same
 
--- pairs whose characters are all from 32 to 95 have no other
-outside : (pairs : List (ℕ × ℕ)) (character : ℕ) → list_all (λ pair. nat_le 32 pair.0 && nat_lt pair.0 96) pairs ≡ true
-    → (character < 32) ⊎ (96 ≤ character) → rows_in pairs character ≡ None
+-- a table of all bytes that lists what pairs have
+pub listed-byte : (pairs : List (ℕ × ℕ)) (table : List ℕ) (byte : ℕ) → lists pairs 0 table ≡ true → byte < length table
+    → entry (slice_index table byte) ≡ rows_in pairs byte
+listed-byte pairs table byte lists_all inside =
+    lists-at pairs 0 byte table lists_all inside ∙ ap (λ (c : ℕ). rows_in pairs c) (omega arith)
+
+-- pairs whose characters are all below 256 have no other
+outside : (pairs : List (ℕ × ℕ)) (character : ℕ) → list_all (λ pair. nat_lt pair.0 256) pairs ≡ true
+    → 256 ≤ character → rows_in pairs character ≡ None
 outside [] character within far = refl
 outside (pair ∷ pairs) character within far =
     let parts = both _ _ within in
-    let here = both (nat_le 32 pair.0) (nat_lt pair.0 96) parts.0 in
-    let other : (pair.0 == character) ≡ false = apart pair.0 character here.0 here.1 far in
+    let other : (pair.0 == character) ≡ false = apart pair.0 character parts.0 far in
     goes_on (pair.0 == character) pair.1 (rows_in pairs character) other ∙ outside pairs character parts.1 far
   where
-    apart : (one character : ℕ) → nat_le 32 one ≡ true → nat_lt one 96 ≡ true → (character < 32) ⊎ (96 ≤ character)
-        → (one == character) ≡ false
-    apart one character low high (inl below) = grind (arith, nat_tests, low, high, below)
-    apart one character low high (inr above) = grind (arith, nat_tests, low, high, above)
+    apart : (one character : ℕ) → nat_lt one 256 ≡ true → 256 ≤ character → (one == character) ≡ false
+    apart one character low high = grind (arith, nat_tests, low, high)
 
--- a table of 64 that lists what pairs have from the blank on
+-- a table of 256 that lists what pairs have
 pub listed-right : (pairs : List (ℕ × ℕ)) (table : List ℕ) (character : ℕ)
-    → list_all (λ pair. nat_le 32 pair.0 && nat_lt pair.0 96) pairs ≡ true → lists pairs 32 table ≡ true → length table ≡ 64
+    → list_all (λ pair. nat_lt pair.0 256) pairs ≡ true → lists pairs 0 table ≡ true → length table ≡ 256
     → listed table character ≡ rows_in pairs character
-listed-right pairs table character within lists_all long = by (nat_lt character 32) (nat_le 96 character) refl refl
+listed-right pairs table character within lists_all long = by (nat_lt character 256) refl
   where
-    by : (low high : Bool) → nat_lt character 32 ≡ low → nat_le 96 character ≡ high → listed table character ≡ rows_in pairs character
-    by true high is is_high = rw (is) (sym (outside pairs character within (inl (grind (arith, nat_tests, is)))))
-    by false true is is_high = rw (is, is_high) (sym (outside pairs character within (inr (grind (arith, nat_tests, is_high)))))
-    by false false is is_high =
-        let from : 32 ≤ character = grind (arith, nat_tests, is) in
-        let to : character < 96 = grind (arith, nat_tests, is_high) in
-        let same : 32 + (character - 32) ≡ character = omega (arith, from) in
-        rw (is, is_high)
-        (lists-at pairs 32 (character - 32) table lists_all (omega (arith, from, to, long)) ∙ ap (λ (c : ℕ). rows_in pairs c) same)
+    by : (low : Bool) → nat_lt character 256 ≡ low → listed table character ≡ rows_in pairs character
+    by true is =
+        let inside : character < 256 = grind (arith, nat_tests, is) in
+        rw (is) (listed-byte pairs table character lists_all (omega (arith, inside, long)))
+    by false is = rw (is) (sym (outside pairs character within (grind (arith, nat_tests, is))))
 
 -- whether pairs have what two tables have beside one another
 abbrev pub has_all : List (ℕ × ℕ) → List ℕ → List ℕ → Bool

@@ -2,5 +2,6 @@ pub mod CardCode
 pub mod Deck
 pub mod Lines
 pub mod MostCards
+pub mod Punching
 pub mod Rows
 pub mod Tables

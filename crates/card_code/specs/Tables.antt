@@ -1,14 +1,13 @@
 -- The card code as tables.
-use Rattle.std.specs.Prelude.{ℕ, ◌-◌, ◌%◌, ◌==◌, ◌||◌, nat_lt, nat_le, List, Option, Some, None, slice_index, if◌then◌else◌}
+use Rattle.std.specs.Prelude.{ℕ, ◌%◌, ◌==◌, nat_lt, List, Option, Some, None, slice_index, if◌then◌else◌}
 
 -- the rows that an entry stands for; 65535 stands for none
 abbrev pub entry : ℕ → Option ℕ
 entry rows = if rows == 65535 then None else Some rows
 
--- the rows that a table of the 64 characters from the blank on has for a character
+-- the rows that a table of 256 characters has for a character
 abbrev pub listed : List ℕ → ℕ → Option ℕ
-listed table character =
-    if nat_lt character 32 || nat_le 96 character then None else entry (slice_index table (character - 32))
+listed table character = if nat_lt character 256 then entry (slice_index table character) else None
 
 -- the character at the place of a set of rows, where that place has the set
 abbrev pub matching : List ℕ → List ℕ → ℕ → Option ℕ

@@ -1,6 +1,7 @@
 //! A punched card.
 
-ghost use Rattle.std.specs.Prelude.{◌≡◌, ◌-◌, ◌<◌, ◌≤◌, ℕ, List, length, replicate, slice_index};
+ghost use Rattle.std.specs.Prelude.{◌≡◌, ◌-◌, ◌<◌, ◌≤◌, ℕ, List, length, replicate, slice_index, true};
+ghost use Rattle.card_code.specs.Rows.{is_row_set};
 
 use crate::column::Column;
 use std::marker::Model;
@@ -41,6 +42,18 @@ impl Card {
         ensures { result ≡ columns }
     {
         Card { columns }
+    }
+
+    // The card with these rows in its columns, the first ones being those of column 1.
+    pub(crate) fn of_rows(rows: &[u16; CARD_COLUMNS]) -> Self
+        requires { (k : ℕ) → k < 80 → is_row_set (slice_index rows.now k) ≡ true }
+        ensures { result ≡ rows.now }
+    {
+        let mut card = Card::blank();
+        for k in 0..CARD_COLUMNS {
+            card.columns[k] = Column::of_rows(rows[k]);
+        }
+        card
     }
 
     /// Its columns, the first one being column 1.

@@ -3,14 +3,16 @@
 ghost use Rattle.std.specs.Prelude.{◌≡◌, ◌<◌, ◌%◌, ◌↔◌, ℕ, length, slice_index, true, Contains, IfSome, IsTrue};
 ghost use Rattle.card_code.specs.CardCode.{code, deck_character, is_one_to_one, rows_of};
 ghost use Rattle.card_code.specs.Rows.{is_row_set};
-ghost use Rattle.card_code.specs.Tables.{listed, matching};
+ghost use Rattle.card_code.specs.Tables.{entry, listed, matching};
 
 /// What stands for the rows of a character that is no deck character.
 const NONE: u16 = 0xffff;
 
-/// The rows of the 64 characters from the blank on, bit `r` for row `r`: an A, with the rows 12 and 1, has 0x1002.
+/// The rows of each byte, bit `r` for row `r`: an A, with the rows 12 and 1, has 0x1002.
 #[rattlefmt::skip]
-const LISTED: [u16; 64] = [
+const LISTED: [u16; 256] = [
+    NONE, NONE, NONE, NONE, NONE, NONE, NONE, NONE, NONE, NONE, NONE, NONE, NONE, NONE, NONE, NONE,
+    NONE, NONE, NONE, NONE, NONE, NONE, NONE, NONE, NONE, NONE, NONE, NONE, NONE, NONE, NONE, NONE,
     0x0000, 0x0801, NONE, 0x0108, 0x0908, 0x0111, 0x1000, NONE,  // from blank to '
     NONE, NONE, 0x0910, NONE, 0x0109, 0x0800, 0x1108, 0x0003,  // from ( to /
     0x0001, 0x0002, 0x0004, 0x0008, 0x0010, 0x0020, 0x0040, 0x0080,  // from 0 to 7
@@ -19,6 +21,16 @@ const LISTED: [u16; 64] = [
     0x1100, 0x1200, 0x0802, 0x0804, 0x0808, 0x0810, 0x0820, 0x0840,  // from H to O
     0x0880, 0x0900, 0x0a00, 0x0005, 0x0009, 0x0011, 0x0021, 0x0041,  // from P to W
     0x0081, 0x0101, 0x0201, NONE, NONE, NONE, NONE, NONE,  // from X to _
+    NONE, NONE, NONE, NONE, NONE, NONE, NONE, NONE, NONE, NONE, NONE, NONE, NONE, NONE, NONE, NONE,
+    NONE, NONE, NONE, NONE, NONE, NONE, NONE, NONE, NONE, NONE, NONE, NONE, NONE, NONE, NONE, NONE,
+    NONE, NONE, NONE, NONE, NONE, NONE, NONE, NONE, NONE, NONE, NONE, NONE, NONE, NONE, NONE, NONE,
+    NONE, NONE, NONE, NONE, NONE, NONE, NONE, NONE, NONE, NONE, NONE, NONE, NONE, NONE, NONE, NONE,
+    NONE, NONE, NONE, NONE, NONE, NONE, NONE, NONE, NONE, NONE, NONE, NONE, NONE, NONE, NONE, NONE,
+    NONE, NONE, NONE, NONE, NONE, NONE, NONE, NONE, NONE, NONE, NONE, NONE, NONE, NONE, NONE, NONE,
+    NONE, NONE, NONE, NONE, NONE, NONE, NONE, NONE, NONE, NONE, NONE, NONE, NONE, NONE, NONE, NONE,
+    NONE, NONE, NONE, NONE, NONE, NONE, NONE, NONE, NONE, NONE, NONE, NONE, NONE, NONE, NONE, NONE,
+    NONE, NONE, NONE, NONE, NONE, NONE, NONE, NONE, NONE, NONE, NONE, NONE, NONE, NONE, NONE, NONE,
+    NONE, NONE, NONE, NONE, NONE, NONE, NONE, NONE, NONE, NONE, NONE, NONE, NONE, NONE, NONE, NONE,
 ];
 
 /// How many places the sets of rows have: each stands at the place that is its remainder by 118, and no two at one place.
@@ -75,6 +87,13 @@ pub fn rows_of_character(character: char) -> Option<u16>
     listed_rows(&LISTED, character)
 }
 
+/// The rows of a byte, or 0xffff where it is no deck character.
+pub fn rows_of_byte(byte: u8) -> u16
+    ensures { entry result ≡ rows_of byte }
+{
+    row_in(&LISTED, byte)
+}
+
 /// The deck character of a set of rows, or `None` where no character has exactly these.
 pub fn character_of_rows(rows: u16) -> Option<u8>
     ensures { result ≡ deck_character rows }
@@ -83,17 +102,24 @@ pub fn character_of_rows(rows: u16) -> Option<u8>
 }
 
 /// The rows that a table lists for a character, or `None` where it has none.
-fn listed_rows(table: &[u16; 64], character: char) -> Option<u16>
+fn listed_rows(table: &[u16; 256], character: char) -> Option<u16>
     ensures { result ≡ listed table.now character }
 {
     let number = u32::from(character);
-    if number < 32 || 96 <= number {
+    if number >= 256 {
         return None;
     }
-    match table[number as usize - 32] {
+    match table[number as usize] {
         NONE => None,
         rows => Some(rows),
     }
+}
+
+/// What a table has at the place of a byte.
+fn row_in(table: &[u16; 256], byte: u8) -> u16
+    ensures { result ≡ slice_index table.now byte }
+{
+    table[byte as usize]
 }
 
 /// The character at the place of a set of rows, or `None` where that place has another set.

@@ -1,20 +1,23 @@
 //! Decks of cards as text.
 
-ghost use Rattle.std.specs.Prelude.{◌≡◌, ◌≢◌, ◌-◌, ◌<◌, ◌≤◌, ◌++◌, ℕ, ◌⊎◌, List, length, replicate, IfErr, IfOk, IsErrOf, IsOkAnd};
+ghost use Rattle.std.specs.Prelude.{◌≡◌, ◌≢◌, ◌≤◌, ℕ, ◌⊎◌, List, length, replicate, IfErr, IfNone, IfOk, IfSome, IsErrOf, IsOkAnd};
 ghost use Rattle.card_code.specs.declared.deck.DeckFault.{DeckFault};
-ghost use Rattle.arrayvec.specs.ArrayVec.{array_vec_len};
-ghost use Rattle.card_code.specs.Deck.{Deck, HasDeckFault, HasLineFault, IsCardOf};
+ghost use Rattle.card_code.specs.Punching.{ArePunchable, HasPunched};
+ghost use Rattle.card_code.specs.Deck.{Deck, HasDeckFault, HasLineFault, IsCardOf, IsOddColumn};
 ghost use Rattle.card_code.specs.declared.deck.DeckFault.TheVariants.{Memory};
 
 use crate::card::{CARD_COLUMNS, Card};
+use crate::code::rows_of_byte;
 use crate::column::Column;
 use crate::lines::next_line;
-use arrayvec::ArrayVec;
 use std::alloc::{AllocFailed, Global};
 use thiserror::Error;
 
 /// The most cards of a deck.
 pub const MOST_CARDS: usize = 999_999;
+
+// No set of rows is as large as this: only what stands for none is.
+const NO_ROWS: u16 = 0x8000;
 
 /// Why a deck text is refused.
 #[derive(Clone, Copy, Debug, PartialEq, Eq, Error)]
@@ -108,30 +111,55 @@ pub fn read_card(number: u32, line: &[u8]) -> Result<Card, DeckFault>
     if line.len() > CARD_COLUMNS {
         return Err(DeckFault::CardTooLong { line: number });
     }
-    let mut columns = ArrayVec::<Column, CARD_COLUMNS>::new();
-    for (place, character) in line.iter().enumerate() {
-        match Column::of_char(char::from(*character)) {
-            Some(column) => columns.push(column),
-            None => {
-                return Err(DeckFault::NoSuchCharacter {
-                    line: number,
-                    column: place as u32 + 1,
-                });
-            }
-        }
+    match card_of(line) {
+        Some(card) => Ok(card),
+        None => Err(DeckFault::NoSuchCharacter {
+            line: number,
+            column: odd_column(line),
+        }),
     }
-    Ok(filled(columns))
 }
 
-/// The card whose first columns are these, the others being blank.
-fn filled(mut columns: ArrayVec<Column, CARD_COLUMNS>) -> Card
-    ensures { result ≡ columns.items ++ replicate (80 - length columns.items) 0 }
+/// The card of a line of at most 80 bytes, if all of them are deck characters.
+fn card_of(line: &[u8]) -> Option<Card>
+    requires { length line.now ≤ 80 }
+    ensures card { IfSome result (λ card. IsCardOf line.now card) }
+    ensures none { IfNone result (¬ ArePunchable line.now) }
 {
-    while !columns.is_full() {
-        columns.push(Column::blank());
+    let mut rows = [0; CARD_COLUMNS];
+    if punch(line, &mut rows) < NO_ROWS {
+        Some(Card::of_rows(&rows))
+    } else {
+        None
     }
-    match columns.into_inner() {
-        Ok(columns) => Card::of_columns(columns),
-        Err(_) => unreachable!(),
+}
+
+/// Puts the rows of each byte of a line in its column, and answers all of them joined, so that it is asked once whether one of the
+/// bytes is no deck character.
+fn punch(line: &[u8], rows: &mut [u16; CARD_COLUMNS]) -> u16
+    requires short { length line.now ≤ 80 }
+    requires blank { rows.old ≡ replicate 80 0 }
+    ensures { HasPunched (length line.now) line.now result rows.new }
+{
+    let mut joined = 0;
+    for place in 0..line.len() {
+        let found = rows_of_byte(line[place]);
+        rows[place] = found;
+        joined |= found;
     }
+    joined
+}
+
+/// The column of the first byte that is no deck character, in a line that has one.
+fn odd_column(line: &[u8]) -> u32
+    requires short { length line.now ≤ 80 }
+    requires odd { ¬ ArePunchable line.now }
+    ensures { IsOddColumn line.now result }
+{
+    for place in 0..line.len() {
+        if Column::of_char(char::from(line[place])).is_none() {
+            return place as u32 + 1;
+        }
+    }
+    unreachable!()
 }
