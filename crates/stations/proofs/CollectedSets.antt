@@ -1,5 +1,5 @@
 -- Comparing, with all rows of a card cycle at once.
-use Rattle.std.proofs.Common.{◌≡◌, ◌≢◌, ◌∙◌, ◌⊎◌, ℕ, zero, suc, ◌+◌, ◌-◌, ◌^◌, ◌<◌, ◌≤◌, ◌==◌, arith, refl, sym, ap, inl, inr, Bool, true, false, ◌&&◌, ◌||◌, nat_lt, List, [], ◌∷◌, length, drop, Some, slice_index_or, slice_set, bit_or, if◌then◌else◌, add-one}
+use Rattle.std.proofs.Common.{◌≡◌, ◌≢◌, ◌∙◌, ◌⊎◌, ℕ, zero, suc, ◌+◌, ◌-◌, ◌^◌, ◌<◌, ◌≤◌, ◌==◌, arith, refl, sym, ap, inl, inr, Bool, true, false, ◌&&◌, ◌||◌, nat_lt, List, [], ◌∷◌, length, drop, Some, slice_index_or, slice_set, bit_or, if◌then◌else◌}
 use Rattle.std.proofs.lemmas.Bool.Decides.{eqb_tells, nat_tests}
 use Rattle.std.proofs.lemmas.List.{get_or-set_same, get_or-set_other, length-set}
 use Rattle.card_code.specs.Rows.{passing_place}
@@ -31,15 +31,14 @@ positions-same (suc last) one other same =
     let below = positions-same last one other (λ p low high. same p low (omega (arith, high))) in
     λ i. bit_or (below i) (if here i then 2 ^ last else 0)
 
--- one position more
-pub positions-more : (k : ℕ) (test : ℕ → Bool) (here : Bool) (word : ℕ) → word ≡ positions k test → here ≡ test (suc k)
-    → bit_or word (if here then 2 ^ k else 0) ≡ positions (k + 1) test
-unfolding positions
-positions-more k test here word is same = rw (add-one) (λ i. bit_or (is i) (if same i then 2 ^ k else 0))
-
-pub positions-none : (test : ℕ → Bool) → 0 ≡ positions 0 test
-unfolding positions
-positions-none test = refl
+-- the entries of thirty positions, in a word that has the row of sixty-four
+pub entries-having : (entries : List ℕ) (word from place : ℕ) → from ≤ 30
+    → ((k : ℕ) → is_bit word k ≡ (nat_lt k 64 && has_at entries (0 + k) place))
+    → (k : ℕ) → nat_lt k 30 ≡ true → is_bit word (from + k) ≡ has_at entries (from + (suc k - 1)) place
+entries-having entries word from place low has k below =
+    let inside : nat_lt (from + k) 64 ≡ true = grind (arith, nat_tests, low, below) in
+    let index : 0 + (from + k) ≡ from + (suc k - 1) = omega arith in
+    has (from + k) ∙ rw inside (ap (λ (j : ℕ). has_at entries j place) index)
 
 -- entries that don't have the row at a place add no position there
 pub gathered-none : (entries : List ℕ) (place : ℕ) (pair : ℕ × ℕ) → ((k : ℕ) → k < 60 → has_at entries k place ≡ false)

@@ -1,10 +1,13 @@
 -- The columns of a card as sets of rows by their places among the points.
-use Rattle.std.proofs.Common.{◌≡◌, ◌≢◌, ◌∙◌, ◌⊎◌, ℕ, zero, suc, ◌+◌, ◌-◌, ◌<◌, ◌≤◌, arith, refl, sym, ap, inl, inr, Bool, true, false, ◌==◌, nat_lt, List, [], ◌∷◌, length, replicate, slice_index, slice_index_or, slice_set, Option, Some, None}
+use Rattle.std.proofs.Common.{◌≡◌, ◌≢◌, ◌∙◌, ◌⊎◌, ℕ, zero, suc, ◌+◌, ◌-◌, ◌<◌, ◌≤◌, arith, refl, sym, ap, inl, inr, Bool, true, false, ◌==◌, ◌&&◌, nat_lt, List, [], ◌∷◌, length, replicate, slice_index, slice_index_or, slice_set, bit_or, Option, Some, None}
 use Rattle.std.proofs.lemmas.Bool.Decides.{eqb_tells, nat_tests}
+use Rattle.std.proofs.lemmas.Bool.{cases_lt}
+use Rattle.std.proofs.lemmas.Nat.{le_or_l, le_or_r}
 use Rattle.std.proofs.lemmas.List.{get_or-replicate, get_or-set_same, get_or-set_other, get_or_past, length-set}
 use Rattle.card_code.specs.CardCode.{has_row}
 use Rattle.card_code.specs.Rows.{row_number, passing_place}
 use Rattle.card_code.specs.declared.row.Row.{Row}
+use Rattle.card_code.specs.declared.row.Row.TheVariants.{Zero}
 use Rattle.hub_table.specs.Ranges.{is_within}
 use Rattle.hubs.specs.declared.hub.Hub.{Hub}
 use Rattle.hubs.specs.declared.hub.Hub.TheVariants.{FR, SR}
@@ -12,8 +15,10 @@ use Rattle.net.proofs.SetLemmas.{sets-row}
 use Rattle.net.specs.HubSets.{is_bit}
 use Rattle.net.specs.Links.{has_at}
 use Rattle.net.specs.RowSets.{is_in_sets}
-use Rattle.stations.specs.Punches.{is_punched, AreColumnsAt, AreRowsAt}
+use Rattle.stations.specs.Comparing.{positions}
+use Rattle.stations.specs.Punches.{is_punched, is_punched_at, AreColumnsAt, AreRowsAt, HasColumns, IsRowAt}
 use Rattle.stations.specs.Stations.{first_emits, second_emits}
+use Rattle.stations.proofs.PositionWords.{is_bit-positions}
 use Rattle.stations.proofs.RowHubs.{first_row, second_row}
 use Rattle.stations.proofs.RowWords.{no_bit}
 
@@ -29,21 +34,24 @@ pub column-read : (columns card : List ℕ) (k d column : ℕ) → columns ≡ c
 column-read columns card k d column same long below read =
     read ∙ at-default columns k d (omega (arith, long, below)) ∙ ap (λ (cs : List ℕ). slice_index cs k) same
 
--- the first columns of a card are done
-pub record AreColumnsTo (count : ℕ) (card columns : List ℕ) : Type 0 where
-  pub long : length columns ≡ 80
-  pub done : (row : Row) (k : ℕ) → k < count → has_at columns k (passing_place row) ≡ has_row (slice_index card k) (row_number row)
+-- no column of a card is done
+pub columns-first : (card : List ℕ) → HasColumns 0 card (replicate 80 0)
+columns-first card = record { long = refl; done = λ row k less. absurd (omega (arith, less)); rest = λ k more. none k (cases_lt k 80) }
+  where
+    none : (k : ℕ) → (k < 80) ⊎ (80 ≤ k) → ◌≡◌ {A = ℕ} (slice_index_or (replicate 80 0) k 0) 0
+    none k (inl below) = get_or-replicate {A = ℕ} 80 k 0 0 below
+    none k (inr past) = let zeros : List ℕ = replicate 80 0 in let long : length zeros ≡ 80 = refl in get_or_past zeros k 0 (omega (arith, past, long))
 
-pub columns-first : (card : List ℕ) → AreColumnsTo 0 card (replicate 80 0)
-columns-first card = record { long = refl; done = λ row k less. absurd (omega (arith, less)) }
-
+-- a column more is done
 pub columns-next : (count set column : ℕ) (card columns : List ℕ) → count < 80
     → column ≡ slice_index card count
     → ((row : Row) → is_bit set (passing_place row) ≡ has_row column (row_number row))
-    → AreColumnsTo count card columns → AreColumnsTo (count + 1) card (slice_set columns count set)
+    → HasColumns count card columns → HasColumns (count + 1) card (slice_set columns count set)
 columns-next count set column card columns below is rows before = record {
   long = length-kept;
   done = λ row k less. by row k less (eqb_tells k count);
+  rest = λ k more.
+      get_or-set_other columns count k set 0 (λ e. absurd (omega (arith, e, more))) ∙ before.rest k (omega (arith, more));
 }
   where
     length-kept : length (slice_set columns count set) ≡ 80
@@ -61,7 +69,44 @@ columns-next count set column card columns below is rows before = record {
         ap (λ (w : ℕ). is_bit w (passing_place row)) (get_or-set_other columns count k set 0 apart)
         ∙ before.done row k (omega (arith, less, apart))
 
-pub columns-done : (count : ℕ) (card columns : List ℕ) → 80 ≤ count → AreColumnsTo count card columns → AreColumnsAt (Some card) columns
+-- eight columns without a punch are done
+pub columns-blank : (count : ℕ) (card columns : List ℕ) → ((k : ℕ) → count ≤ k → k < count + 8 → slice_index card k ≡ 0)
+    → HasColumns count card columns → HasColumns (count + 8) card columns
+unfolding is_bit
+columns-blank count card columns blank before = record {
+  long = before.long;
+  done = λ row k less. by row k less (cases_lt k count);
+  rest = λ k more. before.rest k (omega (arith, more));
+}
+  where
+    nothing : (n : ℕ) → false ≡ has_row 0 n
+    nothing n = sym (no_bit n)
+
+    by : (row : Row) (k : ℕ) → k < count + 8 → (k < count) ⊎ (count ≤ k)
+        → has_at columns k (passing_place row) ≡ has_row (slice_index card k) (row_number row)
+    by row k less (inl earlier) = before.done row k earlier
+    by row k less (inr later) =
+        ap (λ (w : ℕ). is_bit w (passing_place row)) (before.rest k later) ∙ no_bit (passing_place row) ∙ nothing (row_number row)
+        ∙ ap (λ (c : ℕ). has_row c (row_number row)) (sym (blank k later less))
+
+-- no set of rows has more than all of them joined
+pub bound-more : (sets : List ℕ) (from count rows set : ℕ) → set ≡ slice_index sets count
+    → ((k : ℕ) → from ≤ k → k < count → slice_index sets k ≤ rows)
+    → (k : ℕ) → from ≤ k → k < count + 1 → slice_index sets k ≤ bit_or rows set
+bound-more sets from count rows set is before k low high = by (eqb_tells k count)
+  where
+    by : ((k == count) ≡ true) × (k ≡ count) ⊎ ((k == count) ≡ false) × (k ≢ count) → slice_index sets k ≤ bit_or rows set
+    by (inl same) =
+        let right = le_or_r rows set in
+        let here : slice_index sets k ≡ set = ap (λ (j : ℕ). slice_index sets j) same.1 ∙ sym is in
+        omega (arith, right, here)
+    by (inr other) =
+        let left = le_or_l rows set in
+        let apart = other.1 in
+        let less = before k low (omega (arith, high, apart)) in
+        omega (arith, left, less)
+
+pub columns-done : (count : ℕ) (card columns : List ℕ) → 80 ≤ count → HasColumns count card columns → AreColumnsAt (Some card) columns
 columns-done count card columns end are = record { eighty = are.long; punched = λ row k. by row k (nat_lt k 80) refl }
   where
     by : (row : Row) (k : ℕ) (inside : Bool) → nat_lt k 80 ≡ inside
@@ -88,16 +133,79 @@ columns-no_card = record { eighty = refl; punched = λ row k. empty row k (nat_l
         let long : length none ≡ 80 = refl in
         ap (λ (w : ℕ). is_bit w (passing_place row)) (get_or_past none k 0 (grind (arith, nat_tests, is, long))) ∙ no_bit (passing_place row)
 
+-- there is a word of each row
+row_word : Option (List ℕ) → Row → ℕ
+row_word card row = positions 80 (λ column. is_punched_at card row column)
+
+row_word-is : (card : Option (List ℕ)) (row : Row) → IsRowAt card row (row_word card row)
+unfolding row_word
+row_word-is card row bit =
+    is_bit-positions 80 (λ column. is_punched_at card row column) bit
+    ∙ ap (λ (column : ℕ). nat_lt bit 80 && is_punched_at card row column) (omega arith)
+    ∙ by card (nat_lt bit 80) refl
+  where
+    by : (at : Option (List ℕ)) (inside : Bool) → nat_lt bit 80 ≡ inside
+        → (inside && is_punched_at at row (bit + 1)) ≡ is_punched_at at row (bit + 1)
+    by at true is = refl
+    by None false is = refl
+    by (Some punched) false is = let past : is_within (bit + 1) 80 ≡ false = grind (arith, nat_tests, is) in rw past refl
+
+-- the word that has the row of each column is the row's
+pub row-read : (card : Option (List ℕ)) (columns : List ℕ) (row : Row) (word : ℕ) → AreColumnsAt card columns
+    → ((k : ℕ) → is_bit word k ≡ has_at columns k (passing_place row)) → IsRowAt card row word
+row-read card columns row word are has bit = has bit ∙ are.punched row bit
+
 -- the sets of first reading
-pub first_columns : (card : Option (List ℕ)) (words columns : List ℕ) (row : Row) (hub : Hub) → AreRowsAt card words
+pub first_columns : (card : Option (List ℕ)) (columns : List ℕ) (row : Row) (hub : Hub)
     → AreColumnsAt card columns → is_in_sets (FR 1) columns (passing_place row) hub ≡ first_emits card row hub
-first_columns card words columns row hub are sets =
-    sets-row (FR 1) hub columns (passing_place row) (slice_index words (passing_place row))
-    (λ k. sets.punched row k ∙ sym (are.punched row k)) ∙ first_row card words row hub are
+first_columns card columns row hub sets =
+    sets-row (FR 1) hub columns (passing_place row) (row_word card row)
+    (λ k. sets.punched row k ∙ sym (row_word-is card row k)) ∙ first_row card (row_word card row) row hub (row_word-is card row)
 
 -- the sets of second reading
-pub second_columns : (card : Option (List ℕ)) (words columns : List ℕ) (row : Row) (hub : Hub) → AreRowsAt card words
+pub second_columns : (card : Option (List ℕ)) (columns : List ℕ) (row : Row) (hub : Hub)
     → AreColumnsAt card columns → is_in_sets (SR 1) columns (passing_place row) hub ≡ second_emits card row hub
-second_columns card words columns row hub are sets =
-    sets-row (SR 1) hub columns (passing_place row) (slice_index words (passing_place row))
-    (λ k. sets.punched row k ∙ sym (are.punched row k)) ∙ second_row card words row hub are
+second_columns card columns row hub sets =
+    sets-row (SR 1) hub columns (passing_place row) (row_word card row)
+    (λ k. sets.punched row k ∙ sym (row_word-is card row k)) ∙ second_row card (row_word card row) row hub (row_word-is card row)
+
+-- the words of the first rows are read off the columns
+pub record AreRowsTo (count : ℕ) (columns words : List ℕ) : Type 0 where
+  pub long : length words ≡ 12
+  pub done : (place : ℕ) → place < count → (k : ℕ) → is_bit (slice_index_or words place 0) k ≡ has_at columns k place
+
+pub rows-none : (columns : List ℕ) → AreRowsTo 0 columns (replicate 12 0)
+rows-none columns = record { long = refl; done = λ place less. absurd (omega (arith, less)) }
+
+pub rows-more : (count word : ℕ) (columns words : List ℕ) → count < 12
+    → ((k : ℕ) → is_bit word k ≡ has_at columns k count)
+    → AreRowsTo count columns words → AreRowsTo (count + 1) columns (slice_set words count word)
+rows-more count word columns words below has before = record {
+  long = length-set words count word ∙ before.long;
+  done = λ place less k. by place less k (eqb_tells place count);
+}
+  where
+    by : (place : ℕ) → place < count + 1 → (k : ℕ)
+        → ((place == count) ≡ true) × (place ≡ count) ⊎ ((place == count) ≡ false) × (place ≢ count)
+        → is_bit (slice_index_or (slice_set words count word) place 0) k ≡ has_at columns k place
+    by place less k (inl same) =
+        let long = before.long in
+        ap (λ (p : ℕ). is_bit (slice_index_or (slice_set words count word) p 0) k) same.1
+        ∙ ap (λ (w : ℕ). is_bit w k) (get_or-set_same words count word 0 (omega (arith, long, below)))
+        ∙ has k ∙ ap (λ (p : ℕ). has_at columns k p) (sym same.1)
+    by place less k (inr other) =
+        let apart = other.1 in
+        ap (λ (w : ℕ). is_bit w k) (get_or-set_other words count place word 0 apart) ∙ before.done place (omega (arith, less, apart)) k
+
+-- a row's place is one of twelve
+place_below : (row : Row) → passing_place row < 12
+place_below Zero = omega arith
+place_below other = omega arith
+
+pub rows-all : (count : ℕ) (card : Option (List ℕ)) (columns words : List ℕ) → 12 ≤ count → AreColumnsAt card columns
+    → AreRowsTo count columns words → AreRowsAt card words
+rows-all count card columns words end sets are = record {
+  twelve = are.long;
+  punched = λ row bit.
+      are.done (passing_place row) (let low = place_below row in omega (arith, low, end)) bit ∙ sets.punched row bit;
+}

@@ -2,7 +2,7 @@ pub mod Own
 pub mod PositionWords
 pub mod RowWords
 pub mod RowHubs
-pub mod RowSets
+pub mod RowMasks
 mod FourRows
 pub mod MovedRows
 pub mod ColumnSets

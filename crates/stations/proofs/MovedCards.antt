@@ -1,7 +1,7 @@
 -- What is kept of two cards moves on by one place.
 use Rattle.std.proofs.Common.{◌≡◌, ℕ, arith, refl, sym, subst, List, [], ◌∷◌, length, Option, slice_index_or, slice_set}
-use Rattle.stations.specs.Punches.{AreColumnsAt, AreRowsAt}
-use Rattle.stations.specs.Stations.{AreStationCards, StationCards}
+use Rattle.stations.specs.Punches.{AreColumnsAt}
+use Rattle.stations.specs.Stations.{AreStationColumns, StationCards}
 
 -- the first of two moves to the second place, and another comes to the first
 abbrev pub moved : List (List ℕ) → List ℕ → List (List ℕ)
@@ -15,22 +15,14 @@ are-moved (one ∷ []) next long = absurd (omega (arith, long))
 are-moved (one ∷ other ∷ []) next long = (refl, refl, refl)
 are-moved (one ∷ other ∷ more ∷ others) next long = absurd (omega (arith, long))
 
--- so do the rows and the columns of the cards
-pub cards-moved : (cards : StationCards) (next : Option (List ℕ)) (rows columns : List (List ℕ)) (row column : List ℕ)
-    → length rows ≡ 2 → length columns ≡ 2 → AreStationCards cards rows columns → AreRowsAt next row → AreColumnsAt next column
-    → AreStationCards (record { first = next; second = cards.first }) (moved rows row) (moved columns column)
-cards-moved cards next rows columns row column two both are of_rows of_columns =
-    let by_rows = are-moved rows row two in
+-- so do the columns of the cards
+pub cards-moved : (cards : StationCards) (next : Option (List ℕ)) (columns : List (List ℕ)) (column : List ℕ)
+    → length columns ≡ 2 → AreStationColumns cards columns → AreColumnsAt next column
+    → AreStationColumns (record { first = next; second = cards.first }) (moved columns column)
+cards-moved cards next columns column both are of_columns =
     let by_columns = are-moved columns column both in
     record {
-      rows = record {
-        two = by_rows.0;
-        first = subst (λ (words : List ℕ). AreRowsAt next words) (sym by_rows.1) of_rows;
-        second = subst (λ (words : List ℕ). AreRowsAt cards.first words) (sym by_rows.2) are.rows.first;
-      };
-      columns = record {
-        two = by_columns.0;
-        first = subst (λ (sets : List ℕ). AreColumnsAt next sets) (sym by_columns.1) of_columns;
-        second = subst (λ (sets : List ℕ). AreColumnsAt cards.first sets) (sym by_columns.2) are.columns.first;
-      };
+      two = by_columns.0;
+      first = subst (λ (sets : List ℕ). AreColumnsAt next sets) (sym by_columns.1) of_columns;
+      second = subst (λ (sets : List ℕ). AreColumnsAt cards.first sets) (sym by_columns.2) are.first;
     }

@@ -1,5 +1,5 @@
 -- Sets of rows by their places among the points, as the bits of sets by the numbers of rows, moved up and down.
-use Rattle.std.proofs.Common.{◌≡◌, ◌∙◌, ℕ, ◌+◌, ◌-◌, ◌*◌, ◌/◌, ◌%◌, ◌^◌, ◌<◌, arith, ap, Bool, false, ◌&&◌, ◌||◌, bit_and, bit_or}
+use Rattle.std.proofs.Common.{◌≡◌, ◌∙◌, ℕ, ◌+◌, ◌-◌, ◌*◌, ◌/◌, ◌%◌, ◌^◌, ◌<◌, arith, ap, Bool, true, false, ◌&&◌, ◌||◌, bit_and, bit_or}
 use Rattle.std.specs.Prelude.{nat_le}
 use Rattle.std.proofs.Math.Bool.{or-false}
 use Rattle.std.proofs.lemmas.Grind.{common_steps}
@@ -31,119 +31,93 @@ moved-down n by mask bit =
     ∙ ap (λ b. b && is_bit mask bit) (is_bit-shr n by bit)
     ∙ swapped (is_bit n (by + bit)) (is_bit mask bit)
 
--- the bits of five words joined
-five : (a b c d e j : ℕ) → is_bit (bit_or (bit_or (bit_or (bit_or a b) c) d) e) j
-    ≡ ((((is_bit a j || is_bit b j) || is_bit c j) || is_bit d j) || is_bit e j)
-five a b c d e j =
-    is_bit-or (bit_or (bit_or (bit_or a b) c) d) e j
-    ∙ ap (λ x. x || is_bit e j) (is_bit-or (bit_or (bit_or a b) c) d j
-    ∙ ap (λ x. x || is_bit d j) (is_bit-or (bit_or a b) c j ∙ ap (λ x. x || is_bit c j) (is_bit-or a b j)))
-
 -- tests that are false leave the others as they are
-two-false : (x : Bool) → ((x || false) || false) ≡ x
-two-false x = or-false (x || false) ∙ or-false x
+first-of : (x y : Bool) → (((x || false) || false) || (y && false)) ≡ x
+first-of x y = grind (arith, nat_tests, common_steps)
 
-three-false : (x : Bool) → (((x || false) || false) || false) ≡ x
-three-false x = or-false ((x || false) || false) ∙ two-false x
+second-of : (x y : Bool) → ((x || false) || (y && false)) ≡ x
+second-of x y = grind (arith, nat_tests, common_steps)
 
-four-false : (x : Bool) → ((((x || false) || false) || false) || false) ≡ x
-four-false x = or-false (((x || false) || false) || false) ∙ three-false x
+third-of : (x y : Bool) → (x || (y && false)) ≡ x
+third-of x y = grind (arith, nat_tests, common_steps)
 
--- what five words have together
-joined : (a b c d e j : ℕ) (v w x y z : Bool) → is_bit a j ≡ v → is_bit b j ≡ w → is_bit c j ≡ x → is_bit d j ≡ y → is_bit e j ≡ z
-    → is_bit (bit_or (bit_or (bit_or (bit_or a b) c) d) e) j ≡ ((((v || w) || x) || y) || z)
-joined a b c d e j v w x y z p q r s t =
-    five a b c d e j
-    ∙ (λ i. (((p i || q i) || r i) || s i) || t i)
+fourth-of : (y : Bool) → (y && true) ≡ y
+fourth-of y = grind (arith, nat_tests, common_steps)
 
--- the bits moved up, and the rows 0 to 4
+none-of : (y : Bool) → (y && false) ≡ false
+none-of y = grind (arith, nat_tests, common_steps)
+
+-- the bits moved up
 abbrev pub IsUp : ℕ → ℕ → ℕ → ℕ → Type 0
 IsUp n by mask word = (bit : ℕ) → bit < 16 → is_bit word bit ≡ (is_bit mask bit && (nat_le by bit && has_row n (bit - by)))
 
--- what the five words of the rows 0 to 4 have
-abbrev low_tests : ℕ → ℕ → Bool
-low_tests n j =
-    ((((is_bit 0x200 j && (nat_le 9 j && has_row n (j - 9))) || (is_bit 0x100 j && (nat_le 7 j && has_row n (j - 7))))
-    || (is_bit 0x80 j && (nat_le 5 j && has_row n (j - 5)))) || (is_bit 0x40 j && (nat_le 3 j && has_row n (j - 3))))
-    || (is_bit 0x20 j && (nat_le 1 j && has_row n (j - 1)))
-
-pub low-digits : (n a b c d e : ℕ) → IsUp n 9 0x200 a → IsUp n 7 0x100 b → IsUp n 5 0x80 c → IsUp n 3 0x40 d → IsUp n 1 0x20 e
-    → (row : Row) → is_bit (bit_or (bit_or (bit_or (bit_or a b) c) d) e) (passing_place row)
-    ≡ (nat_le (row_number row) 4 && has_row n (row_number row))
-unfolding is_bit
-low-digits n a b c d e p q r s t = by where
-  at : (j : ℕ) → j < 16 → is_bit (bit_or (bit_or (bit_or (bit_or a b) c) d) e) j ≡ low_tests n j
-  at j low = joined a b c d e j _ _ _ _ _ (p j low) (q j low) (r j low) (s j low) (t j low)
-
-  by : (row : Row) → is_bit (bit_or (bit_or (bit_or (bit_or a b) c) d) e) (passing_place row)
-      ≡ (nat_le (row_number row) 4 && has_row n (row_number row))
-  by Zero = at 9 (omega arith) ∙ four-false (has_row n 0)
-  by One = at 8 (omega arith) ∙ three-false (has_row n 1)
-  by Two = at 7 (omega arith) ∙ two-false (has_row n 2)
-  by Three = at 6 (omega arith) ∙ or-false (has_row n 3)
-  by Four = at 5 (omega arith)
-  by Five = at 4 (omega arith)
-  by Six = at 3 (omega arith)
-  by Seven = at 2 (omega arith)
-  by Eight = at 1 (omega arith)
-  by Nine = at 0 (omega arith)
-  by Eleven = at 10 (omega arith)
-  by Twelve = at 11 (omega arith)
-
--- the bits moved down, and the rows 5 to 9
+-- the bits moved down
 abbrev pub IsDown : ℕ → ℕ → ℕ → ℕ → Type 0
 IsDown n by mask word = (bit : ℕ) → is_bit word bit ≡ (is_bit mask bit && has_row n (by + bit))
 
--- what the five words of the rows 5 to 9 have
-abbrev high_tests : ℕ → ℕ → Bool
-high_tests n j =
-    ((((is_bit 0x10 j && has_row n (1 + j)) || (is_bit 0x8 j && has_row n (3 + j))) || (is_bit 0x4 j && has_row n (5 + j)))
-    || (is_bit 0x2 j && has_row n (7 + j))) || (is_bit 0x1 j && has_row n (9 + j))
+-- two halves of five bits that changed places
+abbrev halves_test : ℕ → ℕ → Bool
+halves_test n j = (is_bit 0x3e0 j && (nat_le 5 j && has_row n (j - 5))) || (is_bit 0x1f j && has_row n (5 + j))
 
-pub high-digits : (n a b c d e : ℕ) → IsDown n 1 0x10 a → IsDown n 3 0x8 b → IsDown n 5 0x4 c → IsDown n 7 0x2 d → IsDown n 9 0x1 e
-    → (row : Row) → is_bit (bit_or (bit_or (bit_or (bit_or a b) c) d) e) (passing_place row)
-    ≡ (nat_le 5 (row_number row) && (nat_le (row_number row) 9 && has_row n (row_number row)))
+-- the bits of two halves, turned in each of them
+abbrev turned_test : ℕ → ℕ → Bool
+turned_test h j =
+    (((is_bit 0x210 j && (nat_le 4 j && has_row h (j - 4))) || (is_bit 0x21 j && has_row h (4 + j)))
+    || ((is_bit 0x108 j && (nat_le 2 j && has_row h (j - 2))) || (is_bit 0x42 j && has_row h (2 + j))))
+    || (is_bit h j && is_bit 0x84 j)
+
+-- the ten digits, the other way round
+pub turned-digits : (n up down a b c d : ℕ) → IsUp n 5 0x3e0 up → IsDown n 5 0x1f down
+    → IsUp (bit_or up down) 4 0x210 a → IsDown (bit_or up down) 4 0x21 b
+    → IsUp (bit_or up down) 2 0x108 c → IsDown (bit_or up down) 2 0x42 d
+    → (row : Row) → is_bit (bit_or (bit_or (bit_or a b) (bit_or c d)) (bit_and (bit_or up down) 0x84)) (passing_place row)
+    ≡ (nat_le (row_number row) 9 && has_row n (row_number row))
 unfolding is_bit
-high-digits n a b c d e p q r s t = by where
-  at : (j : ℕ) → is_bit (bit_or (bit_or (bit_or (bit_or a b) c) d) e) j ≡ high_tests n j
-  at j = joined a b c d e j _ _ _ _ _ (p j) (q j) (r j) (s j) (t j)
+turned-digits n up down a b c d is_up is_down p q r s = by where
+  h : ℕ
+  h = bit_or up down
 
-  by : (row : Row) → is_bit (bit_or (bit_or (bit_or (bit_or a b) c) d) e) (passing_place row)
-      ≡ (nat_le 5 (row_number row) && (nat_le (row_number row) 9 && has_row n (row_number row)))
-  by Zero = at 9
-  by One = at 8
-  by Two = at 7
-  by Three = at 6
-  by Four = at 5
-  by Five = at 4 ∙ four-false (has_row n 5)
-  by Six = at 3 ∙ three-false (has_row n 6)
-  by Seven = at 2 ∙ two-false (has_row n 7)
-  by Eight = at 1 ∙ or-false (has_row n 8)
-  by Nine = at 0
-  by Eleven = at 10
-  by Twelve = at 11
+  half : (j : ℕ) → j < 16 → is_bit h j ≡ halves_test n j
+  half j low = is_bit-or up down j ∙ (λ i. is_up j low i || is_down j i)
+
+  at : (j : ℕ) → j < 16 → is_bit (bit_or (bit_or (bit_or a b) (bit_or c d)) (bit_and h 0x84)) j ≡ turned_test h j
+  at j low =
+      is_bit-or (bit_or (bit_or a b) (bit_or c d)) (bit_and h 0x84) j
+      ∙ ap (λ x. x || is_bit (bit_and h 0x84) j) (is_bit-or (bit_or a b) (bit_or c d) j)
+      ∙ (λ i. (is_bit-or a b j i || is_bit-or c d j i) || is_bit-and h 0x84 j i)
+      ∙ (λ i. ((p j low i || q j i) || (r j low i || s j i)) || (is_bit h j && is_bit 0x84 j))
+
+  by : (row : Row) → is_bit (bit_or (bit_or (bit_or a b) (bit_or c d)) (bit_and h 0x84)) (passing_place row)
+      ≡ (nat_le (row_number row) 9 && has_row n (row_number row))
+  by Zero = at 9 (omega arith) ∙ first-of (has_row h 5) (is_bit h 9) ∙ half 5 (omega arith) ∙ or-false (has_row n 0)
+  by One = at 8 (omega arith) ∙ second-of (has_row h 6) (is_bit h 8) ∙ half 6 (omega arith) ∙ or-false (has_row n 1)
+  by Two = at 7 (omega arith) ∙ fourth-of (is_bit h 7) ∙ half 7 (omega arith) ∙ or-false (has_row n 2)
+  by Three = at 6 (omega arith) ∙ third-of (has_row h 8) (is_bit h 6) ∙ half 8 (omega arith) ∙ or-false (has_row n 3)
+  by Four = at 5 (omega arith) ∙ second-of (has_row h 9) (is_bit h 5) ∙ half 9 (omega arith) ∙ or-false (has_row n 4)
+  by Five = at 4 (omega arith) ∙ first-of (has_row h 0) (is_bit h 4) ∙ half 0 (omega arith)
+  by Six = at 3 (omega arith) ∙ second-of (has_row h 1) (is_bit h 3) ∙ half 1 (omega arith)
+  by Seven = at 2 (omega arith) ∙ fourth-of (is_bit h 2) ∙ half 2 (omega arith)
+  by Eight = at 1 (omega arith) ∙ third-of (has_row h 3) (is_bit h 1) ∙ half 3 (omega arith)
+  by Nine = at 0 (omega arith) ∙ second-of (has_row h 4) (is_bit h 0) ∙ half 4 (omega arith)
+  by Eleven = at 10 (omega arith) ∙ none-of (is_bit h 10)
+  by Twelve = at 11 (omega arith) ∙ none-of (is_bit h 11)
 
 -- the digits and the zones joined
-pub digits-and-zones : (n low high zones : ℕ)
-    → ((row : Row) → is_bit low (passing_place row) ≡ (nat_le (row_number row) 4 && has_row n (row_number row)))
-    → ((row : Row) → is_bit high (passing_place row) ≡ (nat_le 5 (row_number row) && (nat_le (row_number row) 9 && has_row n (row_number row))))
-    → IsDown n 1 0xc00 zones → (row : Row) → is_bit (bit_or (bit_or low high) zones) (passing_place row) ≡ has_row n (row_number row)
+pub digits-and-zones : (n digits zones : ℕ)
+    → ((row : Row) → is_bit digits (passing_place row) ≡ (nat_le (row_number row) 9 && has_row n (row_number row)))
+    → IsDown n 1 0xc00 zones → (row : Row) → is_bit (bit_or digits zones) (passing_place row) ≡ has_row n (row_number row)
 unfolding is_bit
-digits-and-zones n low high zones p q r = by where
-  at : (row : Row) → is_bit (bit_or (bit_or low high) zones) (passing_place row)
-      ≡ (((nat_le (row_number row) 4 && has_row n (row_number row)) || (nat_le 5 (row_number row) && (nat_le (row_number row) 9 && has_row n (row_number row))))
-      || (is_bit 0xc00 (passing_place row) && has_row n (1 + passing_place row)))
-  at row =
-      is_bit-or (bit_or low high) zones (passing_place row)
-      ∙ ap (λ x. x || is_bit zones (passing_place row)) (is_bit-or low high (passing_place row))
-      ∙ (λ i. (p row i || q row i) || r (passing_place row) i)
+digits-and-zones n digits zones p q = by where
+  at : (row : Row) → is_bit (bit_or digits zones) (passing_place row)
+      ≡ ((nat_le (row_number row) 9 && has_row n (row_number row)) || (is_bit 0xc00 (passing_place row) && has_row n (1 + passing_place row)))
+  at row = is_bit-or digits zones (passing_place row) ∙ (λ i. p row i || q (passing_place row) i)
 
-  by : (row : Row) → is_bit (bit_or (bit_or low high) zones) (passing_place row) ≡ has_row n (row_number row)
-  by Zero = at Zero ∙ two-false (has_row n 0)
-  by One = at One ∙ two-false (has_row n 1)
-  by Two = at Two ∙ two-false (has_row n 2)
-  by Three = at Three ∙ two-false (has_row n 3)
-  by Four = at Four ∙ two-false (has_row n 4)
+  by : (row : Row) → is_bit (bit_or digits zones) (passing_place row) ≡ has_row n (row_number row)
+  by Zero = at Zero ∙ or-false (has_row n 0)
+  by One = at One ∙ or-false (has_row n 1)
+  by Two = at Two ∙ or-false (has_row n 2)
+  by Three = at Three ∙ or-false (has_row n 3)
+  by Four = at Four ∙ or-false (has_row n 4)
   by Five = at Five ∙ or-false (has_row n 5)
   by Six = at Six ∙ or-false (has_row n 6)
   by Seven = at Seven ∙ or-false (has_row n 7)

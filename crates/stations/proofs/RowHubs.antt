@@ -1,8 +1,7 @@
--- The words of a card's rows as rows of hubs: by letters, the columns that a station emits.
-use Rattle.std.proofs.Common.{◌≡◌, ◌∙◌, ◌⊎◌, ℕ, suc, ◌+◌, ◌-◌, ◌<◌, ◌≤◌, arith, refl, sym, inr, Bool, true, false, ◌&&◌, List, slice_index, nat_lt, nat_le, Option, Some, None}
+-- The word of a card's row as a row of hubs: by letters, the columns that a station emits.
+use Rattle.std.proofs.Common.{◌≡◌, ◌∙◌, ◌⊎◌, ℕ, suc, ◌+◌, ◌-◌, ◌<◌, ◌≤◌, arith, refl, sym, inr, Bool, true, false, ◌&&◌, List, nat_lt, nat_le, Option, Some, None}
 use Rattle.std.specs.Prelude.{option_map, if◌then◌else◌}
 use Rattle.std.proofs.lemmas.Bool.Decides.{nat_tests}
-use Rattle.card_code.specs.Rows.{passing_place}
 use Rattle.card_code.specs.declared.row.Row.{Row}
 use Rattle.hub_table.specs.Ranges.{is_within}
 use Rattle.hub_table.specs.HubTable.{HasNumber}
@@ -11,7 +10,7 @@ use Rattle.hubs.specs.declared.hub.Hub.{Hub}
 use Rattle.hubs.specs.declared.hub.Hub.TheVariants.{FR, SR, CX, CA, CB}
 use Rattle.hubs.proofs.HubLemmas.{number_of-kind}
 use Rattle.net.specs.HubSets.{HubSet, is_bit, is_in_row, is_in_reach, is_bit_from, has_hub}
-use Rattle.stations.specs.Punches.{is_punched_at, AreRowsAt}
+use Rattle.stations.specs.Punches.{is_punched_at, IsRowAt}
 use Rattle.std.specs.List.{list_any}
 use Rattle.stations.specs.Comparing.{is_in_one, differences_emit}
 use Rattle.stations.specs.Stations.{first_emits, second_emits}
@@ -27,33 +26,33 @@ other_kind first last bits hub (Some n) is none apart = off_row first n last bit
 
 -- the column of a station
 own_kind :
-    (card : Option (List ℕ)) (words : List ℕ) (row : Row) (column before : ℕ) (test : Bool) → AreRowsAt card words
+    (card : Option (List ℕ)) (word : ℕ) (row : Row) (column before : ℕ) (test : Bool) → IsRowAt card row word
     → is_within column 80 ≡ test
-    → is_bit_from (Some (before + 1)) (slice_index words (passing_place row))
+    → is_bit_from (Some (before + 1)) word
     (option_map (λ (place : ℕ). before + place) (if test then Some column else None))
     ≡ is_punched_at card row column
-own_kind card words row column before true are within =
+own_kind card word row column before true is within =
     let after : nat_le (before + 1) (before + column) ≡ true = grind (arith, nat_tests, within) in
     let bit : before + column - (before + 1) ≡ column - 1 = grind (arith, nat_tests, within) in
-    rw (after, bit) (column_bit card words row column are within)
-own_kind card words row column before false are within = sym (not_punched card row column within)
+    rw (after, bit) (column_bit card word row column is within)
+own_kind card word row column before false is within = sym (not_punched card row column within)
 
 -- the row of first reading
 pub first_row :
-    (card : Option (List ℕ)) (words : List ℕ) (row : Row) (hub : Hub) → AreRowsAt card words
-    → is_in_row (FR 1) (slice_index words (passing_place row)) hub ≡ first_emits card row hub
-first_row card words row (FR column) are = own_kind card words row column 0 (is_within column 80) are refl
-first_row card words row other are =
-    other_kind 1 80 (slice_index words (passing_place row)) other (number_of other) refl (no_bit_past card words row are)
+    (card : Option (List ℕ)) (word : ℕ) (row : Row) (hub : Hub) → IsRowAt card row word
+    → is_in_row (FR 1) word hub ≡ first_emits card row hub
+first_row card word row (FR column) is = own_kind card word row column 0 (is_within column 80) is refl
+first_row card word row other is =
+    other_kind 1 80 word other (number_of other) refl (no_bit_past card word row is)
     (λ n has. inr (omega (arith, has)))
 
 -- the row of second reading
 pub second_row :
-    (card : Option (List ℕ)) (words : List ℕ) (row : Row) (hub : Hub) → AreRowsAt card words
-    → is_in_row (SR 1) (slice_index words (passing_place row)) hub ≡ second_emits card row hub
-second_row card words row (SR column) are = own_kind card words row column 80 (is_within column 80) are refl
-second_row card words row other are =
-    other_kind 81 80 (slice_index words (passing_place row)) other (number_of other) refl (no_bit_past card words row are)
+    (card : Option (List ℕ)) (word : ℕ) (row : Row) (hub : Hub) → IsRowAt card row word
+    → is_in_row (SR 1) word hub ≡ second_emits card row hub
+second_row card word row (SR column) is = own_kind card word row column 80 (is_within column 80) is refl
+second_row card word row other is =
+    other_kind 81 80 word other (number_of other) refl (no_bit_past card word row is)
     (λ n has. grind (arith, has))
 
 -- the bit of a position, in a row of 30

@@ -1,5 +1,5 @@
 -- The punches of a card: whether a row is punched in a column, and a card as one word for each of its rows.
-use Rattle.std.specs.Prelude.{◌≡◌, ℕ, ◌+◌, ◌-◌, ◌&&◌, Bool, false, List, length, Option, Some, None, slice_index}
+use Rattle.std.specs.Prelude.{◌≡◌, ℕ, ◌+◌, ◌-◌, ◌<◌, ◌≤◌, ◌&&◌, Bool, false, List, length, Option, Some, None, slice_index, slice_index_or}
 use Rattle.card_code.specs.CardCode.{has_row}
 use Rattle.card_code.specs.Rows.{row_number, passing_place}
 use Rattle.card_code.specs.declared.row.Row.{Row}
@@ -16,15 +16,23 @@ abbrev pub is_punched_at : Option (List ℕ) → Row → ℕ → Bool
 is_punched_at None row column = false
 is_punched_at (Some card) row column = is_punched card row column
 
--- Twelve words, one for each row in the order of the points. A word has the bit c - 1 exactly where its row is punched in
--- column c, and no bit without a card.
+-- The word of a row has the bit c - 1 exactly where the row is punched in column c, and no bit without a card.
+abbrev pub IsRowAt : Option (List ℕ) → Row → ℕ → Type 0
+IsRowAt card row word = (bit : ℕ) → is_bit word bit ≡ is_punched_at card row (bit + 1)
+
+-- Twelve words, one for each row in the order of the points.
 pub record AreRowsAt (card : Option (List ℕ)) (words : List ℕ) : Type 0 where
   pub twelve : length words ≡ 12
-  pub punched :
-      (row : Row) (bit : ℕ) → is_bit (slice_index words (passing_place row)) bit ≡ is_punched_at card row (bit + 1)
+  pub punched : (row : Row) → IsRowAt card row (slice_index words (passing_place row))
 
 -- Eighty sets of rows, one for each column: a set has the bit p exactly where the row at place p among the points is punched in its
 -- column, and there is no bit without a card.
 pub record AreColumnsAt (card : Option (List ℕ)) (columns : List ℕ) : Type 0 where
   pub eighty : length columns ≡ 80
   pub punched : (row : Row) (k : ℕ) → has_at columns k (passing_place row) ≡ is_punched_at card row (k + 1)
+
+-- The sets of the first columns of a card are there, and no others.
+pub record HasColumns (count : ℕ) (card columns : List ℕ) : Type 0 where
+  pub long : length columns ≡ 80
+  pub done : (row : Row) (k : ℕ) → k < count → has_at columns k (passing_place row) ≡ has_row (slice_index card k) (row_number row)
+  pub rest : (k : ℕ) → count ≤ k → slice_index_or columns k 0 ≡ 0

@@ -54,13 +54,8 @@ pub record AreStationRows (cards : StationCards) (rows : List (List ℕ)) : Type
   pub first : AreRowsAt cards.first (slice_index_or rows 0 [])
   pub second : AreRowsAt cards.second (slice_index_or rows 1 [])
 
--- the columns at first and at second reading
+-- the columns at first and at second reading, which are kept beside the cards
 pub record AreStationColumns (cards : StationCards) (columns : List (List ℕ)) : Type 0 where
   pub two : length columns ≡ 2
   pub first : AreColumnsAt cards.first (slice_index_or columns 0 [])
   pub second : AreColumnsAt cards.second (slice_index_or columns 1 [])
-
--- What is kept beside the cards: their rows, and their columns.
-pub record AreStationCards (cards : StationCards) (words sets : List (List ℕ)) : Type 0 where
-  pub rows : AreStationRows cards words
-  pub columns : AreStationColumns cards sets

@@ -1,6 +1,6 @@
 //! Comparing: thirty positions, each with two entries whose rows are compared over a card cycle.
 
-ghost use Rattle.std.specs.Prelude.{◌≡◌, ℕ, ◌+◌, ◌-◌, ◌<◌, ◌≤◌, ◌&&◌, bit_xor, map, nat_lt, length, true, false, ◌^◌, if◌then◌else◌};
+ghost use Rattle.std.specs.Prelude.{◌≡◌, ℕ, ◌+◌, ◌-◌, ◌<◌, ◌≤◌, ◌&&◌, bit_xor, map, nat_lt, length, false};
 ghost use Rattle.net.specs.Links.{has_at};
 ghost use Rattle.std.specs.List.{list_any, slice_range};
 ghost use Rattle.net.specs.HubSets.{is_bit, has_hub};
@@ -8,6 +8,7 @@ ghost use Rattle.stations.specs.Comparing.{positions, is_in_one, sets_at};
 ghost use Rattle.stations.specs.Words.{gathered};
 ghost use Rattle.hubs.specs.declared.hub.Hub.TheVariants.{CA, CB};
 
+use crate::lanes::having_row;
 use hubs::Hub;
 use net::{Cycle, Picture, Point, RowSets, Unit};
 use std::marker::Model;
@@ -111,7 +112,7 @@ impl Unit for Comparing {
 // Joins to the positions that were collected at each row those that are impulsed there, by the sets of the rows of all entries: the
 // thirty first ones, and then the thirty second ones.
 fn collect(collected: &mut [(u32, u32); 12], entries: &[u16])
-    requires { ENTRIES ≤ length entries.now }
+    requires { 64 ≤ length entries.now }
     ensures rows { (place : ℕ) → place < 12
         → sets_at place collected.new ≡ gathered entries.now place (sets_at place collected.old) }
     ensures before { length collected.old ≡ 12 }
@@ -120,11 +121,9 @@ fn collect(collected: &mut [(u32, u32); 12], entries: &[u16])
     let rows = rows_of_all(entries);
     for place in 0..12 {
         if has_bit(rows, place) {
+            let (first, second) = positions_at(entries, place);
             let pair = collected[place];
-            collected[place] = (
-                pair.0 | positions_at(entries, 0, place),
-                pair.1 | positions_at(entries, 30, place),
-            );
+            collected[place] = (pair.0 | first, pair.1 | second);
         }
     }
 }
@@ -141,17 +140,15 @@ fn rows_of_all(entries: &[u16]) -> u16
     rows
 }
 
-// Of thirty entries from one on, the positions of those that have the row at a place.
-fn positions_at(entries: &[u16], from: usize, place: usize) -> u32
-    requires entries { from + 30 ≤ length entries.now }
+// The positions whose first entries have the row at a place, and those whose second entries do. Sixty-four entries are looked at at a time.
+fn positions_at(entries: &[u16], place: usize) -> (u32, u32)
+    requires entries { 64 ≤ length entries.now }
     requires place { place < 12 }
-    ensures { result ≡ positions 30 (λ p. has_at entries.now (from + (p - 1)) place) }
+    ensures first { result.0 ≡ positions 30 (λ p. has_at entries.now (0 + (p - 1)) place) }
+    ensures second { result.1 ≡ positions 30 (λ p. has_at entries.now (30 + (p - 1)) place) }
 {
-    let mut word = 0;
-    for k in 0..30 {
-        word |= bit_where(has_bit(entries[from + k], place), k);
-    }
-    word
+    let word = u128::from(having_row(entries, 0, place));
+    (low_thirty(word), low_thirty(after_thirty(word)))
 }
 
 // Whether a bit of a set is there.
@@ -161,14 +158,6 @@ fn has_bit(set: u16, bit: usize) -> bool
     ensures { result ≡ is_bit set bit }
 {
     set >> bit & 1 == 1
-}
-
-// A word with a bit, where the test is true.
-fn bit_where(test: bool, bit: usize) -> u32
-    requires { bit < 32 }
-    ensures { result ≡ (if test then 2 ^ bit else 0) }
-{
-    if test { 1 << bit } else { 0 }
 }
 
 // The positions that are impulsed at CA, and those at CB: one row has both.

@@ -2,6 +2,7 @@
 #![tactic(auto)]
 
 mod comparing;
+mod lanes;
 pub mod laws;
 mod punches;
 mod stations;

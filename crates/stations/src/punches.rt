@@ -1,36 +1,15 @@
-//! Cards as the words of their twelve rows, and as the sets of rows of their eighty columns.
+//! Cards as the sets of rows of their eighty columns, and the words of their rows, which are read off these.
 
-ghost use Rattle.std.specs.Prelude.{◌≡◌, ◌≢◌, ℕ, ◌+◌, ◌-◌, ◌<◌, ◌&&◌, nat_le, Some, true};
+ghost use Rattle.std.specs.Prelude.{◌≡◌, ℕ, ◌+◌, ◌-◌, ◌<◌, ◌≤◌, ◌&&◌, nat_le, slice_index, true, List, Option, Some};
 ghost use Rattle.card_code.specs.CardCode.{has_row};
-ghost use Rattle.card_code.specs.Rows.{is_row_set};
 ghost use Rattle.card_code.specs.Rows.{passing_place, row_number};
 ghost use Rattle.card_code.specs.declared.row.Row.{Row as CardRow};
 ghost use Rattle.net.specs.HubSets.{is_bit};
-ghost use Rattle.stations.specs.Punches.{AreColumnsAt, AreRowsAt};
-ghost use Rattle.stations.specs.Words.{place_of, GainsColumn, GainsBit, LosesBit};
+ghost use Rattle.net.specs.Links.{has_at};
+ghost use Rattle.stations.specs.Punches.{AreColumnsAt, AreRowsAt, HasColumns};
 
+use crate::lanes::having_row;
 use card_code::{CARD_COLUMNS, Card, Column};
-
-// The rows of the card at a station; all are 0 where there is none.
-pub(crate) fn rows_at(card: &Option<Card>) -> [u128; 12]
-    ensures { AreRowsAt card.now result }
-{
-    match card {
-        None => [0; 12],
-        Some(card) => rows_of(card),
-    }
-}
-
-// The rows of a card.
-fn rows_of(card: &Card) -> [u128; 12]
-    ensures { AreRowsAt (Some card.now) result }
-{
-    let mut rows = [0; 12];
-    for bit in 0..80 {
-        punch(card.column(bit + 1), bit, &mut rows);
-    }
-    rows
-}
 
 // The columns of the card at a station; all are 0 where there is none.
 pub(crate) fn columns_at(card: &Option<Card>) -> [u16; CARD_COLUMNS]
@@ -42,16 +21,41 @@ pub(crate) fn columns_at(card: &Option<Card>) -> [u16; CARD_COLUMNS]
     }
 }
 
-// The columns of a card.
+// The columns of a card, eight at a time. Most cards have blank columns, and eight blank ones stay as they are.
 fn columns_of(card: &Card) -> [u16; CARD_COLUMNS]
     ensures { AreColumnsAt (Some card.now) result }
 {
     let punched = card.columns();
     let mut columns = [0; CARD_COLUMNS];
-    for k in 0..CARD_COLUMNS {
-        columns[k] = set_of(punched[k].rows());
+    for block in 0..10 {
+        if !are_blank(punched, 8 * block) {
+            put_eight(punched, 8 * block, &mut columns);
+        }
     }
     columns
+}
+
+// Whether eight columns from one on have no punch.
+fn are_blank(punched: &[Column; CARD_COLUMNS], from: usize) -> bool
+    requires { from + 8 ≤ 80 }
+    ensures { result ≡ true → (k : ℕ) → from ≤ k → k < from + 8 → slice_index punched.now k ≡ 0 }
+{
+    let mut rows = 0;
+    for k in from..from + 8 {
+        rows |= punched[k].rows();
+    }
+    rows == 0
+}
+
+// Puts the sets of eight columns after those before them.
+fn put_eight(punched: &[Column; CARD_COLUMNS], from: usize, columns: &mut [u16; CARD_COLUMNS])
+    requires within { from + 8 ≤ 80 }
+    requires before { HasColumns from punched.now columns.old }
+    ensures { HasColumns (from + 8) punched.now columns.new }
+{
+    for k in from..from + 8 {
+        columns[k] = set_of(punched[k].rows());
+    }
 }
 
 // A set of rows by their places among the points: 9 to 0 are the first ten, 11 and 12 the next two. No row is looked at by itself, so that
@@ -59,30 +63,17 @@ fn columns_of(card: &Card) -> [u16; CARD_COLUMNS]
 fn set_of(rows: u16) -> u16
     ensures { (row : CardRow) → is_bit result (passing_place row) ≡ has_row rows (row_number row) }
 {
-    low_digits(rows) | high_digits(rows) | moved_down(rows, 1, 0xc00)
+    turned(rows) | moved_down(rows, 1, 0xc00)
 }
 
-// The rows 0 to 4, at the places 9 to 5.
-fn low_digits(rows: u16) -> u16
-    ensures { (row : CardRow) → is_bit result (passing_place row) ≡ (nat_le (row_number row) 4 && has_row rows (row_number row)) }
+// The rows 0 to 9, at the places 9 to 0: the two halves of five change places, and then in each of them the outer and the inner bits.
+fn turned(rows: u16) -> u16
+    ensures { (row : CardRow) → is_bit result (passing_place row) ≡ (nat_le (row_number row) 9 && has_row rows (row_number row)) }
 {
-    moved_up(rows, 9, 0x200)
-        | moved_up(rows, 7, 0x100)
-        | moved_up(rows, 5, 0x80)
-        | moved_up(rows, 3, 0x40)
-        | moved_up(rows, 1, 0x20)
-}
-
-// The rows 5 to 9, at the places 4 to 0.
-fn high_digits(rows: u16) -> u16
-    ensures { (row : CardRow) → is_bit result (passing_place row)
-        ≡ (nat_le 5 (row_number row) && (nat_le (row_number row) 9 && has_row rows (row_number row))) }
-{
-    moved_down(rows, 1, 0x10)
-        | moved_down(rows, 3, 0x8)
-        | moved_down(rows, 5, 0x4)
-        | moved_down(rows, 7, 0x2)
-        | moved_down(rows, 9, 0x1)
+    let halves = moved_up(rows, 5, 0x3e0) | moved_down(rows, 5, 0x1f);
+    let outer = moved_up(halves, 4, 0x210) | moved_down(halves, 4, 0x21);
+    let inner = moved_up(halves, 2, 0x108) | moved_down(halves, 2, 0x42);
+    outer | inner | halves & 0x84
 }
 
 // The bits moved up, as far as the mask has them.
@@ -101,50 +92,23 @@ fn moved_down(bits: u16, by: u32, mask: u16) -> u16
     bits >> by & mask
 }
 
-// Sets a bit in the word of each row that the column has, one punch after the other.
-fn punch(column: Column, bit: u8, rows: &mut [u128; 12])
-    requires { bit < 80 }
-    ensures { GainsColumn column bit rows.old rows.new }
+// The words of the rows of a card, by its columns.
+pub(crate) fn rows_of(columns: &[u16; CARD_COLUMNS]) -> [u128; 12]
+    ensures { (card : Option (List ℕ)) → AreColumnsAt card columns.now → AreRowsAt card result }
 {
-    let mut left = column.rows();
-    while left != 0 {
-        let row = left.trailing_zeros();
-        let place = place_of(row);
-        rows[place] = with_bit(rows[place], bit);
-        left = without(left, row);
+    let mut rows = [0; 12];
+    for place in 0..12 {
+        rows[place] = row_of(columns, place);
     }
+    rows
 }
 
-// The place of a row, by its number.
-fn place_of(row: u32) -> usize
-    requires range { row < 13 }
-    requires not_ten { row ≢ 10 }
-    ensures place { result ≡ place_of row }
-    ensures range { result < 12 }
+// The word of one row, by its place: bit k stands for the column at place k.
+pub(crate) fn row_of(columns: &[u16; CARD_COLUMNS], place: usize) -> u128
+    requires { place < 12 }
+    ensures { (k : ℕ) → is_bit result k ≡ has_at columns.now k place }
 {
-    if row < 10 {
-        9 - row as usize
-    } else {
-        row as usize - 1
-    }
-}
-
-// A set of rows without one of them.
-fn without(set: u16, row: u32) -> u16
-    requires lawful { is_row_set set ≡ true }
-    requires there { has_row set row ≡ true }
-    requires range { row < 16 }
-    ensures others { LosesBit row set result }
-    ensures lawful { is_row_set result ≡ true }
-    ensures fewer { result < set }
-{
-    set & !(1 << row)
-}
-
-// A word with a bit set.
-fn with_bit(word: u128, bit: u8) -> u128
-    requires { bit < 80 }
-    ensures { GainsBit bit word result }
-{
-    word | 1 << bit
+    let first = u128::from(having_row(columns, 0, place));
+    let last = u128::from(having_row(columns, 16, place));
+    first | last << 16
 }

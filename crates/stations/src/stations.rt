@@ -2,7 +2,7 @@
 
 ghost use Rattle.std.specs.Prelude.{◌≡◌, List, ℕ};
 
-use crate::punches::{columns_at, rows_at};
+use crate::punches::{columns_at, row_of, rows_of};
 use card_code::{CARD_COLUMNS, Card, Row};
 use hubs::Hub;
 use net::{Cycle, Picture, Point, RowSets, Unit};
@@ -11,25 +11,23 @@ use std::marker::Model;
 /// The reading stations, unit 1.
 ///
 /// A card stands at first reading, and the card before it at second reading. Contracts see the two cards. Beside them
-/// each card is kept as the words of its twelve rows, so that a row is emitted as a whole, and as the sets of rows of its columns, so
-/// that all rows are.
+/// each card is kept as the sets of rows of its columns, so that all rows are emitted at once; the word of a row is read off these.
 #[derive(Debug, Drop)]
 pub struct Stations {
     first: Option<Card>,
     second: Option<Card>,
-    rows: [[u128; 12]; 2],
     columns: [[u16; CARD_COLUMNS]; 2],
 }
 
 impl Model for Stations {
-    ghost use Rattle.stations.specs.Stations.{StationCards, AreStationCards};
+    ghost use Rattle.stations.specs.Stations.{StationCards, AreStationColumns};
 
     ghost Value = { StationCards };
 
     ghost view = { λ stations. record { first = stations.first; second = stations.second } };
 
-    ghost invariant = { λ stations. AreStationCards
-        (record { first = stations.first; second = stations.second }) stations.rows stations.columns };
+    ghost invariant = { λ stations. AreStationColumns
+        (record { first = stations.first; second = stations.second }) stations.columns };
 }
 
 impl Stations {
@@ -43,7 +41,6 @@ impl Stations {
         Stations {
             first: None,
             second: None,
-            rows: [[0; 12]; 2],
             columns: [[0; CARD_COLUMNS]; 2],
         }
     }
@@ -52,8 +49,6 @@ impl Stations {
     pub fn load(&mut self, next: Option<Card>)
         ensures { self.new ≡ loaded next self.old }
     {
-        self.rows[1] = self.rows[0];
-        self.rows[0] = rows_at(&next);
         self.columns[1] = self.columns[0];
         self.columns[0] = columns_at(&next);
         self.second = self.first;
@@ -69,10 +64,10 @@ impl Stations {
 
     /// The rows of the cards at first and at second reading, 9 to 0, then 11 and 12. In the word of a row the bit c - 1
     /// stands for column c; without a card all words are 0.
-    pub fn rows(&self) -> &[[u128; 12]; 2]
-        ensures { AreStationRows self.now result.now }
+    pub fn rows(&self) -> [[u128; 12]; 2]
+        ensures { AreStationRows self.now result }
     {
-        &self.rows
+        [rows_of(&self.columns[0]), rows_of(&self.columns[1])]
     }
 }
 
@@ -151,13 +146,13 @@ impl Stations {
     fn emit_first(&self, row: Row, exits: &mut Picture)
         ensures { GainsHubs (first_emits self.now.first row) exits.old exits.new }
     {
-        exits.insert_row(Hub::FR(1), self.rows[0][row.place()]);
+        exits.insert_row(Hub::FR(1), row_of(&self.columns[0], row.place()));
     }
 
     // Adds the exits of second reading at the point of a row.
     fn emit_second(&self, row: Row, exits: &mut Picture)
         ensures { GainsHubs (second_emits self.now.second row) exits.old exits.new }
     {
-        exits.insert_row(Hub::SR(1), self.rows[1][row.place()]);
+        exits.insert_row(Hub::SR(1), row_of(&self.columns[1], row.place()));
     }
 }

@@ -13,7 +13,7 @@ loop-place-preserved c =
     elim c.if-has_bit.branch [
       | then-has_bit w ↦ rw w.collected-is
           (gathered-more c.loop-place.place c.args.entries.now c.args.collected.now c.loop-place.collected _ c.loop-place-test.true
-          (λ i. (bit_or pair.0 (w.positions_at.ensures i), bit_or pair.1 (w.positions_at-then-has_bit.ensures i))) c.loop-place.invariant)
+          (λ i. (bit_or pair.0 (w.positions_at-first.ensures.first i), bit_or pair.1 (w.positions_at-first.ensures.second i))) c.loop-place.invariant)
       | else-has_bit w ↦ rw w.collected-is
           (gathered-past c.loop-place.place c.args.entries.now c.args.collected.now c.loop-place.collected
           (λ k inside. c.rows_of_all-rows.ensures k c.loop-place.place inside (sym c.has_bit.ensures ∙ w.if-has_bit.false))

@@ -1,21 +1,21 @@
-use Rattle.std.proofs.Common.{◌≡◌, ◌∙◌, ◌+◌, ◌-◌, ℕ, Bool, suc, ap, arith}
+use Rattle.std.proofs.Common.{◌∙◌, ◌+◌, ◌-◌, ap, arith, ℕ}
+use Rattle.net.specs.HubSets.{is_bit}
 use Rattle.net.specs.Links.{has_at}
-use Rattle.stations.specs.Comparing.{positions}
-use Rattle.stations.proofs.CollectedSets.{positions-more, positions-none}
+use Rattle.stations.proofs.CollectedSets.{entries-having}
+use Rattle.stations.proofs.PositionWords.{positions_read}
 use Rattle.stations.proofs.comparing.positions_at.Goals as goal
 
-pub loop-k-init : goal.loop-k-init
-loop-k-init c = positions-none (λ p. has_at c.args.entries.now (c.args.from + (p - 1)) c.args.place)
+pub returns-clause-first : goal.returns-clause-first
+returns-clause-first c =
+    positions_read c.from-word.result c.low_thirty.result (λ p. has_at c.args.entries.now (0 + (p - 1)) c.args.place) c.low_thirty.ensures
+    (λ k below. ap (λ (n : ℕ). is_bit c.from-word.result n) (omega arith)
+    ∙ entries-having c.args.entries.now c.from-word.result 0 c.args.place (omega arith)
+    (λ j. ap (λ (w : ℕ). is_bit w j) c.from-word.ensures ∙ c.having_row.ensures j) k below)
 
-pub loop-k-preserved : goal.loop-k-preserved
-loop-k-preserved c =
-    let test : ℕ → Bool = λ p. has_at c.args.entries.now (c.args.from + (p - 1)) c.args.place in
-    let index : c.loop-k.k ≡ suc c.loop-k.k - 1 = omega arith in
-    rw c.bit_where-word.ensures
-    (positions-more c.loop-k.k test c.has_bit.result c.loop-k.word c.loop-k.invariant
-    (c.has_bit.ensures ∙ ap (λ (j : ℕ). has_at c.args.entries.now (c.args.from + j) c.args.place) index))
-
-pub returns : goal.returns
-returns c =
-    let end : c.loop-k.k ≡ 30 = omega arith in
-    c.loop-k.invariant ∙ ap (λ (k : ℕ). positions k (λ p. has_at c.args.entries.now (c.args.from + (p - 1)) c.args.place)) end
+pub returns-clause-second : goal.returns-clause-second
+returns-clause-second c =
+    positions_read c.after_thirty.result c.low_thirty-2.result (λ p. has_at c.args.entries.now (30 + (p - 1)) c.args.place)
+    c.low_thirty-2.ensures
+    (λ k below. c.after_thirty.ensures k
+    ∙ entries-having c.args.entries.now c.from-word.result 30 c.args.place (omega arith)
+    (λ j. ap (λ (w : ℕ). is_bit w j) c.from-word.ensures ∙ c.having_row.ensures j) k below)

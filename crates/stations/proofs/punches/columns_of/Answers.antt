@@ -1,14 +1,26 @@
-use Rattle.stations.proofs.ColumnSets.{columns-done, columns-first, columns-next, column-read}
+use Rattle.std.proofs.Common.{◌≡◌, ◌+◌, ◌*◌, ℕ, List, arith, subst}
+use Rattle.stations.specs.Punches.{AreColumnsAt, HasColumns}
+use Rattle.std.proofs.Common.{Some}
+use Rattle.stations.proofs.ColumnSets.{columns-blank, columns-done, columns-first}
 use Rattle.stations.proofs.punches.columns_of.Goals as goal
+use Rattle.stations.proofs.punches.columns_of.Goals.{then-not-are_blank, else-not-are_blank}
 
-pub loop-k-init : goal.loop-k-init
-loop-k-init c = columns-first c.args.card.now
+pub loop-block-init : goal.loop-block-init
+loop-block-init c = columns-first c.columns-punched.result.now
 
-pub loop-k-preserved : goal.loop-k-preserved
-loop-k-preserved c =
-    columns-next c.loop-k.k c.set_of.result c.rows.result c.args.card.now c.loop-k.columns c.loop-k-test.true
-    (column-read c.columns-punched.result.now c.args.card.now c.loop-k.k c.index-punched-k.result c.rows.result
-    c.columns-punched.ensures.columns c.type_inv.punched c.loop-k-test.true c.rows.ensures.value) c.set_of.ensures c.loop-k.invariant
+pub loop-block-preserved : goal.loop-block-preserved
+loop-block-preserved c =
+    let next : 8 * c.loop-block.block + 8 ≡ 8 * (c.loop-block.block + 1) = omega arith in
+    let punched = c.columns-punched.result.now in
+    elim c.if-not-are_blank.branch [
+      | then-not-are_blank w ↦ rw w.columns-is
+          (subst (λ (count : ℕ). HasColumns count punched w.put_eight.new.columns) next w.put_eight.ensures)
+      | else-not-are_blank w ↦ rw w.columns-is
+          (subst (λ (count : ℕ). HasColumns count punched c.loop-block.columns) next
+          (columns-blank (8 * c.loop-block.block) punched c.loop-block.columns (c.are_blank.ensures w.if-not-are_blank.false) c.loop-block.invariant))
+    ]
 
 pub returns : goal.returns
-returns c = columns-done c.loop-k.k c.args.card.now c.loop-k.columns c.loop-k-test.false c.loop-k.invariant
+returns c =
+    subst (λ (card : List ℕ). AreColumnsAt (Some card) c.loop-block.columns) c.columns-punched.ensures.columns
+    (columns-done (8 * c.loop-block.block) c.columns-punched.result.now c.loop-block.columns (omega arith) c.loop-block.invariant)

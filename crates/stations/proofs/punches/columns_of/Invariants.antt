@@ -1,6 +1,7 @@
-use Rattle.stations.proofs.ColumnSets.{AreColumnsTo}
+use Rattle.std.proofs.Common.{◌*◌}
+use Rattle.stations.specs.Punches.{HasColumns}
 use Rattle.stations.proofs.punches.columns_of.Given as goal
 
 -- the columns so far are done
-abbrev pub invariant-loop-k : goal.invariant-loop-k
-invariant-loop-k l = AreColumnsTo l.k l.card l.columns
+abbrev pub invariant-loop-block : goal.invariant-loop-block
+invariant-loop-block l = HasColumns (8 * l.block) l.punched l.columns

@@ -1,18 +1,14 @@
-use Rattle.std.proofs.Common.{arith, refl}
-use Rattle.stations.proofs.RowWords.{columns-none, columns-more, columns-all}
+use Rattle.stations.proofs.ColumnSets.{rows-all, rows-more, rows-none}
 use Rattle.stations.proofs.punches.rows_of.Goals as goal
 
-pub loop-bit-init : goal.loop-bit-init
-loop-bit-init c = record { long = refl; done = columns-none c.args.card.now }
+pub loop-place-init : goal.loop-place-init
+loop-place-init c = rows-none c.args.columns.now
 
-pub loop-bit-preserved : goal.loop-bit-preserved
-loop-bit-preserved c = record {
-  long = c.punch.array_long;
-  done =
-      columns-more c.loop-bit.bit c.column.result c.args.card.now c.loop-bit.rows c.punch.new.rows c.loop-bit-test.true
-      c.column.ensures.value c.loop-bit.invariant.done c.punch.ensures;
-}
+pub loop-place-preserved : goal.loop-place-preserved
+loop-place-preserved c =
+    rows-more c.loop-place.place c.row_of.result c.args.columns.now c.loop-place.rows c.loop-place-test.true c.row_of.ensures
+    c.loop-place.invariant
 
 pub returns : goal.returns
-returns c =
-    columns-all c.args.card.now c.loop-bit.rows c.loop-bit.bit (omega arith) c.loop-bit.invariant.long c.loop-bit.invariant.done
+returns c card are =
+    rows-all c.loop-place.place card c.args.columns.now c.loop-place.rows c.loop-place-test.false are c.loop-place.invariant

@@ -2,4 +2,4 @@ use Rattle.stations.proofs.MovedRows.{digits-and-zones}
 use Rattle.stations.proofs.punches.set_of.Goals as goal
 
 pub returns : goal.returns
-returns c = digits-and-zones c.args.rows _ _ _ c.low_digits.ensures c.high_digits.ensures c.moved_down.ensures
+returns c = digits-and-zones c.args.rows _ _ c.turned.ensures c.moved_down.ensures

@@ -1,0 +1,6 @@
+use Rattle.stations.specs.Punches.{HasColumns}
+use Rattle.stations.proofs.punches.put_eight.Given as goal
+
+-- the columns so far are done
+abbrev pub invariant-loop-k : goal.invariant-loop-k
+invariant-loop-k l = HasColumns l.k l.punched l.columns
