@@ -5,7 +5,7 @@ use Rattle.std.proofs.lemmas.Nat.Bits.{bit_at_lowest, bit_at-suc, bit_at-lt, bit
 use Rattle.std.specs.Int.{bit_at}
 use Rattle.std.specs.Int.RustNames.{bit_xor}
 use Rattle.net.specs.HubSets.{is_bit}
-use Rattle.print_unit.specs.WheelWords.{IsGiven, given_by, rows_at}
+use Rattle.print_unit.specs.WheelWords.{IsGiven, given_by}
 use Rattle.print_unit.specs.ZeroControl.{is_figure}
 use Rattle.print_unit.proofs.Bits.{is_bit-or}
 
@@ -112,13 +112,13 @@ given-by_sum link figures =
           rw (more, carry_at-by_sum passes starts (suc k), carry_at-by_sum passes starts k, carry_at-next passes starts 0 k) carries;
     }
 
--- what the wheels are given is what the words of LINK and of the rows say
-pub given_by-word : (rows : List ℕ) (link figures given : ℕ) → IsGiven link figures given
-    → ((k : ℕ) → k < 128 → is_bit figures k ≡ is_figure (rows_at rows k))
-    → (k : ℕ) → k < 120 → is_bit given k ≡ given_by (rows_at rows) link k
-given_by-word rows link figures given is_given are_figures zero below = is_given.first
-given_by-word rows link figures given is_given are_figures (suc k) below =
+-- what the wheels are given is what the word of LINK and what they received say
+pub given_by-word : (received : ℕ → List Bool) (link figures given : ℕ) → IsGiven link figures given
+    → ((k : ℕ) → k < 120 → is_bit figures k ≡ is_figure (received k))
+    → (k : ℕ) → k < 120 → is_bit given k ≡ given_by received link k
+given_by-word received link figures given is_given are_figures zero below = is_given.first
+given_by-word received link figures given is_given are_figures (suc k) below =
     let more : k + 1 ≡ suc k = omega arith in
-    let before = given_by-word rows link figures given is_given are_figures k (omega (arith, below)) in
+    let before = given_by-word received link figures given is_given are_figures k (omega (arith, below)) in
     let next = is_given.next k (omega (arith, below)) in
     ap (λ n. is_bit given n) (sym more) ∙ next ∙ rw (before, are_figures k (omega (arith, below))) refl

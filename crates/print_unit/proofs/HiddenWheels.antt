@@ -1,25 +1,10 @@
--- Which wheels are hidden hangs on what they received alone, and on their jacks.
-use Rattle.std.proofs.Common.{◌≡◌, ◌∙◌, refl, sym, ap, ℕ, zero, suc, ◌<◌, ◌&&◌, ◌||◌, not, Bool, true, false, List, bit_or, arith}
+-- Wheels that no jack hides.
+use Rattle.std.proofs.Common.{◌≡◌, ◌∙◌, refl, sym, ap, ℕ, ◌&&◌, ◌||◌, not, Bool, true, false, List, bit_or, arith}
 use Rattle.std.proofs.lemmas.Bool.Decides.{nat_tests}
 use Rattle.net.specs.HubSets.{is_bit}
 use Rattle.print_unit.specs.WheelWords.{given_by, hides}
-use Rattle.print_unit.specs.ZeroControl.{is_figure, is_zero}
+use Rattle.print_unit.specs.ZeroControl.{is_zero}
 use Rattle.print_unit.proofs.Bits.{is_bit-or, is_bit-zero}
-
-given-alike : (one other : ℕ → List Bool) (link k : ℕ) → ((j : ℕ) → j < k → one j ≡ other j)
-    → given_by one link k ≡ given_by other link k
-given-alike one other link zero alike = refl
-given-alike one other link (suc k) alike =
-    let before = given-alike one other link k (λ j low. alike j (omega (arith, low))) in
-    let here = alike k (omega arith) in
-    λ i. is_bit link k && before i || is_figure (here i)
-
-pub hides-alike : (one other : ℕ → List Bool) (link suppress symbol k : ℕ) → ((j : ℕ) → j < suc k → one j ≡ other j)
-    → hides one link suppress symbol k ≡ hides other link suppress symbol k
-hides-alike one other link suppress symbol k alike =
-    let before = given-alike one other link k (λ j low. alike j (omega (arith, low))) in
-    let here = alike k (omega arith) in
-    λ i. not (is_bit link k && before i) && (is_bit symbol k || is_bit suppress k && is_zero (here i))
 
 -- where no wheel has a jack for it none is hidden
 pub hides-none : (received : ℕ → List Bool) (control : Bool) (link suppress symbol k : ℕ) → bit_or suppress symbol ≡ 0

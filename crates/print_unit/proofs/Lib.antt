@@ -2,7 +2,8 @@ pub mod Below
 pub mod Bits
 pub mod Carry
 pub mod Columns
-pub mod Counts
+pub mod Figures
+pub mod Lanes
 pub mod LeftNeighbours
 pub mod Plugs
 pub mod Ranges

@@ -1,17 +1,14 @@
 -- Sets of rows as numbers: how they are gathered from the words of the wheels, and the characters that they print.
-use Rattle.std.proofs.Common.{◌≡◌, ◌≢◌, ◌∙◌, refl, sym, ap, ℕ, ◌+◌, ◌*◌, ◌%◌, ◌^◌, ◌-◌, ◌<◌, ◌≤◌, ◌==◌, ◌&&◌, ◌||◌, not, ◌⊎◌, inl, inr, nat_lt, Bool, true, false, List, length, replicate, slice_index_or, slice_set, bit_and, bit_or, arith, if◌then◌else◌}
+use Rattle.std.proofs.Common.{◌≡◌, ◌≢◌, ◌∙◌, refl, sym, ap, ℕ, ◌+◌, ◌*◌, ◌%◌, ◌^◌, ◌-◌, ◌<◌, ◌≤◌, ◌==◌, ◌&&◌, ◌||◌, not, ◌⊎◌, inl, inr, nat_lt, Bool, true, false, List, length, slice_index_or, slice_set, bit_and, bit_or, arith, if◌then◌else◌}
 use Rattle.std.proofs.lemmas.Bool.Decides.{eqb_tells, nat_tests}
-use Rattle.std.proofs.lemmas.List.{get_or-set_same, get_or-set_other, get_or-map, get_or-replicate, length-set, length-map}
-use Rattle.std.proofs.lemmas.Bool.{cases_lt, false≢true}
-use Rattle.std.proofs.lemmas.Nat.{and_le_l, and_le_r}
+use Rattle.std.proofs.lemmas.List.{get_or-set_same, get_or-set_other, length-set}
+use Rattle.std.proofs.lemmas.Nat.{and_le_l}
 use Rattle.std.proofs.lemmas.Nat.Bits.{bit_at-trailing_zeros}
-use Rattle.std.specs.Int.{bit_not, w64, w128, trailing_zeros}
-use Rattle.net.proofs.Below.bit_sets.BitLemmas.{is_bit-taken, lowest_bit}
+use Rattle.std.specs.Int.{bit_not, w128, trailing_zeros}
 use Rattle.net.specs.HubSets.{is_bit}
-use Rattle.print_unit.specs.RowSets.{rows_in, HasRowsOf, HidesLeft, PutsLeft, PutsRows, Receives, TakesRow, TakesLeft}
-use Rattle.print_unit.specs.WheelWords.{received_at, rows_at}
-use Rattle.print_unit.proofs.Bits.{is_bit-zero, is_bit-and, is_bit-or, is_bit-joined, is_bit-above, is_bit-cleared, is_bit-ones}
-use Rattle.print_unit.proofs.Ranges.{list-made, map-same}
+use Rattle.print_unit.specs.RowSets.{rows_in, HidesLeft, Receives, TakesRow, TakesLeft}
+use Rattle.print_unit.proofs.Bits.{is_bit-zero, is_bit-and, is_bit-or, is_bit-joined, is_bit-cleared, is_bit-ones}
+use Rattle.print_unit.proofs.Ranges.{map-same}
 
 -- the place of the lowest bit of a word that has one
 lowest : (left : ℕ) → left ≢ 0 → left < 2 ^ 128 → (trailing_zeros w128 left < 128) × (is_bit left (trailing_zeros w128 left) ≡ true)
@@ -75,108 +72,6 @@ takes-lowest word left place old now some small narrow takes =
     let at = lowest left some small in
     let k = trailing_zeros w128 left in
     takes-bit word left (bit_and left (bit_not w128 (1 * 2 ^ k % 2 ^ 128))) place k old now at.0 narrow at.1 (λ j wide. is_bit-cleared left k j at.0 wide) takes
-
--- the lowest twelve bits of a set
-low_twelve : (set p : ℕ) → p < 12 → is_bit (bit_and set (2 ^ 12 - 1)) p ≡ is_bit set p
-low_twelve set p low = is_bit-and set (2 ^ 12 - 1) p ∙ rw (is_bit-ones 12 p low) (grind (arith, nat_tests))
-
--- all rows of a set are left
-pub puts-none : (set k : ℕ) (rows : List ℕ) → length rows ≡ 12 → PutsLeft set (bit_and set (2 ^ 12 - 1)) k rows rows
-puts-none set k rows long = record {
-  small = let less = and_le_r set (2 ^ 12 - 1) in omega (arith, less);
-  within = λ p low. rw (low_twelve set p low) (both (is_bit set p));
-  put = λ p low j. rw (low_twelve set p low) (none (is_bit (slice_index_or rows p 0) j) (is_bit set p) (j == k));
-  twelve = long;
-}
-  where
-    both : (b : Bool) → (b && b) ≡ b
-    both true = refl
-    both false = refl
-
-    none : (a b c : Bool) → a ≡ (a || (b && not b) && c)
-    none a b c = grind (arith, nat_tests)
-
--- the row of the lowest bit that is left is put
-pub puts-lowest : (set left k : ℕ) (old now : List ℕ) → left ≢ 0 → k < 128 → PutsLeft set left k old now
-    → (trailing_zeros w64 left < 12)
-    × PutsLeft set (bit_and left (bit_not w64 (1 * 2 ^ trailing_zeros w64 left % 2 ^ 64))) k old
-    (slice_set now (trailing_zeros w64 left) (bit_or (slice_index_or now (trailing_zeros w64 left) 0) (1 * 2 ^ k % 2 ^ 128)))
-puts-lowest set left k old now some narrow puts =
-    let wide : left < 2 ^ 64 = let low = puts.small in omega (arith, low) in
-    let at = lowest_bit left (omega (arith, some)) wide in
-    let near = within_twelve (trailing_zeros w64 left) at.1 in
-    (near, by (trailing_zeros w64 left) near at.1)
-  where
-    within_twelve : (p : ℕ) → is_bit left p ≡ true → p < 12
-    within_twelve p on = elim (cases_lt p 12) [
-      | inl low ↦ low
-      | inr high ↦ absurd (false≢true (sym (is_bit-above left 12 p puts.small high) ∙ on))
-    ]
-
-    by : (at : ℕ) → at < 12 → is_bit left at ≡ true
-        → PutsLeft set (bit_and left (bit_not w64 (1 * 2 ^ at % 2 ^ 64))) k old
-        (slice_set now at (bit_or (slice_index_or now at 0) (1 * 2 ^ k % 2 ^ 128)))
-    by at near on = record {
-      small =
-          let less = and_le_l left (bit_not w64 (1 * 2 ^ at % 2 ^ 64)) in let low = puts.small in omega (arith, less, low);
-      within = λ p low.
-          let w = puts.within p low in
-          rw (is_bit-taken left at p (omega (arith, near)) (omega (arith, low))) (grind (arith, nat_tests, w));
-      put = λ p low j. put p low j (eqb_tells p at);
-      twelve = length-set now at (bit_or (slice_index_or now at 0) (1 * 2 ^ k % 2 ^ 128)) ∙ puts.twelve;
-    }
-      where
-        put : (p : ℕ) → p < 12 → (j : ℕ) → ((p == at) ≡ true) × (p ≡ at) ⊎ ((p == at) ≡ false) × (p ≢ at)
-            → is_bit (slice_index_or (slice_set now at (bit_or (slice_index_or now at 0) (1 * 2 ^ k % 2 ^ 128))) p 0) j
-            ≡ (is_bit (slice_index_or old p 0) j
-            || (is_bit set p && not (is_bit (bit_and left (bit_not w64 (1 * 2 ^ at % 2 ^ 64))) p)) && (j == k))
-        put p low j (inl same) =
-            let before = puts.put at near j in
-            let w = puts.within at near in
-            let long = puts.twelve in
-            let gone = is_bit-taken left at at (omega (arith, near)) (omega (arith, near)) in
-            rw (same.1, get_or-set_same now at (bit_or (slice_index_or now at 0) (1 * 2 ^ k % 2 ^ 128)) 0 (omega (arith, long, near)), is_bit-joined 128 (slice_index_or now at 0) k j narrow, before)
-            (grind (arith, nat_tests, w, on, gone))
-        put p low j (inr other) =
-            let before = puts.put p low j in
-            let kept = is_bit-taken left at p (omega (arith, near)) (omega (arith, low)) in
-            let apart = other.0 in
-            rw (get_or-set_other now at p (bit_or (slice_index_or now at 0) (1 * 2 ^ k % 2 ^ 128)) 0 other.1, before, kept, apart)
-            (grind (arith, nat_tests))
-
--- where none is left all rows of the set are put
-pub puts-all : (set left k : ℕ) (old new : List ℕ) → left ≡ 0 → PutsLeft set left k old new → PutsRows set k old new
-puts-all set left k old new none puts p low j = puts.put p low j ∙ rw (none, is_bit-zero p) (grind (arith, nat_tests))
-
--- no wheel's rows yet
-pub rows_of-none : (sets : List ℕ) → HasRowsOf 0 sets (replicate 12 0)
-rows_of-none sets p low j = rw (get_or-replicate {A = ℕ} 12 p 0 0 low, is_bit-zero j) (grind (arith, nat_tests))
-
--- the rows of a wheel more
-pub rows_of-more : (count : ℕ) (sets old new : List ℕ) → PutsRows (slice_index_or sets count 0) count old new
-    → HasRowsOf count sets old → HasRowsOf (count + 1) sets new
-rows_of-more count sets old new puts before p low j = puts p low j ∙ rw (before p low j) (by (eqb_tells j count))
-  where
-    by : ((j == count) ≡ true) × (j ≡ count) ⊎ ((j == count) ≡ false) × (j ≢ count)
-        → ((nat_lt j count && is_bit (slice_index_or sets j 0) p)
-        || is_bit (slice_index_or sets count 0) p && (j == count))
-        ≡ (nat_lt j (count + 1) && is_bit (slice_index_or sets j 0) p)
-    by (inl same) = rw (same.0, same.1) (grind (arith, nat_tests, low))
-    by (inr other) = let apart = other.1 in rw (other.0) (grind (arith, nat_tests, apart))
-
--- the words of the rows tell what each wheel received
-pub rows_of-all : (count : ℕ) (sets rows : List ℕ) → 120 ≤ count → length rows ≡ 12 → HasRowsOf count sets rows
-    → (k : ℕ) → k < 120 → rows_at rows k ≡ received_at sets k
-rows_of-all count sets rows end long has k below =
-    sym (list-made (λ place. is_bit (slice_index_or sets k 0) place) (rows_at rows k) false 12 (length-map rows (λ word. is_bit word k) ∙ long) at)
-  where
-    at : (p : ℕ) → p < 12 → slice_index_or (rows_at rows k) p false ≡ is_bit (slice_index_or sets k 0) p
-    at p low =
-        get_or-map (λ word. is_bit word k) rows p 0 false (omega (arith, long, low))
-        ∙ has p low k ∙ inside (is_bit (slice_index_or sets k 0) p)
-      where
-        inside : (b : Bool) → (nat_lt k count && b) ≡ b
-        inside b = grind (arith, nat_tests, below, end)
 
 -- nothing is received yet
 pub receives-none : (received sets : List ℕ) → Receives 0 received sets sets

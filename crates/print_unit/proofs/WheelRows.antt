@@ -55,7 +55,7 @@ pub is_in_reach-W : (k : ℕ) → k < 120 → is_in_reach (W 1) (W (k + 1)) ≡ 
 is_in_reach-W k below = grind (arith, nat_tests)
 
 -- a wheel's rows, one by one
-received-long : (sets : List ℕ) (k : ℕ) → length (received_at sets k) ≡ 12
+pub received-long : (sets : List ℕ) (k : ℕ) → length (received_at sets k) ≡ 12
 received-long sets k = length-map-range_with_len (λ place. is_bit (slice_index_or sets k 0) place) 0 12
 
 received-at : (sets : List ℕ) (k place : ℕ) → place < 12

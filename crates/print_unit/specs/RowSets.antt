@@ -1,6 +1,6 @@
 -- Sets of rows as numbers: bit p stands for the row that comes p rows after row 9, in the order of the points. What is said
 -- here is for proofs: what wheels print stands in ZeroControl.
-use Rattle.std.specs.Prelude.{◌≡◌, ℕ, ◌^◌, ◌<◌, ◌==◌, ◌&&◌, ◌||◌, not, nat_lt, length, slice_index_or, Bool, List, map, if◌then◌else◌}
+use Rattle.std.specs.Prelude.{◌≡◌, ℕ, ◌<◌, ◌==◌, ◌&&◌, ◌||◌, not, nat_lt, length, slice_index_or, Bool, List, map, if◌then◌else◌}
 use Rattle.std.specs.List.{range_with_len}
 use Rattle.net.specs.HubSets.{is_bit}
 use Rattle.print_unit.specs.ZeroControl.{character_of}
@@ -19,27 +19,6 @@ abbrev pub TakesRow : ℕ → ℕ → List ℕ → List ℕ → Type 0
 TakesRow word place old new =
     (k : ℕ) → k < 128 → (p : ℕ)
     → is_bit (slice_index_or new k 0) p ≡ (is_bit (slice_index_or old k 0) p || (p == place) && is_bit word k)
-
--- the words of the rows have what old words have, and those of a set at the bit of its wheel
-abbrev pub PutsRows : ℕ → ℕ → List ℕ → List ℕ → Type 0
-PutsRows set k old new =
-    (p : ℕ) → p < 12 → (j : ℕ)
-    → is_bit (slice_index_or new p 0) j ≡ (is_bit (slice_index_or old p 0) j || is_bit set p && (j == k))
-
--- The rows of a set that are no longer left are put into the words of the rows, at the bit of its wheel.
-pub record PutsLeft (set left k : ℕ) (old new : List ℕ) : Type 0 where
-  pub small : left < 2 ^ 12
-  pub within : (p : ℕ) → p < 12 → (is_bit left p && is_bit set p) ≡ is_bit left p
-  pub put :
-      (p : ℕ) → p < 12 → (j : ℕ)
-      → is_bit (slice_index_or new p 0) j
-      ≡ (is_bit (slice_index_or old p 0) j || (is_bit set p && not (is_bit left p)) && (j == k))
-  pub twelve : length new ≡ 12
-
--- the words of the rows have those of the sets of so many wheels
-abbrev pub HasRowsOf : ℕ → List ℕ → List ℕ → Type 0
-HasRowsOf count sets rows =
-    (p : ℕ) → p < 12 → (j : ℕ) → is_bit (slice_index_or rows p 0) j ≡ (nat_lt j count && is_bit (slice_index_or sets j 0) p)
 
 -- of so many wheels each has what its old set has, and what it receives
 abbrev pub Receives : ℕ → List ℕ → List ℕ → List ℕ → Type 0

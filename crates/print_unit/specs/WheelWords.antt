@@ -1,5 +1,5 @@
 -- The words of the wheels: bit k of a word stands for wheel k + 1, and each wheel has the set of the rows that it received. There is a
--- word for each kind of jack, and one is made for each row. What is said here is for proofs: the wheels' rules stand in Wheels and ZeroControl.
+-- word for each kind of jack. What is said here is for proofs: the wheels' rules stand in Wheels and ZeroControl.
 use Rattle.std.specs.Prelude.{◌≡◌, ℕ, zero, suc, ◌+◌, ◌<◌, ◌&&◌, ◌||◌, not, Bool, false, List, length, map, slice_index_or, if◌then◌else◌}
 use Rattle.std.specs.List.{range_with_len}
 use Rattle.setups.specs.Wiring.{Wiring, is_plugged}
@@ -12,10 +12,6 @@ use Rattle.print_unit.specs.ZeroControl.{Wheel, is_zero, is_figure, character_of
 use Rattle.print_unit.specs.declared.wheel_words.WheelJack.{WheelJack}
 use Rattle.print_unit.specs.declared.wheel_words.WheelJack.TheVariants.{Link, Suppress, Symbol}
 use Rattle.print_unit.specs.declared.wheels.Wheels.TheInside as inside
-
--- the rows that the wheel of a bit received, by the words of the rows
-abbrev pub rows_at : List ℕ → ℕ → List Bool
-rows_at words k = map (λ word. is_bit word k) words
 
 -- the rows that the wheel of a bit received, by the sets of the wheels
 abbrev pub received_at : List ℕ → ℕ → List Bool

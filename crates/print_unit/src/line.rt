@@ -1,30 +1,21 @@
 //! The line: the characters of the wheels, by the sets of the rows that they received.
 
-ghost use Rattle.std.specs.Prelude.{◌≡◌, ℕ, ◌+◌, ◌<◌, ◌≤◌, true, ◌==◌, ◌&&◌, ◌||◌, not, length, nat_lt, slice_index_or, if◌then◌else◌};
+ghost use Rattle.std.specs.Prelude.{◌≡◌, ℕ, ◌+◌, ◌<◌, ◌≤◌, true, length, slice_index_or, if◌then◌else◌};
 ghost use Rattle.net.specs.HubSets.{is_bit};
-ghost use Rattle.print_unit.specs.RowSets.{rows_in, PutsRows, Receives, TakesRow};
+ghost use Rattle.print_unit.specs.RowSets.{rows_in, Receives, TakesRow};
 ghost use Rattle.print_unit.specs.ZeroControl.{character_of};
-ghost use Rattle.print_unit.specs.WheelWords.{HasPrinted, printed_at, received_at, rows_at};
+ghost use Rattle.print_unit.specs.WheelWords.{HasPrinted};
 
 use crate::characters::Characters;
 use crate::wheel_words::WHEELS;
+use std::simd::prelude::*;
 
 /// A place for each bit of a word of wheels.
 pub const BITS: usize = 128;
 
-/// Prints each wheel's character on the line, and a blank where the wheel is hidden.
-pub fn print(characters: &Characters, sets: &[u16; BITS], hidden: u128, line: &mut [u8; WHEELS])
-    ensures characters { (k : ℕ) → k < 120 → slice_index_or line.new k 0 ≡ printed_at sets.now hidden k }
-    ensures wheels { length line.new ≡ 120 }
-{
-    print_all(characters, sets, line);
-    hide(hidden, line);
-}
-
-// Prints each wheel's character on the line.
-fn print_all(characters: &Characters, sets: &[u16; BITS], line: &mut [u8; WHEELS])
-    ensures characters { (k : ℕ) → k < 120 → slice_index_or line.new k 0 ≡ character_of (received_at sets.now k) }
-    ensures wheels { length line.new ≡ 120 }
+/// Prints each wheel's character on the line, as if no wheel were hidden.
+pub fn print(characters: &Characters, sets: &[u16; BITS], line: &mut [u8; WHEELS])
+    ensures { HasPrinted sets.now 120 line.new }
 {
     let blank = characters.of(0);
     for block in 0..15 {
@@ -37,15 +28,12 @@ fn print_all(characters: &Characters, sets: &[u16; BITS], line: &mut [u8; WHEELS
 }
 
 // Whether none of eight wheels received anything. Most do not: few wheels are wired.
-fn is_empty(sets: &[u16; BITS], from: usize) -> bool
-    requires { from + 8 ≤ 128 }
+fn is_empty(sets: &[u16], from: usize) -> bool
+    requires { from + 8 ≤ length sets.now }
     ensures { result ≡ true → (k : ℕ) → from ≤ k → k < from + 8 → slice_index_or sets.now k 0 ≡ 0 }
 {
-    let mut rows = 0;
-    for k in from..from + 8 {
-        rows |= sets[k];
-    }
-    rows == 0
+    let eight = u16x8::from_slice(&sets[from..]);
+    eight.simd_ne(u16x8::splat(0)).to_bitmask() == 0
 }
 
 // Prints eight wheels after those on the line, none of which received anything.
@@ -72,8 +60,8 @@ fn print_wheels(characters: &Characters, sets: &[u16; BITS], from: usize, line: 
     }
 }
 
-// Makes the wheels of a word blank. Those that are not hidden are not looked at.
-fn hide(hidden: u128, line: &mut [u8; WHEELS])
+/// Makes the wheels of a word blank. Those that are not hidden are not looked at.
+pub fn hide(hidden: u128, line: &mut [u8; WHEELS])
     ensures hidden { (k : ℕ)
         → k < 120
         → slice_index_or line.new k 0 ≡ (if is_bit hidden k then 32 else slice_index_or line.old k 0) }
@@ -86,31 +74,6 @@ fn hide(hidden: u128, line: &mut [u8; WHEELS])
             line[wheel] = b' ';
         }
         left &= !(1 << wheel);
-    }
-}
-
-/// The words of the rows: which wheels received each.
-pub fn rows_of(sets: &[u16; BITS]) -> [u128; 12]
-    ensures { (k : ℕ) → k < 120 → rows_at result k ≡ received_at sets.now k }
-{
-    let mut rows = [0; 12];
-    for k in 0..WHEELS {
-        put_rows(&mut rows, sets[k], k);
-    }
-    rows
-}
-
-// Puts the bit of a wheel into the word of each row of its set.
-fn put_rows(rows: &mut [u128; 12], set: u16, k: usize)
-    requires { k < 128 }
-    ensures rows { PutsRows set k rows.old rows.new }
-    ensures twelve { length rows.new ≡ 12 }
-{
-    let mut left = u64::from(set & 0xfff);
-    while left != 0 {
-        let place = left.trailing_zeros() as usize;
-        rows[place] |= 1 << k;
-        left &= !(1 << place);
     }
 }
 

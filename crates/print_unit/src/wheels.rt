@@ -1,12 +1,12 @@
 //! The print wheels, unit 43: each prints the character of the rows that it received in a cycle.
 
-ghost use Rattle.std.specs.Prelude.{◌≡◌, ℕ, ◌<◌, ◌&&◌};
+ghost use Rattle.std.specs.Prelude.{◌≡◌, ℕ, ◌<◌, ◌&&◌, List};
 ghost use Rattle.net.specs.HubSets.{is_bit};
-ghost use Rattle.print_unit.specs.WheelWords.{hides, received_at};
+ghost use Rattle.print_unit.specs.WheelWords.{hides, received_at, HasPrinted};
 ghost use Rattle.print_unit.specs.ZeroControl.{has_zero_control};
 
 use crate::characters::Characters;
-use crate::line::{BITS, print, receive, rows_of, take_row};
+use crate::line::{BITS, hide, print, receive, take_row};
 use crate::wheel_words::{WHEELS, WheelJack, plugged};
 use crate::zero_control::hidden;
 use hubs::Hub;
@@ -104,27 +104,24 @@ impl Unit for Wheels {
     }
 
     fn end_cycle(&mut self, cycle: Cycle) {
-        let hidden = hidden_by(
-            has_zero_control(cycle),
-            &self.sets,
-            self.link,
-            self.suppress,
-            self.symbol,
-        );
-        print(&self.characters, &self.sets, hidden, &mut self.line);
+        print(&self.characters, &self.sets, &mut self.line);
+        let control = has_zero_control(cycle);
+        let hidden = hidden_by(control, &self.line, self.link, self.suppress, self.symbol);
+        hide(hidden, &mut self.line);
         self.sets = [0; BITS];
     }
 }
 
-// The wheels that zero control makes blank, if it works in the cycle, by the rows that they received. Where no wheel has a jack for it
-// none is looked at.
-fn hidden_by(control: bool, sets: &[u16; BITS], link: u128, suppress: u128, symbol: u128) -> u128
-    ensures { (k : ℕ) → k < 120 → is_bit result k ≡ (control && hides (received_at sets.now) link suppress symbol k) }
+// The wheels that zero control makes blank, if it works in the cycle, by the characters of what they received. Where no wheel has a jack
+// for it none is looked at.
+fn hidden_by(control: bool, line: &[u8; WHEELS], link: u128, suppress: u128, symbol: u128) -> u128
+    ensures { (sets : List ℕ) → HasPrinted sets 120 line.now → (k : ℕ) → k < 120
+        → is_bit result k ≡ (control && hides (received_at sets) link suppress symbol k) }
 {
     if suppress | symbol == 0 {
         return 0;
     }
-    hidden(control, &rows_of(sets), link, suppress, symbol)
+    hidden(control, line, link, suppress, symbol)
 }
 
 // Zero control works in card and program cycles.

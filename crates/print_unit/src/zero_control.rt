@@ -1,60 +1,61 @@
-//! Zero control, for all wheels at once: bit k of a word stands for wheel k + 1.
+//! Zero control, for all wheels at once: bit k of a word stands for wheel k + 1. It is worked by the characters that the wheels would print
+//! without it: a figure, one of the rows 9 to 1 alone, is printed as 9 to 1, a zero as 0, and nothing else is printed so.
 
-ghost use Rattle.std.specs.Prelude.{◌≡◌, ℕ, ◌<◌, ◌==◌, ◌&&◌, not};
+ghost use Rattle.std.specs.Prelude.{◌≡◌, ℕ, ◌+◌, ◌<◌, ◌≤◌, ◌&&◌, nat_le, nat_lt, length, List, slice_index_or};
 ghost use Rattle.net.specs.HubSets.{is_bit};
-ghost use Rattle.print_unit.specs.WheelWords.{rows_at, hides, IsGiven};
-ghost use Rattle.print_unit.specs.ZeroControl.{count_of, is_figure, is_zero};
+ghost use Rattle.print_unit.specs.WheelWords.{hides, received_at, HasPrinted, IsGiven};
+ghost use Rattle.print_unit.specs.ZeroControl.{is_figure, is_zero};
+
+use crate::wheel_words::WHEELS;
+use std::simd::prelude::*;
 
 // The bits of the wheels.
 const ALL_WHEELS: u128 = (1 << 120) - 1;
 
-/// The wheels that are blank by zero control, if it works in the cycle, by the rows that they received and their jacks.
-pub fn hidden(control: bool, rows: &[u128; 12], link: u128, suppress: u128, symbol: u128) -> u128
-    ensures { (k : ℕ) → k < 120 → is_bit result k ≡ (control && hides (rows_at rows.now) link suppress symbol k) }
+/// The wheels that are blank by zero control, if it works in the cycle, by the characters of what they received and their jacks.
+pub fn hidden(control: bool, line: &[u8; WHEELS], link: u128, suppress: u128, symbol: u128) -> u128
+    ensures { (sets : List ℕ) → HasPrinted sets 120 line.now → (k : ℕ) → k < 120
+        → is_bit result k ≡ (control && hides (received_at sets) link suppress symbol k) }
 {
     if !control {
         return 0;
     }
-    let given = given(link, figures(rows));
-    !(link & given) & (symbol | suppress & zeros(rows))
+    let given = given(link, figures(line));
+    !(link & given) & (symbol | suppress & zeros(line))
 }
 
 // The wheels that received a figure: exactly one of the rows 9 to 1, and no other row.
-fn figures(rows: &[u128; 12]) -> u128
-    ensures { (k : ℕ) → k < 128 → is_bit result k ≡ is_figure (rows_at rows.now k) }
+fn figures(line: &[u8; WHEELS]) -> u128
+    ensures { (sets : List ℕ) → HasPrinted sets 120 line.now → (k : ℕ) → k < 120
+        → is_bit result k ≡ is_figure (received_at sets k) }
 {
-    exactly_one(&rows[..9]) & !any(&rows[9..])
+    from_character(line, b'1') & !from_character(line, b':')
 }
 
 // The wheels that received a zero: row 0 alone.
-fn zeros(rows: &[u128; 12]) -> u128
-    ensures { (k : ℕ) → k < 128 → is_bit result k ≡ is_zero (rows_at rows.now k) }
+fn zeros(line: &[u8; WHEELS]) -> u128
+    ensures { (sets : List ℕ) → HasPrinted sets 120 line.now → (k : ℕ) → k < 120
+        → is_bit result k ≡ is_zero (received_at sets k) }
 {
-    rows[9] & exactly_one(rows)
+    from_character(line, b'0') & !from_character(line, b'1')
 }
 
-// The wheels that received exactly one of some rows.
-fn exactly_one(rows: &[u128]) -> u128
-    ensures { (k : ℕ) → k < 128 → is_bit result k ≡ (count_of (rows_at rows.now k) == 1) }
+// The wheels with this character or one that comes after it.
+fn from_character(line: &[u8; WHEELS], first: u8) -> u128
+    ensures { (k : ℕ) → k < 120 → is_bit result k ≡ nat_le first (slice_index_or line.now k 0) }
 {
-    let mut once = 0;
-    let mut twice = 0;
-    for row in rows {
-        twice |= once & *row;
-        once |= *row;
-    }
-    once & !twice
+    let left = u128::from(of_sixty_four(line, 0, first));
+    let right = u128::from(of_sixty_four(line, 56, first));
+    left | right << 56
 }
 
-// The wheels that received any of some rows.
-fn any(rows: &[u128]) -> u128
-    ensures { (k : ℕ) → is_bit result k ≡ not (count_of (rows_at rows.now k) == 0) }
+// The same of sixty-four wheels from one on: bit k stands for the wheel k places on.
+fn of_sixty_four(line: &[u8], from: usize, first: u8) -> u64
+    requires { from + 64 ≤ length line.now }
+    ensures { (k : ℕ) → is_bit result k ≡ (nat_lt k 64 && nat_le first (slice_index_or line.now (from + k) 0)) }
 {
-    let mut some = 0;
-    for row in rows {
-        some |= *row;
-    }
-    some
+    let characters = u8x64::from_slice(&line[from..]);
+    characters.simd_ge(u8x64::splat(first)).to_bitmask()
 }
 
 // The wheels that are given significance by their left neighbours, by the wheels with LINK and those that received a

@@ -1,7 +1,7 @@
 use Rattle.std.proofs.Common.{◌≡◌, ◌+◌, ◌*◌, ℕ, arith, subst}
 use Rattle.print_unit.specs.WheelWords.{HasPrinted}
-use Rattle.print_unit.proofs.line.print_all.Goals as goal
-use Rattle.print_unit.proofs.line.print_all.Goals.{then-is_empty, else-is_empty}
+use Rattle.print_unit.proofs.line.print.Goals as goal
+use Rattle.print_unit.proofs.line.print.Goals.{then-is_empty, else-is_empty}
 
 pub loop-block-init : goal.loop-block-init
 loop-block-init c = record { characters = λ k less. absurd (omega (arith, less)); wheels = c.told-line }

@@ -1,6 +1,6 @@
 use Rattle.std.proofs.Common.{◌*◌}
 use Rattle.print_unit.specs.WheelWords.{HasPrinted}
-use Rattle.print_unit.proofs.line.print_all.Given as goal
+use Rattle.print_unit.proofs.line.print.Given as goal
 
 -- the blocks so far are printed
 abbrev pub invariant-loop-block : goal.invariant-loop-block
