@@ -1,14 +1,18 @@
 //! The bytes of pages.
 
-ghost use Rattle.std.specs.Prelude.{◌≡◌, ◌+◌, ◌++◌, ◌∷◌, [], ◌≤◌, ◌<◌, ◌^◌, IfOk, OnOk};
+ghost use Rattle.std.specs.Prelude.{◌≡◌, ◌+◌, ◌++◌, ◌∷◌, [], ◌≤◌, ◌<◌, ◌^◌, ℕ, length, slice_index_or, take, true, IfOk, OnOk};
 ghost use Rattle.placed_lines.specs.InOrder.{IsInOrder};
 ghost use Rattle.page_text.specs.Pages.{Pages, without_trailing_blanks, last_page};
 ghost use Rattle.page_text.specs.Walking.{first_text, rest_after, rest_after_lines, walked_lines};
 
 use placed_lines::PlacedLine;
 use std::alloc::{AllocError, Global};
+use std::simd::prelude::*;
 
 const BLANK: u8 = b' ';
+
+// How many characters are looked at at a time.
+const LANES: usize = 16;
 
 const LINE_FEED: u8 = 10;
 
@@ -92,9 +96,31 @@ fn push_line(out: &mut Vec<u8>, text: &[u8]) -> Result<(), AllocError>
 pub fn without_trailing_blanks(text: &[u8]) -> &[u8]
     ensures { result.now ≡ without_trailing_blanks text.now }
 {
-    let mut end = text.len();
+    let mut end = blanks_from(text);
     while end > 0 && text[end - 1] == BLANK {
         end -= 1;
     }
     &text[..end]
+}
+
+// A place from which on a text has blanks alone. From the end sixteen are passed at a time, as long as all of them are blanks: most lines
+// leave many wheels blank on the right.
+fn blanks_from(text: &[u8]) -> usize
+    ensures within { result ≤ length text.now }
+    ensures same { without_trailing_blanks (take result text.now) ≡ without_trailing_blanks text.now }
+{
+    let mut end = text.len();
+    while end >= LANES && are_blank(text, end - LANES) {
+        end -= LANES;
+    }
+    end
+}
+
+// Whether sixteen characters from one on are blanks.
+fn are_blank(text: &[u8], from: usize) -> bool
+    requires { from + LANES ≤ length text.now }
+    ensures { result ≡ true → (k : ℕ) → from ≤ k → k < from + LANES → slice_index_or text.now k 0 ≡ 32 }
+{
+    let characters = u8x16::from_slice(&text[from..]);
+    characters.simd_ne(u8x16::splat(BLANK)).to_bitmask() == 0
 }

@@ -3,6 +3,9 @@ use Rattle.page_text.proofs.CutTexts.{cut_shorter, cut_whole, cut_none}
 use Rattle.page_text.proofs.pages.without_trailing_blanks.Goals as goal
 use Rattle.page_text.proofs.pages.without_trailing_blanks.Goals.{then-loop-end-test+else-text-end-eq-BLANK, else-loop-end-test}
 
+pub loop-end-init : goal.loop-end-init
+loop-end-init c = record { within = c.blanks_from-end.ensures.within; same = c.blanks_from-end.ensures.same }
+
 pub loop-end-preserved : goal.loop-end-preserved
 loop-end-preserved c = record {
   within = omega arith;
