@@ -4,3 +4,4 @@ pub mod Fronts
 pub mod FirstLines
 pub mod Next
 pub mod Filling
+pub mod LineFeeds

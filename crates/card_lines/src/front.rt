@@ -1,10 +1,16 @@
 //! What stands at the front of the bytes held.
 
-ghost use Rattle.std.specs.Prelude.{◌≡◌, ◌≢◌, ◌<◌, ◌≤◌, ◌↔◌, ◌⊎◌, ℕ, length, slice_index, take, IfNone, IfSome, IsTrue};
+ghost use Rattle.std.specs.Prelude.{◌≡◌, ◌≢◌, ◌+◌, ◌<◌, ◌≤◌, ◌==◌, ◌↔◌, ◌⊎◌, ℕ, if◌then◌else◌, length, slice_index, take, IfNone, IfSome, IsTrue};
+ghost use Rattle.std.specs.Int.{trailing_zeros, w64};
 ghost use Rattle.card_lines.specs.Front.{IsFront};
+
+use std::simd::prelude::*;
 
 // The most bytes that are looked at: 80 characters, CR and LF.
 const LOOKED_AT: usize = 82;
+
+// How many bytes are looked at at a time.
+const LANES: usize = 16;
 
 // What stands at the front of some bytes.
 #[derive(Clone, Copy)]
@@ -36,14 +42,50 @@ fn looked_at(held: &[u8]) -> &[u8]
     &held[..held.len().min(LOOKED_AT)]
 }
 
-// The place of the first LF.
+// The place of the first LF. Sixteen bytes are looked at at a time, as long as there are so many.
 fn first_line_feed(front: &[u8]) -> Option<usize>
     ensures within { IfSome result (λ end. end < length front.now) }
     ensures found { IfSome result (λ end. slice_index front.now end ≡ 10) }
     ensures before { IfSome result (λ end. (place : ℕ) → place < end → slice_index front.now place ≢ 10) }
     ensures none { IfNone result ((place : ℕ) → place < length front.now → slice_index front.now place ≢ 10) }
 {
-    front.iter().position(|byte| *byte == b'\n')
+    let mut passed = 0;
+    while front.len() - passed >= LANES {
+        let run = run_before(front, passed);
+        if run < LANES {
+            return Some(passed + run);
+        }
+        passed += LANES;
+    }
+    while passed < front.len() {
+        if front[passed] == b'\n' {
+            return Some(passed);
+        }
+        passed += 1;
+    }
+    None
+}
+
+// How many of sixteen bytes from one on come before the first LF.
+fn run_before(front: &[u8], from: usize) -> usize
+    requires { from + LANES ≤ length front.now }
+    ensures few { result ≤ LANES }
+    ensures before { (place : ℕ) → from ≤ place → place < from + result → slice_index front.now place ≢ 10 }
+    ensures found { result < LANES → slice_index front.now (from + result) ≡ 10 }
+{
+    let line_feeds = u8x16::from_slice(&front[from..]).simd_eq(u8x16::splat(b'\n'));
+    lowest_of(line_feeds.to_bitmask())
+}
+
+// The lowest bit of a mask of sixteen lanes, and 16 where it has none.
+fn lowest_of(mask: u64) -> usize
+    ensures { result ≡ (if mask == 0 then LANES else trailing_zeros w64 mask) }
+{
+    if mask == 0 {
+        LANES
+    } else {
+        mask.trailing_zeros() as usize
+    }
 }
 
 // Whether bytes without LF are too many for a card: 82, or 81 the last of which is no CR.
