@@ -34,7 +34,7 @@ impl Units {
     pub(crate) fn load(&mut self, next: &Option<Card>)
         ensures { self.new ≡ moved_on next.now self.old }
     {
-        self.stations.load(*next);
+        self.stations.load_next(next);
     }
 
     // The cycle that is due, if any.

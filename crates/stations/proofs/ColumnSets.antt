@@ -1,11 +1,10 @@
 -- The columns of a card as sets of rows by their places among the points.
-use Rattle.std.proofs.Common.{◌≡◌, ◌≢◌, ◌∙◌, ◌⊎◌, ℕ, zero, suc, ◌+◌, ◌-◌, ◌<◌, ◌≤◌, arith, refl, sym, ap, inl, inr, Bool, true, false, ◌==◌, ◌&&◌, nat_lt, List, [], ◌∷◌, length, replicate, slice_index, slice_index_or, slice_set, bit_or, Option, Some, None}
+use Rattle.std.proofs.Common.{◌≡◌, ◌≢◌, ◌∙◌, ◌⊎◌, ℕ, zero, suc, ◌+◌, ◌<◌, ◌≤◌, arith, refl, sym, ap, inl, inr, Bool, true, false, ◌==◌, ◌&&◌, nat_lt, List, [], ◌∷◌, length, replicate, slice_index, slice_index_or, slice_set, bit_or, Option, Some, None}
 use Rattle.std.proofs.lemmas.Bool.Decides.{eqb_tells, nat_tests}
 use Rattle.std.proofs.lemmas.Bool.{cases_lt}
 use Rattle.std.proofs.lemmas.Nat.{le_or_l, le_or_r}
 use Rattle.std.proofs.lemmas.List.{get_or-replicate, get_or-set_same, get_or-set_other, get_or_past, length-set}
-use Rattle.card_code.specs.CardCode.{has_row}
-use Rattle.card_code.specs.Rows.{row_number, passing_place}
+use Rattle.card_code.specs.Rows.{passing_place}
 use Rattle.card_code.specs.declared.row.Row.{Row}
 use Rattle.card_code.specs.declared.row.Row.TheVariants.{Zero}
 use Rattle.hub_table.specs.Ranges.{is_within}
@@ -15,9 +14,11 @@ use Rattle.net.proofs.SetLemmas.{sets-row}
 use Rattle.net.specs.HubSets.{is_bit}
 use Rattle.net.specs.Links.{has_at}
 use Rattle.net.specs.RowSets.{is_in_sets}
+use Rattle.stations.specs.Columns.{column_of}
 use Rattle.stations.specs.Comparing.{positions}
-use Rattle.stations.specs.Punches.{is_punched, is_punched_at, AreColumnsAt, AreRowsAt, HasColumns, IsRowAt}
+use Rattle.stations.specs.Punches.{is_punched_at, AreColumnsAt, AreRowsAt, HasColumns, IsRowAt}
 use Rattle.stations.specs.Stations.{first_emits, second_emits}
+use Rattle.stations.proofs.KeptColumns.{column-blank}
 use Rattle.stations.proofs.PositionWords.{is_bit-positions}
 use Rattle.stations.proofs.RowHubs.{first_row, second_row}
 use Rattle.stations.proofs.RowWords.{no_bit}
@@ -36,7 +37,7 @@ column-read columns card k d column same long below read =
 
 -- no column of a card is done
 pub columns-first : (card : List ℕ) → HasColumns 0 card (replicate 80 0)
-columns-first card = record { long = refl; done = λ row k less. absurd (omega (arith, less)); rest = λ k more. none k (cases_lt k 80) }
+columns-first card = record { long = refl; done = λ k less. absurd (omega (arith, less)); rest = λ k more. none k (cases_lt k 80) }
   where
     none : (k : ℕ) → (k < 80) ⊎ (80 ≤ k) → ◌≡◌ {A = ℕ} (slice_index_or (replicate 80 0) k 0) 0
     none k (inl below) = get_or-replicate {A = ℕ} 80 k 0 0 below
@@ -44,12 +45,11 @@ columns-first card = record { long = refl; done = λ row k less. absurd (omega (
 
 -- a column more is done
 pub columns-next : (count set column : ℕ) (card columns : List ℕ) → count < 80
-    → column ≡ slice_index card count
-    → ((row : Row) → is_bit set (passing_place row) ≡ has_row column (row_number row))
+    → column ≡ slice_index card count → column_of set ≡ column
     → HasColumns count card columns → HasColumns (count + 1) card (slice_set columns count set)
-columns-next count set column card columns below is rows before = record {
+columns-next count set column card columns below is again before = record {
   long = length-kept;
-  done = λ row k less. by row k less (eqb_tells k count);
+  done = λ k less. by k less (eqb_tells k count);
   rest = λ k more.
       get_or-set_other columns count k set 0 (λ e. absurd (omega (arith, e, more))) ∙ before.rest k (omega (arith, more));
 }
@@ -57,37 +57,29 @@ columns-next count set column card columns below is rows before = record {
     length-kept : length (slice_set columns count set) ≡ 80
     length-kept = length-set columns count set ∙ before.long
 
-    by : (row : Row) (k : ℕ) → k < count + 1 → ((k == count) ≡ true) × (k ≡ count) ⊎ ((k == count) ≡ false) × (k ≢ count)
-        → has_at (slice_set columns count set) k (passing_place row) ≡ has_row (slice_index card k) (row_number row)
-    by row k less (inl same) =
+    by : (k : ℕ) → k < count + 1 → ((k == count) ≡ true) × (k ≡ count) ⊎ ((k == count) ≡ false) × (k ≢ count)
+        → column_of (slice_index_or (slice_set columns count set) k 0) ≡ slice_index card k
+    by k less (inl same) =
         let long = before.long in
-        ap (λ (w : ℕ). is_bit w (passing_place row))
+        ap column_of
         (ap (λ (j : ℕ). slice_index_or (slice_set columns count set) j 0) same.1 ∙ get_or-set_same columns count set 0 (omega (arith, long, below)))
-        ∙ rows row ∙ ap (λ (c : ℕ). has_row c (row_number row)) (is ∙ ap (λ (j : ℕ). slice_index card j) (sym same.1))
-    by row k less (inr other) =
+        ∙ again ∙ is ∙ ap (λ (j : ℕ). slice_index card j) (sym same.1)
+    by k less (inr other) =
         let apart = other.1 in
-        ap (λ (w : ℕ). is_bit w (passing_place row)) (get_or-set_other columns count k set 0 apart)
-        ∙ before.done row k (omega (arith, less, apart))
+        ap column_of (get_or-set_other columns count k set 0 apart) ∙ before.done k (omega (arith, less, apart))
 
 -- eight columns without a punch are done
 pub columns-blank : (count : ℕ) (card columns : List ℕ) → ((k : ℕ) → count ≤ k → k < count + 8 → slice_index card k ≡ 0)
     → HasColumns count card columns → HasColumns (count + 8) card columns
-unfolding is_bit
 columns-blank count card columns blank before = record {
   long = before.long;
-  done = λ row k less. by row k less (cases_lt k count);
+  done = λ k less. by k less (cases_lt k count);
   rest = λ k more. before.rest k (omega (arith, more));
 }
   where
-    nothing : (n : ℕ) → false ≡ has_row 0 n
-    nothing n = sym (no_bit n)
-
-    by : (row : Row) (k : ℕ) → k < count + 8 → (k < count) ⊎ (count ≤ k)
-        → has_at columns k (passing_place row) ≡ has_row (slice_index card k) (row_number row)
-    by row k less (inl earlier) = before.done row k earlier
-    by row k less (inr later) =
-        ap (λ (w : ℕ). is_bit w (passing_place row)) (before.rest k later) ∙ no_bit (passing_place row) ∙ nothing (row_number row)
-        ∙ ap (λ (c : ℕ). has_row c (row_number row)) (sym (blank k later less))
+    by : (k : ℕ) → k < count + 8 → (k < count) ⊎ (count ≤ k) → column_of (slice_index_or columns k 0) ≡ slice_index card k
+    by k less (inl earlier) = before.done k earlier
+    by k less (inr later) = ap column_of (before.rest k later) ∙ column-blank ∙ sym (blank k later less)
 
 -- no set of rows has more than all of them joined
 pub bound-more : (sets : List ℕ) (from count rows set : ℕ) → set ≡ slice_index sets count
@@ -106,32 +98,21 @@ bound-more sets from count rows set is before k low high = by (eqb_tells k count
         let less = before k low (omega (arith, high, apart)) in
         omega (arith, left, less)
 
-pub columns-done : (count : ℕ) (card columns : List ℕ) → 80 ≤ count → HasColumns count card columns → AreColumnsAt (Some card) columns
-columns-done count card columns end are = record { eighty = are.long; punched = λ row k. by row k (nat_lt k 80) refl }
+-- a row's place is one of twelve
+place_below : (row : Row) → passing_place row < 12
+place_below Zero = omega arith
+place_below other = omega arith
+
+-- no card has no rows
+pub no_card : AreRowsAt None (replicate 12 0)
+no_card = record { twelve = refl; punched = λ row bit. empty row bit (place_below row) }
   where
-    by : (row : Row) (k : ℕ) (inside : Bool) → nat_lt k 80 ≡ inside
-        → has_at columns k (passing_place row) ≡ is_punched card row (k + 1)
-    by row k true is =
-        let within : is_within (k + 1) 80 ≡ true = grind (arith, nat_tests, is) in
-        let index : k + 1 - 1 ≡ k = omega arith in
-        are.done row k (grind (arith, nat_tests, is, end)) ∙ rw (within, index) refl
-    by row k false is =
-        let within : is_within (k + 1) 80 ≡ false = grind (arith, nat_tests, is) in
-        let long = are.long in
-        ap (λ (w : ℕ). is_bit w (passing_place row)) (get_or_past columns k 0 (grind (arith, nat_tests, is, long)))
-        ∙ no_bit (passing_place row) ∙ rw within refl
+    empty : (row : Row) (bit : ℕ) → passing_place row < 12 → is_bit (slice_index (replicate 12 0) (passing_place row)) bit ≡ false
+    empty row bit low = ap (λ (w : ℕ). is_bit w bit) (get_or-replicate {A = ℕ} 12 (passing_place row) 0 0 low) ∙ no_bit bit
 
 -- no card has no columns
-pub columns-no_card : AreColumnsAt None (replicate 80 0)
-columns-no_card = record { eighty = refl; punched = λ row k. empty row k (nat_lt k 80) refl }
-  where
-    empty : (row : Row) (k : ℕ) (inside : Bool) → nat_lt k 80 ≡ inside → has_at (replicate 80 0) k (passing_place row) ≡ false
-    empty row k true is =
-        ap (λ (w : ℕ). is_bit w (passing_place row)) (get_or-replicate {A = ℕ} 80 k 0 0 (grind (arith, nat_tests, is))) ∙ no_bit (passing_place row)
-    empty row k false is =
-        let none : List ℕ = replicate 80 0 in
-        let long : length none ≡ 80 = refl in
-        ap (λ (w : ℕ). is_bit w (passing_place row)) (get_or_past none k 0 (grind (arith, nat_tests, is, long))) ∙ no_bit (passing_place row)
+pub no_columns : AreColumnsAt None []
+no_columns row k = ap (λ (w : ℕ). is_bit w (passing_place row)) (get_or_past [] k 0 (omega arith)) ∙ no_bit (passing_place row)
 
 -- there is a word of each row
 row_word : Option (List ℕ) → Row → ℕ
@@ -153,21 +134,21 @@ row_word-is card row bit =
 -- the word that has the row of each column is the row's
 pub row-read : (card : Option (List ℕ)) (columns : List ℕ) (row : Row) (word : ℕ) → AreColumnsAt card columns
     → ((k : ℕ) → is_bit word k ≡ has_at columns k (passing_place row)) → IsRowAt card row word
-row-read card columns row word are has bit = has bit ∙ are.punched row bit
+row-read card columns row word are has bit = has bit ∙ are row bit
 
 -- the sets of first reading
 pub first_columns : (card : Option (List ℕ)) (columns : List ℕ) (row : Row) (hub : Hub)
     → AreColumnsAt card columns → is_in_sets (FR 1) columns (passing_place row) hub ≡ first_emits card row hub
 first_columns card columns row hub sets =
     sets-row (FR 1) hub columns (passing_place row) (row_word card row)
-    (λ k. sets.punched row k ∙ sym (row_word-is card row k)) ∙ first_row card (row_word card row) row hub (row_word-is card row)
+    (λ k. sets row k ∙ sym (row_word-is card row k)) ∙ first_row card (row_word card row) row hub (row_word-is card row)
 
 -- the sets of second reading
 pub second_columns : (card : Option (List ℕ)) (columns : List ℕ) (row : Row) (hub : Hub)
     → AreColumnsAt card columns → is_in_sets (SR 1) columns (passing_place row) hub ≡ second_emits card row hub
 second_columns card columns row hub sets =
     sets-row (SR 1) hub columns (passing_place row) (row_word card row)
-    (λ k. sets.punched row k ∙ sym (row_word-is card row k)) ∙ second_row card (row_word card row) row hub (row_word-is card row)
+    (λ k. sets row k ∙ sym (row_word-is card row k)) ∙ second_row card (row_word card row) row hub (row_word-is card row)
 
 -- the words of the first rows are read off the columns
 pub record AreRowsTo (count : ℕ) (columns words : List ℕ) : Type 0 where
@@ -197,15 +178,10 @@ rows-more count word columns words below has before = record {
         let apart = other.1 in
         ap (λ (w : ℕ). is_bit w k) (get_or-set_other words count place word 0 apart) ∙ before.done place (omega (arith, less, apart)) k
 
--- a row's place is one of twelve
-place_below : (row : Row) → passing_place row < 12
-place_below Zero = omega arith
-place_below other = omega arith
-
 pub rows-all : (count : ℕ) (card : Option (List ℕ)) (columns words : List ℕ) → 12 ≤ count → AreColumnsAt card columns
     → AreRowsTo count columns words → AreRowsAt card words
 rows-all count card columns words end sets are = record {
   twelve = are.long;
   punched = λ row bit.
-      are.done (passing_place row) (let low = place_below row in omega (arith, low, end)) bit ∙ sets.punched row bit;
+      are.done (passing_place row) (let low = place_below row in omega (arith, low, end)) bit ∙ sets row bit;
 }

@@ -6,5 +6,5 @@ pub mod RowMasks
 mod FourRows
 pub mod MovedRows
 pub mod ColumnSets
-pub mod MovedCards
+pub mod KeptColumns
 pub mod CollectedSets

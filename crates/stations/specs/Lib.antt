@@ -3,3 +3,5 @@ pub mod Stations
 pub mod Comparing
 pub mod Words
 pub mod Laws
+pub mod Kept
+pub mod Columns

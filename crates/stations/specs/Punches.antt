@@ -6,6 +6,7 @@ use Rattle.card_code.specs.declared.row.Row.{Row}
 use Rattle.hub_table.specs.Ranges.{is_within}
 use Rattle.net.specs.HubSets.{is_bit}
 use Rattle.net.specs.Links.{has_at}
+use Rattle.stations.specs.Columns.{column_of}
 
 -- whether the card has the row in the column, 1 to 80
 abbrev pub is_punched : List ℕ → Row → ℕ → Bool
@@ -25,14 +26,13 @@ pub record AreRowsAt (card : Option (List ℕ)) (words : List ℕ) : Type 0 wher
   pub twelve : length words ≡ 12
   pub punched : (row : Row) → IsRowAt card row (slice_index words (passing_place row))
 
--- Eighty sets of rows, one for each column: a set has the bit p exactly where the row at place p among the points is punched in its
--- column, and there is no bit without a card.
-pub record AreColumnsAt (card : Option (List ℕ)) (columns : List ℕ) : Type 0 where
-  pub eighty : length columns ≡ 80
-  pub punched : (row : Row) (k : ℕ) → has_at columns k (passing_place row) ≡ is_punched_at card row (k + 1)
+-- Sets of rows, one for each column: a set has the bit p exactly where the row at place p among the points is punched in its column, and
+-- there is no bit without a card.
+abbrev pub AreColumnsAt : Option (List ℕ) → List ℕ → Type 0
+AreColumnsAt card columns = (row : Row) (k : ℕ) → has_at columns k (passing_place row) ≡ is_punched_at card row (k + 1)
 
 -- The sets of the first columns of a card are there, and no others.
 pub record HasColumns (count : ℕ) (card columns : List ℕ) : Type 0 where
   pub long : length columns ≡ 80
-  pub done : (row : Row) (k : ℕ) → k < count → has_at columns k (passing_place row) ≡ has_row (slice_index card k) (row_number row)
+  pub done : (k : ℕ) → k < count → column_of (slice_index_or columns k 0) ≡ slice_index card k
   pub rest : (k : ℕ) → count ≤ k → slice_index_or columns k 0 ≡ 0

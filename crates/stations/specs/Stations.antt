@@ -9,7 +9,7 @@ use Rattle.net.specs.declared.cycle.Cycle.{Cycle}
 use Rattle.net.specs.declared.cycle.Cycle.TheVariants.{RunIn, Card}
 use Rattle.net.specs.declared.cycle.Point.{Point}
 use Rattle.net.specs.declared.cycle.Point.TheVariants.{Row}
-use Rattle.stations.specs.Punches.{is_punched_at, AreColumnsAt, AreRowsAt}
+use Rattle.stations.specs.Punches.{is_punched_at, AreRowsAt}
 
 -- the cards that stand at the stations, where any stand there
 pub record StationCards : Type 0 where
@@ -53,9 +53,3 @@ pub record AreStationRows (cards : StationCards) (rows : List (List ℕ)) : Type
   pub two : length rows ≡ 2
   pub first : AreRowsAt cards.first (slice_index_or rows 0 [])
   pub second : AreRowsAt cards.second (slice_index_or rows 1 [])
-
--- the columns at first and at second reading, which are kept beside the cards
-pub record AreStationColumns (cards : StationCards) (columns : List (List ℕ)) : Type 0 where
-  pub two : length columns ≡ 2
-  pub first : AreColumnsAt cards.first (slice_index_or columns 0 [])
-  pub second : AreColumnsAt cards.second (slice_index_or columns 1 [])

@@ -1,38 +1,29 @@
 //! Cards as the sets of rows of their eighty columns, and the words of their rows, which are read off these.
 
-ghost use Rattle.std.specs.Prelude.{◌≡◌, ℕ, ◌+◌, ◌-◌, ◌<◌, ◌≤◌, ◌&&◌, nat_le, slice_index, true, List, Option, Some};
+ghost use Rattle.std.specs.Prelude.{◌≡◌, ℕ, ◌+◌, ◌-◌, ◌<◌, ◌≤◌, ◌&&◌, map, nat_le, slice_index, true};
 ghost use Rattle.card_code.specs.CardCode.{has_row};
-ghost use Rattle.card_code.specs.Rows.{passing_place, row_number};
+ghost use Rattle.card_code.specs.Rows.{is_row_set, passing_place, row_number};
 ghost use Rattle.card_code.specs.declared.row.Row.{Row as CardRow};
 ghost use Rattle.net.specs.HubSets.{is_bit};
 ghost use Rattle.net.specs.Links.{has_at};
-ghost use Rattle.stations.specs.Punches.{AreColumnsAt, AreRowsAt, HasColumns};
+ghost use Rattle.stations.specs.Columns.{column_of};
+ghost use Rattle.stations.specs.Kept.{card_of};
+ghost use Rattle.stations.specs.Punches.{AreColumnsAt, AreRowsAt, HasColumns, IsRowAt};
 
 use crate::lanes::having_row;
-use card_code::{CARD_COLUMNS, Card, Column};
+use card_code::{CARD_COLUMNS, Card, Column, Row};
 
-// The columns of the card at a station; all are 0 where there is none.
-pub(crate) fn columns_at(card: &Option<Card>) -> [u16; CARD_COLUMNS]
-    ensures { AreColumnsAt card.now result }
-{
-    match card {
-        None => [0; CARD_COLUMNS],
-        Some(card) => columns_of(card),
-    }
-}
-
-// The columns of a card, eight at a time. Most cards have blank columns, and eight blank ones stay as they are.
-fn columns_of(card: &Card) -> [u16; CARD_COLUMNS]
-    ensures { AreColumnsAt (Some card.now) result }
+// Puts the sets of the columns of a card, eight at a time. Most cards have blank columns, and eight blank ones stay as they are.
+pub(crate) fn put_columns(card: &Card, columns: &mut [u16; CARD_COLUMNS])
+    ensures { map column_of columns.new ≡ card.now }
 {
     let punched = card.columns();
-    let mut columns = [0; CARD_COLUMNS];
+    *columns = [0; CARD_COLUMNS];
     for block in 0..10 {
         if !are_blank(punched, 8 * block) {
-            put_eight(punched, 8 * block, &mut columns);
+            put_eight(punched, 8 * block, columns);
         }
     }
-    columns
 }
 
 // Whether eight columns from one on have no punch.
@@ -61,7 +52,7 @@ fn put_eight(punched: &[Column; CARD_COLUMNS], from: usize, columns: &mut [u16; 
 // A set of rows by their places among the points: 9 to 0 are the first ten, 11 and 12 the next two. No row is looked at by itself, so that
 // the sets of some columns can be made at a time.
 fn set_of(rows: u16) -> u16
-    ensures { (row : CardRow) → is_bit result (passing_place row) ≡ has_row rows (row_number row) }
+    ensures { is_row_set rows ≡ true → column_of result ≡ rows }
 {
     turned(rows) | moved_down(rows, 1, 0xc00)
 }
@@ -92,9 +83,34 @@ fn moved_down(bits: u16, by: u32, mask: u16) -> u16
     bits >> by & mask
 }
 
+// The sets of the columns at a station, of which there are none where no card stands there.
+pub(crate) fn columns_at(is_there: bool, columns: &[u16; CARD_COLUMNS]) -> &[u16]
+    ensures { AreColumnsAt (card_of is_there columns.now) result.now }
+{
+    if is_there { columns } else { &[] }
+}
+
+// The word of a row at a station.
+pub(crate) fn row_at(is_there: bool, columns: &[u16; CARD_COLUMNS], row: Row) -> u128
+    ensures { IsRowAt (card_of is_there columns.now) row result }
+{
+    if is_there {
+        row_of(columns, row.place())
+    } else {
+        0
+    }
+}
+
+// The words of the rows at a station.
+pub(crate) fn rows_at(is_there: bool, columns: &[u16; CARD_COLUMNS]) -> [u128; 12]
+    ensures { AreRowsAt (card_of is_there columns.now) result }
+{
+    if is_there { rows_of(columns) } else { [0; 12] }
+}
+
 // The words of the rows of a card, by its columns.
-pub(crate) fn rows_of(columns: &[u16; CARD_COLUMNS]) -> [u128; 12]
-    ensures { (card : Option (List ℕ)) → AreColumnsAt card columns.now → AreRowsAt card result }
+fn rows_of(columns: &[u16; CARD_COLUMNS]) -> [u128; 12]
+    ensures { AreRowsAt (card_of true columns.now) result }
 {
     let mut rows = [0; 12];
     for place in 0..12 {
@@ -104,7 +120,7 @@ pub(crate) fn rows_of(columns: &[u16; CARD_COLUMNS]) -> [u128; 12]
 }
 
 // The word of one row, by its place: bit k stands for the column at place k.
-pub(crate) fn row_of(columns: &[u16; CARD_COLUMNS], place: usize) -> u128
+fn row_of(columns: &[u16; CARD_COLUMNS], place: usize) -> u128
     requires { place < 12 }
     ensures { (k : ℕ) → is_bit result k ≡ has_at columns.now k place }
 {

@@ -2,32 +2,33 @@
 
 ghost use Rattle.std.specs.Prelude.{◌≡◌, List, ℕ};
 
-use crate::punches::{columns_at, row_of, rows_of};
+use crate::punches::{columns_at, put_columns, row_at, rows_at};
 use card_code::{CARD_COLUMNS, Card, Row};
 use hubs::Hub;
 use net::{Cycle, Picture, Point, RowSets, Unit};
 use std::marker::Model;
+use std::mem;
 
 /// The reading stations, unit 1.
 ///
-/// A card stands at first reading, and the card before it at second reading. Contracts see the two cards. Beside them
-/// each card is kept as the sets of rows of its columns, so that all rows are emitted at once; the word of a row is read off these.
+/// A card stands at first reading, and the card before it at second reading. Contracts see the two cards. A card is kept as the sets of
+/// rows of its columns, so that all rows are emitted at once; the word of a row is read off these.
 #[derive(Debug, Drop)]
 pub struct Stations {
-    first: Option<Card>,
-    second: Option<Card>,
+    // Whether a card stands there.
+    first: bool,
+    second: bool,
+    // The columns of the cards that stand there.
     columns: [[u16; CARD_COLUMNS]; 2],
 }
 
 impl Model for Stations {
-    ghost use Rattle.stations.specs.Stations.{StationCards, AreStationColumns};
+    ghost use Rattle.stations.specs.Stations.{StationCards};
+    ghost use Rattle.stations.specs.Kept.{kept_cards};
 
     ghost Value = { StationCards };
 
-    ghost view = { λ stations. record { first = stations.first; second = stations.second } };
-
-    ghost invariant = { λ stations. AreStationColumns
-        (record { first = stations.first; second = stations.second }) stations.columns };
+    ghost view = { λ stations. kept_cards stations.first stations.second stations.columns };
 }
 
 impl Stations {
@@ -39,8 +40,8 @@ impl Stations {
         ensures { result ≡ stations_at_start }
     {
         Stations {
-            first: None,
-            second: None,
+            first: false,
+            second: false,
             columns: [[0; CARD_COLUMNS]; 2],
         }
     }
@@ -49,17 +50,25 @@ impl Stations {
     pub fn load(&mut self, next: Option<Card>)
         ensures { self.new ≡ loaded next self.old }
     {
+        self.load_next(&next);
+    }
+
+    /// The same, where the next card stays with the caller.
+    pub fn load_next(&mut self, next: &Option<Card>)
+        ensures { self.new ≡ loaded next.now self.old }
+    {
         self.columns[1] = self.columns[0];
-        self.columns[0] = columns_at(&next);
-        self.second = self.first;
-        self.first = next;
+        self.second = mem::replace(&mut self.first, next.is_some());
+        if let Some(card) = next {
+            put_columns(card, &mut self.columns[0]);
+        }
     }
 
     /// Whether a card stands at first reading.
     pub fn has_first(&self) -> bool
         ensures { result ≡ is_some self.now.first }
     {
-        self.first.is_some()
+        self.first
     }
 
     /// The rows of the cards at first and at second reading, 9 to 0, then 11 and 12. In the word of a row the bit c - 1
@@ -67,7 +76,10 @@ impl Stations {
     pub fn rows(&self) -> [[u128; 12]; 2]
         ensures { AreStationRows self.now result }
     {
-        [rows_of(&self.columns[0]), rows_of(&self.columns[1])]
+        [
+            rows_at(self.first, &self.columns[0]),
+            rows_at(self.second, &self.columns[1]),
+        ]
     }
 }
 
@@ -130,29 +142,27 @@ impl Stations {
     fn emit_first_rows(&self, sets: &mut RowSets)
         ensures { GainsRows (first_emits self.now.first) sets.old sets.new }
     {
-        let columns = &self.columns[0];
-        sets.insert_sets(Hub::FR(1), columns);
+        sets.insert_sets(Hub::FR(1), columns_at(self.first, &self.columns[0]));
     }
 
     // Adds the exits of second reading, all rows at once.
     fn emit_second_rows(&self, sets: &mut RowSets)
         ensures { GainsRows (second_emits self.now.second) sets.old sets.new }
     {
-        let columns = &self.columns[1];
-        sets.insert_sets(Hub::SR(1), columns);
+        sets.insert_sets(Hub::SR(1), columns_at(self.second, &self.columns[1]));
     }
 
     // Adds the exits of first reading at the point of a row.
     fn emit_first(&self, row: Row, exits: &mut Picture)
         ensures { GainsHubs (first_emits self.now.first row) exits.old exits.new }
     {
-        exits.insert_row(Hub::FR(1), row_of(&self.columns[0], row.place()));
+        exits.insert_row(Hub::FR(1), row_at(self.first, &self.columns[0], row));
     }
 
     // Adds the exits of second reading at the point of a row.
     fn emit_second(&self, row: Row, exits: &mut Picture)
         ensures { GainsHubs (second_emits self.now.second row) exits.old exits.new }
     {
-        exits.insert_row(Hub::SR(1), row_of(&self.columns[1], row.place()));
+        exits.insert_row(Hub::SR(1), row_at(self.second, &self.columns[1], row));
     }
 }

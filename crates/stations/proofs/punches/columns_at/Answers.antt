@@ -1,5 +1,9 @@
-use Rattle.stations.proofs.ColumnSets.{columns-no_card}
+use Rattle.stations.proofs.ColumnSets.{no_columns}
+use Rattle.stations.proofs.KeptColumns.{kept-columns}
 use Rattle.stations.proofs.punches.columns_at.Goals as goal
 
-pub returns-in-None : goal.returns-in-None
-returns-in-None c = rw c.in-None.is columns-no_card
+pub returns-then-is_there : goal.returns-then-is_there
+returns-then-is_there c = rw c.if-is_there.true (kept-columns c.args.columns.now c.told-columns)
+
+pub returns-else-is_there : goal.returns-else-is_there
+returns-else-is_there c = rw c.if-is_there.false no_columns

@@ -10,7 +10,7 @@ loop-k-preserved c =
     let below : c.loop-k.k < 80 = omega (arith, within, test) in
     columns-next c.loop-k.k c.set_of.result c.rows.result c.args.punched.now c.loop-k.columns below
     (column-read c.args.punched.now c.args.punched.now c.loop-k.k c.index-punched-k.result c.rows.result
-    refl c.told-punched below c.rows.ensures.value) c.set_of.ensures c.loop-k.invariant
+    refl c.told-punched below c.rows.ensures.value) (c.set_of.ensures c.rows.ensures.lawful) c.loop-k.invariant
 
 pub returns : goal.returns
 returns c =

@@ -1,3 +1,6 @@
+use Rattle.std.proofs.Common.{true}
+use Rattle.stations.specs.Kept.{card_of}
+use Rattle.stations.proofs.KeptColumns.{kept-columns}
 use Rattle.stations.proofs.ColumnSets.{rows-all, rows-more, rows-none}
 use Rattle.stations.proofs.punches.rows_of.Goals as goal
 
@@ -10,5 +13,6 @@ loop-place-preserved c =
     c.loop-place.invariant
 
 pub returns : goal.returns
-returns c card are =
-    rows-all c.loop-place.place card c.args.columns.now c.loop-place.rows c.loop-place-test.false are c.loop-place.invariant
+returns c =
+    rows-all c.loop-place.place (card_of true c.args.columns.now) c.args.columns.now c.loop-place.rows c.loop-place-test.false
+    (kept-columns c.args.columns.now c.told-columns) c.loop-place.invariant

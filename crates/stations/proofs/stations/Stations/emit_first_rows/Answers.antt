@@ -9,5 +9,5 @@ pub returns : goal.returns
 returns c row hub =
     c.insert_sets.ensures (passing_place row) hub
     ∙ ap (λ b. has_row_at c.args.sets.now (passing_place row) hub || b)
-    (first_columns c.self.inside.first _ row hub c.self.invariant.first
+    (first_columns _ _ row hub c.columns_at.ensures
     ∙ ap (λ (cards : StationCards). first_emits cards.first row hub) c.self.view_is)

@@ -9,5 +9,5 @@ pub returns : goal.returns
 returns c row hub =
     c.insert_sets.ensures (passing_place row) hub
     ∙ ap (λ b. has_row_at c.args.sets.now (passing_place row) hub || b)
-    (second_columns c.self.inside.second _ row hub c.self.invariant.second
+    (second_columns _ _ row hub c.columns_at.ensures
     ∙ ap (λ (cards : StationCards). second_emits cards.second row hub) c.self.view_is)

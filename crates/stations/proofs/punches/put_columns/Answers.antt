@@ -1,9 +1,9 @@
-use Rattle.std.proofs.Common.{◌≡◌, ◌+◌, ◌*◌, ℕ, List, arith, subst}
-use Rattle.stations.specs.Punches.{AreColumnsAt, HasColumns}
-use Rattle.std.proofs.Common.{Some}
-use Rattle.stations.proofs.ColumnSets.{columns-blank, columns-done, columns-first}
-use Rattle.stations.proofs.punches.columns_of.Goals as goal
-use Rattle.stations.proofs.punches.columns_of.Goals.{then-not-are_blank, else-not-are_blank}
+use Rattle.std.proofs.Common.{◌≡◌, ◌+◌, ◌*◌, ◌∙◌, ap, length, ℕ, arith, subst}
+use Rattle.stations.specs.Punches.{HasColumns}
+use Rattle.stations.proofs.ColumnSets.{columns-blank, columns-first}
+use Rattle.stations.proofs.KeptColumns.{columns-done}
+use Rattle.stations.proofs.punches.put_columns.Goals as goal
+use Rattle.stations.proofs.punches.put_columns.Goals.{then-not-are_blank, else-not-are_blank}
 
 pub loop-block-init : goal.loop-block-init
 loop-block-init c = columns-first c.columns-punched.result.now
@@ -22,5 +22,5 @@ loop-block-preserved c =
 
 pub returns : goal.returns
 returns c =
-    subst (λ (card : List ℕ). AreColumnsAt (Some card) c.loop-block.columns) c.columns-punched.ensures.columns
-    (columns-done (8 * c.loop-block.block) c.columns-punched.result.now c.loop-block.columns (omega arith) c.loop-block.invariant)
+    columns-done (8 * c.loop-block.block) c.columns-punched.result.now c.loop-block.columns (omega arith) (ap length c.columns-punched.ensures.columns ∙ c.columns-punched.ensures.whole) c.loop-block.invariant
+    ∙ c.columns-punched.ensures.columns
