@@ -1,6 +1,6 @@
 //! Decks of cards as text.
 
-ghost use Rattle.std.specs.Prelude.{◌≡◌, ◌≢◌, ◌≤◌, ℕ, ◌⊎◌, List, length, replicate, IfErr, IfNone, IfOk, IfSome, IsErrOf, IsOkAnd};
+ghost use Rattle.std.specs.Prelude.{◌≡◌, ◌≢◌, ◌≤◌, ℕ, ◌⊎◌, List, length, replicate, IfErr, IfOk, IsErrOf, IsOkAnd};
 ghost use Rattle.card_code.specs.declared.deck.DeckFault.{DeckFault};
 ghost use Rattle.card_code.specs.Punching.{ArePunchable, HasPunched};
 ghost use Rattle.card_code.specs.Deck.{Deck, HasDeckFault, HasLineFault, IsCardOf, IsOddColumn};
@@ -111,27 +111,14 @@ pub fn read_card(number: u32, line: &[u8]) -> Result<Card, DeckFault>
     if line.len() > CARD_COLUMNS {
         return Err(DeckFault::CardTooLong { line: number });
     }
-    match card_of(line) {
-        Some(card) => Ok(card),
-        None => Err(DeckFault::NoSuchCharacter {
+    let mut rows = [0; CARD_COLUMNS];
+    if punch(line, &mut rows) >= NO_ROWS {
+        return Err(DeckFault::NoSuchCharacter {
             line: number,
             column: odd_column(line),
-        }),
+        });
     }
-}
-
-/// The card of a line of at most 80 bytes, if all of them are deck characters.
-fn card_of(line: &[u8]) -> Option<Card>
-    requires { length line.now ≤ 80 }
-    ensures card { IfSome result (λ card. IsCardOf line.now card) }
-    ensures none { IfNone result (¬ ArePunchable line.now) }
-{
-    let mut rows = [0; CARD_COLUMNS];
-    if punch(line, &mut rows) < NO_ROWS {
-        Some(Card::of_rows(&rows))
-    } else {
-        None
-    }
+    Ok(Card::of_rows(&rows))
 }
 
 /// Puts the rows of each byte of a line in its column, and answers all of them joined, so that it is asked once whether one of the
