@@ -1,8 +1,13 @@
 -- Texts without their trailing blanks.
-use Rattle.std.proofs.Common.{◌≡◌, ◌≢◌, ℕ, zero, suc, ◌+◌, ◌-◌, ◌%◌, ◌^◌, ◌<◌, ◌≤◌, true, false, not, List, [], ◌∷◌, ◌++◌, length, get_or, slice_index_or, take, map, replicate, cond, eqb, nat_eq, refl, ap, sym, ◌∙◌, arith}
-use Rattle.std.proofs.lemmas.List.{take_more}
+use Rattle.std.proofs.Common.{◌≡◌, ◌≢◌, ℕ, zero, suc, ◌+◌, ◌-◌, ◌*◌, ◌/◌, ◌%◌, ◌^◌, ◌<◌, ◌≤◌, Bool, true, false, inl, inr, subst, not, List, [], ◌∷◌, ◌++◌, length, get_or, slice_index_or, take, map, replicate, cond, eqb, refl, ap, sym, ◌∙◌, arith}
+use Rattle.std.proofs.lemmas.List.{get_or-map, length-map, take_more}
 use Rattle.std.proofs.lemmas.Bool.Decides.{nat_tests}
-use Rattle.std.proofs.lemmas.Simd.{bitmask_splat, length-chunk, none_from_empty_mask}
+use Rattle.std.proofs.lemmas.Bool.{cases_lt}
+use Rattle.std.proofs.lemmas.Simd.{bitmask_splat, bit_mask_l, get_or-chunk, length-chunk, mask_l-lt}
+use Rattle.std.proofs.lemmas.Nat.{leading_length}
+use Rattle.std.proofs.lemmas.Nat.Bits.{bit_at_above}
+use Rattle.std.specs.Int.{leading_zeros, w64}
+use lib.Pow.{pow_mono}
 use lib.Lanes.{chunk, mask_l, top, zip2}
 use mir.Syntax.{w8}
 use Rattle.page_text.specs.Pages.{onto_cut, without_trailing_blanks}
@@ -58,26 +63,93 @@ cut-blanks text end (suc count) within blank =
     ∙ ap (λ (n : ℕ). without_trailing_blanks (take n text)) last
     ∙ cut_shorter text (end + suc count) (omega arith) within (blank (end + suc count - 1) (omega arith) (omega arith))
 
--- sixteen blanks before a place are cut off
-pub cut-sixteen : (text : List ℕ) (end : ℕ) → 16 ≤ end → end ≤ length text
-    → ((k : ℕ) → end - 16 ≤ k → k < end - 16 + 16 → slice_index_or text k 0 ≡ 32)
-    → without_trailing_blanks (take (end - 16) text) ≡ without_trailing_blanks (take end text)
-cut-sixteen text end many within blank =
-    let same : end - 16 + 16 ≡ end = omega (arith, many) in
-    cut-blanks text (end - 16) 16 (omega (arith, many, within)) blank ∙ ap (λ (n : ℕ). without_trailing_blanks (take n text)) same
+-- blanks before a place are cut off down to another place
+pub cut-down : (text : List ℕ) (to end : ℕ) → to ≤ end → end ≤ length text
+    → ((k : ℕ) → to ≤ k → k < end → slice_index_or text k 0 ≡ 32)
+    → without_trailing_blanks (take to text) ≡ without_trailing_blanks (take end text)
+cut-down text to end low within blank =
+    let same : to + (end - to) ≡ end = omega (arith, low) in
+    cut-blanks text to (end - to) (omega (arith, low, within)) (λ k from below. blank k from (omega (arith, below, same)))
+    ∙ ap (λ (n : ℕ). without_trailing_blanks (take n text)) same
 
--- sixteen characters none of which differs from a blank are blanks
-pub none-other : (text : List ℕ) (from k : ℕ) → from + 16 ≤ length text
-    → nat_eq (mask_l (map (top 7) (zip2 (λ a b. cond (not (eqb a b)) 255 0) (chunk from 16 text) (replicate 16 32))) % 2 ^ 64) 0 ≡ true
-    → from ≤ k → k < from + 16 → slice_index_or text k 0 ≡ 32
-none-other text from k within empty low high =
-    alike (slice_index_or text k 0)
-    (none_from_empty_mask (λ character. not (eqb character 32)) text from 16 0 within
-    (sym (bitmask_splat w8 (λ a b. not (eqb a b)) (chunk from 16 text) 16 32 (length-chunk from 16 text within) (omega arith))
-    ∙ zero-is _ empty) k low high)
+-- no bit of a word is set from its length on
+no-bit-past : (word k : ℕ) → word < 2 ^ 64 → 64 - leading_zeros w64 word ≤ k → word / 2 ^ k % 2 ≡ 0
+no-bit-past word k small past =
+    let length = leading_length 64 word small in
+    let sum = length.1 in
+    bit_at_above word length.0 k length.2 (omega (arith, sum, past))
+
+-- of sixteen characters those from the highest bit of the mask of the others on are blanks
+pub blanks-masked : (text : List ℕ) (from mask printed : ℕ) → from + 16 ≤ length text
+    → mask ≡ mask_l (map (top 7) (zip2 (λ a b. cond (not (eqb a b)) 255 0) (chunk from 16 text) (replicate 16 32))) % 2 ^ 64
+    → printed ≡ 64 - leading_zeros w64 mask
+    → (k : ℕ) → from + printed ≤ k → k < from + 16 → slice_index_or text k 0 ≡ 32
+blanks-masked text from mask printed within masked is k low high = alike (slice_index_or text k 0) (lane (is_other (slice_index_or text k 0)) found)
   where
-    alike : (character : ℕ) → not (eqb character 32) ≡ false → character ≡ 32
+    is_other : ℕ → Bool
+    is_other character = not (eqb character 32)
+
+    read : List ℕ
+    read = chunk from 16 text
+
+    long : length read ≡ 16
+    long = length-chunk from 16 text within
+
+    others : mask ≡ mask_l (map is_other read)
+    others = masked ∙ bitmask_splat w8 (λ a b. not (eqb a b)) read 16 32 long (omega arith)
+
+    small : mask < 2 ^ 64
+    small =
+        let less = mask_l-lt (map is_other read) in
+        let many = length-map read is_other in
+        let count : length (map is_other read) ≡ 16 = many ∙ long in
+        let below : mask_l (map is_other read) < 2 ^ 16 = subst (λ (n : ℕ). mask_l (map is_other read) < 2 ^ n) count less in
+        omega (arith, others, below)
+
+    index : from + (k - from) ≡ k
+    index = omega (arith, low)
+
+    inside : k - from < 16
+    inside = omega (arith, low, high)
+
+    found : cond {A = ℕ} (is_other (slice_index_or text k 0)) 1 0 ≡ 0
+    found =
+        sym (bit_mask_l (map is_other read) (k - from)
+        ∙ ap (λ (b : Bool). cond {A = ℕ} b 1 0)
+        (get_or-map is_other read (k - from) 0 false (omega (arith, inside, long))
+        ∙ ap is_other (get_or-chunk from 16 text (k - from) 0 inside ∙ ap (λ (j : ℕ). slice_index_or text j 0) index)))
+        ∙ ap (λ (m : ℕ). m / 2 ^ (k - from) % 2) (sym others)
+        ∙ no-bit-past mask (k - from) small (omega (arith, is, low))
+
+    lane : (b : Bool) → cond {A = ℕ} b 1 0 ≡ 0 → b ≡ false
+    lane true e = absurd (omega (arith, e))
+    lane false e = refl
+
+    alike : (character : ℕ) → is_other character ≡ false → character ≡ 32
     alike character e = grind (arith, nat_tests, e)
 
-    zero-is : (n : ℕ) → nat_eq n 0 ≡ true → n ≡ 0
-    zero-is n e = grind (arith, nat_tests, e)
+-- no place is past the sixteenth
+pub few-masked : (text : List ℕ) (from mask : ℕ) → from + 16 ≤ length text
+    → mask ≡ mask_l (map (top 7) (zip2 (λ a b. cond (not (eqb a b)) 255 0) (chunk from 16 text) (replicate 16 32))) % 2 ^ 64
+    → 64 - leading_zeros w64 mask ≤ 16
+few-masked text from mask within masked =
+    let long = length-chunk from 16 text within in
+    let read = chunk from 16 text in
+    let others = masked ∙ bitmask_splat w8 (λ a b. not (eqb a b)) read 16 32 long (omega arith) in
+    let less = mask_l-lt (map (λ character. not (eqb character 32)) read) in
+    let many = length-map read (λ character. not (eqb character 32)) in
+    let below : mask_l (map (λ character. not (eqb character 32)) read) < 2 ^ 16 =
+    subst (λ (n : ℕ). mask_l (map (λ character. not (eqb character 32)) read) < 2 ^ n) (many ∙ long) less in
+    at_most mask (omega (arith, others, below))
+  where
+    at_most : (word : ℕ) → word < 2 ^ 16 → 64 - leading_zeros w64 word ≤ 16
+    at_most word small =
+        let length = leading_length 64 word (omega (arith, small)) in
+        let sum = length.1 in
+        bound length.0 word length.3 small sum
+      where
+        bound : (m word : ℕ) → 2 ^ m ≤ 2 * word + 1 → word < 2 ^ 16 → leading_zeros w64 word + m ≡ 64 → 64 - leading_zeros w64 word ≤ 16
+        bound m word high_bit small sum = elim (cases_lt m 17) [
+          | inl low ↦ omega (arith, sum, low)
+          | inr high ↦ let more : 2 ^ 17 ≤ 2 ^ m = pow_mono high in absurd (omega (arith, more, high_bit, small))
+        ]

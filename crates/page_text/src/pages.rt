@@ -1,6 +1,7 @@
 //! The bytes of pages.
 
-ghost use Rattle.std.specs.Prelude.{◌≡◌, ◌+◌, ◌++◌, ◌∷◌, [], ◌≤◌, ◌<◌, ◌^◌, ℕ, length, slice_index_or, take, true, IfOk, OnOk};
+ghost use Rattle.std.specs.Prelude.{◌≡◌, ◌+◌, ◌++◌, ◌∷◌, [], ◌≤◌, ◌<◌, ◌^◌, ℕ, length, ◌-◌, slice_index_or, take, IfOk, OnOk};
+ghost use Rattle.std.specs.Int.{leading_zeros, w64};
 ghost use Rattle.placed_lines.specs.InOrder.{IsInOrder};
 ghost use Rattle.page_text.specs.Pages.{Pages, without_trailing_blanks, last_page};
 ghost use Rattle.page_text.specs.Walking.{first_text, rest_after, rest_after_lines, walked_lines};
@@ -104,23 +105,35 @@ pub fn without_trailing_blanks(text: &[u8]) -> &[u8]
 }
 
 // A place from which on a text has blanks alone. From the end sixteen are passed at a time, as long as all of them are blanks: most lines
-// leave many wheels blank on the right.
+// leave many wheels blank on the right. Of the next sixteen the last one that is none is found at once.
 fn blanks_from(text: &[u8]) -> usize
     ensures within { result ≤ length text.now }
     ensures same { without_trailing_blanks (take result text.now) ≡ without_trailing_blanks text.now }
 {
     let mut end = text.len();
-    while end >= LANES && are_blank(text, end - LANES) {
+    while end >= LANES {
+        let printed = printed_to(text, end - LANES);
+        if printed > 0 {
+            return end - LANES + printed;
+        }
         end -= LANES;
     }
     end
 }
 
-// Whether sixteen characters from one on are blanks.
-fn are_blank(text: &[u8], from: usize) -> bool
+// How many of sixteen characters from one on there are up to the last one that is no blank.
+fn printed_to(text: &[u8], from: usize) -> usize
     requires { from + LANES ≤ length text.now }
-    ensures { result ≡ true → (k : ℕ) → from ≤ k → k < from + LANES → slice_index_or text.now k 0 ≡ 32 }
+    ensures few { result ≤ LANES }
+    ensures blank { (k : ℕ) → from + result ≤ k → k < from + LANES → slice_index_or text.now k 0 ≡ 32 }
 {
     let characters = u8x16::from_slice(&text[from..]);
-    characters.simd_ne(u8x16::splat(BLANK)).to_bitmask() == 0
+    highest_of(characters.simd_ne(u8x16::splat(BLANK)).to_bitmask())
+}
+
+// One more than the place of the highest bit of a word, and 0 where it has none.
+fn highest_of(word: u64) -> usize
+    ensures { result ≡ 64 - leading_zeros w64 word }
+{
+    64 - word.leading_zeros() as usize
 }
