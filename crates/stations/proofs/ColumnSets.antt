@@ -14,9 +14,9 @@ use Rattle.net.proofs.SetLemmas.{sets-row}
 use Rattle.net.specs.HubSets.{is_bit}
 use Rattle.net.specs.Links.{has_at}
 use Rattle.net.specs.RowSets.{is_in_sets}
-use Rattle.stations.specs.Columns.{column_of}
+use Rattle.stations.specs.Columns.{column_of, HasColumns}
 use Rattle.stations.specs.Comparing.{positions}
-use Rattle.stations.specs.Punches.{is_punched_at, AreColumnsAt, AreRowsAt, HasColumns, IsRowAt}
+use Rattle.stations.specs.Punches.{is_punched_at, AreColumnsAt, AreRowsAt, IsRowAt}
 use Rattle.stations.specs.Stations.{first_emits, second_emits}
 use Rattle.stations.proofs.KeptColumns.{column-blank}
 use Rattle.stations.proofs.PositionWords.{is_bit-positions}

@@ -15,9 +15,9 @@ use Rattle.hub_table.specs.Ranges.{is_within}
 use Rattle.net.proofs.Below.bit_sets.BitLemmas.{is_bit-above, is_bit-or, is_bit-pow, is_bit-zero}
 use Rattle.net.specs.HubSets.{is_bit}
 use Rattle.net.specs.Links.{has_at}
-use Rattle.stations.specs.Columns.{column_of, numbered}
+use Rattle.stations.specs.Columns.{column_of, numbered, HasColumns}
 use Rattle.stations.specs.Kept.{card_of}
-use Rattle.stations.specs.Punches.{is_punched, AreColumnsAt, HasColumns}
+use Rattle.stations.specs.Punches.{is_punched, AreColumnsAt}
 use Rattle.stations.proofs.PositionWords.{same_word}
 
 -- whether the row with a number is among some rows of a set by places

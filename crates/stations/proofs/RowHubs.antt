@@ -1,5 +1,5 @@
 -- The word of a card's row as a row of hubs: by letters, the columns that a station emits.
-use Rattle.std.proofs.Common.{◌≡◌, ◌∙◌, ◌⊎◌, ℕ, suc, ◌+◌, ◌-◌, ◌<◌, ◌≤◌, arith, refl, sym, inr, Bool, true, false, ◌&&◌, List, nat_lt, nat_le, Option, Some, None}
+use Rattle.std.proofs.Common.{◌≡◌, ◌∙◌, ◌⊎◌, ℕ, suc, ◌+◌, ◌-◌, ◌<◌, ◌≤◌, ap, arith, refl, sym, inr, Bool, true, false, ◌&&◌, List, nat_lt, nat_le, Option, Some, None}
 use Rattle.std.specs.Prelude.{option_map, if◌then◌else◌}
 use Rattle.std.proofs.lemmas.Bool.Decides.{nat_tests}
 use Rattle.card_code.specs.declared.row.Row.{Row}
@@ -14,7 +14,7 @@ use Rattle.stations.specs.Punches.{is_punched_at, IsRowAt}
 use Rattle.std.specs.List.{list_any}
 use Rattle.stations.specs.Comparing.{is_in_one, differences_emit}
 use Rattle.stations.specs.Stations.{first_emits, second_emits}
-use Rattle.stations.proofs.RowWords.{off_row, no_bit_past, column_bit, not_punched}
+use Rattle.stations.proofs.RowWords.{off_row, no_bit, no_bit_past, column_bit, not_punched}
 
 -- a hub of another kind is in no row of so many hubs
 other_kind :
@@ -110,3 +110,20 @@ second_entry row hubs reads k below =
     let bit : 1070 + suc k - 1041 ≡ 30 + k = omega arith in
     let found : is_in_row (CA 1) row (CB (suc k)) ≡ is_bit row (30 + k) = rw (number, after, bit) refl in
     sym found ∙ reads (CB (suc k)) near
+
+-- a word without bits is in no row
+none-from : (first given : Option ℕ) → is_bit_from first 0 given ≡ false
+none-from None given = refl
+none-from (Some first) None = refl
+none-from (Some first) (Some n) = by (nat_le first n)
+  where
+    by : (after : Bool) → (after && is_bit 0 (n - first)) ≡ false
+    by true = no_bit (n - first)
+    by false = refl
+
+-- where no position differs nothing is emitted
+pub no_difference : (sets : List (ℕ × ℕ)) (word : ℕ) (hub : Hub) → word ≡ 0
+    → ((k : ℕ) → is_bit word k ≡ (nat_lt k 30 && list_any (is_in_one k) sets))
+    → false ≡ differences_emit sets hub
+no_difference sets word hub none are =
+    sym (ap (λ (w : ℕ). is_in_row (CX 1) w hub) none ∙ none-from (number_of (CX 1)) (number_of hub)) ∙ difference_row sets word hub are

@@ -1,12 +1,11 @@
 -- The punches of a card: whether a row is punched in a column, and a card as one word for each of its rows.
-use Rattle.std.specs.Prelude.{◌≡◌, ℕ, ◌+◌, ◌-◌, ◌<◌, ◌≤◌, ◌&&◌, Bool, false, List, length, Option, Some, None, slice_index, slice_index_or}
+use Rattle.std.specs.Prelude.{◌≡◌, ℕ, ◌+◌, ◌-◌, ◌&&◌, Bool, false, List, length, Option, Some, None, slice_index}
 use Rattle.card_code.specs.CardCode.{has_row}
 use Rattle.card_code.specs.Rows.{row_number, passing_place}
 use Rattle.card_code.specs.declared.row.Row.{Row}
 use Rattle.hub_table.specs.Ranges.{is_within}
 use Rattle.net.specs.HubSets.{is_bit}
 use Rattle.net.specs.Links.{has_at}
-use Rattle.stations.specs.Columns.{column_of}
 
 -- whether the card has the row in the column, 1 to 80
 abbrev pub is_punched : List ℕ → Row → ℕ → Bool
@@ -30,9 +29,3 @@ pub record AreRowsAt (card : Option (List ℕ)) (words : List ℕ) : Type 0 wher
 -- there is no bit without a card.
 abbrev pub AreColumnsAt : Option (List ℕ) → List ℕ → Type 0
 AreColumnsAt card columns = (row : Row) (k : ℕ) → has_at columns k (passing_place row) ≡ is_punched_at card row (k + 1)
-
--- The sets of the first columns of a card are there, and no others.
-pub record HasColumns (count : ℕ) (card columns : List ℕ) : Type 0 where
-  pub long : length columns ≡ 80
-  pub done : (k : ℕ) → k < count → column_of (slice_index_or columns k 0) ≡ slice_index card k
-  pub rest : (k : ℕ) → count ≤ k → slice_index_or columns k 0 ≡ 0

@@ -85,10 +85,10 @@ impl Unit for Comparing {
 
     fn emit(&self, cycle: Cycle, point: Point, exits: &mut Picture) {
         if let (Cycle::Card, Point::K) = (cycle, point) {
-            exits.insert_row(
-                Hub::CX(1),
-                u128::from(low_thirty(u128::from(differences(&self.sets)))),
-            );
+            let differing = low_thirty(u128::from(differences(&self.sets)));
+            if differing != 0 {
+                exits.insert_row(Hub::CX(1), u128::from(differing));
+            }
         }
     }
 
@@ -119,6 +119,9 @@ fn collect(collected: &mut [(u32, u32); 12], entries: &[u16])
     ensures after { length collected.new ≡ 12 }
 {
     let rows = rows_of_all(entries);
+    if rows == 0 {
+        return;
+    }
     for place in 0..12 {
         if has_bit(rows, place) {
             let (first, second) = positions_at(entries, place);

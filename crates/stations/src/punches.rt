@@ -6,9 +6,9 @@ ghost use Rattle.card_code.specs.Rows.{is_row_set, passing_place, row_number};
 ghost use Rattle.card_code.specs.declared.row.Row.{Row as CardRow};
 ghost use Rattle.net.specs.HubSets.{is_bit};
 ghost use Rattle.net.specs.Links.{has_at};
-ghost use Rattle.stations.specs.Columns.{column_of};
+ghost use Rattle.stations.specs.Columns.{column_of, HasColumns};
 ghost use Rattle.stations.specs.Kept.{card_of};
-ghost use Rattle.stations.specs.Punches.{AreColumnsAt, AreRowsAt, HasColumns, IsRowAt};
+ghost use Rattle.stations.specs.Punches.{AreColumnsAt, AreRowsAt, IsRowAt};
 
 use crate::lanes::having_row;
 use card_code::{CARD_COLUMNS, Card, Column, Row};

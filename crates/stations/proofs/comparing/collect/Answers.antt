@@ -1,6 +1,8 @@
-use Rattle.std.proofs.Common.{◌∙◌, bit_or, sym, arith}
+use Rattle.std.proofs.Common.{◌∙◌, ap, bit_or, ℕ, sym, arith}
+use Rattle.net.specs.HubSets.{is_bit}
 use Rattle.stations.specs.Comparing.{sets_at}
-use Rattle.stations.proofs.CollectedSets.{gathered-first, gathered-more, gathered-past}
+use Rattle.stations.proofs.CollectedSets.{gathered-first, gathered-more, gathered-none, gathered-past}
+use Rattle.stations.proofs.RowWords.{no_bit}
 use Rattle.stations.proofs.comparing.collect.Goals as goal
 use Rattle.stations.proofs.comparing.collect.Goals.{then-has_bit, else-has_bit}
 
@@ -26,3 +28,8 @@ returns-clause-rows c place inside =
 
 pub returns-clause-after : goal.returns-clause-after
 returns-clause-after c = c.loop-place.invariant.long
+
+pub returns-then-rows-eq0-clause-rows : goal.returns-then-rows-eq0-clause-rows
+returns-then-rows-eq0-clause-rows c place inside =
+    gathered-none c.args.entries.now place (sets_at place c.args.collected.now)
+    (λ k low. c.rows_of_all-rows.ensures k place low (ap (λ (w : ℕ). is_bit w place) c.if-rows-eq0.true ∙ no_bit place))

@@ -1,5 +1,5 @@
 use Rattle.std.proofs.Common.{◌≡◌, ◌+◌, ◌*◌, ◌∙◌, ap, length, ℕ, arith, subst}
-use Rattle.stations.specs.Punches.{HasColumns}
+use Rattle.stations.specs.Columns.{HasColumns}
 use Rattle.stations.proofs.ColumnSets.{columns-blank, columns-first}
 use Rattle.stations.proofs.KeptColumns.{columns-done}
 use Rattle.stations.proofs.punches.put_columns.Goals as goal

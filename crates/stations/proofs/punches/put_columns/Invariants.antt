@@ -1,5 +1,5 @@
 use Rattle.std.proofs.Common.{◌*◌}
-use Rattle.stations.specs.Punches.{HasColumns}
+use Rattle.stations.specs.Columns.{HasColumns}
 use Rattle.stations.proofs.punches.put_columns.Given as goal
 
 -- the columns so far are done

@@ -1,5 +1,5 @@
 use Rattle.std.proofs.Common.{◌≡◌, ◌+◌, ◌<◌, ℕ, arith, refl, subst}
-use Rattle.stations.specs.Punches.{HasColumns}
+use Rattle.stations.specs.Columns.{HasColumns}
 use Rattle.stations.proofs.ColumnSets.{columns-next, column-read}
 use Rattle.stations.proofs.punches.put_eight.Goals as goal
 

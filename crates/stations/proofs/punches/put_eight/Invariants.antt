@@ -1,4 +1,4 @@
-use Rattle.stations.specs.Punches.{HasColumns}
+use Rattle.stations.specs.Columns.{HasColumns}
 use Rattle.stations.proofs.punches.put_eight.Given as goal
 
 -- the columns so far are done
