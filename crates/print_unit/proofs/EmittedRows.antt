@@ -1,66 +1,88 @@
--- An emitter's rows, one after the other.
-use Rattle.std.proofs.Common.{◌≡◌, ◌≢◌, ◌∙◌, ◌⊎◌, inl, inr, refl, sym, ap, ℕ, ◌+◌, ◌<◌, ◌≤◌, ◌==◌, ◌&&◌, ◌||◌, nat_lt, Bool, true, false, List, Some, get_or, arith}
-use Rattle.std.proofs.lemmas.Bool.Decides.{eqb_tells, nat_tests}
-use Rattle.card_code.specs.Rows.{passing_place, row_number, rows}
+-- An emitter's rows, all at once: the sets of its twelve exits, which follow one another.
+use Rattle.std.proofs.Common.{◌≡◌, ◌∙◌, refl, sym, ap, ℕ, ◌+◌, ◌-◌, ◌*◌, ◌<◌, ◌≤◌, ◌==◌, ◌&&◌, nat_le, Bool, true, false, inl, inr, ◌⊎◌, length, Option, Some, None, arith, if◌then◌else◌}
+use Rattle.std.specs.List.{list_all, range_with_len}
+use Rattle.std.proofs.lemmas.Bool.{cases_lt}
+use Rattle.std.proofs.lemmas.Bool.Decides.{nat_tests}
+use Rattle.std.proofs.lemmas.List.{get_or_past}
+use Rattle.card_code.specs.Rows.{passing_place}
 use Rattle.card_code.specs.declared.row.Row.{Row as CardRow}
-use Rattle.card_code.specs.declared.row.Row.TheVariants.{Zero}
+use Rattle.card_code.specs.declared.row.Row.TheVariants as row
+use Rattle.hubs.specs.Below.hub_table.Places.{row_place}
+use Rattle.hubs.specs.Below.hub_table.Ranges.{is_within}
+use Rattle.hubs.specs.Hubs.{number_of}
 use Rattle.hubs.specs.declared.hub.Hub.{Hub}
 use Rattle.hubs.specs.declared.hub.Hub.TheVariants.{EM}
-use Rattle.net.specs.HubSets.{is_hub}
-use Rattle.net.specs.Links.{has_row_at}
-use Rattle.net.specs.RowSets.{GainsRows}
+use Rattle.net.specs.HubSets.{is_bit, is_same_number}
+use Rattle.net.specs.Links.{has_at}
+use Rattle.net.specs.RowSets.{is_in_sets, is_set_from}
 use Rattle.print_unit.specs.Emitters.{emits_row}
+use Rattle.print_unit.specs.declared.emitters.TheConstants.{ROW_SETS}
+use Rattle.print_unit.proofs.Bits.{is_bit-zero}
+use Rattle.print_unit.proofs.Figures.{answers-same, at-place, same_answer}
 
--- so many of the rows are emitted
-abbrev pub AreEmitted : ℕ → ℕ → List ℕ → List ℕ → Type 0
-AreEmitted count emitter old now =
-    GainsRows (λ row hub. nat_lt (passing_place row) count && is_hub (EM emitter (row_number row)) hub) old now
+-- whether, of the twelve sets, that of one place alone has a row
+is_alone : ℕ → ℕ → Bool
+is_alone p place = list_all (λ j. same_answer (has_at ROW_SETS j p) (j == place)) (range_with_len 0 12)
 
-pub emitted-none : (emitter : ℕ) (sets : List ℕ) → AreEmitted 0 emitter sets sets
-emitted-none emitter sets row hub = none (has_row_at sets (passing_place row) hub) (passing_place row) (is_hub (EM emitter (row_number row)) hub)
+-- the set of one place alone has a row
+alone : (p place : ℕ) → place < 12 → is_alone p place ≡ true → (j : ℕ) → has_at ROW_SETS j p ≡ (j == place)
+unfolding is_alone
+alone p place low all j = by (cases_lt j 12)
   where
-    none : (a : Bool) (n : ℕ) (b : Bool) → a ≡ (a || nat_lt n 0 && b)
-    none a n b = grind (arith, nat_tests)
-
--- at its place among the rows stands the row
-row_at_place : (row other : CardRow) → get_or rows (passing_place row) other ≡ row
-row_at_place Zero other = refl
-row_at_place row other = refl
-
-pub emitted-more : (count emitter number : ℕ) (d : CardRow) (old now new : List ℕ) → number ≡ row_number (get_or rows count d)
-    → ((r : ℕ) (hub : Hub) → has_row_at new r hub ≡ (has_row_at now r hub || ((r == count) && is_hub (EM emitter number) hub)))
-    → AreEmitted count emitter old now → AreEmitted (count + 1) emitter old new
-emitted-more count emitter number d old now new is_number inserted before row hub =
-    inserted (passing_place row) hub ∙ ap (λ b. b || ((passing_place row == count) && is_hub (EM emitter number) hub)) (before row hub)
-    ∙ by (eqb_tells (passing_place row) count)
-  where
-    by : ((passing_place row == count) ≡ true) × (passing_place row ≡ count) ⊎ ((passing_place row == count) ≡ false) × (passing_place row ≢ count)
-        → ((has_row_at old (passing_place row) hub || nat_lt (passing_place row) count && is_hub (EM emitter (row_number row)) hub)
-        || ((passing_place row == count) && is_hub (EM emitter number) hub))
-        ≡ (has_row_at old (passing_place row) hub || nat_lt (passing_place row) (count + 1) && is_hub (EM emitter (row_number row)) hub)
-    by (inl same) =
-        let row_is : get_or rows count d ≡ row = ap (λ (n : ℕ). get_or rows n d) (sym same.1) ∙ row_at_place row d in
-        let number_is : number ≡ row_number row = is_number ∙ ap row_number row_is in
-        let e = same.1 in
-        rw (number_is) (joins (has_row_at old (passing_place row) hub) (is_hub (EM emitter (row_number row)) hub) (passing_place row) e)
+    by : (j < 12) ⊎ (12 ≤ j) → has_at ROW_SETS j p ≡ (j == place)
+    by (inl below) = answers-same _ _ (at-place (λ k. same_answer (has_at ROW_SETS k p) (k == place)) 12 j all below)
+    by (inr past) =
+        let long : length ROW_SETS ≡ 12 = refl in
+        ap (λ (w : ℕ). is_bit w p) (get_or_past ROW_SETS j 0 (omega (arith, past, long))) ∙ is_bit-zero p ∙ off
       where
-        joins : (a b : Bool) (n : ℕ) → n ≡ count → ((a || nat_lt n count && b) || ((n == count) && b)) ≡ (a || nat_lt n (count + 1) && b)
-        joins a b n e = grind (arith, nat_tests, e)
-    by (inr other) =
-        let e = other.1 in
-        keeps (has_row_at old (passing_place row) hub) (is_hub (EM emitter (row_number row)) hub) (is_hub (EM emitter number) hub) (passing_place row) e
-      where
-        keeps : (a b c : Bool) (n : ℕ) → n ≢ count → ((a || nat_lt n count && b) || ((n == count) && c)) ≡ (a || nat_lt n (count + 1) && b)
-        keeps a b c n e = grind (arith, nat_tests, e)
+        off : false ≡ (j == place)
+        off = grind (arith, nat_tests, past, low)
 
-pub emitted-all : (count emitter : ℕ) (old new : List ℕ) → 12 ≤ count → AreEmitted count emitter old new
-    → GainsRows (emits_row (Some emitter)) old new
-emitted-all count emitter old new end are row hub =
-    are row hub ∙ ap (λ b. has_row_at old (passing_place row) hub || b) (all (passing_place row) (is_hub (EM emitter (row_number row)) hub) (place_below row))
+-- the set of the hub with a number is that of one place where the number is that place's
+placed : (first number place p m : ℕ) → number ≡ first + place → ((j : ℕ) → has_at ROW_SETS j p ≡ (j == place))
+    → (nat_le first m && has_at ROW_SETS (m - first) p) ≡ (number == m)
+placed first number place p m is has = ap (λ b. nat_le first m && b) (has (m - first)) ∙ by first number place m is
   where
-    place_below : (r : CardRow) → passing_place r < 12
-    place_below Zero = omega arith
-    place_below r = omega arith
+    by : (first number place m : ℕ) → number ≡ first + place → (nat_le first m && (m - first == place)) ≡ (number == m)
+    by first number place m is = grind (arith, nat_tests, is)
 
-    all : (n : ℕ) (b : Bool) → n < 12 → (nat_lt n count && b) ≡ b
-    all n b low = grind (arith, nat_tests, low, end)
+-- the number of an emitter's exit, by the place of its row
+numbered : (emitter n place : ℕ) → row_place n ≡ Some (place + 1) → (within : Bool) → is_within emitter 8 ≡ within
+    → number_of (EM emitter n) ≡ (if within then Some (928 + ((emitter - 1) * 12 + (place + 1))) else None)
+numbered emitter n place is_place true is = rw (is, is_place) refl
+numbered emitter n place is_place false is = rw (is) refl
+
+-- an exit of the emitter has the row that it is for
+exit-set : (emitter n place p : ℕ) (given : Option ℕ) → place < 12 → row_place n ≡ Some (place + 1) → is_alone p place ≡ true
+    → is_set_from (number_of (EM emitter 0)) ROW_SETS p given ≡ is_same_number (number_of (EM emitter n)) given
+exit-set emitter n place p given low is_place all = by (is_within emitter 8) refl given
+  where
+    by : (within : Bool) → is_within emitter 8 ≡ within → (given : Option ℕ)
+        → is_set_from (number_of (EM emitter 0)) ROW_SETS p given ≡ is_same_number (number_of (EM emitter n)) given
+    by true is (Some m) =
+        ap (λ (o : Option ℕ). is_set_from o ROW_SETS p (Some m)) (numbered emitter 0 0 refl true is)
+        ∙ placed (928 + ((emitter - 1) * 12 + (0 + 1))) (928 + ((emitter - 1) * 12 + (place + 1))) place p m (omega arith) (alone p place low all)
+        ∙ sym (ap (λ (o : Option ℕ). is_same_number o (Some m)) (numbered emitter n place is_place true is))
+    by true is None =
+        ap (λ (o : Option ℕ). is_set_from o ROW_SETS p None) (numbered emitter 0 0 refl true is)
+        ∙ sym (ap (λ (o : Option ℕ). is_same_number o None) (numbered emitter n place is_place true is))
+    by false is given =
+        ap (λ (o : Option ℕ). is_set_from o ROW_SETS p given) (numbered emitter 0 0 refl false is)
+        ∙ sym (ap (λ (o : Option ℕ). is_same_number o given) (numbered emitter n place is_place false is))
+
+-- the sets of an emitter's exits
+pub emitted-sets : (emitter : ℕ) (at : CardRow) (hub : Hub)
+    → is_in_sets (EM emitter 0) ROW_SETS (passing_place at) hub ≡ emits_row (Some emitter) at hub
+unfolding is_alone is_bit same_answer
+emitted-sets emitter row.Zero hub = exit-set emitter 0 0 9 (number_of hub) (omega arith) refl refl
+emitted-sets emitter row.One hub = exit-set emitter 1 1 8 (number_of hub) (omega arith) refl refl
+emitted-sets emitter row.Two hub = exit-set emitter 2 2 7 (number_of hub) (omega arith) refl refl
+emitted-sets emitter row.Three hub = exit-set emitter 3 3 6 (number_of hub) (omega arith) refl refl
+emitted-sets emitter row.Four hub = exit-set emitter 4 4 5 (number_of hub) (omega arith) refl refl
+emitted-sets emitter row.Five hub = exit-set emitter 5 5 4 (number_of hub) (omega arith) refl refl
+emitted-sets emitter row.Six hub = exit-set emitter 6 6 3 (number_of hub) (omega arith) refl refl
+emitted-sets emitter row.Seven hub = exit-set emitter 7 7 2 (number_of hub) (omega arith) refl refl
+emitted-sets emitter row.Eight hub = exit-set emitter 8 8 1 (number_of hub) (omega arith) refl refl
+emitted-sets emitter row.Nine hub = exit-set emitter 9 9 0 (number_of hub) (omega arith) refl refl
+emitted-sets emitter row.Eleven hub = exit-set emitter 11 10 10 (number_of hub) (omega arith) refl refl
+emitted-sets emitter row.Twelve hub = exit-set emitter 12 11 11 (number_of hub) (omega arith) refl refl

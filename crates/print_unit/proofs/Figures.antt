@@ -18,11 +18,11 @@ use Rattle.print_unit.specs.ZeroControl.{character_of, count_of, is_figure, is_z
 use Rattle.print_unit.proofs.Bits.{is_bit-joined, is_bit-zero}
 
 -- whether two answers are the same
-same_answer : Bool → Bool → Bool
+unfoldable pub same_answer : Bool → Bool → Bool
 same_answer true other = other
 same_answer false other = not other
 
-answers-same : (one other : Bool) → same_answer one other ≡ true → one ≡ other
+pub answers-same : (one other : Bool) → same_answer one other ≡ true → one ≡ other
 unfolding same_answer
 answers-same true other e = sym e
 answers-same false true e = cc
@@ -135,7 +135,7 @@ one-counted (false ∷ others) e =
     (suc later.0, omega (arith, low), ap (λ (list : List Bool). false ∷ list) later.2)
 
 -- what is true of each place is so at one
-at-place : (test : ℕ → Bool) (count place : ℕ) → list_all test (range_with_len 0 count) ≡ true → place < count → test place ≡ true
+pub at-place : (test : ℕ → Bool) (count place : ℕ) → list_all test (range_with_len 0 count) ≡ true → place < count → test place ≡ true
 at-place test count place all below =
     let at : get_or (range_with_len 0 count) place 0 ≡ place = get_or-range_with_len 0 count place 0 below ∙ omega arith in
     ap test (sym at) ∙ AllPass-from_list_all test (range_with_len 0 count) all place 0 (rw (length-range_with_len 0 count) below)

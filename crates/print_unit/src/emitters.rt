@@ -4,7 +4,6 @@ ghost use Rattle.std.specs.Prelude.{◌≡◌, Some};
 ghost use Rattle.net.specs.RowSets.{GainsRows};
 ghost use Rattle.print_unit.specs.Emitters.{emitter_of, emits_row};
 
-use card_code::ROWS;
 use hubs::Hub;
 use net::{Cycle, Ordinal, Picture, Point, RowSets, Unit};
 
@@ -38,13 +37,14 @@ impl Emitters {
     }
 }
 
-// Adds each row to the set of an emitter's exit for it.
+// The sets of the exits of an emitter, for the rows 0 to 9, 11 and 12: each has its own row alone, by its place among the points.
+const ROW_SETS: [u16; 12] = [512, 256, 128, 64, 32, 16, 8, 4, 2, 1, 1024, 2048];
+
+// Adds each row to the set of an emitter's exit for it: its exits follow one another.
 fn emit_each(emitter: u8, sets: &mut RowSets)
     ensures { GainsRows (emits_row (Some emitter)) sets.old sets.new }
 {
-    for place in 0..12 {
-        sets.insert(Hub::EM(emitter, ROWS[place].number()), place);
-    }
+    sets.insert_sets(Hub::EM(emitter, 0), &ROW_SETS);
 }
 
 impl Unit for Emitters {
