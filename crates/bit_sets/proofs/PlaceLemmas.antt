@@ -1,7 +1,7 @@
 -- Sets of places: what their words have, and what comes to them with a word.
-use Rattle.std.proofs.Common.{⊎_elim, ◌⊎◌, inl, inr, ◌≡◌, ◌≢◌, ℕ, ◌+◌, ◌-◌, ◌*◌, ◌/◌, ◌%◌, ◌^◌, ◌<◌, ◌≤◌, ◌∙◌, sym, ap, refl, arith, Bool, true, false, ◌&&◌, ◌||◌, List, length, replicate, slice_index_or, slice_set}
+use Rattle.std.proofs.Common.{⊎_elim, ◌⊎◌, inl, inr, ◌≡◌, ◌≢◌, ℕ, ◌+◌, ◌-◌, ◌*◌, ◌/◌, ◌%◌, ◌^◌, ◌<◌, ◌≤◌, ◌∙◌, sym, ap, refl, arith, Bool, true, false, not, ◌&&◌, ◌||◌, List, length, replicate, slice_index_or, slice_set}
 use Rattle.std.specs.Prelude.{nat_le, nat_lt, ◌==◌}
-use Rattle.std.specs.Int.{trailing_zeros, w64}
+use Rattle.std.specs.Int.{bit_not, trailing_zeros, w64}
 use Rattle.std.specs.Int.Bits.{bit_and, bit_or}
 use Rattle.std.proofs.lemmas.Nat.{le_or_l, le_or_r}
 use Rattle.std.proofs.lemmas.Bool.Decides.{nat_tests}
@@ -10,7 +10,7 @@ use Rattle.std.proofs.Math.Bool.{and-false, or-false}
 use Rattle.std.proofs.lemmas.Grind.{common_steps}
 use Rattle.std.proofs.lemmas.List.{get_or_past, get_or-replicate}
 use Rattle.bit_sets.specs.Bits.{is_bit, has_place, is_in_run}
-use Rattle.bit_sets.proofs.BitLemmas.{is_bit-and, is_bit-or, is_bit-zero, is_bit-above, lowest_bit, none_set}
+use Rattle.bit_sets.proofs.BitLemmas.{is_bit-and, is_bit-not, is_bit-or, is_bit-zero, is_bit-above, lowest_bit, none_set}
 
 pub has_place-word : (words : List ℕ) (k : ℕ) → has_place words k ≡ is_bit (slice_index_or words (k / 64) 0) (k % 64)
 unfolding has_place
@@ -280,3 +280,50 @@ apart-words one other none place at = by (cases_lt (place / 64) (length one)) wh
         both : (a b : Bool) → a ≡ true → (a && b) ≡ false → b ≡ false
         both a b e f = grind (arith, nat_tests, e, f)
   by (inr high) = absurd (false≢true (sym (has_place-past one place (omega (arith, high))) ∙ at))
+
+-- each bit that words of two sets have in common, up to one of them, is in that of a third
+abbrev pub AreAmongBefore : List ℕ → List ℕ → List ℕ → ℕ → Type 0
+AreAmongBefore one other third number =
+    (k j : ℕ) → k < number → j < 64 → is_bit (slice_index_or one k 0) j ≡ true → is_bit (slice_index_or other k 0) j ≡ true
+    → is_bit (slice_index_or third k 0) j ≡ true
+
+pub among-more : (one other third : List ℕ) (number others : ℕ) → slice_index_or third number 0 < 2 ^ 64
+    → (others ≡ 0 → AreAmongBefore one other third number)
+    → bit_or others (bit_and (bit_and (slice_index_or one number 0) (slice_index_or other number 0)) (bit_not w64 (slice_index_or third number 0))) ≡ 0
+    → AreAmongBefore one other third (number + 1)
+among-more one other third number others small before none k j low bit at and_at =
+    let word =
+    bit_and (bit_and (slice_index_or one number 0) (slice_index_or other number 0)) (bit_not w64 (slice_index_or third number 0)) in
+    let left = le_or_l others word in
+    let right = le_or_r others word in
+    elim (cases_lt k number) [
+      | inl less ↦ before (omega (arith, left, none)) k j less bit at and_at
+      | inr more ↦
+          let same : k ≡ number = omega (arith, low, more) in
+          rw same (here (omega (arith, right, none)) (rw (sym same) at) (rw (sym same) and_at))
+    ]
+  where
+    all : (a b c : Bool) → a ≡ true → b ≡ true → ((a && b) && not c) ≡ false → c ≡ true
+    all a b c e f g = grind (arith, nat_tests, e, f, g)
+
+    here : bit_and (bit_and (slice_index_or one number 0) (slice_index_or other number 0)) (bit_not w64 (slice_index_or third number 0)) ≡ 0
+        → is_bit (slice_index_or one number 0) j ≡ true → is_bit (slice_index_or other number 0) j ≡ true
+        → is_bit (slice_index_or third number 0) j ≡ true
+    here empty a b =
+        all _ _ _ a b
+        (sym
+        (is_bit-and (bit_and (slice_index_or one number 0) (slice_index_or other number 0)) (bit_not w64 (slice_index_or third number 0)) j
+        ∙ ap (λ t. t && is_bit (bit_not w64 (slice_index_or third number 0)) j)
+        (is_bit-and (slice_index_or one number 0) (slice_index_or other number 0) j)
+        ∙ ap (λ t. (is_bit (slice_index_or one number 0) j && is_bit (slice_index_or other number 0) j) && t)
+        (is_bit-not w64 (slice_index_or third number 0) j small bit))
+        ∙ none_set _ empty j)
+
+pub among-places : (one other third : List ℕ) (number : ℕ) → length one ≤ number → AreAmongBefore one other third number → (place : ℕ)
+    → has_place one place ≡ true → has_place other place ≡ true → has_place third place ≡ true
+among-places one other third number end among place at and_at = by (cases_lt (place / 64) number) where
+  by : (place / 64 < number) ⊎ (number ≤ place / 64) → has_place third place ≡ true
+  by (inl low) =
+      has_place-word third place
+      ∙ among (place / 64) (place % 64) low (omega arith) (sym (has_place-word one place) ∙ at) (sym (has_place-word other place) ∙ and_at)
+  by (inr high) = absurd (false≢true (sym (has_place-past one place (omega (arith, end, high))) ∙ at))

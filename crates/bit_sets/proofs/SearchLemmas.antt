@@ -1,17 +1,17 @@
 -- The search for what is reached: it adds nothing else, it stops only where nothing is left out, and it stops.
-use Rattle.std.proofs.Common.{⊎_elim, ◌⊎◌, inl, inr, ◌↔◌, ◌≡◌, ℕ, zero, suc, ◌+◌, ◌-◌, ◌<◌, ◌≤◌, ◌∙◌, sym, ap, refl, arith, Bool, true, false, not, ◌&&◌, ◌||◌, List, [], ◌∷◌, length}
+use Rattle.std.proofs.Common.{⊎_elim, ◌⊎◌, inl, inr, ◌↔◌, ◌≡◌, ℕ, zero, suc, ◌+◌, ◌-◌, ◌<◌, ◌≤◌, ◌∙◌, sym, ap, refl, arith, Bool, true, false, not, ◌&&◌, ◌||◌, List, [], ◌∷◌, length, replicate}
 use Rattle.std.specs.Prelude.{nat_le, nat_lt, ◌==◌, if◌then◌else◌}
 use Rattle.std.proofs.lemmas.Bool.Decides.{nat_tests}
 use Rattle.std.proofs.Math.Bool.{and-false}
 use Rattle.std.proofs.lemmas.Bool.{cases_lt, false≢true, and_parts, or_right, or_left, or_cases}
 use Rattle.bit_sets.specs.Bits.{has_place}
-use Rattle.bit_sets.specs.Contacts.{AreCommons, ArePlacesApart, is_contact, is_any_contact, passes, passes_run}
+use Rattle.bit_sets.specs.Contacts.{AreAmong, AreCommons, is_contact, is_any_contact, passes, passes_run}
 use Rattle.bit_sets.specs.Reached.{IsReached}
 use Rattle.bit_sets.specs.Reached.IsReached.{emitting, by_row, by_contact}
 use Rattle.bit_sets.specs.Rows.{GainsLed, leads}
 use Rattle.bit_sets.specs.declared.contacts.Run.{Run}
 use Rattle.bit_sets.proofs.LedLemmas.{leads-past}
-use Rattle.bit_sets.proofs.PlaceLemmas.{has_place-past}
+use Rattle.bit_sets.proofs.PlaceLemmas.{has_place-past, has_place-zeros}
 
 -- how many of the first places a set does not have
 unfoldable pub missing_below : List ℕ → ℕ → ℕ
@@ -129,13 +129,16 @@ passes_on closed words (run ∷ runs) from to at contact shut out =
             all a b c d e f p q r t = grind (arith, nat_tests)
 
 -- The state of a search: the set has what emits, and nothing that is not reached; the rows of all its places are in but those of
--- the new ones; and where nothing is new, no closed contact leads out of it.
-pub record IsSearching (rows : List (List ℕ)) (runs : List Run) (emits closed words new : List ℕ) (has_new : Bool) : Type 0 where
+-- the new ones; no closed contact leads out of it from the places that were asked; and where nothing is new, none does from any place.
+pub record IsSearching (rows : List (List ℕ)) (runs : List Run) (emits closed asked words new : List ℕ) (has_new : Bool) : Type 0 where
   pub kept : IsWithin emits words
   pub sound : (place : ℕ) → has_place words place ≡ true → IsReached rows runs emits closed place
   pub new_in : IsWithin new words
   pub joined :
       (from to : ℕ) → has_place words from ≡ true → has_place new from ≡ false → leads rows from to ≡ true
+      → has_place words to ≡ true
+  pub done :
+      (from to : ℕ) → has_place asked from ≡ true → is_any_contact runs from to ≡ true → has_place closed to ≡ true
       → has_place words to ≡ true
   pub passed :
       has_new ≡ false → (from to : ℕ) → has_place words from ≡ true → is_any_contact runs from to ≡ true
@@ -145,30 +148,31 @@ pub record IsSearching (rows : List (List ℕ)) (runs : List Run) (emits closed 
 -- it begins
 pub IsSearching-start : (rows : List (List ℕ)) (runs : List Run) (emits closed : List ℕ) (has_new : Bool)
     → (has_new ≡ false → (place : ℕ) → has_place emits place ≡ false)
-    → IsSearching rows runs emits closed emits emits has_new
+    → IsSearching rows runs emits closed (replicate 31 0) emits emits has_new
 IsSearching-start rows runs emits closed has_new none = record {
   kept = λ place at. at;
   sound = emitting;
   new_in = λ place at. at;
   joined = λ from to at out leads. absurd (false≢true (sym out ∙ at));
+  done = λ from to at contact shut. absurd (false≢true (sym (has_place-zeros 31 from) ∙ at));
   passed = λ over from to at contact shut. absurd (false≢true (sym (none over from) ∙ at));
   none = none;
 }
 
 -- where nothing is new it has found what is reached
-pub IsReached-found : (rows : List (List ℕ)) (runs : List Run) (emits closed words new : List ℕ) (has_new : Bool)
-    → has_new ≡ false → IsSearching rows runs emits closed words new has_new → (place : ℕ)
+pub IsReached-found : (rows : List (List ℕ)) (runs : List Run) (emits closed asked words new : List ℕ) (has_new : Bool)
+    → has_new ≡ false → IsSearching rows runs emits closed asked words new has_new → (place : ℕ)
     → (has_place words place ≡ true) ↔ IsReached rows runs emits closed place
-IsReached-found rows runs emits closed words new has_new over searching place = (searching.sound place, found) where
+IsReached-found rows runs emits closed asked words new has_new over searching place = (searching.sound place, found) where
   found : {place : ℕ} → IsReached rows runs emits closed place → has_place words place ≡ true
   found (emitting place at) = searching.kept place at
   found (by_row from to at leads) = searching.joined from to (found at) (searching.none over from) leads
   found (by_contact from to at contact shut) = searching.passed over from to (found at) contact shut
 
 -- one step: the rows of the new places, and what closed contacts pass on then
-module _ (rows : List (List ℕ)) (runs : List Run) (emits closed words new now next after : List ℕ)
+module _ (rows : List (List ℕ)) (runs : List Run) (emits closed asked words new now next after : List ℕ)
     (short : length rows ≤ 1040) (onward : (from to : ℕ) → leads rows from to ≡ true → 1040 ≤ to) (long : length closed ≡ 31) (had has : Bool)
-    (before : IsSearching rows runs emits closed words new had)
+    (before : IsSearching rows runs emits closed asked words new had)
     (gains : GainsLed rows (has_place new) words now)
     (passed_on : (place : ℕ) → has_place next place ≡ (nat_lt place 1984 && passes closed now runs place))
     (joins : (place : ℕ) → has_place after place ≡ (has_place now place || has_place next place))
@@ -198,7 +202,7 @@ module _ (rows : List (List ℕ)) (runs : List Run) (emits closed words new now 
         by_new at_words true is = gains.led from to is leads
         by_new at_words false is = gains.kept to (before.joined from to at_words is leads)
 
-  pub IsSearching-next : IsSearching rows runs emits closed after next has
+  pub IsSearching-next : IsSearching rows runs emits closed now after next has
   IsSearching-next = record {
     kept = λ place at. into_after place (gains.kept place (before.kept place at));
     sound = λ place at.
@@ -214,21 +218,23 @@ module _ (rows : List (List ℕ)) (runs : List Run) (emits closed words new now 
         (λ at_now. into_after to (joined_now from to at_now leads))
         (λ is_new. absurd (false≢true (sym out ∙ is_new)))
         (or_cases (has_place now from) (has_place next from) (sym (joins from) ∙ at));
+    done = λ from to at contact shut. on from to at contact shut (has_place now to) refl;
     passed = λ over from to at contact shut.
         ⊎_elim
-        (λ at_now. into_after to (in_now over from to at_now contact shut (has_place now to) refl))
+        (λ at_now. on from to at_now contact shut (has_place now to) refl)
         (λ is_new. absurd (false≢true (sym (none over from) ∙ is_new)))
         (or_cases (has_place now from) (has_place next from) (sym (joins from) ∙ at));
     none = none;
   } where
-    in_now : has ≡ false → (from to : ℕ) → has_place now from ≡ true → is_any_contact runs from to ≡ true
-        → has_place closed to ≡ true → (b : Bool) → has_place now to ≡ b → has_place now to ≡ true
-    in_now over from to at contact shut true is = is
-    in_now over from to at contact shut false is =
-        let on = passes_on closed now runs from to at contact shut is in
+    on : (from to : ℕ) → has_place now from ≡ true → is_any_contact runs from to ≡ true
+        → has_place closed to ≡ true → (b : Bool) → has_place now to ≡ b → has_place after to ≡ true
+    on from to at contact shut true is = into_after to is
+    on from to at contact shut false is =
+        let passes_it = passes_on closed now runs from to at contact shut is in
         let low : to < 1984 = inside (cases_lt to 1984) in
         let yes : nat_lt to 1984 ≡ true = grind (arith, nat_tests) in
-        absurd (false≢true (sym (none over to) ∙ passed_on to ∙ ap (λ b. b && passes closed now runs to) yes ∙ on)) where
+        joins to
+        ∙ or_right (has_place now to) _ (passed_on to ∙ ap (λ b. b && passes closed now runs to) yes ∙ passes_it) where
           inside : (to < 1984) ⊎ (1984 ≤ to) → to < 1984
           inside (inl low) = low
           inside (inr high) = absurd (false≢true (sym (has_place-past closed to (omega arith)) ∙ shut))
@@ -256,16 +262,16 @@ pub smaller : (now before : ℕ) (had : Bool) → had ≡ true → now ≤ befor
 smaller now before true is le = omega arith
 smaller now before false is le = cc
 
--- where no common place is in the set once the rows of the new places are, it has all that is reached
-pub IsReached-no_common :
-    (rows : List (List ℕ)) (runs : List Run) (commons emits closed words new now : List ℕ) → length rows ≤ 1040
+-- where no common place is in the set once the rows of the new places are but those that were asked, it has all that is reached
+pub IsReached-no_other :
+    (rows : List (List ℕ)) (runs : List Run) (commons emits closed asked words new now : List ℕ) → length rows ≤ 1040
     → ((from to : ℕ) → leads rows from to ≡ true → 1040 ≤ to) → length closed ≡ 31 → length now ≡ 31 → (had : Bool)
-    → IsSearching rows runs emits closed words new had → GainsLed rows (has_place new) words now
-    → AreCommons runs commons → ArePlacesApart commons now → (place : ℕ)
+    → IsSearching rows runs emits closed asked words new had → GainsLed rows (has_place new) words now
+    → AreCommons runs commons → AreAmong commons now asked → (place : ℕ)
     → (has_place now place ≡ true) ↔ IsReached rows runs emits closed place
-IsReached-no_common rows runs commons emits closed words new now short onward long many had searching gains are_commons apart =
-    IsReached-found rows runs emits closed now [] false refl
-    (IsSearching-next rows runs emits closed words new now [] now short onward long had false searching gains
+IsReached-no_other rows runs commons emits closed asked words new now short onward long many had searching gains are_commons among =
+    IsReached-found rows runs emits closed now now [] false refl
+    (IsSearching-next rows runs emits closed asked words new now [] now short onward long had false searching gains
     (λ place. none place ∙ sym (passes_none place)) (λ place. sym (or_none (has_place now place) (none place)))
     (λ over. none)) where
       none : (place : ℕ) → has_place [] place ≡ false
@@ -285,6 +291,25 @@ IsReached-no_common rows runs commons emits closed words new now short onward lo
         by true is =
             let passed = passed_by closed now runs place is in
             let low : passed.from < 1984 = inside passed.from passed.at (cases_lt passed.from 1984) in
-            absurd
-            (false≢true
-            (sym (apart passed.from (are_commons passed.from place low passed.contact)) ∙ passed.at))
+            let was = among passed.from (are_commons passed.from place low passed.contact) passed.at in
+            absurd (false≢true (sym passed.out ∙ gains.kept place (searching.done passed.from place was passed.contact passed.shut)))
+
+-- where no contact is closed, the places and what their rows lead to are all that is reached
+pub IsReached-by_rows : (rows : List (List ℕ)) (runs : List Run) (emits now : List ℕ) → length rows ≤ 1040
+    → ((from to : ℕ) → leads rows from to ≡ true → 1040 ≤ to) → GainsLed rows (has_place emits) emits now → (place : ℕ)
+    → (has_place now place ≡ true) ↔ IsReached rows runs emits [] place
+IsReached-by_rows rows runs emits now short onward gains place = (sound place, found) where
+  sound : (place : ℕ) → has_place now place ≡ true → IsReached rows runs emits [] place
+  sound place at =
+      ⊎_elim (λ at_emits. emitting place at_emits) (λ led. by_row led.0 place (emitting led.0 led.1) led.2) (gains.only place at)
+
+  found : {place : ℕ} → IsReached rows runs emits [] place → has_place now place ≡ true
+  found (emitting place at) = gains.kept place at
+  found (by_row from to at leads) =
+      ⊎_elim
+      (λ at_emits. gains.led from to at_emits leads)
+      (λ led.
+      let high = onward led.0 from led.2 in
+      absurd (false≢true (sym (leads-past rows from to (omega arith)) ∙ leads)))
+      (gains.only from (found at))
+  found (by_contact from to at contact shut) = absurd (false≢true (sym (has_place-past [] to (omega arith)) ∙ shut))

@@ -39,3 +39,8 @@ AreCommons runs commons =
 -- two sets have no place in common
 abbrev pub ArePlacesApart : List ℕ → List ℕ → Type 0
 ArePlacesApart one other = (place : ℕ) → has_place one place ≡ true → has_place other place ≡ false
+
+-- each place that two sets have in common is one of a third
+abbrev pub AreAmong : List ℕ → List ℕ → List ℕ → Type 0
+AreAmong one other third =
+    (place : ℕ) → has_place one place ≡ true → has_place other place ≡ true → has_place third place ≡ true

@@ -21,6 +21,7 @@ pub(crate) fn bit_where(bit: usize, test: bool) -> u64
 }
 
 // The low word of a row.
+#[inline(always)]
 fn low_word(bits: u128) -> u64
     ensures { (j : ℕ) → j < 64 → is_bit result j ≡ is_bit bits j }
 {
@@ -28,6 +29,7 @@ fn low_word(bits: u128) -> u64
 }
 
 // The part of a row of places that stands in a word: the row begins at the place `from`, the word at the place `to`.
+#[inline(always)]
 pub(crate) fn word_of_run(bits: u128, from: usize, to: usize) -> u64
     ensures { (j : ℕ) → j < 64 → is_bit result j ≡ is_in_run from bits (to + j) }
 {
@@ -46,6 +48,7 @@ pub(crate) fn word_of_run(bits: u128, from: usize, to: usize) -> u64
 
 // The part of a word that stands in a row of 128 places: the word begins at the place `from`, the row at the place `to`.
 // A word without a bit, as most are, has no part.
+#[inline(always)]
 pub(crate) fn run_of_word(word: u64, from: usize, to: usize) -> u128
     ensures { (j : ℕ) → j < 128 → is_bit result j ≡ is_in_run from word (to + j) }
 {
@@ -53,6 +56,7 @@ pub(crate) fn run_of_word(word: u64, from: usize, to: usize) -> u128
 }
 
 // A word, moved from the place where it begins to the place where a row begins.
+#[inline(always)]
 fn moved(word: u64, from: usize, to: usize) -> u128
     ensures { (j : ℕ) → j < 128 → is_bit result j ≡ is_in_run from word (to + j) }
 {

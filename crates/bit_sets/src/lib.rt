@@ -15,4 +15,4 @@ mod search;
 pub use contacts::{Run, commons_of};
 pub use places::{PLACES, WORDS, has, put_run, put_where, run};
 pub use rows::{EXITS, Rows};
-pub use search::reach;
+pub use search::{meet, reach, reach_by_rows};

@@ -43,6 +43,7 @@ pub(crate) fn put(words: &mut [u64], place: usize)
 
 /// Adds a row of up to 128 places that follow one another: bit k stands for the place that is k after the first one. Bits
 /// after the last place change nothing.
+#[inline(always)]
 pub fn put_run(words: &mut [u64; WORDS], first: usize, bits: u128)
     requires { first < PLACES }
     ensures { GainsPlaces (λ place. nat_lt place PLACES && is_in_run first bits place) words.old words.new }
@@ -55,6 +56,7 @@ pub fn put_run(words: &mut [u64; WORDS], first: usize, bits: u128)
 
 /// Which of the 128 places that follow one another from the first one are in the set: bit k stands for the place that is k
 /// after the first one.
+#[inline(always)]
 pub fn run(words: &[u64; WORDS], first: usize) -> u128
     requires { first < PLACES }
     ensures { (k : ℕ) → is_bit result k ≡ (nat_lt k 128 && has_place words.now (first + k)) }

@@ -103,12 +103,21 @@ impl Rows {
         }
     }
 
+    // The same row by row, which is faster for a few places.
+    pub(crate) fn join_few(&self, new: &[u64; WORDS], words: &mut [u64; WORDS])
+        ensures { GainsLed self.now (has_place new.now) words.old words.new }
+    {
+        self.join_marked(&self.marked, new, words);
+    }
+
     // Whether more places of `new` lead on by runs alone than there are runs. The answer saves time and changes nothing else.
     fn has_more_exits(&self, new: &[u64; WORDS]) -> bool {
         let mut count: u32 = 0;
         for number in 0..17 {
-            let by_runs = new[number] & self.marked[number] & !self.apart[number];
-            count = count.wrapping_add(by_runs.count_ones());
+            if new[number] != 0 {
+                let by_runs = new[number] & self.marked[number] & !self.apart[number];
+                count = count.wrapping_add(by_runs.count_ones());
+            }
         }
         count as usize > self.runs.len()
     }

@@ -14,3 +14,4 @@ pub mod DirectWires
 pub mod PassLemmas
 pub mod PassedRows
 pub mod PassedHubs
+pub mod WiredPictures

@@ -1,5 +1,5 @@
 -- What contacts pass on, told of hubs: contacts lead from common hubs, and wires lead there.
-use Rattle.std.proofs.Common.{⊎_elim, ◌≡◌, ◌∙◌, ℕ, ◌+◌, ◌-◌, ◌<◌, ◌≤◌, ◌&&◌, ◌⊎◌, inl, inr, true, false, List, Option, Some, None, All, sym, ap, refl, arith}
+use Rattle.std.proofs.Common.{⊎_elim, ◌≡◌, ◌∙◌, ℕ, ◌+◌, ◌-◌, ◌<◌, ◌≤◌, ◌&&◌, ◌⊎◌, inl, inr, true, List, Option, Some, None, All, sym, ap, refl, arith}
 use Rattle.std.specs.List.{list_any}
 use Rattle.std.proofs.lemmas.Bool.{and_from, and_parts, false≢true, or_cases, or_left, or_right}
 use Rattle.std.proofs.lemmas.Option.{same_Some}
@@ -10,8 +10,7 @@ use Rattle.hubs.proofs.HubLemmas.{hub_numbered, in_range, number_of-range}
 use Rattle.hubs.specs.Hubs.{number_of}
 use Rattle.hubs.specs.declared.hub.Hub.{Hub}
 use Rattle.setups.specs.Wiring.{HasWire, Wiring}
-use Rattle.bit_sets.specs.Bits.{has_place}
-use Rattle.bit_sets.specs.Contacts.{AreCommons, is_any_contact}
+use Rattle.bit_sets.specs.Contacts.{is_any_contact}
 use Rattle.bit_sets.specs.Rows.{leads}
 use Rattle.net.specs.HubSets.{HubSet, has_number}
 use Rattle.net.specs.Laws.{EmitsOrIsFed}
@@ -19,10 +18,10 @@ use Rattle.net.proofs.LinkLemmas.{fed-found, fed-from}
 use Rattle.net.specs.Links.{IsInRange, IsPassing, Spreads, is_fed_at, has_at, has_at_number, has_row_at, is_led_to, is_linked}
 use Rattle.net.specs.Nets.{IsNetOf, NetRows, leads_by}
 use Rattle.net.specs.Panel.{contact_of}
-use Rattle.net.specs.Passing.{IsPassedOn, KeepsCommons, Passes, PassesOn, SpreadsOn, closes_at_row, is_closed_at, is_passed_by}
+use Rattle.net.specs.Passing.{IsPassedOn, Passes, PassesBehind, PassesOn, SpreadsOn, closes_at_row, is_closed_at, is_passed_by}
 use Rattle.net.specs.declared.contacts.TheConstants.{CONTACTS}
 use Rattle.net.specs.declared.links.Link.{Link}
-use Rattle.net.proofs.DirectWires.{exit_numbered, linked-elsewhere, linked-range, wires-lead}
+use Rattle.net.proofs.DirectWires.{exit_numbered, wires-lead}
 use Rattle.net.proofs.PanelContacts.{IsInRuns, contact_by_place, contact_numbered, in_runs, of_runs}
 use Rattle.net.proofs.PassLemmas.{linked-led, passed-found, passed-from}
 
@@ -235,47 +234,64 @@ spreads-on wiring net links contacts further old new is_net range agree wired fu
         one_less : (n g : ℕ) → n ≡ g + 1 → n - 1 ≡ g
         one_less n g e = omega (arith, e)
 
--- where no link leads to a common place, hubs from which contacts lead gain no row
-pub commons-kept : (commons : List ℕ) (further : List Link) (old new : List ℕ) → AreCommons CONTACTS commons → All IsInRange further
-    → All (λ link. has_place commons link.to ≡ false) further → Spreads further old new → KeepsCommons old new
-commons-kept commons further old new are range apart spreads row common hub contact on =
-    let number = numbered new row common on in
-    by number.0 number.1
-    (or_cases (has_at old (number.0 - 1) row) (is_fed_at further old (number.0 - 1) row)
-    (sym (spreads (number.0 - 1) row) ∙ sym (ap (has_at_number new row) number.1) ∙ on))
+-- what is passed on along the contacts behind others, told of hubs
+pub passes-behind : (wiring : Wiring) (net : NetRows) (links contacts further behind : List Link) (digits zones : HubSet) (old new : List ℕ)
+    → IsNetOf wiring net → ((from to : ℕ) → is_linked links from to ≡ leads net.rows from to)
+    → ((from to : ℕ) → is_linked contacts from to ≡ (is_any_contact CONTACTS from to && is_led_to links from))
+    → ((from to : ℕ) → is_linked further from to ≡ (is_linked links from to && is_led_to contacts from))
+    → ((from to : ℕ) → is_linked behind from to ≡ (is_linked contacts from to && is_led_to further from))
+    → Passes digits.words zones.words behind old new → PassesBehind wiring digits zones old new
+passes-behind wiring net links contacts further behind digits zones old new is_net agree wired follows are passes =
+    record { passed = passed }
   where
-    index : (n g : ℕ) → n ≡ g + 1 → n - 1 ≡ g
-    index n g e = omega (arith, e)
+    linked-wire : (from to : Hub) (wire : HasWire wiring from to) → is_linked links (wire.number - 1) (wire.to - 1) ≡ true
+    linked-wire from to wire =
+        agree (wire.number - 1) (wire.to - 1)
+        ∙ sym (ap (λ n. leads_by net.rows n (number_of to)) wire.numbered ∙ ap (leads_by net.rows (Some wire.number)) wire.entry_numbered)
+        ∙ (is_net from to).1 wire
 
-    below : (g n : ℕ) → n - 1 ≡ g → n - 1 < 1936 → g < 1984
-    below g n e less = omega (arith, e, less)
+    one_less : (n g : ℕ) → n ≡ g + 1 → n - 1 ≡ g
+    one_less n g e = omega (arith, e)
 
-    by : (n : ℕ) → number_of common ≡ Some n → (has_at old (n - 1) row ≡ true) ⊎ (is_fed_at further old (n - 1) row ≡ true)
-        → has_row_at old row common ≡ true
-    by n is (inl at) = ap (has_at_number old row) is ∙ at
-    by n is (inr feeds) =
-        let fed = fed-found further old (n - 1) row range feeds in
-        let exit = exit_numbered hub common n contact is in
-        let found = contact_numbered common hub exit.0 contact exit.1 in
-        let place : n - 1 ≡ found.0 = index n found.0 (same_Some _ _ (sym is ∙ found.1)) in
-        let inside = linked-range further fed.0 (n - 1) range fed.2 in
-        let there : has_place commons found.0 ≡ true =
-        are found.0 exit.0 (below found.0 n place inside.2) (of_runs CONTACTS found.0 exit.0 found.2) in
-        let none : has_place commons (n - 1) ≡ false = linked-elsewhere further commons fed.0 (n - 1) apart fed.2 in
-        absurd (false≢true (sym none ∙ ap (λ (p : ℕ). has_place commons p) place ∙ there))
+    -- the contact to a hub at a place, by a wire that leads to it
+    contact-at : (exit common hub : Hub) (g h : ℕ) (wire : HasWire wiring exit common) → number_of common ≡ Some (g + 1)
+        → IsInRuns CONTACTS g h → is_linked contacts g h ≡ true
+    contact-at exit common hub g h wire is inside =
+        let place : wire.to - 1 ≡ g = one_less wire.to g (same_Some _ _ (sym wire.entry_numbered ∙ is)) in
+        wired g h
+        ∙ and_from (is_any_contact CONTACTS g h) (is_led_to links g) (of_runs CONTACTS g h inside)
+        (ap (λ (p : ℕ). is_led_to links p) (sym place)
+        ∙ linked-led links (wire.number - 1) (wire.to - 1) (linked-wire exit common wire))
 
--- where these hubs have gained none since contacts passed on what they had, contacts pass on nothing more
-pub passes-nothing : (wiring : Wiring) (digits zones : HubSet) (spread passed spread_on : List ℕ)
-    → PassesOn wiring digits zones spread passed → SpreadsOn wiring passed spread_on → KeepsCommons passed spread_on
-    → PassesOn wiring digits zones spread_on spread_on
-passes-nothing wiring digits zones spread passed spread_on first on keeps = record {
-  leads = first.leads;
-  kept = λ row hub at. at;
-  only = λ row hub at. inl at;
-  passed = λ row exit hub is wire.
-      let near = keeps (passing_place row) is.common hub is.contact is.on in
-      on.kept (passing_place row) hub
-      (first.passed row exit hub
-      (record { common = is.common; contact = is.contact; closed = is.closed; on = first.commons row is.common hub is.contact near }) wire);
-  commons = λ row common hub contact at. at;
-}
+    passed : (row : CardRow) (before first exit hub : Hub) (on : IsPassedOn digits zones old row hub) → HasWire wiring before first
+        → contact_of exit ≡ Some first → HasWire wiring exit on.common → has_row_at new (passing_place row) hub ≡ true
+    passed row before first exit hub on into contact wire =
+        let r = passing_place row in
+        let at = exit_numbered hub on.common wire.to on.contact wire.entry_numbered in
+        let h = at.0 in
+        let found = contact_numbered on.common hub h on.contact at.1 in
+        let g = found.0 in
+        let index : h + 1 - 1 ≡ h = omega arith in
+        let common_index : g + 1 - 1 ≡ g = omega arith in
+        let out = exit_numbered exit first into.to contact into.entry_numbered in
+        let e = out.0 in
+        let from = contact_numbered first exit e contact out.1 in
+        let place : wire.to - 1 ≡ g = one_less wire.to g (same_Some _ _ (sym wire.entry_numbered ∙ found.1)) in
+        let exit_place : wire.number - 1 ≡ e = one_less wire.number e (same_Some _ _ (sym wire.numbered ∙ out.1)) in
+        let leads_there : is_led_to contacts e ≡ true =
+        linked-led contacts from.0 e (contact-at before first exit from.0 e into from.1 from.2) in
+        let further_linked : is_linked further (wire.number - 1) (wire.to - 1) ≡ true =
+        follows (wire.number - 1) (wire.to - 1)
+        ∙ and_from (is_linked links (wire.number - 1) (wire.to - 1)) (is_led_to contacts (wire.number - 1))
+        (linked-wire exit on.common wire) (ap (λ (p : ℕ). is_led_to contacts p) exit_place ∙ leads_there) in
+        let led : is_led_to further g ≡ true =
+        ap (λ (p : ℕ). is_led_to further p) (sym place) ∙ linked-led further (wire.number - 1) (wire.to - 1) further_linked in
+        let linked : is_linked behind g h ≡ true =
+        are g h
+        ∙ and_from (is_linked contacts g h) (is_led_to further g) (contact-at exit on.common hub g h wire found.1 found.2) led in
+        let there : has_at old g r ≡ true =
+        ap (λ (p : ℕ). has_at old p r) (sym common_index) ∙ sym (ap (has_at_number old r) found.1) ∙ on.on in
+        let shut : is_closed_at digits.words zones.words r h ≡ true =
+        ap (λ (p : ℕ). is_closed_at digits.words zones.words r p) (sym index) ∙ sym (closes-number digits zones row hub (h + 1) at.1) ∙ on.closed in
+        ap (has_at_number new r) at.1 ∙ ap (λ (p : ℕ). has_at new p r) index ∙ passes h r
+        ∙ or_right (has_at old h r) _ (passed-from digits.words zones.words old behind g h r linked there shut)

@@ -14,7 +14,7 @@ use Rattle.net.specs.Impulsed.IsImpulsed.{emitting, led_on}
 use Rattle.net.specs.Laws.{EmitsOrIsFed, FollowsLeads}
 use Rattle.net.specs.Links.{has_at_number, has_row_at}
 use Rattle.net.specs.Panel.{contact_of}
-use Rattle.net.specs.Passing.{AreCommonsSilent, IsPassedOn, PassesOn, SameSets, SpreadsOn, closes_at_row}
+use Rattle.net.specs.Passing.{AreCommonsSilent, IsPassedOn, PassesBehind, PassesOn, SameSets, SpreadsOn, closes_at_row}
 use Rattle.net.specs.RowSets.{pictures_of}
 use Rattle.net.specs.declared.cycle.Point.TheVariants.{Row}
 
@@ -141,38 +141,51 @@ module _ (wiring : Wiring) (digits zones : HubSet) (row : CardRow) (first : List
   -- where what is passed on once passes no further contact
   twice : (spread passed spread_on passed_on : List ℕ) → AreCommonsSilent first → SpreadsWires wiring first spread
       → PassesOn wiring digits zones spread passed → SpreadsRow passed spread_on
-      → PassesOn wiring digits zones spread_on passed_on → SameSets spread_on passed_on
+      → PassesBehind wiring digits zones spread_on passed_on → SameSets spread_on passed_on
       → IsPicture wiring exits closed (has_row_at spread_on (passing_place row))
   twice spread passed spread_on passed_on silent spreads passes spreads_on passes_on same =
       picture-of spread_on
       (spread-impulsed passed spread_on spreads_on (passed-impulsed spread passed passes (first-impulsed spread spreads)))
-      (λ hub there emits.
-      (spreads_on hub).1
-      (inl (there, passes.kept row hub ((spreads (passing_place row) hub).1 (inl (there, emits))))))
+      (λ hub there emits. stays hub (passes.kept row hub ((spreads (passing_place row) hub).1 (inl (there, emits)))))
       (spread-follows passed spread_on passes.leads spreads_on)
-      (λ common hub contact shut on.
-      sym (same-row spread_on passed_on same (passing_place row) hub)
-      ∙ by common hub contact shut on ((spreads_on common).0 on))
+      (λ common hub contact shut on. by common hub contact shut on ((spreads_on common).0 on))
     where
-      wired : (exit common hub : Hub) → contact_of hub ≡ Some common → closed hub ≡ true
-          → has_row_at spread_on (passing_place row) common ≡ true → HasWire wiring exit common
-          → has_row_at passed_on (passing_place row) hub ≡ true
-      wired exit common hub contact shut on wire =
-          passes_on.passed row exit hub (record { common = common; contact = contact; closed = shut; on = on }) wire
+      stays : (hub : Hub) → has_row_at passed (passing_place row) hub ≡ true → has_row_at spread_on (passing_place row) hub ≡ true
+      stays hub at = there (number_of hub) refl
+        where
+          there : (number : Option ℕ) → number_of hub ≡ number → has_row_at spread_on (passing_place row) hub ≡ true
+          there (Some n) is = (spreads_on hub).1 (inl (in_range hub n is, at))
+          there None is = absurd (false≢true (sym (ap (has_at_number passed (passing_place row)) is) ∙ at))
 
-      before : (common hub : Hub) → contact_of hub ≡ Some common → closed hub ≡ true
-          → has_row_at spread_on (passing_place row) common ≡ true → EmitsOrIsFed wiring exits common
-          → has_row_at passed_on (passing_place row) hub ≡ true
-      before common hub contact shut on (inl emits) =
-          absurd (false≢true (sym (silent common hub contact row) ∙ emits.1))
-      before common hub contact shut on (inr fed) = wired fed.exit common hub contact shut on fed.wire
+      -- a contact at which a row was before contacts passed any on
+      before : (common hub : Hub) → contact_of hub ≡ Some common → closed hub ≡ true → has_row_at spread (passing_place row) common ≡ true
+          → has_row_at spread_on (passing_place row) hub ≡ true
+      before common hub contact shut at = arrived ((spreads (passing_place row) common).0 at)
+        where
+          arrived : EmitsOrIsFed wiring exits common → has_row_at spread_on (passing_place row) hub ≡ true
+          arrived (inl emits) = absurd (false≢true (sym (silent common hub contact row) ∙ emits.1))
+          arrived (inr fed) =
+              stays hub
+              (passes.passed row fed.exit hub (record { common = common; contact = contact; closed = shut; on = at }) fed.wire)
 
       by : (common hub : Hub) → contact_of hub ≡ Some common → closed hub ≡ true
           → has_row_at spread_on (passing_place row) common ≡ true → EmitsOrIsFed wiring (has_row_at passed (passing_place row)) common
-          → has_row_at passed_on (passing_place row) hub ≡ true
-      by common hub contact shut on (inl emits) =
-          before common hub contact shut on ((spreads (passing_place row) common).0 (passes.commons row common hub contact emits.1))
-      by common hub contact shut on (inr fed) = wired fed.exit common hub contact shut on fed.wire
+          → has_row_at spread_on (passing_place row) hub ≡ true
+      by common hub contact shut on (inl emits) = before common hub contact shut (passes.commons row common hub contact emits.1)
+      by common hub contact shut on (inr fed) = elim (passes.only row fed.exit fed.emits) [
+        | inl at ↦
+            before common hub contact shut
+            (spread-follows first spread passes.leads (λ h. spreads (passing_place row) h) fed.exit common at fed.wire)
+        | inr other ↦ through other ((spreads (passing_place row) other.common).0 other.on)
+      ]
+        where
+          through : (other : IsPassedOn digits zones spread row fed.exit) → EmitsOrIsFed wiring exits other.common
+              → has_row_at spread_on (passing_place row) hub ≡ true
+          through other (inl emits) = absurd (false≢true (sym (silent other.common fed.exit other.contact row) ∙ emits.1))
+          through other (inr first_wire) =
+              sym (same-row spread_on passed_on same (passing_place row) hub)
+              ∙ passes_on.passed row first_wire.exit other.common fed.exit hub
+              (record { common = common; contact = contact; closed = shut; on = on }) first_wire.wire other.contact fed.wire
 
 -- a picture by other sets that are the same
 picture-same : (wiring : Wiring) (exits closed : Hub → Bool) (old new : List ℕ) (row : ℕ) → SameSets old new
@@ -190,7 +203,7 @@ passed_once wiring digits zones row first spread passed silent spreads passes sa
 
 pub passed_twice : (wiring : Wiring) (digits zones : HubSet) (row : CardRow) (first spread passed spread_on passed_on : List ℕ)
     → AreCommonsSilent first → SpreadsWires wiring first spread → PassesOn wiring digits zones spread passed
-    → SpreadsOn wiring passed spread_on → PassesOn wiring digits zones spread_on passed_on → SameSets spread_on passed_on
+    → SpreadsOn wiring passed spread_on → PassesBehind wiring digits zones spread_on passed_on → SameSets spread_on passed_on
     → IsPicture wiring (pictures_of first (Row row)) (closes_at_row digits zones row) (pictures_of passed_on (Row row))
 passed_twice wiring digits zones row first spread passed spread_on passed_on silent spreads passes spreads_on passes_on same =
     picture-same wiring _ _ spread_on passed_on (passing_place row) same

@@ -1,6 +1,6 @@
 -- Links: wires one by one, from place to place. A set of rows for each place is a number: bit r tells of the row at place r among the
 -- points. Sets are spread along links.
-use Rattle.std.specs.Prelude.{◌≡◌, ℕ, ◌-◌, ◌/◌, ◌<◌, ◌≤◌, ◌==◌, ◌&&◌, ◌||◌, All, Bool, true, false, List, Option, Some, None, length, slice_index_or}
+use Rattle.std.specs.Prelude.{◌≡◌, ℕ, ◌-◌, ◌/◌, ◌<◌, ◌≤◌, ◌==◌, ◌&&◌, ◌||◌, All, Bool, true, false, List, Option, Some, None, drop, length, slice_index_or}
 use Rattle.std.specs.List.{list_any}
 use Rattle.hubs.specs.Hubs.{number_of}
 use Rattle.hubs.specs.declared.hub.Hub.{Hub}
@@ -87,10 +87,10 @@ has_row_at sets row hub = has_at_number sets row (number_of hub)
 
 -- The links lead on where the rows do, each in range, and the common places of the contacts are known, as it is where no link leads
 -- to any of them. The contacts that a link leads to stand one by one.
-pub record IsNetInside (contacts : List Run) (common_places : List ℕ) (links wired_contacts further : List Link) (skips contact_skips further_skips : List ℕ)
-    (is_direct is_shallow : Bool)
-    (rows : List (List ℕ)) : Type 0 where
+pub record IsNetInside (contacts : List Run) (common_places other_places : List ℕ) (links wired_contacts further behind : List Link)
+    (skips contact_skips further_skips behind_skips : List ℕ) (is_direct : Bool) (rows : List (List ℕ)) : Type 0 where
   pub commons : AreCommons contacts common_places
+  pub others : AreCommons (drop 1 contacts) other_places
   pub in_range : All IsInRange links
   pub agree : (from to : ℕ) → is_linked links from to ≡ leads rows from to
   pub passing : All IsPassing wired_contacts
@@ -100,5 +100,7 @@ pub record IsNetInside (contacts : List Run) (common_places : List ℕ) (links w
   pub further_range : All IsInRange further
   pub follows : (from to : ℕ) → is_linked further from to ≡ (is_linked links from to && is_led_to wired_contacts from)
   pub further_skipped : AreSkips further further_skips
+  pub behind_passing : All IsPassing behind
+  pub are_behind : (from to : ℕ) → is_linked behind from to ≡ (is_linked wired_contacts from to && is_led_to further from)
+  pub behind_skipped : AreSkips behind behind_skips
   pub direct : is_direct ≡ true → All (λ link. has_place common_places link.to ≡ false) links
-  pub shallow : is_shallow ≡ true → All (λ link. has_place common_places link.to ≡ false) further

@@ -4,7 +4,9 @@ use Rattle.std.specs.Prelude.{◌≡◌, ◌⊎◌, ℕ, ◌+◌, ◌≤◌, ◌
 use Rattle.std.specs.List.{list_any}
 use Rattle.card_code.specs.Rows.{passing_place}
 use Rattle.card_code.specs.declared.row.Row.{Row as CardRow}
+use Rattle.hubs.specs.declared.hub.Group.{Group}
 use Rattle.hubs.specs.declared.hub.Hub.{Hub}
+use Rattle.hubs.specs.declared.hub.Hub.TheVariants.{CI, CO}
 use Rattle.setups.specs.Wiring.{HasWire, LeadsToEntries, Wiring}
 use Rattle.bit_sets.specs.Bits.{has_place}
 use Rattle.bit_sets.specs.declared.contacts.Run.{Run}
@@ -61,11 +63,6 @@ pub record SpreadsOn (wiring : Wiring) (old new : List ℕ) : Type 0 where
       (row : ℕ) (exit common hub before : Hub) → contact_of exit ≡ Some common → HasWire wiring before common
       → HasWire wiring exit hub → has_row_at old row exit ≡ true → has_row_at new row hub ≡ true
 
--- hubs from which contacts lead have gained no row
-abbrev pub KeepsCommons : List ℕ → List ℕ → Type 0
-KeepsCommons old new =
-    (row : ℕ) (common hub : Hub) → contact_of hub ≡ Some common → has_row_at new row common ≡ true → has_row_at old row common ≡ true
-
 -- a run of contacts leads from entries of the panel to exits
 pub record LeadsToExits (run : Run) : Type 0 where
   pub from : 1040 ≤ run.common
@@ -94,6 +91,16 @@ pub record PassesOn (wiring : Wiring) (digits zones : HubSet) (old new : List �
   pub commons :
       (row : CardRow) (common hub : Hub) → contact_of hub ≡ Some common → has_row_at new (passing_place row) common ≡ true
       → has_row_at old (passing_place row) common ≡ true
+
+-- no carry entry of the picture has a closed contact
+abbrev pub PassesNoCarry : (Hub → Bool) → (Hub → Bool) → Type 0
+PassesNoCarry closed picture = (group : Group) → picture (CI group) ≡ true → closed (CO group) ≡ false
+
+-- Closed contacts pass on what has come to them by a wire from the exit of another contact to which a wire leads.
+pub record PassesBehind (wiring : Wiring) (digits zones : HubSet) (old new : List ℕ) : Type 0 where
+  pub passed :
+      (row : CardRow) (before first exit hub : Hub) (passed : IsPassedOn digits zones old row hub) → HasWire wiring before first
+      → contact_of exit ≡ Some first → HasWire wiring exit passed.common → has_row_at new (passing_place row) hub ≡ true
 
 -- no hub from which contacts lead has a row
 abbrev pub AreCommonsSilent : List ℕ → Type 0

@@ -6,10 +6,10 @@ ghost use Rattle.net.specs.NetRows.{AddsRow};
 
 use crate::contacts::CONTACTS;
 use crate::links::{Link, add_links, follow_all, leads_to_any, skips_of};
-use crate::passing::{add_contacts, add_further, pass_all};
+use crate::passing::{add_behind, add_contacts, add_further, pass_all};
 use crate::picture::{Contacts, Picture, cut_after_hubs};
 use crate::row_sets::RowSets;
-use bit_sets::{EXITS, Rows, WORDS, commons_of, reach};
+use bit_sets::{EXITS, Rows, WORDS, commons_of, meet, reach, reach_by_rows};
 use hubs::Hub;
 use setups::Setup;
 use std::alloc::{AllocError, Global};
@@ -25,6 +25,8 @@ pub struct Net {
     rows: Rows,
     // The places of the common hubs, from which contacts lead.
     commons: [u64; WORDS],
+    // The same without the carry entries.
+    others: [u64; WORDS],
     // The wires one by one, as the rows have them.
     links: Vec<Link>,
     // For each of the links where those after it end that lead from the same block of places.
@@ -35,10 +37,11 @@ pub struct Net {
     // The wires from the exits of these contacts, and the same of each of them.
     further: Vec<Link>,
     further_skips: Vec<usize>,
+    // The contacts to which these wires lead, and the same of each of them.
+    behind: Vec<Link>,
+    behind_skips: Vec<usize>,
     // Whether no wire leads to a common hub.
     is_direct: bool,
-    // Whether none of the wires from the exits of contacts does.
-    is_shallow: bool,
 }
 
 impl Model for Net {
@@ -51,7 +54,7 @@ impl Model for Net {
 
     ghost use Rattle.net.specs.Links.{IsNetInside};
 
-    ghost invariant = { λ net. IsNetInside CONTACTS net.commons net.links.items net.contacts.items net.further.items net.skips.items net.contact_skips.items net.further_skips.items net.is_direct net.is_shallow net.rows };
+    ghost invariant = { λ net. IsNetInside CONTACTS net.commons net.others net.links.items net.contacts.items net.further.items net.behind.items net.skips.items net.contact_skips.items net.further_skips.items net.behind_skips.items net.is_direct net.rows };
 }
 
 impl Net {
@@ -60,13 +63,14 @@ impl Net {
     ghost use Rattle.net.specs.HubSets.{has_hub};
     ghost use Rattle.net.specs.Impulsed.{IsPicture};
     ghost use Rattle.net.specs.Nets.{IsNetOf};
-    ghost use Rattle.std.specs.Prelude.{◌≡◌, ◌↔◌, ℕ, true};
+    ghost use Rattle.std.specs.Prelude.{◌≡◌, ◌↔◌, ℕ, Bool, true};
     ghost use Rattle.hubs.specs.declared.hub.Hub.{Hub};
     ghost use Rattle.net.specs.Laws.{EmitsOrIsFed};
+    ghost use Rattle.net.specs.Passing.{PassesNoCarry};
     ghost use Rattle.net.specs.Links.{has_row_at};
     ghost use Rattle.std.specs.Prelude.{false};
     ghost use Rattle.card_code.specs.declared.row.Row.{Row as CardRow};
-    ghost use Rattle.net.specs.Passing.{AreCommonsSilent, KeepsCommons, PassesOn, SameSets, SpreadsOn, closes_at_row};
+    ghost use Rattle.net.specs.Passing.{AreCommonsSilent, PassesBehind, PassesOn, SameSets, SpreadsOn, closes_at_row};
     ghost use Rattle.net.specs.RowSets.{LeadsToNoContact, pictures_of};
     ghost use Rattle.net.specs.declared.cycle.Point.TheVariants.{Row};
 
@@ -91,20 +95,25 @@ impl Net {
         let mut further = Vec::new(alloc);
         add_further(links.as_slice(), contacts.as_slice(), &mut further)?;
         let further_skips = skips_of(alloc, further.as_slice())?;
+        let mut behind = Vec::new(alloc);
+        add_behind(contacts.as_slice(), further.as_slice(), &mut behind)?;
+        let behind_skips = skips_of(alloc, behind.as_slice())?;
         let commons = commons_of(&CONTACTS);
+        let others = commons_of(&CONTACTS[1..]);
         let is_direct = !leads_to_any(links.as_slice(), &commons);
-        let is_shallow = !leads_to_any(further.as_slice(), &commons);
         Ok(Net {
             rows,
             commons,
+            others,
             links,
             skips,
             contacts,
             contact_skips,
             further,
             further_skips,
+            behind,
+            behind_skips,
             is_direct,
-            is_shallow,
         })
     }
 
@@ -125,6 +134,22 @@ impl Net {
         );
         // Wires lead to hubs alone. The rows do not tell so, and a cut costs next to nothing.
         cut_after_hubs(&mut out.words);
+    }
+
+    /// Makes `out` what the emitting exits and the wires from them make, whatever it had before. Answers whether, of the hubs from which
+    /// contacts lead, it has carry entries alone: then that is the picture wherever none of these carries passes.
+    pub fn picture_by_wires(&self, exits: &Picture, out: &mut Picture) -> bool
+        ensures { result ≡ true
+            → (wiring : Wiring)
+            → IsNetOf wiring self.now
+            → (closed : Hub → Bool)
+            → PassesNoCarry closed (has_hub out.new)
+            → IsPicture wiring (has_hub exits.now) closed (has_hub out.new) }
+    {
+        *out = *exits;
+        reach_by_rows(&self.rows, &mut out.words);
+        cut_after_hubs(&mut out.words);
+        !meet(&self.others, &out.words)
     }
 
     /// Whether no wire leads to a hub from which contacts lead: then no impulse of an exit passes a contact.
@@ -166,24 +191,35 @@ impl Net {
         if !self.pass(digits, zones, sets) {
             return true;
         }
-        if self.spread_on(sets) {
-            return true;
-        }
-        !self.pass(digits, zones, sets)
+        self.spread_on(sets);
+        !self.pass_behind(digits, zones, sets)
     }
 
-    // Spreads rows along the wires from the exits of the contacts that wires lead to. Answers whether surely no hub from which contacts lead
-    // has gained any.
-    fn spread_on(&self, sets: &mut RowSets) -> bool
-        ensures spreads { (wiring : Wiring) → IsNetOf wiring self.now → SpreadsOn wiring sets.old sets.new }
-        ensures keeps { result ≡ true → KeepsCommons sets.old sets.new }
+    // Spreads rows along the wires from the exits of the contacts that wires lead to.
+    fn spread_on(&self, sets: &mut RowSets)
+        ensures { (wiring : Wiring) → IsNetOf wiring self.now → SpreadsOn wiring sets.old sets.new }
     {
         follow_all(
             self.further.as_slice(),
             self.further_skips.as_slice(),
             &mut sets.sets,
         );
-        self.is_shallow
+    }
+
+    // Passes rows on along the closed contacts to which wires from the exits of contacts lead. Answers whether a hub may have gained any.
+    fn pass_behind(&self, digits: &Contacts, zones: &Contacts, sets: &mut RowSets) -> bool
+        ensures passes { (wiring : Wiring)
+            → IsNetOf wiring self.now
+            → PassesBehind wiring digits.now zones.now sets.old sets.new }
+        ensures same { result ≡ false → SameSets sets.old sets.new }
+    {
+        pass_all(
+            self.behind.as_slice(),
+            self.behind_skips.as_slice(),
+            digits.words(),
+            zones.words(),
+            &mut sets.sets,
+        )
     }
 
     // Passes rows on along the closed contacts that wires lead to. Answers whether a hub may have gained any.

@@ -66,6 +66,25 @@ pub(crate) fn add_further(
     Ok(())
 }
 
+// Adds the contacts that lead from where one of the links leads to.
+pub(crate) fn add_behind(
+    contacts: &[Link],
+    further: &[Link],
+    behind: &mut Vec<Link>,
+) -> Result<(), AllocError>
+    requires passing { All IsPassing contacts.now }
+    requires lawful { All IsPassing behind.old.items }
+    ensures lawful { OnOk result (All IsPassing behind.new.items) }
+    ensures added { OnOk result (AddsFurther contacts.now further.now behind.old.items behind.new.items) }
+{
+    for contact in contacts {
+        if is_led_to(further, contact.from as usize) {
+            behind.push(*contact)?;
+        }
+    }
+    Ok(())
+}
+
 // Whether a link leads to a place.
 fn is_led_to(links: &[Link], place: usize) -> bool
     ensures { result ≡ is_led_to links.now place }

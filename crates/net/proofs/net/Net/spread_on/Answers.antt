@@ -2,18 +2,11 @@ use Rattle.std.proofs.Common.{List, subst, sym}
 use Rattle.net.specs.Links.{Spreads}
 use Rattle.net.specs.Nets.{IsNetOf, NetRows}
 use Rattle.net.specs.declared.links.Link.{Link}
-use Rattle.net.proofs.PassedHubs.{commons-kept, spreads-on}
+use Rattle.net.proofs.PassedHubs.{spreads-on}
 use Rattle.net.proofs.net.Net.spread_on.Goals as goal
 
-pub returns-clause-keeps : goal.returns-clause-keeps
-returns-clause-keeps c shallow =
-    rw (sym c.sets.view_is)
-    (commons-kept c.self.inside.commons c.self.inside.further.items c.sets.inside.sets c.follow_all.new.sets c.self.invariant.commons
-    c.self.invariant.further_range (c.self.invariant.shallow shallow)
-    (subst (λ (links : List Link). Spreads links c.sets.inside.sets c.follow_all.new.sets) c.as_slice.ensures.value c.follow_all.ensures))
-
-pub returns-clause-spreads : goal.returns-clause-spreads
-returns-clause-spreads c wiring is_net =
+pub returns : goal.returns
+returns c wiring is_net =
     rw (sym c.sets.view_is)
     (spreads-on wiring (record { rows = c.self.inside.rows }) c.self.inside.links.items c.self.inside.contacts.items c.self.inside.further.items
     c.sets.inside.sets c.follow_all.new.sets (subst (λ (net : NetRows). IsNetOf wiring net) (sym c.self.view_is) is_net)
