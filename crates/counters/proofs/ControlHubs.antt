@@ -1,13 +1,14 @@
 -- The control hubs of the groups follow one another, by their units.
-use Rattle.std.proofs.Common.{◌≡◌, ◌∙◌, refl, sym, ap, ℕ, ◌+◌, ◌-◌, ◌%◌, ◌<◌, ◌≤◌, Bool, true, Some, arith}
+use Rattle.std.proofs.Common.{◌≡◌, ◌∙◌, refl, sym, ap, ℕ, ◌+◌, ◌-◌, ◌%◌, ◌<◌, ◌≤◌, Bool, Some, arith}
 use Rattle.std.specs.Prelude.{option_map}
 use Rattle.std.proofs.lemmas.Bool.Decides.{nat_tests}
 use Rattle.hubs.specs.Hubs.{number_of}
 use Rattle.hub_table.specs.Places.{group_place}
 use Rattle.hubs.specs.declared.hub.Hub.{Hub}
 use Rattle.hubs.specs.declared.hub.Hub.TheVariants.{PL, MI, RO, BT}
-use Rattle.net.specs.HubSets.{HubSet, has_hub, is_bit, is_in_reach, is_in_row}
+use Rattle.net.specs.HubSets.{HubSet, has_hub, is_bit}
 use Rattle.net.proofs.Rows.{row_read}
+use Rattle.counters.specs.ControlRows.{IsControlRow}
 use Rattle.counters.specs.Counters.{controls_of, group_of_unit, width_of}
 use Rattle.counters.specs.declared.controls.Controls.{Controls}
 
@@ -37,11 +38,6 @@ pub number_of-BT : (unit : ℕ) → 3 ≤ unit → unit ≤ 34 → number_of (BT
 number_of-BT unit from to = placed 1364 1269 unit (unit - 3 + 96) from to (omega arith)
 
 -- a bit of the row of control hubs
-abbrev pub IsControlRow : ℕ → HubSet → Type 0
-IsControlRow bits set =
-    (other : Hub) → is_in_reach (PL (record { width = 3; number = 1 })) other ≡ true
-    → is_in_row (PL (record { width = 3; number = 1 })) bits other ≡ has_hub set other
-
 control_bit : (hub : Hub) (k bits : ℕ) (set : HubSet) (test : Bool) → number_of hub ≡ Some (1269 + k) → k < 128
     → IsControlRow bits set → test ≡ is_bit bits k → test ≡ has_hub set hub
 control_bit hub k bits set test numbered near row is =

@@ -8,3 +8,4 @@ pub mod Rings
 pub mod Shown
 pub mod Wheels
 pub mod WholeCycles
+pub mod ControlRows

@@ -5,7 +5,7 @@ ghost use Rattle.std.specs.Prelude.{◌≡◌, ◌≤◌};
 use crate::all_rows::{enter, rows_shown};
 use crate::controls::Controls;
 use crate::digits::{Digits, from_units, number_of};
-use crate::sensing::{controls_of, show, take_row, takes};
+use crate::sensing::{controls_in, controls_of, show, take_row, takes};
 use crate::turn::{all_nines, carry_of, latch_after, turn_wheels};
 use hubs::Hub;
 use net::{Cycle, Picture, Point, RowSets, Unit};
@@ -238,7 +238,10 @@ impl Unit for Group {
 
 impl Group {
     ghost use Rattle.net.specs.RowSets.{GainsRows, after_rows, pictures_of};
-    ghost use Rattle.net.specs.declared.cycle.Point.TheVariants.{Row as AtRow};
+    ghost use Rattle.net.specs.HubSets.{HubSet, has_hub};
+    ghost use Rattle.net.specs.declared.cycle.Cycle.{Cycle};
+    ghost use Rattle.net.specs.declared.cycle.Point.TheVariants.{C, Row as AtRow};
+    ghost use Rattle.counters.specs.ControlRows.{IsControlRow};
     ghost use Rattle.counters.specs.Counters.{counter_emits, counter_sensed};
 
     /// Adds to the sets of the exits the rows at whose points they emit.
@@ -250,6 +253,13 @@ impl Group {
             let shown = rows_shown(&self.digits[..width]);
             sets.insert_sets(Hub::GX(self.name, 1), &shown);
         }
+    }
+
+    /// Senses the control point, by the row of the hubs PL, MI, RO and BT of all groups, 32 each in the order of their units.
+    pub fn sense_controls(&mut self, row: u128)
+        ensures { (cycle : Cycle) (set : HubSet) → IsControlRow row set → self.new ≡ counter_sensed self.old cycle C (has_hub set) }
+    {
+        self.controls = controls_in(self.unit, row);
     }
 
     /// Senses the points of all rows at once.

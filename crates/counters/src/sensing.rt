@@ -3,7 +3,8 @@
 ghost use Rattle.std.specs.Prelude.{◌≡◌, ℕ, ◌≤◌, ◌<◌, ◌-◌, ◌==◌, ◌&&◌, true, All, length};
 ghost use Rattle.hub_table.specs.Places.{is_width};
 ghost use Rattle.hub_table.specs.Ranges.{is_within};
-ghost use Rattle.net.specs.HubSets.{GainsHubs, has_hub, is_bit};
+ghost use Rattle.net.specs.HubSets.{GainsHubs, HubSet, has_hub, is_bit};
+ghost use Rattle.counters.specs.ControlRows.{IsControlRow};
 ghost use Rattle.counters.specs.Counters.{all_taken, controls_of, group_of_unit, shows, taken, takes};
 ghost use Rattle.counters.specs.Laws.{IsDigit};
 ghost use Rattle.counters.specs.Shown.{shows_at};
@@ -48,7 +49,15 @@ pub(crate) fn controls_of(unit: u8, name: hubs::Group, picture: &Picture) -> Con
     requires name { name ≡ group_of_unit unit }
     ensures { result ≡ controls_of name (has_hub picture.now) }
 {
-    let row = picture.row(Hub::PL(FIRST));
+    controls_in(unit, picture.row(Hub::PL(FIRST)))
+}
+
+// The controls of the group of a unit, by the row of the control hubs of all groups.
+pub(crate) fn controls_in(unit: u8, row: u128) -> Controls
+    requires from { 3 ≤ unit }
+    requires to { unit ≤ 34 }
+    ensures { (set : HubSet) → IsControlRow row set → result ≡ controls_of (group_of_unit unit) (has_hub set) }
+{
     let place = unit as usize - 3;
     Controls {
         plus: has_bit(row, place),

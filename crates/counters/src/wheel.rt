@@ -40,7 +40,7 @@ pub(crate) fn stands_at_nine(wheel: Wheel) -> bool
     requires { IsWheel wheel }
     ensures { result ≡ (stands wheel == 9) }
 {
-    (wheel.base + wheel.advance) % 10 == 9
+    wheel.base + wheel.advance == 9
 }
 
 // Whether a wheel passes from 9 to 0 by its own advance.
@@ -58,8 +58,10 @@ pub(crate) fn step(wheel: Wheel, carry: bool) -> (u8, bool)
     ensures carry { result.1 ≡ (passes wheel || ((stands wheel == 9) && carry)) }
     ensures small { result.0 ≤ 9 }
 {
-    let sum = wheel.base + wheel.advance;
-    let stands = sum % 10;
-    let digit = if carry { (stands + 1) % 10 } else { stands };
-    (digit, sum >= 10 || (stands == 9 && carry))
+    let sum = wheel.base + wheel.advance + u8::from(carry);
+    if sum >= 10 {
+        (sum - 10, true)
+    } else {
+        (sum, false)
+    }
 }

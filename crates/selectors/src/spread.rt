@@ -5,6 +5,7 @@ ghost use Rattle.std.specs.List.{list_any};
 ghost use Rattle.selectors.specs.Spread.{parts_of, spread};
 
 // The word with as many bits for each thing, set for those that are set. The first thing has the lowest bits.
+#[inline(always)]
 pub(crate) fn spread(things: &[bool], parts: usize) -> u128
     requires parts { parts ≤ 30 }
     requires fits { parts * length things.now ≤ 128 }
@@ -23,6 +24,7 @@ pub(crate) fn spread(things: &[bool], parts: usize) -> u128
 }
 
 // Whether any of the things is set: mostly none is.
+#[inline(always)]
 fn has_any(things: &[bool]) -> bool
     ensures { result ≡ list_any (λ thing. thing) things.now }
 {
@@ -34,6 +36,7 @@ fn has_any(things: &[bool]) -> bool
 }
 
 // The word moved up, with as many bits below it, all set or none.
+#[inline(always)]
 fn with_parts(bits: u128, parts: usize, test: bool) -> u128
     requires parts { parts ≤ 30 }
     requires fits { bits * 2 ^ parts + 2 ^ parts ≤ 2 ^ 128 }
@@ -43,6 +46,7 @@ fn with_parts(bits: u128, parts: usize, test: bool) -> u128
 }
 
 // As many bits, all set or none.
+#[inline(always)]
 fn parts_of(parts: usize, test: bool) -> u128
     requires { parts ≤ 30 }
     ensures value { result ≡ parts_of parts test }
