@@ -1,5 +1,5 @@
 -- The points of the rows, all at once: what is emitted, what is sensed, and that this is what they do one by one.
-use Rattle.std.proofs.Common.{◌≡◌, ◌≢◌, ◌∙◌, refl, sym, ℕ, suc, ◌+◌, ◌==◌, ◌&&◌, ◌||◌, Bool, true, false, List, [], ◌∷◌, map, length, Option, Some, None, subst}
+use Rattle.std.proofs.Common.{◌≡◌, ◌≢◌, ◌↔◌, ◌∙◌, refl, sym, ℕ, suc, ◌+◌, ◌==◌, ◌&&◌, ◌||◌, Bool, true, false, List, [], ◌∷◌, map, length, Option, Some, None, subst}
 use Rattle.std.specs.List.{list_any}
 use Rattle.card_code.specs.Rows.{passing_place, row_number, rows}
 use Rattle.card_code.specs.declared.row.Row.{Row as CardRow}
@@ -18,7 +18,9 @@ use Rattle.net.specs.Impulsed.{IsPicture}
 use Rattle.net.specs.Links.{has_row_at}
 use Rattle.net.specs.Panel.{contact_of}
 use Rattle.net.specs.Passing.{AreCommonsSilent, closes_at_row}
-use Rattle.net.specs.RowSets.{after_rows, pictures_of}
+use Rattle.net.specs.Laws.{EmitsOrIsFed}
+use Rattle.net.proofs.ImpulsedLaws.{wires_make}
+use Rattle.net.specs.RowSets.{LeadsToNoContact, after_rows, pictures_of}
 use Rattle.net.specs.WholeCycles.{after_points}
 use Rattle.net.specs.declared.cycle.Cycle.{Cycle}
 use Rattle.net.specs.declared.cycle.Cycle.TheVariants.{RunIn, Card, Prog, Head}
@@ -262,6 +264,25 @@ rows-run wiring cycle closed mid new exits final ordered steady emitted spread i
         IsPicture-same wiring (pictures_of exits (Row at)) (emits mid cycle (Row at)) (closes_at_row closed.digits closed.zones at)
         (closes mid cycle (Row at)) (pictures_of final (Row at)) (emitted at)
         (λ hub. closed-rows cycle closed mid at hub ordered steady) (spread at)
+
+-- the same where no wire leads to a contact
+pub rows-direct : (wiring : Wiring) (cycle : Cycle) (mid new : MachineState) (exits final : List ℕ) → LeadsToNoContact wiring
+    → ((at : CardRow) (hub : Hub) → has_row_at exits (passing_place at) hub ≡ emits mid cycle (Row at) hub)
+    → ((row : ℕ) (hub : Hub) → (has_row_at final row hub ≡ true) ↔ EmitsOrIsFed wiring (has_row_at exits row) hub)
+    → new ≡ after_rows sensed cycle (pictures_of final) mid → RunsRows wiring cycle mid new
+rows-direct wiring cycle mid new exits final direct emitted spread is =
+    subst (λ (m : MachineState). RunsRows wiring cycle mid m) (sym is) (rows-reached wiring cycle mid (pictures_of final) are)
+  where
+    are : (at : CardRow) → IsPicture wiring (emits mid cycle (Row at)) (closes mid cycle (Row at)) (pictures_of final (Row at))
+    are at =
+        IsPicture-same wiring (pictures_of exits (Row at)) (emits mid cycle (Row at)) (closes mid cycle (Row at)) (closes mid cycle (Row at))
+        (pictures_of final (Row at)) (emitted at) (λ hub. refl)
+        (wires_make wiring (pictures_of exits (Row at)) (closes mid cycle (Row at)) (pictures_of final (Row at)) direct.leads
+        (record {
+          silent = λ common hub contact. commons-silent mid cycle exits emitted common hub contact at;
+          unwired = direct.unwired;
+        })
+        (λ hub. spread (passing_place at) hub))
 
 -- contacts stay as they are through the rows
 pub rows-steady : (cycle : Cycle) (closed : Closed) (pictures : Point → Hub → Bool) (list : List Point) (old : MachineState)

@@ -10,7 +10,7 @@ use Rattle.net.specs.Nets.{NetRows, IsNetOf}
 use Rattle.net.specs.declared.cycle.Cycle.{Cycle}
 use Rattle.machine.specs.Cycles.{line_of}
 use Rattle.machine.specs.Feeds.{Fed, FeedStep, begun, due_in, taken}
-use Rattle.machine.specs.Kept.{FeedsKeeping, GainsKept, GainsSome, KeepsPoints, PlacedInFeed, Steps, is_on, kept_of, line_kept}
+use Rattle.machine.specs.Kept.{GainsKept, GainsSome, KeepsPoints, PlacedInFeed, Steps, is_on, kept_of, line_kept}
 use Rattle.machine.specs.Kept.Steps.{none, more}
 use Rattle.machine.specs.Machine.{MachineState}
 use Rattle.machine.specs.declared.kept.KeptCycle.{KeptCycle}

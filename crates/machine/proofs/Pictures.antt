@@ -1,5 +1,5 @@
 -- Pictures of equal sets, and of more contacts.
-use Rattle.std.proofs.Common.{◌≡◌, ◌∙◌, sym, subst, ℕ, ◌≤◌, ◌&&◌, ◌||◌, nat_le, Bool, true, List, Option, Some, inl, inr, arith}
+use Rattle.std.proofs.Common.{◌≡◌, ◌∙◌, ap, refl, sym, subst, ℕ, ◌≤◌, ◌&&◌, ◌||◌, nat_le, Bool, true, false, List, Option, Some, inl, inr, arith}
 use Rattle.std.proofs.lemmas.Bool.{and_parts, false≢true, or_cases, or_left}
 use Rattle.std.proofs.lemmas.Bool.Decides.{nat_tests}
 use Rattle.setups.specs.Wiring.{Wiring}
@@ -18,7 +18,13 @@ use Rattle.machine.specs.Machine.{MachineState, closes}
 use Rattle.machine.specs.Rest.{ComeToNoNines}
 use Rattle.machine.specs.Steady.{AreSteady, closed_at, nines_of}
 use Rattle.machine.specs.declared.closed.Closed.{Closed}
-use Rattle.machine.proofs.ClosedContacts.{closes-all}
+use Rattle.selectors.specs.Indicate.{indicate_closes}
+use Rattle.selectors.specs.Splits.{split_closes}
+use Rattle.net.specs.declared.cycle.Cycle.TheVariants.{RunIn, Card, Prog, Head}
+use Rattle.net.specs.declared.cycle.Point.TheVariants.{C, Row, K}
+use Rattle.hubs.specs.declared.hub.Group.{Group}
+use Rattle.net.specs.Passing.{PassesNoCarry}
+use Rattle.machine.proofs.ClosedContacts.{closes-all, closes-joined}
 
 -- a picture is one of any exits and contacts that have the same hubs
 pub IsPicture-same : (wiring : Wiring) (exits others closed also_closed picture : Hub → Bool)
@@ -62,3 +68,44 @@ picture-idle wiring cycle closed machine point exits picture ordered steady idle
     all : (hub : Hub)
         → (has_hub (closed_at closed point) hub || carry_closes point (nines_of machine.groups) hub) ≡ closes machine cycle point hub
     all hub = closes-all cycle closed machine point hub ordered steady
+
+-- the carry contacts of a machine are closed at the closing point alone, and there where groups stand at nines
+pub carry-closed : (machine : MachineState) (cycle : Cycle) (point : Point) (group : Group) → AreInUnitOrder machine.groups
+    → closes machine cycle point (CO group) ≡ carry_closes point (nines_of machine.groups) (CO group)
+carry-closed machine cycle point group ordered =
+    closes-joined machine cycle point (CO group) ordered
+    ∙ alone (carry_closes point (nines_of machine.groups) (CO group)) _ _ (no-indicate cycle) (no-split point)
+  where
+    no-indicate : (c : Cycle) → indicate_closes machine.indicate c point (CO group) ≡ false
+    no-indicate RunIn = refl
+    no-indicate Card = refl
+    no-indicate (Prog level ordinal) = refl
+    no-indicate (Head heading) = refl
+
+    no-split : (p : Point) → split_closes p (CO group) ≡ false
+    no-split C = refl
+    no-split (Row row) = refl
+    no-split K = refl
+
+    alone : (a b c : Bool) → b ≡ false → c ≡ false → (a || (b || c)) ≡ a
+    alone true b c e f = refl
+    alone false b c e f = ap (λ x. x || c) e ∙ f
+
+-- no carry passes where none comes to a group that stands at nines
+pub no-carries : (machine : MachineState) (cycle : Cycle) (point : Point) (picture : Hub → Bool) → AreInUnitOrder machine.groups
+    → ComeToNoNines picture (nines_of machine.groups) → PassesNoCarry (closes machine cycle point) picture
+no-carries machine cycle point picture ordered idle group on = by (closes machine cycle point (CO group)) refl
+  where
+    by : (b : Bool) → closes machine cycle point (CO group) ≡ b → closes machine cycle point (CO group) ≡ false
+    by false is = is
+    by true is =
+        absurd
+        (carry-idle point (nines_of machine.groups) picture (CI group) (CO group) idle refl on
+        (sym (carry-closed machine cycle point group ordered) ∙ is))
+
+-- nor at the points before the closing point
+pub no-carries-before : (machine : MachineState) (cycle : Cycle) (point : Point) (picture : Hub → Bool) → AreInUnitOrder machine.groups
+    → is_closing point ≡ false → PassesNoCarry (closes machine cycle point) picture
+no-carries-before machine cycle point picture ordered before group on =
+    carry-closed machine cycle point group ordered
+    ∙ ap (λ b. b && (nat_le 3 (unit_of group) && is_nines (nines_of machine.groups) group)) before

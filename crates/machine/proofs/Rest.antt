@@ -1,8 +1,8 @@
 -- Counter groups that are under no control emit nothing, sense nothing but controls and carries, and end a cycle as they are.
-use Rattle.std.proofs.Common.{◌≡◌, ℕ, zero, suc, ◌+◌, ◌/◌, ◌^◌, ◌<◌, ◌≤◌, ◌-◌, Bool, true, false, ◌&&◌, ◌||◌, nat_le, List, [], ◌∷◌, Option, Some, None, option_map, map, length, get_or, inl, inr, if◌then◌else◌, refl, sym, ap, ◌∙◌, arith, rules}
+use Rattle.std.proofs.Common.{◌≡◌, ℕ, zero, suc, ◌+◌, ◌/◌, ◌^◌, ◌<◌, ◌≤◌, ◌-◌, Bool, true, false, not, ◌&&◌, ◌||◌, nat_le, List, [], ◌∷◌, Option, Some, None, option_map, map, length, get_or, if◌then◌else◌, refl, sym, ap, ◌∙◌, arith, rules}
 use Rattle.std.proofs.lemmas.Bool.Decides.{nat_tests}
 use Rattle.std.specs.List.{list_any}
-use Rattle.std.proofs.lemmas.Bool.{cases_lt, false≢true}
+use Rattle.std.proofs.lemmas.Bool.{false≢true}
 use Rattle.card_code.specs.Rows.{row_number}
 use Rattle.counters.specs.Counters.{Counter, no_controls, controls_of, counter_emits, counter_number, counter_sensed, counter_ended, counter_at_start, digits_ended, all_taken, takes, top_is_nine, shows, wheels_in}
 use Rattle.counters.specs.Laws.{IsCounter}
@@ -17,6 +17,7 @@ use Rattle.hubs.specs.declared.hub.Hub.{Hub}
 use Rattle.hubs.specs.declared.hub.Hub.TheVariants.{CI, CO, GE, PL, MI, RO, BT}
 use Rattle.net.proofs.Below.bit_sets.BitLemmas.{is_bit-low, is_bit-or, is_bit-shr, is_bit-zero}
 use Rattle.std.specs.Int.Bits.{bit_and, bit_or}
+use Rattle.std.specs.Prelude.{◌==◌, slice_index_or}
 use Rattle.std.proofs.lemmas.Nat.{and_mask}
 use Rattle.net.specs.HubSets.{HubSet, has_hub, is_bit, is_hub, is_bit_from, is_in_reach, is_in_row, is_near}
 use Rattle.net.specs.Cycles.{is_closing}
@@ -25,11 +26,13 @@ use Rattle.net.specs.declared.cycle.Cycle.{Cycle}
 use Rattle.net.specs.declared.cycle.Point.{Point}
 use Rattle.net.specs.declared.cycle.Point.TheVariants.{C, Row, K}
 use Rattle.machine.specs.Fields.{AreInUnitOrder}
+use Rattle.selectors.specs.Contacts.{is_nines}
 use Rattle.machine.specs.Machine.{group_units}
 use Rattle.machine.specs.Marked.{any_marked, marked_changed}
 use Rattle.machine.specs.Rest.{AreApart, AreBusy, AreCarriesMarked, AreSilent, AreToldMarked, ComeToNoNines, HaveNoMore, IsAtRest}
 use Rattle.machine.specs.declared.groups.Busy.{Busy}
 use Rattle.machine.proofs.ClosedContacts.{AreFrom, are_from, group_units-up, unit_of-last}
+use Rattle.machine.proofs.Marks.{IsTaken}
 
 -- a group at rest emits nothing
 rest-silent : (group : Counter) (cycle : Cycle) (point : Point) (exit : Hub) → IsCounter group → IsAtRest group
@@ -374,26 +377,13 @@ carries-marked set bits marks are row name from off =
     hub-at set bits (CI first_group) (CI name) 1397 1396 (u - 3) place refl refl from here row (near_carry place from last)
     ∙ sym (are (u - 3) (omega (arith, from, last))) ∙ off
 
--- carries that come to groups are bits of that row, so no group at nines gets one where no place has both
-bit_of : (bits : ℕ) (place : Option ℕ) → 3 ≤ unit_after 2 place
-    → is_bit_from (Some 1397) bits (option_map (λ p. 1396 + p) place) ≡ is_bit bits (unit_after 2 place - 3)
-bit_of bits None from = absurd (omega (arith, from))
-bit_of bits (Some p) from =
-    let place : 1396 + p - 1397 ≡ 2 + p - 3 = omega (arith, from) in
-    let low : nat_le 1397 (1396 + p) ≡ true = grind (arith, nat_tests, from) in
-    ap (λ (b : Bool). b && is_bit bits (1396 + p - 1397)) low ∙ ap (is_bit bits) place
-
-pub none-nines : (set : HubSet) (bits : ℕ) (nines : List Bool) → AreApart bits nines
-    → ((hub : Hub) → is_in_reach (CI first_group) hub ≡ true → is_in_row (CI first_group) bits hub ≡ has_hub set hub)
-    → ComeToNoNines (has_hub set) nines
-none-nines set bits nines apart row name from on =
-    apart (unit_of name - 3)
-    (sym (bit_of bits (group_place name.width name.number) from)
-    ∙ row (CI name) (near_carry (group_place name.width name.number) from (unit_of-last name)) ∙ on)
-
--- where no bit is set, none meets a group at nines
-pub apart-none : (bits : ℕ) (nines : List Bool) → bits ≡ 0 → AreApart bits nines
-apart-none bits nines none place on = absurd (false≢true (sym (ap (λ n. is_bit n place) none ∙ is_bit-zero place) ∙ on))
+-- no carry comes to a group that stands at nines where no group whose carry is marked does
+pub none-nines : (marks : ℕ) (picture : Hub → Bool) (nines : List Bool) → AreCarriesMarked marks picture → AreApart marks nines
+    → ComeToNoNines picture nines
+none-nines marks picture nines marked apart name from on = by (is_bit marks (unit_of name - 3)) refl where
+  by : (b : Bool) → is_bit marks (unit_of name - 3) ≡ b → is_nines nines name ≡ false
+  by true is = apart (unit_of name - 3) is
+  by false is = absurd (false≢true (sym (marked name from is) ∙ on))
 
 -- what a list of tests tells at a place is what the thing there tells
 pub told-at : (tells : Counter → Bool) (groups : List Counter) (place : ℕ) (group default : Counter) → place < length groups
@@ -402,15 +392,32 @@ told-at tells [] place group default within is = absurd (omega (arith, within))
 told-at tells (first ∷ groups) zero group default within is = ap tells is
 told-at tells (first ∷ groups) (suc place) group default within is = told-at tells groups place group default (omega (arith, within)) is
 
--- one place more that hasn't both its bit and its test
-pub apart-more : (bits : ℕ) (tests : List Bool) (place : ℕ)
-    → ((k : ℕ) → k < place → is_bit bits k ≡ true → get_or tests k false ≡ false)
-    → (is_bit bits place ≡ true → get_or tests place false ≡ false)
-    → (k : ℕ) → k < place + 1 → is_bit bits k ≡ true → get_or tests k false ≡ false
-apart-more bits tests place before here k within on = elim (cases_lt k place) [
-  | inl less ↦ before k less on
-  | inr more ↦ let same : k ≡ place = omega (arith, within, more) in rw same (here (ap (is_bit bits) (sym same) ∙ on))
-]
+-- and past the last thing it tells nothing
+pub told-past : (tells : Counter → Bool) (groups : List Counter) (place : ℕ) → length groups ≤ place → get_or (map tells groups) place false ≡ false
+told-past tells [] place past = refl
+told-past tells (first ∷ groups) zero past = absurd (omega (arith, past))
+told-past tells (first ∷ groups) (suc place) past = told-past tells groups place (omega (arith, past))
+
+-- the places but those of the bits that are left haven't both their bits and their tests
+abbrev pub AreApartBut : ℕ → ℕ → List Bool → Type 0
+AreApartBut left bits tests = (place : ℕ) → is_bit bits place ≡ true → is_bit left place ≡ false → slice_index_or tests place false ≡ false
+
+pub apart-taken : (left less bits place : ℕ) (tests : List Bool) → IsTaken left less place → AreApartBut left bits tests
+    → slice_index_or tests place false ≡ false → AreApartBut less bits tests
+apart-taken left less bits place tests taken before here k on off = by (is_bit left k) refl where
+  equal : (a : Bool) (k place : ℕ) → a ≡ true → (a && not (k == place)) ≡ false → k ≡ place
+  equal a k place e f = grind (arith, nat_tests, e, f)
+
+  by : (b : Bool) → is_bit left k ≡ b → slice_index_or tests k false ≡ false
+  by false is = before k on is
+  by true is =
+      ap (λ (p : ℕ). slice_index_or tests p false) (equal (is_bit left k) k place is (sym (taken k) ∙ off)) ∙ here
+
+pub apart-start : (bits : ℕ) (tests : List Bool) → AreApartBut bits bits tests
+apart-start bits tests place on off = absurd (false≢true (sym off ∙ on))
+
+pub apart-end : (left bits : ℕ) (tests : List Bool) → left ≡ 0 → AreApartBut left bits tests → AreApart bits tests
+apart-end left bits tests none apart place on = apart place on (ap (λ n. is_bit n place) none ∙ is_bit-zero place)
 
 -- a bit that two words joined don't have
 pub neither : (a b k : ℕ) → is_bit (bit_or a b) k ≡ false → (is_bit a k ≡ false) × (is_bit b k ≡ false)

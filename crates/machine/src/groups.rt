@@ -1,12 +1,17 @@
 //! The counter groups of a machine. A group that is told nothing at the control point emits nothing in the cycle, and senses nothing
 //! but a carry: so the groups that may have work are noted, a bit for each, and the others are left alone.
 
-ghost use Rattle.std.specs.Prelude.{◌≡◌, ℕ, ◌<◌, false, map};
+ghost use Rattle.std.specs.Prelude.{◌≡◌, ℕ, ◌<◌, false, map, if◌then◌else◌};
 ghost use Rattle.std.specs.List.{list_any};
+ghost use Rattle.counters.specs.ControlRows.{IsControlRow};
 ghost use Rattle.counters.specs.Counters.{counter_at_start, counter_emits, counter_ended, counter_sensed};
-ghost use Rattle.net.specs.HubSets.{GainsHubs, has_hub, is_bit};
+ghost use Rattle.net.specs.Cycles.{is_closing};
+ghost use Rattle.net.specs.HubSets.{GainsHubs, HubSet, has_hub, is_bit};
+ghost use Rattle.net.specs.declared.cycle.Cycle.{Cycle};
+ghost use Rattle.net.specs.declared.cycle.Point.TheVariants.{C};
 ghost use Rattle.machine.specs.Fields.{AreInUnitOrder};
 ghost use Rattle.machine.specs.Machine.{group_units};
+ghost use Rattle.machine.specs.Marked.{marked_changed};
 ghost use Rattle.machine.specs.Rest.{AreApart, AreBusy, AreCarriesMarked, AreToldMarked, ComeToNoNines};
 ghost use Rattle.machine.specs.Steady.{balance_latches, nines_of};
 
@@ -156,8 +161,42 @@ pub(crate) fn sense_groups(
     ensures busy { AreBusy result groups.new }
 {
     let busy = busy.after(point, picture);
-    sense_marked(groups, busy.sensing(point), cycle, point, picture);
+    sense_busy(groups, busy, cycle, point, picture);
     busy
+}
+
+// The groups that may change by it sense the picture: at the control point all of them by one row of it.
+fn sense_busy(
+    groups: &mut [Group; GROUPS],
+    busy: Busy,
+    cycle: Cycle,
+    point: Point,
+    picture: &Picture,
+)
+    ensures { groups.new ≡ marked_changed (if is_closing point then busy.carried else busy.controlled) 0
+        (λ group. counter_sensed group cycle point (has_hub picture.now)) groups.old }
+{
+    match point {
+        Point::C => control_marked(groups, busy.controlled, picture.row(Hub::PL(FIRST))),
+        Point::Row(_) | Point::K => {
+            sense_marked(groups, busy.sensing(point), cycle, point, picture);
+        }
+    }
+}
+
+// The marked groups sense the control point, by the row of the control hubs of all groups.
+fn control_marked(groups: &mut [Group], marks: u64, row: u128)
+    ensures { (cycle : Cycle) (set : HubSet) → IsControlRow row set
+        → groups.new ≡ marked_changed marks 0 (λ group. counter_sensed group cycle C (has_hub set)) groups.old }
+{
+    let mut left = marks;
+    while left != 0 {
+        let place = left.trailing_zeros() as usize;
+        left &= !(1 << place);
+        if place < groups.len() {
+            groups[place].sense_controls(row);
+        }
+    }
 }
 
 // All groups end the cycle, and stay as they are where they had nothing to do in it.
@@ -195,28 +234,22 @@ fn low_bits(word: u128) -> u64
 pub(crate) fn comes_to_nines(groups: &[Group; GROUPS], picture: &Picture) -> bool
     ensures { result ≡ false → ComeToNoNines (has_hub picture.now) (nines_of groups.now) }
 {
-    let carries = picture.row(Hub::CI(FIRST));
-    carries != 0 && meets_nines(groups, carries)
+    meets_nines(groups, carries(picture))
 }
 
 // Whether a group stands at nines whose bit is set. The first group has the lowest bit.
-fn meets_nines(groups: &[Group; GROUPS], bits: u128) -> bool
+fn meets_nines(groups: &[Group; GROUPS], bits: u64) -> bool
     ensures { result ≡ false → AreApart bits (nines_of groups.now) }
 {
-    for place in 0..GROUPS {
-        if has_bit(bits, place) && groups[place].nines() {
+    let mut left = bits;
+    while left != 0 {
+        let place = left.trailing_zeros() as usize;
+        left &= !(1 << place);
+        if place < GROUPS && groups[place].nines() {
             return true;
         }
     }
     false
-}
-
-// Whether a bit of a word is set.
-fn has_bit(word: u128, bit: usize) -> bool
-    requires { bit < 128 }
-    ensures { result ≡ is_bit word bit }
-{
-    word >> bit & 1 == 1
 }
 
 // The balance latches of the counter groups.

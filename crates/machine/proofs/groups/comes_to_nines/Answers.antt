@@ -1,13 +1,9 @@
+use Rattle.net.specs.HubSets.{has_hub}
 use Rattle.machine.specs.Steady.{nines_of}
-use Rattle.machine.proofs.Rest.{apart-none, none-nines}
+use Rattle.machine.proofs.Rest.{none-nines}
 use Rattle.machine.proofs.groups.comes_to_nines.Goals as goal
 
-pub returns-then-carries-ne0 : goal.returns-then-carries-ne0
-returns-then-carries-ne0 c apart =
-    none-nines c.args.picture.now c.row-carries.result (nines_of c.args.groups.now) (c.meets_nines.ensures apart) c.row-carries.ensures.hubs
-
-pub returns-else-carries-ne0 : goal.returns-else-carries-ne0
-returns-else-carries-ne0 c none =
-    none-nines c.args.picture.now c.row-carries.result (nines_of c.args.groups.now)
-    (apart-none c.row-carries.result (nines_of c.args.groups.now) c.if-carries-ne0.false)
-    c.row-carries.ensures.hubs
+pub returns : goal.returns
+returns c none =
+    none-nines c.carries.result (has_hub c.args.picture.now) (nines_of c.args.groups.now) c.carries.ensures
+    (c.meets_nines.ensures none)

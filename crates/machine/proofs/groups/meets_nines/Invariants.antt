@@ -1,9 +1,10 @@
-use Rattle.std.proofs.Common.{◌≡◌, ◌<◌, ℕ, true, false, get_or}
-use Rattle.net.specs.HubSets.{is_bit}
 use Rattle.machine.specs.Steady.{nines_of}
+use Rattle.machine.proofs.Rest.{AreApartBut}
 use Rattle.machine.proofs.groups.meets_nines.Given as goal
 
--- no group so far both has its bit and stands at nines
-abbrev pub invariant-loop-place : goal.invariant-loop-place
-invariant-loop-place l =
-    (place : ℕ) → place < l.place → is_bit l.bits place ≡ true → get_or (nines_of l.groups) place false ≡ false
+-- no group whose bit was taken stands at nines
+abbrev pub invariant-loop-left : goal.invariant-loop-left
+invariant-loop-left l = AreApartBut l.left l.bits (nines_of l.groups)
+
+abbrev pub decreases-loop-left : goal.decreases-loop-left
+decreases-loop-left l = l.left

@@ -1,7 +1,5 @@
-use Rattle.std.proofs.Common.{◌∙◌, sym, ap, subst, ℕ}
-use Rattle.counters.specs.Counters.{Counter, counter_sensed}
+use Rattle.std.proofs.Common.{◌∙◌, sym, subst}
 use Rattle.net.specs.HubSets.{has_hub}
-use Rattle.machine.specs.Marked.{marked_changed}
 use Rattle.machine.specs.Rest.{AreBusy}
 use Rattle.machine.proofs.Rest.{BusyAfter, busy-after, busy-senses}
 use Rattle.machine.proofs.groups.sense_groups.Goals as goal
@@ -10,9 +8,7 @@ pub returns : goal.returns
 returns c =
     let after = c.after-busy.ensures in
     let goes : BusyAfter c.args.point (has_hub c.args.picture.now) c.args.busy c.after-busy.result = record { uncontrolled = after.uncontrolled; told = after.told; empty = after.empty; carries = after.carries } in
-    let sensed = c.sense_marked.ensures
-    ∙ ap (λ (marks : ℕ). marked_changed marks 0 (λ (g : Counter). counter_sensed g c.args.cycle c.args.point (has_hub c.args.picture.now)) c.args.groups.now)
-    c.sensing.ensures
+    let sensed = c.sense_busy.ensures
     ∙ busy-senses c.args.groups.now c.args.cycle c.args.point (has_hub c.args.picture.now) c.args.busy c.after-busy.result c.requires.ordered
     c.requires.busy goes in
     record {

@@ -1,7 +1,7 @@
 use Rattle.std.proofs.Common.{sym, ◌∙◌}
 use Rattle.machine.specs.Feeds.{Fed}
 use Rattle.machine.proofs.FeedSteps.{ends-falls}
-use Rattle.machine.proofs.KeptPages.{IsKeeping-start, IsKeeping-more, IsKeeping-some, IsKeeping-all}
+use Rattle.machine.proofs.KeptPages.{IsKeeping-start, IsKeeping-more, IsKeeping-all}
 use Rattle.machine.proofs.units.Units.feed_page.Goals as goal
 
 pub loop-cycle-init : goal.loop-cycle-init

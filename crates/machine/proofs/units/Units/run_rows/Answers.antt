@@ -1,34 +1,10 @@
-use Rattle.std.proofs.Common.{◌∙◌, ◌||◌, ap, map, subst, sym}
-use Rattle.card_code.specs.Rows.{passing_place, rows}
-use Rattle.net.specs.RowSets.{pictures_of}
-use Rattle.net.specs.declared.cycle.Point.TheVariants.{Row}
-use Rattle.machine.specs.Keeps.{Keeps}
-use Rattle.machine.specs.Machine.{MachineState, emits}
-use Rattle.machine.specs.Steady.{AreSteady}
-use Rattle.machine.proofs.AllRows.{commons-silent, rows-run, rows-steady}
-use Rattle.machine.proofs.Keeps.{rows-keep}
 use Rattle.machine.proofs.units.Units.run_rows.Goals as goal
 
-pub spread_through-requires : goal.spread_through-requires
-spread_through-requires c =
-    commons-silent c.args.self.now c.args.cycle c.emit_rows.new.sets
-    (λ row hub. c.emit_rows.ensures.rows row hub
-    ∙ ap (λ b. b || emits c.args.self.now c.args.cycle (Row row) hub) (c.new-sets.ensures (passing_place row) hub))
+pub run_direct_rows-requires : goal.run_direct_rows-requires
+run_direct_rows-requires c = c.is_direct.ensures c.if-is_direct.true
 
-pub returns-then-spread_through-clause-ran : goal.returns-then-spread_through-clause-ran
-returns-then-spread_through-clause-ran c wiring is_net =
-    rows-run wiring c.args.cycle c.args.closed.now c.args.self.now c.sense_rows.new.self c.emit_rows.new.sets c.spread_through.new.sets
-    c.emit_rows.ensures.ordered c.requires
-    (λ row hub. c.emit_rows.ensures.rows row hub
-    ∙ ap (λ b. b || emits c.args.self.now c.args.cycle (Row row) hub) (c.new-sets.ensures (passing_place row) hub))
-    (c.spread_through.ensures c.if-spread_through.true wiring is_net) c.sense_rows.ensures
+pub returns-then-is_direct-clause-held : goal.returns-then-is_direct-clause-held
+returns-then-is_direct-clause-held c known = c.run_direct_rows.ensures.steady c.args.held.now.closed (c.requires known)
 
-pub returns-then-spread_through-clause-keeps : goal.returns-then-spread_through-clause-keeps
-returns-then-spread_through-clause-keeps c =
-    subst (λ (m : MachineState). Keeps c.args.cycle c.args.self.now m) (sym c.sense_rows.ensures)
-    (rows-keep c.args.cycle (pictures_of c.spread_through.new.sets) (map Row rows) c.args.self.now)
-
-pub returns-then-spread_through-clause-steady : goal.returns-then-spread_through-clause-steady
-returns-then-spread_through-clause-steady c =
-    subst (λ (m : MachineState). AreSteady c.args.cycle c.args.closed.now m) (sym c.sense_rows.ensures)
-    (rows-steady c.args.cycle c.args.closed.now (pictures_of c.spread_through.new.sets) (map Row rows) c.args.self.now c.requires)
+pub returns-else-is_direct-clause-held : goal.returns-else-is_direct-clause-held
+returns-else-is_direct-clause-held c known = c.run_led_rows.ensures.steady

@@ -1,0 +1,28 @@
+use Rattle.std.proofs.Common.{◌∙◌, ◌||◌, ap, map, subst, sym}
+use Rattle.card_code.specs.Rows.{passing_place, rows}
+use Rattle.net.specs.RowSets.{pictures_of}
+use Rattle.net.specs.declared.cycle.Point.TheVariants.{Row}
+use Rattle.machine.specs.Keeps.{Keeps}
+use Rattle.machine.specs.Machine.{MachineState, emits}
+use Rattle.machine.specs.Steady.{AreSteady}
+use Rattle.machine.proofs.AllRows.{rows-direct, rows-steady}
+use Rattle.machine.proofs.Keeps.{rows-keep}
+use Rattle.machine.proofs.units.Units.run_direct_rows.Goals as goal
+
+pub returns-clause-ran : goal.returns-clause-ran
+returns-clause-ran c wiring is_net =
+    rows-direct wiring c.args.cycle c.args.self.now c.sense_rows.new.self c.emit_rows.new.sets c.spread.new.sets
+    (c.requires wiring is_net)
+    (λ row hub. c.emit_rows.ensures.rows row hub
+    ∙ ap (λ b. b || emits c.args.self.now c.args.cycle (Row row) hub) (c.new-rows.ensures (passing_place row) hub))
+    (c.spread.ensures wiring is_net) c.sense_rows.ensures
+
+pub returns-clause-keeps : goal.returns-clause-keeps
+returns-clause-keeps c =
+    subst (λ (m : MachineState). Keeps c.args.cycle c.args.self.now m) (sym c.sense_rows.ensures)
+    (rows-keep c.args.cycle (pictures_of c.spread.new.sets) (map Row rows) c.args.self.now)
+
+pub returns-clause-steady : goal.returns-clause-steady
+returns-clause-steady c closed steady =
+    subst (λ (m : MachineState). AreSteady c.args.cycle closed m) (sym c.sense_rows.ensures)
+    (rows-steady c.args.cycle closed (pictures_of c.spread.new.sets) (map Row rows) c.args.self.now steady)
