@@ -15,3 +15,4 @@ pub mod PassLemmas
 pub mod PassedRows
 pub mod PassedHubs
 pub mod WiredPictures
+pub mod BlockLemmas

@@ -1,5 +1,5 @@
 -- Sets of rows spread along links: one link after another, and what comes of all of them by the wires of a setup.
-use Rattle.std.proofs.Common.{⊎_elim, ◌≡◌, ◌≢◌, ℕ, zero, suc, ◌+◌, ◌-◌, ◌*◌, ◌/◌, ◌<◌, ◌≤◌, ◌&&◌, ◌||◌, Bool, true, false, List, [], ◌∷◌, ◌++◌, Option, Some, None, All, ◌↔◌, inl, inr, sym, ap, ◌∙◌, refl, subst, arith, length, take, slice_index_or, slice_set}
+use Rattle.std.proofs.Common.{⊎_elim, ◌≡◌, ◌≢◌, ℕ, zero, suc, ◌+◌, ◌-◌, ◌/◌, ◌<◌, ◌≤◌, ◌&&◌, ◌||◌, Bool, true, false, List, [], ◌∷◌, ◌++◌, Option, Some, None, All, ◌↔◌, inl, inr, sym, ap, ◌∙◌, refl, subst, arith, length, take, slice_index_or, slice_set}
 use Rattle.std.specs.Prelude.{◌==◌, is_some}
 use Rattle.std.specs.Int.Bits.{bit_or}
 use Rattle.std.proofs.Math.Bool.{or-false}
@@ -13,7 +13,7 @@ use Rattle.hubs.proofs.HubLemmas.{hub_numbered, in_range}
 use Rattle.hubs.specs.Hubs.{number_of}
 use Rattle.hubs.specs.declared.hub.Hub.{Hub}
 use Rattle.setups.specs.Wiring.{Wiring, HasWire}
-use Rattle.bit_sets.proofs.BitLemmas.{is_bit-or, is_bit-zero}
+use Rattle.bit_sets.proofs.BitLemmas.{is_bit-or}
 use Rattle.bit_sets.specs.Bits.{is_bit}
 use Rattle.bit_sets.specs.Rows.{leads}
 use Rattle.net.specs.Laws.{EmitsOrIsFed}
@@ -190,35 +190,6 @@ spread-fed wiring net links old new is_net range agree spreads row hub = by (num
     no_way : EmitsOrIsFed wiring (has_row_at old row) hub → ⊥
     no_way (inl emits) = false≢true (sym (ap is_some is) ∙ emits.0)
     no_way (inr fed) = let n = fed.wire.entry_numbered in cc
-
--- the rows of one place more of a block
-pub block-joined : (sets : List ℕ) (first count rows : ℕ)
-    → ((k row : ℕ) → k < count → is_bit rows row ≡ false → has_at sets (first + k) row ≡ false)
-    → (k row : ℕ) → k < count + 1 → is_bit (bit_or rows (slice_index_or sets (first + count) 0)) row ≡ false
-    → has_at sets (first + k) row ≡ false
-block-joined sets first count rows before k row less none = ⊎_elim here earlier (cases_eq k count) where
-  parts : (a b c : Bool) → c ≡ (a || b) → c ≡ false → (a ≡ false) × (b ≡ false)
-  parts a b c e f = grind (arith, nat_tests, common_steps)
-
-  both : (is_bit rows row ≡ false) × (has_at sets (first + count) row ≡ false)
-  both = parts _ _ _ (is_bit-or rows (slice_index_or sets (first + count) 0) row) none
-
-  here : k ≡ count → has_at sets (first + k) row ≡ false
-  here same = ap (λ (j : ℕ). has_at sets (first + j) row) same ∙ both.1
-
-  earlier : k ≢ count → has_at sets (first + k) row ≡ false
-  earlier other = before k row (omega (arith, less, other)) both.0
-
--- where no row is joined no place of the block has one
-pub block-without : (sets : List ℕ) (place other count rows row : ℕ) → (rows == 0) ≡ true → other / 16 ≡ place / 16 → 16 ≤ count
-    → ((k row : ℕ) → k < count → is_bit rows row ≡ false → has_at sets (place / 16 * 16 + k) row ≡ false)
-    → has_at sets other row ≡ false
-block-without sets place other count rows row none same end joined =
-    let no_rows : rows ≡ 0 = grind (arith, nat_tests, none) in
-    let k = other - place / 16 * 16 in
-    let inside : k < count = omega (arith, same, end) in
-    let at : place / 16 * 16 + k ≡ other = omega (arith, same) in
-    subst (λ (p : ℕ). has_at sets p row ≡ false) at (joined k row inside (ap (λ (w : ℕ). is_bit w row) no_rows ∙ is_bit-zero row))
 
 -- a link whose near end has no row is followed by nothing
 not-followed : (link : Link) (sets : List ℕ) → ((row : ℕ) → has_at sets link.from row ≡ false) → IsFollowed link sets sets

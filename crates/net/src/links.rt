@@ -1,6 +1,6 @@
 //! The wires of a net one by one, and sets of rows that are spread along them.
 
-ghost use Rattle.std.specs.Prelude.{◌≡◌, ◌<◌, ◌≤◌, ◌/◌, ℕ, List, All, IfOk, OnOk, true, false, length, take};
+ghost use Rattle.std.specs.Prelude.{◌≡◌, ◌+◌, ◌<◌, ◌≤◌, ◌/◌, ℕ, List, All, IfOk, OnOk, true, false, drop, length, take};
 ghost use Rattle.bit_sets.specs.Bits.{has_place};
 ghost use Rattle.setups.specs.Wiring.{IsEntryNumber};
 ghost use Rattle.net.specs.Links.{AddsLinks, AreSkips, HasExitsOf, IsFollowed, IsInRange, IsSkip, Spreads, has_at};
@@ -8,6 +8,7 @@ ghost use Rattle.net.specs.Links.{AddsLinks, AreSkips, HasExitsOf, IsFollowed, I
 use crate::picture::HUBS;
 use bit_sets::WORDS;
 use std::alloc::{AllocError, Global};
+use std::simd::prelude::*;
 
 // How many places a block has: the first block has the places 0 to 15, and so on.
 const BLOCK: usize = 16;
@@ -119,11 +120,25 @@ pub(crate) fn is_block_empty(sets: &[u16; HUBS], place: usize) -> bool
     ensures { result ≡ true → (other row : ℕ) → other / 16 ≡ place / 16 → has_at sets.now other row ≡ false }
 {
     let first = place / BLOCK * BLOCK;
-    let mut rows = 0;
-    for k in 0..BLOCK {
-        rows |= sets[first + k];
-    }
-    rows == 0
+    let joined = half_block(sets, first) | half_block(sets, first + BLOCK / 2);
+    joined.reduce_or() == 0
+}
+
+// Eight sets from a place on, all taken at once.
+fn half_block(sets: &[u16; HUBS], first: usize) -> u16x8
+    requires { first + 8 ≤ HUBS }
+    ensures { result ≡ take 8 (drop first sets.now) }
+{
+    u16x8::from_array([
+        sets[first],
+        sets[first + 1],
+        sets[first + 2],
+        sets[first + 3],
+        sets[first + 4],
+        sets[first + 5],
+        sets[first + 6],
+        sets[first + 7],
+    ])
 }
 
 // The far end of a link gains the rows of the near end.

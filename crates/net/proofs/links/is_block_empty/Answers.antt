@@ -1,9 +1,8 @@
-use Rattle.net.proofs.LinkLemmas.{block-joined, block-without}
+use Rattle.std.proofs.Common.{sym}
+use Rattle.net.proofs.BlockLemmas.{block-empty}
 use Rattle.net.proofs.links.is_block_empty.Goals as goal
-
-pub loop-k-preserved : goal.loop-k-preserved
-loop-k-preserved c = block-joined c.args.sets.now _ c.loop-k.k c.loop-k.rows c.loop-k.invariant
 
 pub returns : goal.returns
 returns c empty other row same =
-    block-without c.args.sets.now c.args.place other c.loop-k.k c.loop-k.rows row empty same c.loop-k-test.false c.loop-k.invariant
+    block-empty c.args.sets.now c.args.place other row c.told-sets c.requires (rw (sym c.half_block.ensures, sym c.half_block-2.ensures) empty)
+    same
