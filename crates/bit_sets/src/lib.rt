@@ -13,6 +13,6 @@ mod rows;
 mod search;
 
 pub use contacts::{Run, commons_of};
-pub use places::{PLACES, WORDS, has, put_run, put_where, run};
+pub use places::{PLACES, WORDS, has, has_within, put_run, put_where, run};
 pub use rows::{EXITS, Rows};
 pub use search::{meet, reach, reach_by_rows};

@@ -18,6 +18,16 @@ pub fn has(words: &[u64; WORDS], place: usize) -> bool
     has_in(words, place)
 }
 
+/// The same of a place that the set has room for.
+#[inline(always)]
+pub fn has_within(words: &[u64; WORDS], place: usize) -> bool
+    requires { place < PLACES }
+    ensures { result ≡ has_place words.now place }
+{
+    let word = words[place / 64];
+    has_bit(word, place % 64)
+}
+
 // Whether these words have a place; none after their last.
 pub(crate) fn has_in(words: &[u64], place: usize) -> bool
     ensures { result ≡ has_place words.now place }

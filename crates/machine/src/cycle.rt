@@ -78,7 +78,7 @@ impl Units {
             → IsPicture wiring (has_hub exits.now) (closes self.now cycle point) (has_hub picture.new) }
         ensures held { AreHeld cycle held.new self.now }
     {
-        if net.picture_by_wires(exits, picture) && !self.passes_carries(point, picture) {
+        if net.picture_by_wires(point, exits, picture) && !self.passes_carries(point, picture) {
             return;
         }
         self.hold(held, cycle);

@@ -316,3 +316,20 @@ nothing-passed digits zones sets contact place row none =
   where
     nothing : (a b : Bool) → (a || (b && false)) ≡ a
     nothing a b = grind (arith, nat_tests)
+
+-- nor does one that is closed at none of its rows
+pub shut-passed : (digits zones sets : List ℕ) (contact : Link) (place row closed : ℕ)
+    → is_bit closed row ≡ is_closed_at digits zones row contact.to → bit_and (slice_index_or sets contact.from 0) closed ≡ 0
+    → has_at sets place row ≡ (has_at sets place row || is_passed_by digits zones sets place row contact)
+shut-passed digits zones sets contact place row closed is none =
+    sym
+    (ap (λ b. has_at sets place row || ((contact.to == place) && b)) shut
+    ∙ nothing (has_at sets place row) (contact.to == place))
+  where
+    shut : (has_at sets contact.from row && is_closed_at digits zones row contact.to) ≡ false
+    shut =
+        sym (is_bit-and (slice_index_or sets contact.from 0) closed row ∙ ap (λ b. has_at sets contact.from row && b) is)
+        ∙ ap (λ (w : ℕ). is_bit w row) none ∙ is_bit-zero row
+
+    nothing : (a b : Bool) → (a || (b && false)) ≡ a
+    nothing a b = grind (arith, nat_tests)

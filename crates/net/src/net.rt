@@ -5,7 +5,8 @@ ghost use Rattle.setups.specs.Wiring.{IsEntryNumber};
 ghost use Rattle.net.specs.NetRows.{AddsRow};
 
 use crate::contacts::CONTACTS;
-use crate::links::{Link, add_links, follow_all, leads_to_any, skips_of};
+use crate::cycle::Point;
+use crate::links::{Link, add_links, follow_all, leads_on, leads_to_any, skips_of};
 use crate::passing::{add_behind, add_contacts, add_further, pass_all};
 use crate::picture::{Contacts, Picture, cut_after_hubs};
 use crate::row_sets::RowSets;
@@ -42,6 +43,8 @@ pub struct Net {
     behind_skips: Vec<usize>,
     // Whether no wire leads to a common hub.
     is_direct: bool,
+    // Whether a wire leads to one, other than a carry entry, from an exit that tells of a cycle.
+    is_controlled: bool,
 }
 
 impl Model for Net {
@@ -101,6 +104,7 @@ impl Net {
         let commons = commons_of(&CONTACTS);
         let others = commons_of(&CONTACTS[1..]);
         let is_direct = !leads_to_any(links.as_slice(), &commons);
+        let is_controlled = leads_on(links.as_slice(), &others);
         Ok(Net {
             rows,
             commons,
@@ -114,6 +118,7 @@ impl Net {
             behind,
             behind_skips,
             is_direct,
+            is_controlled,
         })
     }
 
@@ -137,8 +142,9 @@ impl Net {
     }
 
     /// Makes `out` what the emitting exits and the wires from them make, whatever it had before. Answers whether, of the hubs from which
-    /// contacts lead, it has carry entries alone: then that is the picture wherever none of these carries passes.
-    pub fn picture_by_wires(&self, exits: &Picture, out: &mut Picture) -> bool
+    /// contacts lead, it has carry entries alone: then that is the picture wherever none of these carries passes. At the control point it
+    /// isn't tried, and the answer is false, where the exits that tell of cycles have wires to other such hubs.
+    pub fn picture_by_wires(&self, point: Point, exits: &Picture, out: &mut Picture) -> bool
         ensures { result ≡ true
             → (wiring : Wiring)
             → IsNetOf wiring self.now
@@ -146,6 +152,9 @@ impl Net {
             → PassesNoCarry closed (has_hub out.new)
             → IsPicture wiring (has_hub exits.now) closed (has_hub out.new) }
     {
+        if self.is_controlled && point == Point::C {
+            return false;
+        }
         *out = *exits;
         reach_by_rows(&self.rows, &mut out.words);
         cut_after_hubs(&mut out.words);

@@ -1,6 +1,6 @@
 //! The contacts of a net one by one, and the rows that they pass on while they are closed.
 
-ghost use Rattle.std.specs.Prelude.{◌≡◌, ℕ, ◌≤◌, ◌&&◌, List, All, OnOk, false, length, take};
+ghost use Rattle.std.specs.Prelude.{◌≡◌, ℕ, ◌<◌, ◌≤◌, ◌&&◌, List, All, OnOk, false, length, take};
 ghost use Rattle.std.specs.List.{list_any};
 ghost use Rattle.bit_sets.specs.Contacts.{is_any_contact, is_contact};
 ghost use Rattle.net.specs.HubSets.{is_bit};
@@ -9,7 +9,7 @@ ghost use Rattle.net.specs.Passing.{AddsContacts, AddsFurther, IsPassed, LeadsTo
 
 use crate::links::{Link, is_block_empty};
 use crate::picture::HUBS;
-use bit_sets::{Run, WORDS, has};
+use bit_sets::{PLACES, Run, WORDS, has_within};
 use std::alloc::AllocError;
 
 // Adds the contacts of the runs that a link leads to.
@@ -164,17 +164,22 @@ fn pass(contact: Link, digits: &[u64; WORDS], zones: &[u64; WORDS], sets: &mut [
     if near == 0 {
         return false;
     }
+    let passed = near & closed_rows(digits, zones, contact.to as usize);
+    if passed == 0 {
+        return false;
+    }
     let far = sets[contact.to as usize];
-    let joined = far | near & closed_rows(digits, zones, contact.to as usize);
+    let joined = far | passed;
     sets[contact.to as usize] = joined;
     joined != far
 }
 
 // The rows at which the contact to a place is closed: 9 to 0 are the first ten, 11 and 12 the next two.
 fn closed_rows(digits: &[u64; WORDS], zones: &[u64; WORDS], place: usize) -> u16
+    requires { place < PLACES }
     ensures { (row : ℕ) → is_bit result row ≡ is_closed_at digits.now zones.now row place }
 {
-    rows_where(has(digits, place), 0x3ff) | rows_where(has(zones, place), 0xc00)
+    rows_where(has_within(digits, place), 0x3ff) | rows_where(has_within(zones, place), 0xc00)
 }
 
 // The rows where the test is true, else none.

@@ -1,5 +1,5 @@
 use Rattle.std.proofs.Common.{arith}
-use Rattle.net.proofs.PassLemmas.{not-other, nothing-passed, passed-at, same-at}
+use Rattle.net.proofs.PassLemmas.{not-other, nothing-passed, passed-at, same-at, shut-passed}
 use Rattle.net.proofs.passing.pass.Goals as goal
 
 pub returns-clause-passed : goal.returns-clause-passed
@@ -14,3 +14,8 @@ returns-clause-same c none place row =
 pub returns-then-near-eq0-clause-passed : goal.returns-then-near-eq0-clause-passed
 returns-then-near-eq0-clause-passed c place row =
     nothing-passed c.args.digits.now c.args.zones.now c.args.sets.now c.args.contact place row c.if-near-eq0.true
+
+pub returns-then-passed-eq0-clause-passed : goal.returns-then-passed-eq0-clause-passed
+returns-then-passed-eq0-clause-passed c place row =
+    shut-passed c.args.digits.now c.args.zones.now c.args.sets.now c.args.contact place row c.closed_rows.result
+    (c.closed_rows.ensures row) c.if-passed-eq0.true
