@@ -11,11 +11,21 @@ use std::marker::Model;
 /// Contracts see it as the chart, the plan and the setup. The chart breaks no rule and exceeds no capacity of the
 /// standard machine, the plan is the one that the rule of allocation gives, and the setup has the chart's wires, jacks and tape, and no
 /// others.
-#[derive(Drop)]
 pub struct Compiled {
     chart: Chart,
     plan: Plan,
     setup: Setup,
+}
+
+// By hand, so that a function that drops one calls this, and does not drop its parts one by one.
+impl Drop for Compiled {
+    fn drop(self) {
+        let Compiled {
+            chart: _chart,
+            plan: _plan,
+            setup: _setup,
+        } = self;
+    }
 }
 
 impl Model for Compiled {

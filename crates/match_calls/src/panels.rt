@@ -13,10 +13,19 @@ use std::alloc::Global;
 use wire_chart::read_setup;
 
 /// A compiled chart, and a panel that is wired as a wiring chart says.
-#[derive(Drop)]
 pub(crate) struct Panels {
     pub(crate) compiled: Compiled,
     pub(crate) setup: Setup,
+}
+
+// By hand, so that a function that drops both calls this.
+impl Drop for Panels {
+    fn drop(self) {
+        let Panels {
+            compiled: _compiled,
+            setup: _setup,
+        } = self;
+    }
 }
 
 /// The compiled chart and the panel of a planning chart and a wiring chart.

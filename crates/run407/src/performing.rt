@@ -9,8 +9,8 @@ use commands::{Fault, chart_and_deck, read_whole, replay_by_orders, serve, tell,
 use guides::fault_to_end;
 use match_calls::{match_deck_to_end, match_to_end};
 use panel_guides::{Place, explain_to_end, legend_to_end};
-use std::io::{ErrorKind as IoErrorKind, Write};
 use std::fs::File;
+use std::io::{ErrorKind as IoErrorKind, Write};
 use std::{fs, io};
 use trace_calls::trace_to_end;
 
