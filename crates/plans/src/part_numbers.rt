@@ -28,7 +28,6 @@ pub enum PartKind {
 /// for, each list in the order in which it asks for it.
 ///
 /// Contracts see the numbers, from 1. Each is that of a part of the standard machine.
-#[derive(Drop)]
 pub struct PartNumbers {
     pilots: Vec<u8>,
     comparing: Vec<u8>,
@@ -38,6 +37,21 @@ pub struct PartNumbers {
     minor: Vec<u8>,
     intermediate: Vec<u8>,
     major: Vec<u8>,
+}
+
+// By hand, so that a function that drops one calls this, and doesn't drop its parts one by one.
+impl Drop for PartNumbers {
+    fn drop(self) {
+        let PartNumbers {
+            pilots: _pilots,
+            comparing: _comparing,
+            storage: _storage,
+            splits: _splits,
+            minor: _minor,
+            intermediate: _intermediate,
+            major: _major,
+        } = self;
+    }
 }
 
 impl Model for PartNumbers {

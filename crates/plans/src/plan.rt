@@ -15,11 +15,21 @@ use wanted::{Parts, Position, has_narrow_texts, total_place};
 /// Contracts see a counter for each TOTAL amount, in the order of their lines; what the other parts serve, in the order in which the
 /// chart asks for it; and the numbers of the parts that serve it. What the other parts serve is no more than the standard machine has
 /// parts. Whether the counters and the numbers go with that, and with a chart, [`is_for`](Plan::is_for) tells.
-#[derive(Drop)]
 pub struct Plan {
     counters: Vec<TotalCounter>,
     parts: Parts,
     numbers: PartNumbers,
+}
+
+// By hand, so that a function that drops one calls this, and doesn't drop its parts one by one.
+impl Drop for Plan {
+    fn drop(self) {
+        let Plan {
+            counters: _counters,
+            parts: _parts,
+            numbers: _numbers,
+        } = self;
+    }
 }
 
 impl Model for Plan {

@@ -10,7 +10,6 @@ use std::marker::Model;
 
 /// What the pilots, comparing positions, storage units, column splits and indicate positions serve, in the order in which a chart
 /// asks for it.
-#[derive(Drop)]
 pub struct Parts {
     // The names of the amounts.
     pilots: Vec<Name>,
@@ -23,6 +22,21 @@ pub struct Parts {
     minor: Vec<Position>,
     intermediate: Vec<Position>,
     major: Vec<Position>,
+}
+
+// By hand, so that a function that drops one calls this, and doesn't drop its parts one by one.
+impl Drop for Parts {
+    fn drop(self) {
+        let Parts {
+            pilots: _pilots,
+            comparing: _comparing,
+            storage: _storage,
+            splits: _splits,
+            minor: _minor,
+            intermediate: _intermediate,
+            major: _major,
+        } = self;
+    }
 }
 
 impl Model for Parts {
