@@ -44,7 +44,6 @@ pub fn is_wiring_text(text: &[u8]) -> bool
 }
 
 /// A panel that is wired as a wiring chart says, and the cards of a deck.
-#[derive(Drop)]
 pub struct WiredRun {
     /// The panel.
     pub setup: Setup,
@@ -52,13 +51,32 @@ pub struct WiredRun {
     pub cards: Vec<Card>,
 }
 
+// By hand, so that a function that drops one calls this, and doesn't drop its parts one by one.
+impl Drop for WiredRun {
+    fn drop(self) {
+        let WiredRun {
+            setup: _setup,
+            cards: _cards,
+        } = self;
+    }
+}
+
 /// A compiled chart, and the cards of a deck that it can be run with.
-#[derive(Drop)]
 pub struct PlannedRun {
     /// The chart with its plan and its setup.
     pub compiled: Compiled,
     /// The cards.
     pub cards: Vec<Card>,
+}
+
+// By hand, so that a function that drops one calls this, and doesn't drop its parts one by one.
+impl Drop for PlannedRun {
+    fn drop(self) {
+        let PlannedRun {
+            compiled: _compiled,
+            cards: _cards,
+        } = self;
+    }
 }
 
 /// The panel and the cards of a wiring chart and a deck.
