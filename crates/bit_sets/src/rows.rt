@@ -37,7 +37,7 @@ impl Model for Rows {
 }
 
 impl Rows {
-    ghost use Rattle.std.specs.Prelude.{◌≡◌, ℕ, ◌<◌, ◌≤◌, ◌⊎◌, ◌==◌, ◌&&◌, ◌||◌, true, false, length, All, IfOk, IfSome, OnOk};
+    ghost use Rattle.std.specs.Prelude.{◌≡◌, ℕ, ◌*◌, ◌<◌, ◌≤◌, ◌⊎◌, ◌==◌, ◌&&◌, ◌||◌, true, false, bit_and, length, slice_index_or, All, IfOk, IfSome, OnOk};
     ghost use Rattle.bit_sets.specs.Bits.{has_place, is_in_run};
     ghost use Rattle.bit_sets.specs.Bundles.{AreCovered, IsBundle};
     ghost use Rattle.bit_sets.specs.Contacts.{is_any_contact};
@@ -128,8 +128,27 @@ impl Rows {
     {
         self.known();
         for number in 0..17 {
-            self.join_bits(64 * number, new[number] & marked[number], words);
+            self.join_word(number, new, marked, words);
         }
+    }
+
+    // Adds what those places of a word of `new` lead to that are marked. Most words have no place.
+    #[inline(always)]
+    fn join_word(
+        &self,
+        number: usize,
+        new: &[u64; WORDS],
+        marked: &[u64; WORDS],
+        words: &mut [u64; WORDS],
+    )
+        requires { number < 17 }
+        ensures { GainsLed self.now
+            (is_in_run (64 * number) (bit_and (slice_index_or new.now number 0) (slice_index_or marked.now number 0))) words.old words.new }
+    {
+        if new[number] == 0 {
+            return;
+        }
+        self.join_bits(64 * number, new[number] & marked[number], words);
     }
 
     // Adds what the places of a word lead to, of which the first stands for `first`.

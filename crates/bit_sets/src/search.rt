@@ -42,15 +42,16 @@ pub fn reach(
     }
 }
 
-/// Adds to a set all places that rows lead to from its places. That is all that is reached where no contact is closed.
-pub fn reach_by_rows(rows: &Rows, words: &mut [u64; WORDS])
+/// Makes `out` a set and all places that rows lead to from its places, whatever it had before. That is all that is reached where no
+/// contact is closed.
+pub fn reach_by_rows(rows: &Rows, emits: &[u64; WORDS], out: &mut [u64; WORDS])
     ensures reached { (runs : List Run) (place : ℕ)
-        → (has_place words.new place ≡ true) ↔ IsReached rows.now runs words.old [] place }
+        → (has_place out.new place ≡ true) ↔ IsReached rows.now runs emits.now [] place }
     ensures short { length rows.now ≤ EXITS }
 {
     rows.known();
-    let new = *words;
-    rows.join_few(&new, words);
+    *out = *emits;
+    rows.join_few(emits, out);
 }
 
 // Whether two sets have a place in common that isn't among those of a third.

@@ -155,8 +155,7 @@ impl Net {
         if self.is_controlled && point == Point::C {
             return false;
         }
-        *out = *exits;
-        reach_by_rows(&self.rows, &mut out.words);
+        reach_by_rows(&self.rows, &exits.words, &mut out.words);
         cut_after_hubs(&mut out.words);
         !meet(&self.others, &out.words)
     }

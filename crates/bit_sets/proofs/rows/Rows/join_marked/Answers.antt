@@ -8,7 +8,7 @@ loop-number-init c =
 pub loop-number-preserved : goal.loop-number-preserved
 loop-number-preserved c =
     GainsLed-next c.args.self.now c.args.marked.now c.args.new.now c.known.ensures.short c.loop-number.number c.args.words.now
-    c.loop-number.words c.join_bits.new.words c.loop-number.invariant c.join_bits.ensures
+    c.loop-number.words c.join_word.new.words c.loop-number.invariant c.join_word.ensures
     (c.fits-new c.loop-number.number)
 
 pub returns : goal.returns
