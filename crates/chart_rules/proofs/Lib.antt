@@ -8,4 +8,5 @@ pub mod Versions
 pub mod DigitCounts
 pub mod TextMarks
 pub mod PrintedRows
+pub mod PlainAmounts
 pub mod ControlFields

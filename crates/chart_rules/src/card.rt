@@ -1,10 +1,10 @@
 //! The cards that are valid for a chart.
 
 ghost use Rattle.std.specs.List.{list_any};
-ghost use Rattle.std.specs.Prelude.{◌≡◌, ◌==◌, ◌+◌, ◌<◌, ◌≤◌, ◌↔◌, ℕ, IsTrue, IsOk, IfErr, length};
+ghost use Rattle.std.specs.Prelude.{◌≡◌, ◌==◌, ◌+◌, ◌<◌, ◌≤◌, ◌↔◌, ℕ, IsTrue, IsOk, IfErr, length, true};
 ghost use Rattle.card_code.specs.CardCode.{deck_character};
 ghost use Rattle.field_rules.specs.Fields.{fields_of};
-ghost use Rattle.charts.specs.Field.{sign_column, decimals_of};
+ghost use Rattle.charts.specs.Field.{decimals_of, is_amount, sign_column};
 ghost use Rattle.chart_rules.specs.HelperOnCard.{IsOnCard, AreOnCard};
 ghost use Rattle.chart_rules.specs.HelperTexts.{AreAmountsValid};
 ghost use Rattle.chart_rules.specs.ValidCard as valid;
@@ -74,11 +74,31 @@ fn are_amounts_valid(fields: &[Field], card: &Card) -> bool
     ensures { IsTrue result → AreAmountsValid fields.now (length fields.now) card.now }
 {
     for field in fields {
-        if field.kind.is_amount() && !is_valid(*field, card) {
+        if field.kind.is_amount() && !is_plain_amount(*field, card) {
             return false;
         }
     }
     true
+}
+
+/// Whether one pass over the columns of an amount shows that it is valid on a card: blanks alone, or blanks and then single digits, at
+/// least as many as there are decimals; and zones that are right.
+fn is_plain_amount(field: Field, card: &Card) -> bool
+    requires on_card { IsOnCard field }
+    requires amount { is_amount field.kind ≡ true }
+    ensures { IsTrue result → valid.IsValidField field card.now }
+{
+    let sign = field.kind.sign_column();
+    let mut digits = 0;
+    for column in field.first..field.last + 1 {
+        let rows = column_of(card, column);
+        let count = digit_count(rows);
+        if !has_good_zone(sign, column, rows) || count > 1 || (count == 0 && digits > 0) {
+            return false;
+        }
+        digits += count as u16;
+    }
+    digits == 0 || field.kind.decimals().max(1) <= digits
 }
 
 /// Whether each of some fields is valid on a card, and else what to tell of the first that is not.
