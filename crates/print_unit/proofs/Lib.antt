@@ -10,5 +10,6 @@ pub mod Ranges
 pub mod Sets
 pub mod WheelRows
 pub mod HiddenWheels
+pub mod Hiding
 pub mod EmittedRows
 pub mod Blocks

@@ -1,12 +1,12 @@
 -- Sets of rows as numbers: how they are gathered from the words of the wheels, and the characters that they print.
-use Rattle.std.proofs.Common.{◌≡◌, ◌≢◌, ◌∙◌, refl, sym, ap, ℕ, ◌+◌, ◌*◌, ◌%◌, ◌^◌, ◌-◌, ◌<◌, ◌≤◌, ◌==◌, ◌&&◌, ◌||◌, not, ◌⊎◌, inl, inr, nat_lt, Bool, true, false, List, length, slice_index_or, slice_set, bit_and, bit_or, arith, if◌then◌else◌}
+use Rattle.std.proofs.Common.{◌≡◌, ◌≢◌, ◌∙◌, refl, sym, ap, ℕ, ◌+◌, ◌*◌, ◌%◌, ◌^◌, ◌-◌, ◌<◌, ◌==◌, ◌&&◌, ◌||◌, not, ◌⊎◌, inl, inr, nat_lt, Bool, true, false, List, length, slice_index_or, slice_set, bit_and, bit_or, arith}
 use Rattle.std.proofs.lemmas.Bool.Decides.{eqb_tells, nat_tests}
 use Rattle.std.proofs.lemmas.List.{get_or-set_same, get_or-set_other, length-set}
 use Rattle.std.proofs.lemmas.Nat.{and_le_l}
 use Rattle.std.proofs.lemmas.Nat.Bits.{bit_at-trailing_zeros}
 use Rattle.std.specs.Int.{bit_not, w128, trailing_zeros}
 use Rattle.net.specs.HubSets.{is_bit}
-use Rattle.print_unit.specs.RowSets.{rows_in, HidesLeft, Receives, TakesRow, TakesLeft}
+use Rattle.print_unit.specs.RowSets.{rows_in, Receives, TakesRow, TakesLeft}
 use Rattle.print_unit.proofs.Bits.{is_bit-zero, is_bit-and, is_bit-or, is_bit-joined, is_bit-cleared, is_bit-ones}
 use Rattle.print_unit.proofs.Ranges.{map-same}
 
@@ -114,87 +114,3 @@ pub takes-all : (word left place : ℕ) (old new : List ℕ) → left ≡ 0 → 
     → TakesRow word place old new
 takes-all word left place old new none takes k wide p =
     takes.taken k wide p ∙ rw (none, is_bit-zero k) (grind (arith, nat_tests))
-
--- no wheel is blank yet
-pub hides-none : (hidden : ℕ) (line : List ℕ) → length line ≡ 120 → HidesLeft hidden hidden line line
-hides-none hidden line wheels = record {
-  within = λ k wide. both (is_bit hidden k);
-  blank = λ k low. sym (ap (λ b. if b then 32 else slice_index_or line k 0) (none (is_bit hidden k)));
-  wheels = wheels;
-}
-  where
-    both : (b : Bool) → (b && b) ≡ b
-    both true = refl
-    both false = refl
-
-    none : (b : Bool) → (b && not b) ≡ false
-    none true = refl
-    none false = refl
-
--- the wheel of the lowest bit that is left becomes blank, if there is such a wheel
-hides-bit : (hidden left rest at : ℕ) (old now new : List ℕ) → at < 128 → is_bit left at ≡ true
-    → ((j : ℕ) → j < 128 → is_bit rest j ≡ (is_bit left j && not (j == at)))
-    → ((k : ℕ) → k < 120 → k ≡ at → slice_index_or new k 0 ≡ 32)
-    → ((k : ℕ) → k < 120 → k ≢ at → slice_index_or new k 0 ≡ slice_index_or now k 0)
-    → length new ≡ 120 → HidesLeft hidden left old now → HidesLeft hidden rest old new
-hides-bit hidden left rest at old now new below on cleared here others wheels hides = record {
-  within = λ k wide. let w = hides.within k wide in rw (cleared k wide) (grind (arith, nat_tests, w));
-  blank = λ k low. by k low (eqb_tells k at);
-  wheels = wheels;
-}
-  where
-    by : (k : ℕ) → k < 120 → ((k == at) ≡ true) × (k ≡ at) ⊎ ((k == at) ≡ false) × (k ≢ at)
-        → slice_index_or new k 0 ≡ (if is_bit hidden k && not (is_bit rest k) then 32 else slice_index_or old k 0)
-    by k low (inl same) =
-        let wide : k < 128 = omega (arith, low) in
-        let w = hides.within k wide in
-        let left_on : is_bit left k ≡ true = ap (is_bit left) same.1 ∙ on in
-        let gone = cleared k wide in
-        here k low same.1
-        ∙ ap (λ b. if b then 32 else slice_index_or old k 0) (blank (is_bit hidden k) (is_bit left k) (is_bit rest k) w left_on (gone ∙ ap (λ b. is_bit left k && not b) same.0))
-      where
-        blank : (h l r : Bool) → (l && h) ≡ l → l ≡ true → r ≡ (l && not true) → true ≡ (h && not r)
-        blank h l r e f g = grind (arith, nat_tests, e, f, g)
-    by k low (inr apart) =
-        let wide : k < 128 = omega (arith, low) in
-        let kept = cleared k wide ∙ ap (λ b. is_bit left k && not b) apart.0 ∙ whole (is_bit left k) in
-        others k low apart.1 ∙ hides.blank k low
-        ∙ ap (λ b. if is_bit hidden k && not b then 32 else slice_index_or old k 0) (sym kept)
-      where
-        whole : (b : Bool) → (b && not false) ≡ b
-        whole true = refl
-        whole false = refl
-
-pub hides-lowest : (hidden left : ℕ) (old now : List ℕ) → left ≢ 0 → left < 2 ^ 128 → trailing_zeros w128 left < 120 → HidesLeft hidden left old now
-    → HidesLeft hidden (bit_and left (bit_not w128 (1 * 2 ^ trailing_zeros w128 left % 2 ^ 128))) old (slice_set now (trailing_zeros w128 left) 32)
-hides-lowest hidden left old now some small low hides =
-    let at = lowest left some small in
-    let k = trailing_zeros w128 left in
-    let long = hides.wheels in
-    hides-bit hidden left (bit_and left (bit_not w128 (1 * 2 ^ k % 2 ^ 128))) k old now (slice_set now k 32) at.0 at.1
-    (λ j wide. is_bit-cleared left k j at.0 wide)
-    (λ j near same. ap (λ (i : ℕ). slice_index_or (slice_set now k 32) i 0) same ∙ get_or-set_same now k 32 0 (omega (arith, long, low)))
-    (λ j near apart. get_or-set_other now k j 32 0 apart)
-    (length-set now k 32 ∙ long) hides
-
-pub hides-beyond : (hidden left : ℕ) (old now : List ℕ) → left ≢ 0 → left < 2 ^ 128 → 120 ≤ trailing_zeros w128 left → HidesLeft hidden left old now
-    → HidesLeft hidden (bit_and left (bit_not w128 (1 * 2 ^ trailing_zeros w128 left % 2 ^ 128))) old now
-hides-beyond hidden left old now some small high hides =
-    let at = lowest left some small in
-    let k = trailing_zeros w128 left in
-    hides-bit hidden left (bit_and left (bit_not w128 (1 * 2 ^ k % 2 ^ 128))) k old now now at.0 at.1
-    (λ j wide. is_bit-cleared left k j at.0 wide)
-    (λ j near same. absurd (omega (arith, near, same, high)))
-    (λ j near apart. refl) hides.wheels hides
-
--- where none is left all are blank that are hidden
-pub hides-all : (hidden left : ℕ) (old new : List ℕ) → left ≡ 0 → HidesLeft hidden left old new → (k : ℕ) → k < 120
-    → slice_index_or new k 0 ≡ (if is_bit hidden k then 32 else slice_index_or old k 0)
-hides-all hidden left old new none hides k low =
-    hides.blank k low
-    ∙ ap (λ b. if is_bit hidden k && not b then 32 else slice_index_or old k 0) (ap (λ (n : ℕ). is_bit n k) none ∙ is_bit-zero k)
-    ∙ ap (λ b. if b then 32 else slice_index_or old k 0) (whole (is_bit hidden k))
-  where
-    whole : (b : Bool) → (b && not false) ≡ b
-    whole true = refl
-    whole false = refl

@@ -1,6 +1,6 @@
 //! The line: the characters of the wheels, by the sets of the rows that they received.
 
-ghost use Rattle.std.specs.Prelude.{◌≡◌, ℕ, ◌+◌, ◌<◌, ◌≤◌, true, length, slice_index_or, if◌then◌else◌};
+ghost use Rattle.std.specs.Prelude.{◌≡◌, ℕ, ◌+◌, ◌-◌, ◌<◌, ◌≤◌, ◌&&◌, nat_le, true, length, slice_index_or, if◌then◌else◌};
 ghost use Rattle.net.specs.HubSets.{is_bit};
 ghost use Rattle.print_unit.specs.RowSets.{rows_in, Receives, TakesRow};
 ghost use Rattle.print_unit.specs.ZeroControl.{character_of};
@@ -12,6 +12,9 @@ use std::simd::prelude::*;
 
 /// A place for each bit of a word of wheels.
 pub const BITS: usize = 128;
+
+// The bits of the first sixty-four wheels.
+const LOW_HALF: u128 = (1 << 64) - 1;
 
 /// Prints each wheel's character on the line, as if no wheel were hidden.
 pub fn print(characters: &Characters, sets: &[u16; BITS], line: &mut [u8; WHEELS])
@@ -67,13 +70,25 @@ pub fn hide(hidden: u128, line: &mut [u8; WHEELS])
         → slice_index_or line.new k 0 ≡ (if is_bit hidden k then 32 else slice_index_or line.old k 0) }
     ensures wheels { length line.new ≡ 120 }
 {
+    hide_half((hidden & LOW_HALF) as u64, 0, line);
+    hide_half((hidden >> 64) as u64, 64, line);
+}
+
+// Makes the wheels of half a word blank: its bits stand for the wheels from one on.
+fn hide_half(hidden: u64, from: usize, line: &mut [u8; WHEELS])
+    requires { from ≤ 64 }
+    ensures hidden { (k : ℕ)
+        → k < 120
+        → slice_index_or line.new k 0 ≡ (if nat_le from k && is_bit hidden (k - from) then 32 else slice_index_or line.old k 0) }
+    ensures wheels { length line.new ≡ 120 }
+{
     let mut left = hidden;
     while left != 0 {
-        let wheel = left.trailing_zeros() as usize;
-        if wheel < WHEELS {
-            line[wheel] = b' ';
+        let bit = left.trailing_zeros() as usize;
+        if from + bit < WHEELS {
+            line[from + bit] = b' ';
         }
-        left &= !(1 << wheel);
+        left &= !(1 << bit);
     }
 }
 

@@ -1,9 +1,9 @@
 use Rattle.print_unit.specs.RowSets.{HidesLeft}
-use Rattle.print_unit.proofs.line.hide.Given as goal
+use Rattle.print_unit.proofs.line.hide_half.Given as goal
 
 -- the wheels that are no longer left are blank
 abbrev pub invariant-loop-left : goal.invariant-loop-left
-invariant-loop-left l = HidesLeft l.hidden l.left l.fn.line l.line
+invariant-loop-left l = HidesLeft l.from l.hidden l.left l.fn.line l.line
 
 -- each turn leaves fewer
 abbrev pub decreases-loop-left : goal.decreases-loop-left
