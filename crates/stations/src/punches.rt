@@ -13,17 +13,19 @@ ghost use Rattle.stations.specs.Punches.{AreColumnsAt, AreRowsAt, IsRowAt};
 use crate::lanes::having_row;
 use card_code::{CARD_COLUMNS, Card, Column, Row};
 
-// Puts the sets of the columns of a card, eight at a time. Most cards have blank columns, and eight blank ones stay as they are.
-pub(crate) fn put_columns(card: &Card, columns: &mut [u16; CARD_COLUMNS])
-    ensures { map column_of columns.new ≡ card.now }
+// The sets of the columns of a card, eight at a time. Most cards have blank columns, and eight blank ones stay as they are. They are made in
+// an array of their own, so that nothing keeps the compiler from taking eight at once.
+pub(crate) fn columns_of(card: &Card) -> [u16; CARD_COLUMNS]
+    ensures { map column_of result ≡ card.now }
 {
     let punched = card.columns();
-    *columns = [0; CARD_COLUMNS];
+    let mut columns = [0; CARD_COLUMNS];
     for block in 0..10 {
         if !are_blank(punched, 8 * block) {
-            put_eight(punched, 8 * block, columns);
+            put_eight(punched, 8 * block, &mut columns);
         }
     }
+    columns
 }
 
 // Whether eight columns from one on have no punch.

@@ -2,8 +2,8 @@ use Rattle.std.proofs.Common.{◌≡◌, ◌+◌, ◌*◌, ◌∙◌, ap, length
 use Rattle.stations.specs.Columns.{HasColumns}
 use Rattle.stations.proofs.ColumnSets.{columns-blank, columns-first}
 use Rattle.stations.proofs.KeptColumns.{columns-done}
-use Rattle.stations.proofs.punches.put_columns.Goals as goal
-use Rattle.stations.proofs.punches.put_columns.Goals.{then-not-are_blank, else-not-are_blank}
+use Rattle.stations.proofs.punches.columns_of.Goals as goal
+use Rattle.stations.proofs.punches.columns_of.Goals.{then-not-are_blank, else-not-are_blank}
 
 pub loop-block-init : goal.loop-block-init
 loop-block-init c = columns-first c.columns-punched.result.now
