@@ -1,18 +1,17 @@
 -- A line that the machine prints stands on the pages of the text and the deck that give its run.
-use Rattle.std.proofs.Common.{sym, subst, refl, ℕ, Bool, List}
+use Rattle.std.proofs.Common.{sym, subst, refl, ◌≡◌, ℕ, Bool, List}
 use Rattle.commands.specs.Answers.{Answers}
 use Rattle.compile407.specs.Headline.{WiredSetupsPrintReports}
 use Rattle.explanations.specs.PlacedInRun.{PlacedLinesArePrinted, PrintsLine}
 use Rattle.page_text.specs.Pages.{Pages}
 use Rattle.placed_lines.specs.declared.placed_line.PlacedLine.{PlacedLine}
-use Rattle.report.specs.ChartForm.{form_of}
 use Rattle.report.specs.Report.{Report}
 use Rattle.setups.specs.Wiring.{Wiring}
 use Rattle.panel_guides.specs.Laws.{ExplainedLinesAreOnPages, IsOnPages, printing}
 use Rattle.panel_guides.specs.Panels.{IsRunOf, replayed, reported}
 
 of_run : (reports : WiredSetupsPrintReports) (text deck : List ℕ) (cards : List (List ℕ)) {wiring : Wiring}
-    → IsRunOf text deck cards wiring → (line : PlacedLine) → PrintsLine wiring cards line → IsOnPages text deck line
+    → IsRunOf text deck cards wiring → (line : PlacedLine) → PrintsLine wiring cards line → IsOnPages text deck wiring cards line
 of_run reports text deck cards (replayed is_wiring wiring reads punched) line printed = record {
   pages = Pages printed.lines wiring.tape.lines;
   answered = subst (λ (of : Bool). Answers (printing of) text deck (Pages printed.lines wiring.tape.lines)) (sym is_wiring)
@@ -21,10 +20,8 @@ of_run reports text deck cards (replayed is_wiring wiring reads punched) line pr
         reads = reads;
         pages = record { cards = cards; punched = punched; lines = printed.lines; run = printed.run; printed = refl };
       });
-  lines = printed.lines;
-  long = wiring.tape.lines;
+  printed = printed;
   of_lines = refl;
-  listed = printed.printed;
 }
 of_run reports text deck cards (reported is_chart compiled compiles punched runnable) line printed = record {
   pages = Report compiled.chart cards;
@@ -37,11 +34,10 @@ of_run reports text deck cards (reported is_chart compiled compiles punched runn
         runnable = runnable;
         reported = refl;
       });
-  lines = printed.lines;
-  long = (form_of compiled.chart.lines).lines;
-  of_lines = sym ((reports compiled.chart compiled.plan compiled.setup compiles.wired.sound compiles.wired.serves compiles.wired.wired
-      cards runnable.deck runnable.fits).1 printed.lines printed.run);
-  listed = printed.printed;
+  printed = printed;
+  of_lines = subst (λ (long : ℕ). Report compiled.chart cards ≡ Pages printed.lines long) (sym compiles.wired.wired.tape.form_lines)
+      (sym ((reports compiled.chart compiled.plan compiled.setup compiles.wired.sound compiles.wired.serves compiles.wired.wired
+      cards runnable.deck runnable.fits).1 printed.lines printed.run));
 }
 
 pub on_pages : WiredSetupsPrintReports → PlacedLinesArePrinted → ExplainedLinesAreOnPages

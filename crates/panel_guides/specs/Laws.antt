@@ -1,10 +1,12 @@
 -- The line that is explained stands on the pages that are printed.
-use Rattle.std.specs.Prelude.{◌≡◌, ℕ, Bool, List, Contains, if◌then◌else◌}
+use Rattle.std.specs.Prelude.{◌≡◌, ℕ, Bool, List, if◌then◌else◌}
 use Rattle.commands.specs.Answers.{Answers}
+use Rattle.explanations.specs.PlacedInRun.{PrintsLine}
 use Rattle.page_text.specs.Pages.{Pages}
 use Rattle.placed_lines.specs.declared.placed_line.PlacedLine.{PlacedLine}
 use Rattle.program_io.specs.declared.command.Command.{Command}
 use Rattle.program_io.specs.declared.command.Command.TheVariants as command
+use Rattle.setups.specs.Wiring.{Wiring}
 use Rattle.panel_guides.specs.Explained.{IsExplained}
 use Rattle.panel_guides.specs.Panels.{is_wiring_text}
 use Rattle.panel_guides.specs.declared.place.Place.{Place}
@@ -13,17 +15,16 @@ use Rattle.panel_guides.specs.declared.place.Place.{Place}
 abbrev pub printing : Bool → Command
 printing is_wiring = if is_wiring then command.Replay else command.Run
 
--- a line is one of those whose pages are printed of a text and a deck
-pub record IsOnPages (text deck : List ℕ) (line : PlacedLine) : Type 0 where
+-- A line is one of those that the machine prints of some cards on a panel, and the pages of all these lines are what is printed of a text
+-- and a deck.
+pub record IsOnPages (text deck : List ℕ) (wiring : Wiring) (cards : List (List ℕ)) (line : PlacedLine) : Type 0 where
   pub pages : List ℕ
   pub answered : Answers (printing (is_wiring_text text)) text deck pages
-  pub lines : List PlacedLine
-  pub long : ℕ
-  pub of_lines : pages ≡ Pages lines long
-  pub listed : Contains lines line
+  pub printed : PrintsLine wiring cards line
+  pub of_lines : pages ≡ Pages printed.lines wiring.tape.lines
 
--- of each explanation of a text and a deck the line is one of them
+-- so is the line of each explanation of a text and a deck, on the panel and of the cards by which it is explained
 abbrev pub ExplainedLinesAreOnPages : Type 0
 ExplainedLinesAreOnPages =
     (text deck : List ℕ) (place : Place) (answer : List ℕ) (is : IsExplained text deck place answer)
-    → IsOnPages text deck is.explains.told.line
+    → IsOnPages text deck is.wiring is.cards is.explains.told.line
