@@ -19,9 +19,13 @@ has_sign None = false
 abbrev pub positions_of : Option Field → ℕ → ℕ
 positions_of field digits = digits + (if has_sign field then 1 else 0)
 
--- whether a line is a total that takes two counter groups: the widest has 8 positions
+-- whether so many positions take two counter groups: the widest has 8
+abbrev pub needs_two : ℕ → Bool
+needs_two need = nat_lt 8 need
+
+-- whether a line is a total that takes two counter groups
 abbrev pub takes_two : List Field → Statement → Bool
-takes_two fields (says.TotalAmount level wheel name digits mark) = nat_lt 8 (positions_of (first_named fields name) digits)
+takes_two fields (says.TotalAmount level wheel name digits mark) = needs_two (positions_of (first_named fields name) digits)
 takes_two fields other = false
 
 -- whether a number is that of a line with the word COUPLED

@@ -1,21 +1,17 @@
--- The totals of a chart. A total needs a position for each of its digits, and one more if its amount has a sign rule.
-use Rattle.std.specs.Prelude.{ℕ, ◌+◌, Bool, false, List, Option, Some, None, filter_map, is_some, if◌then◌else◌}
+-- The totals of a chart. A total needs a position for each of its digits, and one more if its amount has a sign rule: as many as the rule
+-- on the word COUPLED counts.
+use Rattle.std.specs.Prelude.{ℕ, List, Option, Some, None, filter_map}
 use Rattle.charts.specs.declared.chart.Line.{Line}
 use Rattle.charts.specs.declared.statement.Field.{Field}
 use Rattle.charts.specs.declared.statement.Statement.{Statement}
 use Rattle.charts.specs.declared.statement.Statement.TheVariants as says
+use Rattle.field_rules.specs.Coupled.{positions_of}
 use Rattle.field_rules.specs.Fields.{field_named}
-use Rattle.charts.specs.Field.{sign_column}
 use Rattle.wanted.specs.declared.total.Total.{Total}
-
--- whether a name stands for an amount with a sign rule
-abbrev pub names_signed : Option Field → Bool
-names_signed (Some field) = is_some (sign_column field.kind)
-names_signed None = false
 
 -- the positions that a total of so many digits needs
 abbrev pub need_of : Option Field → ℕ → ℕ
-need_of field digits = digits + (if names_signed field then 1 else 0)
+need_of field digits = positions_of field digits
 
 -- the total that a line is, if it is a TOTAL amount
 abbrev pub line_total : List Line → ℕ → Statement → Option Total

@@ -1,15 +1,17 @@
 -- The totals of a chart, and the counter groups that they want.
-use Rattle.std.specs.Prelude.{ℕ, ◌+◌, ◌≤◌, Bool, ◌&&◌, nat_le, nat_lt, if◌then◌else◌}
+use Rattle.std.specs.Prelude.{ℕ, ◌+◌, ◌≤◌, Bool, ◌&&◌, nat_le, if◌then◌else◌}
 use Rattle.std.specs.Prelude.{List, All, count_by}
+use Rattle.field_rules.specs.Coupled.{needs_two}
 use Rattle.wanted.specs.declared.total.Total.{Total}
 
 -- no total needs more positions than two of the widest counter groups have
 abbrev pub NeedsFit : List Total → Type 0
 NeedsFit totals = All (λ total. total.need ≤ 16) totals
 
--- whether a total that needs so many positions takes two counter groups of 8, since one of them is not enough
+-- whether a total that needs so many positions takes two counter groups of 8, since one of them is not enough: as the rule on the word
+-- COUPLED has it
 abbrev pub takes_two : ℕ → Bool
-takes_two need = nat_lt 8 need
+takes_two need = needs_two need
 
 -- the class of a need: the smallest width of 3, 4, 6 and 8 positions that is enough, or 8 where none is
 abbrev pub class_of : ℕ → ℕ

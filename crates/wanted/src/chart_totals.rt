@@ -1,6 +1,7 @@
 //! The totals of a chart.
 
 ghost use Rattle.std.specs.Prelude.{◌≡◌, ◌==◌, IfOk, position, filter_map};
+ghost use Rattle.field_rules.specs.Coupled.{has_sign};
 ghost use Rattle.wanted.specs.ChartTotals as totals;
 ghost use Rattle.wanted.specs.Totals.{NeedsFit};
 
@@ -11,7 +12,7 @@ use std::alloc::{AllocError, Global};
 
 /// Whether a name stands for an amount with a sign rule.
 fn names_signed(field: Option<Field>) -> bool
-    ensures { result ≡ totals.names_signed field }
+    ensures { result ≡ has_sign field }
 {
     match field {
         Some(field) => field.kind.sign_column().is_some(),
