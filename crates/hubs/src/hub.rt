@@ -1,11 +1,17 @@
 //! The hubs of the panel.
 
-ghost use Rattle.std.specs.Prelude.{◌≡◌};
+ghost use Rattle.std.specs.Prelude.{◌≡◌, ◌==◌};
+ghost use Rattle.std.specs.Ordering.{on};
+ghost use Rattle.std.specs.Cmp.Lexicographic.{pointwise};
+ghost use Rattle.std.specs.Cmp.Rules.{comparing};
+ghost use Rattle.std.proofs.Common.{rules};
 ghost use Rattle.hubs.specs.Hubs.{hub_named};
+ghost use Rattle.hubs.specs.HubKeys.{hub_key};
 ghost use Rattle.hub_table.specs.Places.{AreSmall};
 ghost use Rattle.hub_table.specs.declared.shape.Numbers.TheVariants.{Bare, One, Two, Three};
 
 use hub_table::{Letters, Numbers};
+use std::fmt;
 
 /// A counter group: its width, 3, 4, 6 or 8 positions, and its number among those of its width, 1 to 8.
 #[derive(Clone, Copy, Debug, PartialEq, Eq)]
@@ -19,7 +25,7 @@ pub struct Group {
 /// A hub of the panel, by its letters and its numbers.
 ///
 /// A hub with a number out of range is on no panel: it has no hub number, and is neither exit nor entry.
-#[derive(Clone, Copy, Debug, PartialEq, Eq)]
+#[derive(Clone, Copy)]
 pub enum Hub {
     /// Exit of the first reading station, for a column 1 to 80.
     FR(u8),
@@ -240,6 +246,48 @@ impl Hub {
     {
         letters.shape().place(numbers)?;
         with_numbers(letters, numbers)
+    }
+
+    // What tells it from every other hub: how many hubs stand before those of its kind, which no other kind has, and its numbers.
+    fn key(self) -> [u32; 4]
+        ensures { result ≡ hub_key self }
+    {
+        let kind = self.letters().before();
+        match self.numbers() {
+            Numbers::Bare => [kind, 0, 0, 0],
+            Numbers::One(n) => [kind, u32::from(n), 0, 0],
+            Numbers::Two(n, part) => [kind, u32::from(n), u32::from(part), 0],
+            Numbers::Three(width, n, part) => [
+                kind,
+                u32::from(width),
+                u32::from(n),
+                u32::from(part),
+            ],
+        }
+    }
+}
+
+// By hand, by one number for the letters: a derived one compares each kind of hub with each.
+impl PartialEq for Hub {
+    ghost eq = { on hub_key (pointwise ◌==◌) };
+
+    ghost laws = { Prim.search (comparing, rules) };
+
+    fn eq(&self, other: &Hub) -> bool {
+        self.key() == other.key()
+    }
+}
+
+impl Eq for Hub {
+    ghost laws = { Prim.search (comparing, rules) };
+}
+
+impl fmt::Debug for Hub {
+    fn fmt<W: fmt::Write>(&self, f: &mut fmt::Formatter<W>) -> fmt::Result {
+        f.debug_tuple("Hub")
+            .field(&self.letters())
+            .field(&self.numbers())
+            .finish()
     }
 }
 
