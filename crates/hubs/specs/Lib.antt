@@ -1,5 +1,5 @@
 pub mod Below
 pub mod Carries
-pub mod HubKeys
+pub mod HelperKeys
 pub mod Hubs
 pub mod Jacks

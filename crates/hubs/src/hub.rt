@@ -6,7 +6,7 @@ ghost use Rattle.std.specs.Cmp.Lexicographic.{pointwise};
 ghost use Rattle.std.specs.Cmp.Rules.{comparing};
 ghost use Rattle.std.proofs.Common.{rules};
 ghost use Rattle.hubs.specs.Hubs.{hub_named};
-ghost use Rattle.hubs.specs.HubKeys.{hub_key};
+ghost use Rattle.hubs.specs.HelperKeys.{hub_key};
 ghost use Rattle.hub_table.specs.Places.{AreSmall};
 ghost use Rattle.hub_table.specs.declared.shape.Numbers.TheVariants.{Bare, One, Two, Three};
 
