@@ -1,4 +1,4 @@
-use Rattle.std.proofs.Common.{◌≡◌, ◌∙◌, sym, true}
+use Rattle.std.proofs.Common.{◌≡◌, ◌∙◌, refl, sym, true}
 use Rattle.std.proofs.lemmas.Bool.{false≢true}
 use Rattle.std.proofs.lemmas.Result.{err_from_is_err_and}
 use Rattle.hubs.proofs.HubLemmas.{is_entry-number, number_of-range}
@@ -7,9 +7,20 @@ use Rattle.hubs.specs.Hubs.{is_entry_hub}
 use Rattle.setups.proofs.CarryJoins.{there-joins}
 use Rattle.setups.proofs.setup.Setup.add.Goals as goal
 
+pub returns-then-has-clause-was_there : goal.returns-then-has-clause-was_there
+returns-then-has-clause-was_there c = (λ answer. c.has.ensures.value.0 c.if-has.true, λ wire. refl)
+
+pub returns-in_default-clause-was_there : goal.returns-in_default-clause-was_there
+returns-in_default-clause-was_there c =
+    (λ answer. cc, λ wire. absurd (false≢true (sym c.if-has.false ∙ c.has.ensures.value.1 wire)))
+
 pub returns-then-not-is_exit-clause-was_there : goal.returns-then-not-is_exit-clause-was_there
 returns-then-not-is_exit-clause-was_there c =
     (λ answer. cc, λ wire. absurd (false≢true (c.if-not-is_exit.ensures ∙ (c.has.ensures.lawful.leads _ _ wire).0)))
+
+pub returns-in_default-number-clause-was_there : goal.returns-in_default-number-clause-was_there
+returns-in_default-number-clause-was_there c =
+    (λ answer. cc, λ wire. absurd (false≢true (sym c.if-has.false ∙ c.has.ensures.value.1 wire)))
 
 pub returns-in_default-number-clause-memory : goal.returns-in_default-number-clause-memory
 returns-in_default-number-clause-memory c =
@@ -54,3 +65,7 @@ returns-clause-wires c =
     rw (← c.self.view_is)
     (AddsWire-by_number _ _ c.args.exit c.args.entry c.in-Some.number c.in-Some-number.to (sym c.in-Some.ensures.value)
     (sym c.in-Some-number.ensures.value) gained.here gained.others)
+
+pub returns-clause-was_there : goal.returns-clause-was_there
+returns-clause-was_there c =
+    (λ answer. cc, λ wire. absurd (false≢true (sym c.if-has.false ∙ c.has.ensures.value.1 wire)))
