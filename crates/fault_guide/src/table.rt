@@ -1,6 +1,6 @@
 //! The table of faults: what docs/FAULTS.md says of each, without its marks. `bench/faults-page` compares the two.
 
-ghost use Rattle.std.specs.Prelude.{◌≡◌, ◌≤◌};
+ghost use Rattle.std.specs.Prelude.{◌≡◌, ◌+◌, ◌<◌, ◌≤◌, length};
 
 /// A fault that a fault line names by its number.
 #[derive(Clone, Copy, Debug, PartialEq, Eq)]
@@ -17,42 +17,381 @@ pub struct FaultEntry {
     pub example: &'static str,
 }
 
+// What docs/FAULTS.md says of a fault beside its number.
+struct Words {
+    name: &'static str,
+    cause: &'static str,
+    cure: &'static str,
+    example: &'static str,
+}
+
+// The faults of the text of a deck, from 1.
+static DECK_TEXTS: [Words; 4] = [
+    Words {
+        name: "CardTooLong",
+        cause: "line K of the deck has more than 80 bytes; an accented letter, or a mark in front of the file (byte order mark), counts as two or three",
+        cure: "a card has 80 columns: shorten the line, also where the rest of it is blank, or look for a missing line end",
+        example: "a line of 81 letters",
+    },
+    Words {
+        name: "NoSuchCharacter",
+        cause: "the byte at column C of card K is no deck character",
+        cure: "decks have capital letters, digits, blanks and & - / . $ * , % # @ !; small letters, tabs and accents have no card code. Row 11 over 0 is typed !, and a plus of row 12 &; cut off a ctrl-Z behind the last card, and a byte order mark in front of the first",
+        example: "bolt",
+    },
+    Words {
+        name: "TooManyCards",
+        cause: "the deck has 1,000,000 lines or more",
+        cure: "divide the deck; 999,999 cards are the most",
+        example: "",
+    },
+    Words {
+        name: "Read",
+        cause: "the deck could be opened, and the read that was to bring card K failed; the status is 4",
+        cure: "see that the deck is a file and not a folder, and that its disk or pipe works",
+        example: "run407 run my.chart .",
+    },
+];
+
+// The faults of the text of a chart, from 11.
+static CHART_TEXTS: [Words; 4] = [
+    Words {
+        name: "TooLarge",
+        cause: "the chart has more than 500 lines, or a line of more than 200 bytes",
+        cure: "take out empty lines and spaces",
+        example: "",
+    },
+    Words {
+        name: "NoFirstLine",
+        cause: "the first line is neither CHART407 1 nor CHART407 2",
+        cure: "put one of them there; not even an empty line or a byte order mark may come before it; or the files are in the wrong order",
+        example: "an empty file",
+    },
+    Words {
+        name: "NotALine",
+        cause: "line K has none of the forms of a chart, or stands after END without being empty",
+        cure: "compare it with CHART.md: a misspelt or missing word, a comment, a small letter, a tab, a number with a leading zero, a level that there isn't; a name of more than 8 letters and digits, or with other characters; a literal that is empty or not closed, in quotation marks, or with a character that the machine doesn't print; the name before the wheel; digits of a total on a DETAIL line; CR or - without the word MARK, or in apostrophes; in version 1 the word COUPLED",
+        example: "DETAIL 1",
+    },
+    Words {
+        name: "NoEnd",
+        cause: "no line has END alone",
+        cure: "the last line is END",
+        example: "",
+    },
+];
+
+// The rules of a chart, from 21.
+static RULES: [Words; 18] = [
+    Words {
+        name: "NameTwice",
+        cause: "a second FIELD with the same name",
+        cure: "give it another name",
+        example: "FIELD A TEXT 1 2; FIELD A TEXT 3 4",
+    },
+    Words {
+        name: "Columns",
+        cause: "columns that are not 1 to 80 or run backwards, or a sign column that is not 1 to 80",
+        cure: "a card has columns 1 to 80, first column first",
+        example: "FIELD A TEXT 5 3",
+    },
+    Words {
+        name: "AmountSize",
+        cause: "an amount of more than 8 digits, more than 3 decimals, or more decimals than digits",
+        cure: "divide the field",
+        example: "FIELD A AMOUNT 1 9 0",
+    },
+    Words {
+        name: "UnknownName",
+        cause: "a name without a FIELD line",
+        cure: "write the FIELD, or correct the name",
+        example: "DETAIL 1 NOSUCH",
+    },
+    Words {
+        name: "WrongKind",
+        cause: "CONTROL, INDICATE or TOTAL without digits of an amount, or MARK or TOTAL with digits of a text",
+        cure: "a total needs its digits; only amounts have marks",
+        example: "FIELD A TEXT 1 2; DETAIL 1 A MARK CR",
+    },
+    Words {
+        name: "LineTwice",
+        cause: "a second PRINT or FORM; a second SPACE or AFTER of one kind of line; a second TAPE of one channel; a CONTROL of the same level and name again; a name twice on the DETAIL lines or on the TOTAL lines of one level",
+        cure: "take one of them out",
+        example: "PRINT DETAIL; PRINT GROUP",
+    },
+    Words {
+        name: "NoControl",
+        cause: "a TOTAL or INDICATE of a level 1 to 3 that has no CONTROL line",
+        cure: "name the level's control field",
+        example: "TOTAL 1 1 'SUM' without a CONTROL 1 line",
+    },
+    Words {
+        name: "TotalTextNotControl",
+        cause: "a text on a total line that is no control field of that level or a higher one",
+        cure: "on a total line only what is the same on all cards of the group can stand",
+        example: "TOTAL 4 1 DEPT",
+    },
+    Words {
+        name: "DigitsRange",
+        cause: "a total in fewer digits than its field has, in more than 16, or in more than 15 with a sign column",
+        cure: "choose the digits in that range",
+        example: "FIELD A AMOUNT 1 3 0; TOTAL 4 1 A 2",
+    },
+    Words {
+        name: "DigitsShrink",
+        cause: "a total in fewer digits than the same amount has on a lower level",
+        cure: "a higher total needs at least as many",
+        example: "TOTAL 1 1 A 5; TOTAL 2 10 A 4, with CONTROL lines of both levels",
+    },
+    Words {
+        name: "MarkMismatch",
+        cause: "a signed amount without MARK, or an unsigned one with it",
+        cure: "every signed amount is printed with a mark",
+        example: "FIELD A AMOUNT 1 3 0; DETAIL 1 A MARK -",
+    },
+    Words {
+        name: "WheelRange",
+        cause: "an item that does not lie within wheels 1 to 120",
+        cure: "move it to the left; wheel 0 is none",
+        example: "DETAIL 0 NAME",
+    },
+    Words {
+        name: "WheelOverlap",
+        cause: "an item that meets an earlier item of the same printed line",
+        cure: "move one of them",
+        example: "DETAIL 1 NAME; DETAIL 3 ITEM",
+    },
+    Words {
+        name: "WheelClash",
+        cause: "an item meets an earlier item of another body line, one of the two an amount, and they are not two amounts with the same last wheel, decimals and mark",
+        cure: "the later of the two is told, though the earlier may be the one to move: look among the DETAIL and TOTAL lines above it. Zero control belongs to the wheels: let amounts end on the same wheel, or keep texts off their wheels",
+        example: "DETAIL 40 NAME; TOTAL 4 42 AMT 8",
+    },
+    Words {
+        name: "PrintKind",
+        cause: "no PRINT line (told at END); PRINT DETAIL without a DETAIL item, PRINT GROUP without a TOTAL item; a DETAIL item under PRINT GROUP; SPACE or AFTER for a line without items",
+        cure: "add what is missing, or take the line out",
+        example: "PRINT DETAIL without a DETAIL line",
+    },
+    Words {
+        name: "Form",
+        cause: "no FORM line (told at END); a first line of 0; headings that reach the overflow line, or, without headings, a first line that does; an overflow line less than 2 lines above the last; more than 144 lines",
+        cure: "see CHART.md, FORM",
+        example: "FORM 12 1 11 or, without HEAD lines, FORM 12 9 9",
+    },
+    Words {
+        name: "Tape",
+        cause: "a channel that is not 2 to 11; stops that do not rise or leave the form; AFTER with a SKIP to a channel without a TAPE line",
+        cure: "write the TAPE line, its stops in rising order",
+        example: "AFTER DETAIL SKIP 3 without a TAPE 3 line",
+    },
+    Words {
+        name: "CoupledMark",
+        cause: "in version 2, a total with the word COUPLED that needs 8 positions or fewer, or without it that needs more; it needs one for each digit, and one more if its amount has a sign column. In version 1 no line breaks this rule",
+        cure: "write the word where two counter groups are meant, or change the digits",
+        example: "TOTAL 4 1 A 8 COUPLED or TOTAL 4 1 A 9",
+    },
+];
+
+// The faults of the cards of a deck for a chart, from 41.
+static CARDS: [Words; 3] = [
+    Words {
+        name: "NotText",
+        cause: "a text field of card K holds a column that is neither a print character nor blank; C is the first column of the field",
+        cure: "repunch the card, or let the field end before that column",
+        example: "10! where column 3 is a text field",
+    },
+    Words {
+        name: "NotAmount",
+        cause: "an amount of card K, the field that begins at column C, is neither blank nor blanks and then digits, has too few digits for its decimals, or has a row 11 or 12 punch where none belongs; row 12 belongs nowhere, not over a digit either (A to I)",
+        cure: "repunch the card; look through the whole field: a sign stands in the sign column alone, and a decimal point or a comma is never punched",
+        example: "1- in two columns",
+    },
+    Words {
+        name: "DoesNotFit",
+        cause: "the total of amount N for the group of level L that ends with card K has more digits than its TOTAL line says, the first such total: by the last card of its group, then by level, the lowest first, then by the line of the chart",
+        cure: "give the total more digits (16 at most, 15 with a sign column), or divide the group; what the sum was on the way doesn't count",
+        example: "FIELD A AMOUNT 1 1 0; TOTAL 4 1 A 1 over two cards of 5",
+    },
+];
+
+// The causes for which a line of a wiring chart is refused, from 51.
+static UNFIT_LINES: [Words; 4] = [
+    Words {
+        name: "NotExit",
+        cause: "the first hub of a wire is no exit: it is an entry, or one of its numbers is out of range. Of RING, and of the first number of COUPLE: there is no such counter group",
+        cure: "write the exit first; a wire leads from an exit to an entry",
+        example: "WIRE W.1 SR.1 or WIRE SR.81 W.1 or, in version 2, RING 5.1",
+    },
+    Words {
+        name: "NotEntry",
+        cause: "the first hub is an exit and the second is no entry: it is an exit, or one of its numbers is out of range. Of the second number of COUPLE: there is no such counter group of 8 positions",
+        cure: "look up the range of its numbers in WIRING.md",
+        example: "WIRE SR.1 W.121 or WIRE SR.1 SR.2 or, in version 2, COUPLE 1 9",
+    },
+    Words {
+        name: "CarryRing",
+        cause: "a wire from a carry exit leads to no carry entry, or one to a carry entry comes from no carry exit; its two counter groups are different ones and not both of 8 positions; or it and a wire that is there leave one carry exit, enter one carry entry, or join three groups",
+        cure: "wire CO to CI of the same group, or CO of one group of 8 positions to CI of another, with the wire back for a ring, and nothing else to either",
+        example: "WIRE CO.4.1 CI.4.2 or WIRE CO.4.1 W.1 or WIRE CO.8.1 CI.8.3 after WIRE CO.8.1 CI.8.2 or, in version 2, RING 8.1 after COUPLE 1 2",
+    },
+    Words {
+        name: "TapeFault",
+        cause: "the form has not 3 to 144 lines, or its first or overflow line is not one of them (told at line 2); a stop at a line that the form doesn't have",
+        cure: "correct the form, or move the stop",
+        example: "STOP 3 13 on a form of 12 lines, or FORM 2 1 1 on line 2",
+    },
+];
+
+// What the machine has too little of, from 61.
+static CAPACITIES: [Words; 7] = [
+    Words {
+        name: "Counters",
+        cause: "totals want A counter groups of W positions or more, and the machine has B. A total that needs more than 8 positions wants two groups of 8, and so counts as two at each width. The widths are asked from 8 down to 3",
+        cure: "print a total in fewer digits, so that one group does, or a narrower one (a signed total needs one position more than its digits), or drop a total",
+        example: "",
+    },
+    Words {
+        name: "Pilots",
+        cause: "more than 16 amounts with a sign rule stand on DETAIL or TOTAL lines",
+        cure: "drop the sign rule of amounts that are never negative, or leave amounts out; one amount counts once, on however many lines it stands",
+        example: "",
+    },
+    Words {
+        name: "Comparing",
+        cause: "the CONTROL lines name more than 30 columns; a field that controls two levels counts twice",
+        cure: "shorten a control field to the columns that tell its groups apart, or drop a level",
+        example: "",
+    },
+    Words {
+        name: "StorageWidth",
+        cause: "the text on total line K has more than 16 columns",
+        cure: "print a shorter field there; describe the columns once more as a shorter FIELD, and make that the control field",
+        example: "",
+    },
+    Words {
+        name: "StorageUnits",
+        cause: "more than 4 texts stand on TOTAL lines",
+        cure: "drop texts from the higher totals, or print them on the detail line with INDICATE",
+        example: "",
+    },
+    Words {
+        name: "Splits",
+        cause: "more than 16 DETAIL amounts have their sign over one of their own columns. On the machine as it is, fault 62 comes first, since each of them wants a pilot too",
+        cure: "as 62",
+        example: "",
+    },
+    Words {
+        name: "Indicate",
+        cause: "the INDICATE items of level L have more than 30 columns together",
+        cure: "print some of them on every card, or shorten them",
+        example: "",
+    },
+];
+
+// The faults of the text of a wiring chart, from 71.
+static WIRING_TEXTS: [Words; 6] = [
+    Words {
+        name: "TooLarge",
+        cause: "the wiring chart has more than 1,000,000 lines, or a line of more than 60 bytes",
+        cure: "take out empty lines and spaces; no setup needs as many",
+        example: "",
+    },
+    Words {
+        name: "NoFirstLine",
+        cause: "line 1 is neither WIRING407 1 nor WIRING407 2, or line 2 is not FORM with three numbers",
+        cure: "put them there; not even an empty line may come before or between them; or the files are in the wrong order",
+        example: "FORM 12 1 on line 2",
+    },
+    Words {
+        name: "NotALine",
+        cause: "line K is no STOP, JACK or WIRE, in version 2 no RING or COUPLE either, or stands after END without being empty; also a second FORM, a channel that is not 2 to 11, a jack that the panel doesn't have, and a hub with letters that there aren't or with too many or too few numbers; in version 2 a WIRE with a CO or a CI, whatever its numbers, and a COUPLE of a group with itself",
+        cure: "compare it with WIRING.md: a misspelt or missing word, a number with a leading zero, a tab, a small letter",
+        example: "WIRE CC.1 W.1 or JACK TOTAL 5 or STOP 12 3 or, in version 2, COUPLE 1 1",
+    },
+    Words {
+        name: "LineTwice",
+        cause: "a line above said the same stop, jack or wire, in version 2 also the same ring or couple",
+        cure: "take one of them out, or correct the one that was to be another",
+        example: "JACK LIST; JACK LIST",
+    },
+    Words {
+        name: "Unfit",
+        cause: "line K is well written, and the panel can't have what it says; N is 51, 52, 53 or 54",
+        cure: "see the cause",
+        example: "WIRE W.1 SR.1",
+    },
+    Words {
+        name: "NoEnd",
+        cause: "no line has END alone",
+        cure: "the last line is END",
+        example: "",
+    },
+];
+
+// The fault of an order of the units, 84.
+static ORDERS: [Words; 1] = [Words {
+    name: "NotAnOrder",
+    cause: "line K doesn't have the numbers of the 45 units, 1 to 45, each once, divided by spaces",
+    cure: "name each unit once, without leading zeros and without empty lines between",
+    example: "1 2 3",
+}];
+
+// The faults of what is to be explained, from 92.
+static EXPLANATIONS: [Words; 2] = [
+    Words {
+        name: "NoSuchLine",
+        cause: "no cycle of the run prints line L of page P",
+        cure: "look at the pages: both are counted from 1, and the blank lines of the form between printed ones count too, but none of them can be explained",
+        example: "run407 explain my.chart my.deck 1 66 1 where the report ends above line 66",
+    },
+    Words {
+        name: "NoSuchWheel",
+        cause: "the wheel is not one of 1 to 120",
+        cure: "a line has 120 wheels: its first character is that of wheel 1",
+        example: "run407 explain my.chart my.deck 1 4 0",
+    },
+];
+
+// The faults of a panel beside a chart, from 94.
+static MATCHES: [Words; 2] = [
+    Words {
+        name: "Unwired",
+        cause: "no plan is found by which the panel is wired for the chart: A wires, jacks and stops are missing and B are too much, by the plan that is printed; another form counts once as missing and once as too much",
+        cure: "wire what stands under missing, by the line of the chart that asks for it, and take out what stands under too much. Where all wires of a part seem wrong, look which group the first wires of that part name: the plan is read off them; or the group that the panel's wires name is too narrow for the total",
+        example: "run407 match my.chart my.wiring where the wiring chart lacks a wire",
+    },
+    Words {
+        name: "PrintsOtherwise",
+        cause: "besides, the panel prints the deck otherwise than one that is wired for the chart; line L of page P is the first that differs",
+        cure: "look at the two explanations that are printed last, of the first wheel that differs on that line: where they part, there is the wire that is missing or too much",
+        example: "run407 match --deck my.deck my.chart my.wiring where the wiring chart lacks a wire that the deck needs",
+    },
+];
+
+// The entry of a fault by the words of those that are numbered from the first on.
+fn entry_from(words: &[Words], first: u8, number: u8) -> FaultEntry
+    requires from { first ≤ number }
+    requires to { number < first + length words.now }
+    ensures { result.number ≡ number }
+{
+    let words = &words[usize::from(number - first)];
+    FaultEntry {
+        number,
+        name: words.name,
+        cause: words.cause,
+        cure: words.cure,
+        example: words.example,
+    }
+}
+
 /// The entry of a fault of the text of a deck, 1 to 4.
 pub(crate) fn deck_text_entry(number: u8) -> FaultEntry
     requires from { 1 ≤ number }
     requires to { number ≤ 4 }
     ensures { result.number ≡ number }
 {
-    match number {
-        1 => FaultEntry {
-            number: 1,
-            name: "CardTooLong",
-            cause: "line K of the deck has more than 80 bytes; an accented letter, or a mark in front of the file (byte order mark), counts as two or three",
-            cure: "a card has 80 columns: shorten the line, also where the rest of it is blank, or look for a missing line end",
-            example: "a line of 81 letters",
-        },
-        2 => FaultEntry {
-            number: 2,
-            name: "NoSuchCharacter",
-            cause: "the byte at column C of card K is no deck character",
-            cure: "decks have capital letters, digits, blanks and & - / . $ * , % # @ !; small letters, tabs and accents have no card code. Row 11 over 0 is typed !, and a plus of row 12 &; cut off a ctrl-Z behind the last card, and a byte order mark in front of the first",
-            example: "bolt",
-        },
-        3 => FaultEntry {
-            number: 3,
-            name: "TooManyCards",
-            cause: "the deck has 1,000,000 lines or more",
-            cure: "divide the deck; 999,999 cards are the most",
-            example: "",
-        },
-        _ => FaultEntry {
-            number: 4,
-            name: "Read",
-            cause: "the deck could be opened, and the read that was to bring card K failed; the status is 4",
-            cure: "see that the deck is a file and not a folder, and that its disk or pipe works",
-            example: "run407 run my.chart .",
-        },
-    }
+    entry_from(&DECK_TEXTS, 1, number)
 }
 
 /// The entry of a fault of the text of a chart, 11 to 14.
@@ -61,36 +400,7 @@ pub(crate) fn chart_text_entry(number: u8) -> FaultEntry
     requires to { number ≤ 14 }
     ensures { result.number ≡ number }
 {
-    match number {
-        11 => FaultEntry {
-            number: 11,
-            name: "TooLarge",
-            cause: "the chart has more than 500 lines, or a line of more than 200 bytes",
-            cure: "take out empty lines and spaces",
-            example: "",
-        },
-        12 => FaultEntry {
-            number: 12,
-            name: "NoFirstLine",
-            cause: "the first line is neither CHART407 1 nor CHART407 2",
-            cure: "put one of them there; not even an empty line or a byte order mark may come before it; or the files are in the wrong order",
-            example: "an empty file",
-        },
-        13 => FaultEntry {
-            number: 13,
-            name: "NotALine",
-            cause: "line K has none of the forms of a chart, or stands after END without being empty",
-            cure: "compare it with CHART.md: a misspelt or missing word, a comment, a small letter, a tab, a number with a leading zero, a level that there isn't; a name of more than 8 letters and digits, or with other characters; a literal that is empty or not closed, in quotation marks, or with a character that the machine doesn't print; the name before the wheel; digits of a total on a DETAIL line; CR or - without the word MARK, or in apostrophes; in version 1 the word COUPLED",
-            example: "DETAIL 1",
-        },
-        _ => FaultEntry {
-            number: 14,
-            name: "NoEnd",
-            cause: "no line has END alone",
-            cure: "the last line is END",
-            example: "",
-        },
-    }
+    entry_from(&CHART_TEXTS, 11, number)
 }
 
 /// The entry of a fault of a chart that breaks a rule, 21 to 38.
@@ -99,134 +409,7 @@ pub(crate) fn rule_entry(number: u8) -> FaultEntry
     requires to { number ≤ 38 }
     ensures { result.number ≡ number }
 {
-    match number {
-        21 => FaultEntry {
-            number: 21,
-            name: "NameTwice",
-            cause: "a second FIELD with the same name",
-            cure: "give it another name",
-            example: "FIELD A TEXT 1 2; FIELD A TEXT 3 4",
-        },
-        22 => FaultEntry {
-            number: 22,
-            name: "Columns",
-            cause: "columns that are not 1 to 80 or run backwards, or a sign column that is not 1 to 80",
-            cure: "a card has columns 1 to 80, first column first",
-            example: "FIELD A TEXT 5 3",
-        },
-        23 => FaultEntry {
-            number: 23,
-            name: "AmountSize",
-            cause: "an amount of more than 8 digits, more than 3 decimals, or more decimals than digits",
-            cure: "divide the field",
-            example: "FIELD A AMOUNT 1 9 0",
-        },
-        24 => FaultEntry {
-            number: 24,
-            name: "UnknownName",
-            cause: "a name without a FIELD line",
-            cure: "write the FIELD, or correct the name",
-            example: "DETAIL 1 NOSUCH",
-        },
-        25 => FaultEntry {
-            number: 25,
-            name: "WrongKind",
-            cause: "CONTROL, INDICATE or TOTAL without digits of an amount, or MARK or TOTAL with digits of a text",
-            cure: "a total needs its digits; only amounts have marks",
-            example: "FIELD A TEXT 1 2; DETAIL 1 A MARK CR",
-        },
-        26 => FaultEntry {
-            number: 26,
-            name: "LineTwice",
-            cause: "a second PRINT or FORM; a second SPACE or AFTER of one kind of line; a second TAPE of one channel; a CONTROL of the same level and name again; a name twice on the DETAIL lines or on the TOTAL lines of one level",
-            cure: "take one of them out",
-            example: "PRINT DETAIL; PRINT GROUP",
-        },
-        27 => FaultEntry {
-            number: 27,
-            name: "NoControl",
-            cause: "a TOTAL or INDICATE of a level 1 to 3 that has no CONTROL line",
-            cure: "name the level's control field",
-            example: "TOTAL 1 1 'SUM' without a CONTROL 1 line",
-        },
-        28 => FaultEntry {
-            number: 28,
-            name: "TotalTextNotControl",
-            cause: "a text on a total line that is no control field of that level or a higher one",
-            cure: "on a total line only what is the same on all cards of the group can stand",
-            example: "TOTAL 4 1 DEPT",
-        },
-        29 => FaultEntry {
-            number: 29,
-            name: "DigitsRange",
-            cause: "a total in fewer digits than its field has, in more than 16, or in more than 15 with a sign column",
-            cure: "choose the digits in that range",
-            example: "FIELD A AMOUNT 1 3 0; TOTAL 4 1 A 2",
-        },
-        30 => FaultEntry {
-            number: 30,
-            name: "DigitsShrink",
-            cause: "a total in fewer digits than the same amount has on a lower level",
-            cure: "a higher total needs at least as many",
-            example: "TOTAL 1 1 A 5; TOTAL 2 10 A 4, with CONTROL lines of both levels",
-        },
-        31 => FaultEntry {
-            number: 31,
-            name: "MarkMismatch",
-            cause: "a signed amount without MARK, or an unsigned one with it",
-            cure: "every signed amount is printed with a mark",
-            example: "FIELD A AMOUNT 1 3 0; DETAIL 1 A MARK -",
-        },
-        32 => FaultEntry {
-            number: 32,
-            name: "WheelRange",
-            cause: "an item that does not lie within wheels 1 to 120",
-            cure: "move it to the left; wheel 0 is none",
-            example: "DETAIL 0 NAME",
-        },
-        33 => FaultEntry {
-            number: 33,
-            name: "WheelOverlap",
-            cause: "an item that meets an earlier item of the same printed line",
-            cure: "move one of them",
-            example: "DETAIL 1 NAME; DETAIL 3 ITEM",
-        },
-        34 => FaultEntry {
-            number: 34,
-            name: "WheelClash",
-            cause: "an item meets an earlier item of another body line, one of the two an amount, and they are not two amounts with the same last wheel, decimals and mark",
-            cure: "the later of the two is told, though the earlier may be the one to move: look among the DETAIL and TOTAL lines above it. Zero control belongs to the wheels: let amounts end on the same wheel, or keep texts off their wheels",
-            example: "DETAIL 40 NAME; TOTAL 4 42 AMT 8",
-        },
-        35 => FaultEntry {
-            number: 35,
-            name: "PrintKind",
-            cause: "no PRINT line (told at END); PRINT DETAIL without a DETAIL item, PRINT GROUP without a TOTAL item; a DETAIL item under PRINT GROUP; SPACE or AFTER for a line without items",
-            cure: "add what is missing, or take the line out",
-            example: "PRINT DETAIL without a DETAIL line",
-        },
-        36 => FaultEntry {
-            number: 36,
-            name: "Form",
-            cause: "no FORM line (told at END); a first line of 0; headings that reach the overflow line, or, without headings, a first line that does; an overflow line less than 2 lines above the last; more than 144 lines",
-            cure: "see CHART.md, FORM",
-            example: "FORM 12 1 11 or, without HEAD lines, FORM 12 9 9",
-        },
-        37 => FaultEntry {
-            number: 37,
-            name: "Tape",
-            cause: "a channel that is not 2 to 11; stops that do not rise or leave the form; AFTER with a SKIP to a channel without a TAPE line",
-            cure: "write the TAPE line, its stops in rising order",
-            example: "AFTER DETAIL SKIP 3 without a TAPE 3 line",
-        },
-        _ => FaultEntry {
-            number: 38,
-            name: "CoupledMark",
-            cause: "in version 2, a total with the word COUPLED that needs 8 positions or fewer, or without it that needs more; it needs one for each digit, and one more if its amount has a sign column. In version 1 no line breaks this rule",
-            cure: "write the word where two counter groups are meant, or change the digits",
-            example: "TOTAL 4 1 A 8 COUPLED or TOTAL 4 1 A 9",
-        },
-    }
+    entry_from(&RULES, 21, number)
 }
 
 /// The entry of a fault of the cards of a deck for a chart, 41 to 43.
@@ -235,29 +418,7 @@ pub(crate) fn card_entry(number: u8) -> FaultEntry
     requires to { number ≤ 43 }
     ensures { result.number ≡ number }
 {
-    match number {
-        41 => FaultEntry {
-            number: 41,
-            name: "NotText",
-            cause: "a text field of card K holds a column that is neither a print character nor blank; C is the first column of the field",
-            cure: "repunch the card, or let the field end before that column",
-            example: "10! where column 3 is a text field",
-        },
-        42 => FaultEntry {
-            number: 42,
-            name: "NotAmount",
-            cause: "an amount of card K, the field that begins at column C, is neither blank nor blanks and then digits, has too few digits for its decimals, or has a row 11 or 12 punch where none belongs; row 12 belongs nowhere, not over a digit either (A to I)",
-            cure: "repunch the card; look through the whole field: a sign stands in the sign column alone, and a decimal point or a comma is never punched",
-            example: "1- in two columns",
-        },
-        _ => FaultEntry {
-            number: 43,
-            name: "DoesNotFit",
-            cause: "the total of amount N for the group of level L that ends with card K has more digits than its TOTAL line says, the first such total: by the last card of its group, then by level, the lowest first, then by the line of the chart",
-            cure: "give the total more digits (16 at most, 15 with a sign column), or divide the group; what the sum was on the way doesn't count",
-            example: "FIELD A AMOUNT 1 1 0; TOTAL 4 1 A 1 over two cards of 5",
-        },
-    }
+    entry_from(&CARDS, 41, number)
 }
 
 /// The entry of a fault that a line of a wiring chart tells as its cause, 51 to 54.
@@ -266,36 +427,7 @@ pub(crate) fn unfit_entry(number: u8) -> FaultEntry
     requires to { number ≤ 54 }
     ensures { result.number ≡ number }
 {
-    match number {
-        51 => FaultEntry {
-            number: 51,
-            name: "NotExit",
-            cause: "the first hub of a wire is no exit: it is an entry, or one of its numbers is out of range. Of RING, and of the first number of COUPLE: there is no such counter group",
-            cure: "write the exit first; a wire leads from an exit to an entry",
-            example: "WIRE W.1 SR.1 or WIRE SR.81 W.1 or, in version 2, RING 5.1",
-        },
-        52 => FaultEntry {
-            number: 52,
-            name: "NotEntry",
-            cause: "the first hub is an exit and the second is no entry: it is an exit, or one of its numbers is out of range. Of the second number of COUPLE: there is no such counter group of 8 positions",
-            cure: "look up the range of its numbers in WIRING.md",
-            example: "WIRE SR.1 W.121 or WIRE SR.1 SR.2 or, in version 2, COUPLE 1 9",
-        },
-        53 => FaultEntry {
-            number: 53,
-            name: "CarryRing",
-            cause: "a wire from a carry exit leads to no carry entry, or one to a carry entry comes from no carry exit; its two counter groups are different ones and not both of 8 positions; or it and a wire that is there leave one carry exit, enter one carry entry, or join three groups",
-            cure: "wire CO to CI of the same group, or CO of one group of 8 positions to CI of another, with the wire back for a ring, and nothing else to either",
-            example: "WIRE CO.4.1 CI.4.2 or WIRE CO.4.1 W.1 or WIRE CO.8.1 CI.8.3 after WIRE CO.8.1 CI.8.2 or, in version 2, RING 8.1 after COUPLE 1 2",
-        },
-        _ => FaultEntry {
-            number: 54,
-            name: "TapeFault",
-            cause: "the form has not 3 to 144 lines, or its first or overflow line is not one of them (told at line 2); a stop at a line that the form doesn't have",
-            cure: "correct the form, or move the stop",
-            example: "STOP 3 13 on a form of 12 lines, or FORM 2 1 1 on line 2",
-        },
-    }
+    entry_from(&UNFIT_LINES, 51, number)
 }
 
 /// The entry of a fault of a chart for which the machine has too little, 61 to 67.
@@ -304,57 +436,7 @@ pub(crate) fn capacity_entry(number: u8) -> FaultEntry
     requires to { number ≤ 67 }
     ensures { result.number ≡ number }
 {
-    match number {
-        61 => FaultEntry {
-            number: 61,
-            name: "Counters",
-            cause: "totals want A counter groups of W positions or more, and the machine has B. A total that needs more than 8 positions wants two groups of 8, and so counts as two at each width. The widths are asked from 8 down to 3",
-            cure: "print a total in fewer digits, so that one group does, or a narrower one (a signed total needs one position more than its digits), or drop a total",
-            example: "",
-        },
-        62 => FaultEntry {
-            number: 62,
-            name: "Pilots",
-            cause: "more than 16 amounts with a sign rule stand on DETAIL or TOTAL lines",
-            cure: "drop the sign rule of amounts that are never negative, or leave amounts out; one amount counts once, on however many lines it stands",
-            example: "",
-        },
-        63 => FaultEntry {
-            number: 63,
-            name: "Comparing",
-            cause: "the CONTROL lines name more than 30 columns; a field that controls two levels counts twice",
-            cure: "shorten a control field to the columns that tell its groups apart, or drop a level",
-            example: "",
-        },
-        64 => FaultEntry {
-            number: 64,
-            name: "StorageWidth",
-            cause: "the text on total line K has more than 16 columns",
-            cure: "print a shorter field there; describe the columns once more as a shorter FIELD, and make that the control field",
-            example: "",
-        },
-        65 => FaultEntry {
-            number: 65,
-            name: "StorageUnits",
-            cause: "more than 4 texts stand on TOTAL lines",
-            cure: "drop texts from the higher totals, or print them on the detail line with INDICATE",
-            example: "",
-        },
-        66 => FaultEntry {
-            number: 66,
-            name: "Splits",
-            cause: "more than 16 DETAIL amounts have their sign over one of their own columns. On the machine as it is, fault 62 comes first, since each of them wants a pilot too",
-            cure: "as 62",
-            example: "",
-        },
-        _ => FaultEntry {
-            number: 67,
-            name: "Indicate",
-            cause: "the INDICATE items of level L have more than 30 columns together",
-            cure: "print some of them on every card, or shorten them",
-            example: "",
-        },
-    }
+    entry_from(&CAPACITIES, 61, number)
 }
 
 /// The entry of a fault of the text of a wiring chart, 71 to 76.
@@ -363,63 +445,14 @@ pub(crate) fn wiring_text_entry(number: u8) -> FaultEntry
     requires to { number ≤ 76 }
     ensures { result.number ≡ number }
 {
-    match number {
-        71 => FaultEntry {
-            number: 71,
-            name: "TooLarge",
-            cause: "the wiring chart has more than 1,000,000 lines, or a line of more than 60 bytes",
-            cure: "take out empty lines and spaces; no setup needs as many",
-            example: "",
-        },
-        72 => FaultEntry {
-            number: 72,
-            name: "NoFirstLine",
-            cause: "line 1 is neither WIRING407 1 nor WIRING407 2, or line 2 is not FORM with three numbers",
-            cure: "put them there; not even an empty line may come before or between them; or the files are in the wrong order",
-            example: "FORM 12 1 on line 2",
-        },
-        73 => FaultEntry {
-            number: 73,
-            name: "NotALine",
-            cause: "line K is no STOP, JACK or WIRE, in version 2 no RING or COUPLE either, or stands after END without being empty; also a second FORM, a channel that is not 2 to 11, a jack that the panel doesn't have, and a hub with letters that there aren't or with too many or too few numbers; in version 2 a WIRE with a CO or a CI, whatever its numbers, and a COUPLE of a group with itself",
-            cure: "compare it with WIRING.md: a misspelt or missing word, a number with a leading zero, a tab, a small letter",
-            example: "WIRE CC.1 W.1 or JACK TOTAL 5 or STOP 12 3 or, in version 2, COUPLE 1 1",
-        },
-        74 => FaultEntry {
-            number: 74,
-            name: "LineTwice",
-            cause: "a line above said the same stop, jack or wire, in version 2 also the same ring or couple",
-            cure: "take one of them out, or correct the one that was to be another",
-            example: "JACK LIST; JACK LIST",
-        },
-        75 => FaultEntry {
-            number: 75,
-            name: "Unfit",
-            cause: "line K is well written, and the panel can't have what it says; N is 51, 52, 53 or 54",
-            cure: "see the cause",
-            example: "WIRE W.1 SR.1",
-        },
-        _ => FaultEntry {
-            number: 76,
-            name: "NoEnd",
-            cause: "no line has END alone",
-            cure: "the last line is END",
-            example: "",
-        },
-    }
+    entry_from(&WIRING_TEXTS, 71, number)
 }
 
 /// The entry of the fault of an order of the units, 84.
 pub(crate) fn order_entry() -> FaultEntry
     ensures { result.number ≡ 84 }
 {
-    FaultEntry {
-        number: 84,
-        name: "NotAnOrder",
-        cause: "line K doesn't have the numbers of the 45 units, 1 to 45, each once, divided by spaces",
-        cure: "name each unit once, without leading zeros and without empty lines between",
-        example: "1 2 3",
-    }
+    entry_from(&ORDERS, 84, 84)
 }
 
 /// The entry of a fault of what is to be explained, 92 or 93.
@@ -428,22 +461,7 @@ pub(crate) fn explanation_entry(number: u8) -> FaultEntry
     requires to { number ≤ 93 }
     ensures { result.number ≡ number }
 {
-    match number {
-        92 => FaultEntry {
-            number: 92,
-            name: "NoSuchLine",
-            cause: "no cycle of the run prints line L of page P",
-            cure: "look at the pages: both are counted from 1, and the blank lines of the form between printed ones count too, but none of them can be explained",
-            example: "run407 explain my.chart my.deck 1 66 1 where the report ends above line 66",
-        },
-        _ => FaultEntry {
-            number: 93,
-            name: "NoSuchWheel",
-            cause: "the wheel is not one of 1 to 120",
-            cure: "a line has 120 wheels: its first character is that of wheel 1",
-            example: "run407 explain my.chart my.deck 1 4 0",
-        },
-    }
+    entry_from(&EXPLANATIONS, 92, number)
 }
 
 /// The entry of a fault of a panel beside a chart, 94 or 95.
@@ -452,20 +470,5 @@ pub(crate) fn match_entry(number: u8) -> FaultEntry
     requires to { number ≤ 95 }
     ensures { result.number ≡ number }
 {
-    match number {
-        94 => FaultEntry {
-            number: 94,
-            name: "Unwired",
-            cause: "no plan is found by which the panel is wired for the chart: A wires, jacks and stops are missing and B are too much, by the plan that is printed; another form counts once as missing and once as too much",
-            cure: "wire what stands under missing, by the line of the chart that asks for it, and take out what stands under too much. Where all wires of a part seem wrong, look which group the first wires of that part name: the plan is read off them; or the group that the panel's wires name is too narrow for the total",
-            example: "run407 match my.chart my.wiring where the wiring chart lacks a wire",
-        },
-        _ => FaultEntry {
-            number: 95,
-            name: "PrintsOtherwise",
-            cause: "besides, the panel prints the deck otherwise than one that is wired for the chart; line L of page P is the first that differs",
-            cure: "look at the two explanations that are printed last, of the first wheel that differs on that line: where they part, there is the wire that is missing or too much",
-            example: "run407 match --deck my.deck my.chart my.wiring where the wiring chart lacks a wire that the deck needs",
-        },
-    }
+    entry_from(&MATCHES, 94, number)
 }

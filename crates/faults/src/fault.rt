@@ -13,7 +13,7 @@ use std::io::ErrorKind;
 use wiring_text::WiringFault;
 
 /// Why a command was not carried out. Each is told on one line.
-#[derive(Clone, Copy, Debug, PartialEq, Eq)]
+#[derive(Clone, Copy)]
 pub enum Fault<'a> {
     /// A numbered fault of a whole text: a chart, a deck, a wiring chart or orders.
     Whole {

@@ -29,6 +29,51 @@ fn before_blank(name: &[u8]) -> &[u8]
     &name[..length_before_blank(name)]
 }
 
+// Writes a figure after its words.
+fn write_figure<W: Write>(out: &mut W, words: &str, figure: u64) -> io::Result<()>
+    ensures { OnOk result (Appends (W.contents out.old) (W.contents out.new) (words.now ++ decimal figure)) }
+{
+    write!(out, "{words}{figure}")
+}
+
+// Writes the number of a fault, and a figure after its words.
+fn write_one<W: Write>(out: &mut W, number: u8, words: &str, figure: u64) -> io::Result<()>
+    ensures { OnOk result (Appends (W.contents out.old) (W.contents out.new) (codes "fault " ++ decimal number
+        ++ words.now ++ decimal figure)) }
+{
+    write_figure(out, "fault ", u64::from(number))?;
+    write_figure(out, words, figure)
+}
+
+// Writes the number of a fault, and two figures, each after its words.
+fn write_two<W: Write>(
+    out: &mut W,
+    number: u8,
+    first: (&str, u64),
+    second: (&str, u64),
+) -> io::Result<()>
+    ensures { OnOk result (Appends (W.contents out.old) (W.contents out.new) (codes "fault " ++ decimal number
+        ++ first.entry.0.now ++ decimal first.entry.1 ++ second.entry.0.now ++ decimal second.entry.1)) }
+{
+    write_one(out, number, first.0, first.1)?;
+    write_figure(out, second.0, second.1)
+}
+
+// Writes the number of a fault, and three figures, each after its words.
+fn write_three<W: Write>(
+    out: &mut W,
+    number: u8,
+    first: (&str, u64),
+    second: (&str, u64),
+    third: (&str, u64),
+) -> io::Result<()>
+    ensures { OnOk result (Appends (W.contents out.old) (W.contents out.new) (codes "fault " ++ decimal number
+        ++ first.entry.0.now ++ decimal first.entry.1 ++ second.entry.0.now ++ decimal second.entry.1 ++ third.entry.0.now ++ decimal third.entry.1)) }
+{
+    write_two(out, number, first, second)?;
+    write_figure(out, third.0, third.1)
+}
+
 // Writes the words and figures of a fault of a total.
 fn write_total<W: Write>(
     out: &mut W,
@@ -40,58 +85,80 @@ fn write_total<W: Write>(
     ensures { OnOk result (Appends (W.contents out.old) (W.contents out.new) (codes "fault " ++ decimal number
         ++ codes " level " ++ decimal level ++ codes " name " ++ name_text name.now ++ codes " card " ++ decimal card)) }
 {
-    write!(out, "fault {number} level {level} name ")?;
+    write_one(out, number, " level ", u64::from(level))?;
+    out.write_all(b" name ")?;
     out.write_all(before_blank(name))?;
-    write!(out, " card {card}")
+    write_figure(out, " card ", u64::from(card))
 }
 
 // Writes the words and figures of a fault.
 fn write_text<W: Write>(fault: &Fault, out: &mut W) -> io::Result<()>
     ensures { OnOk result (Appends (W.contents out.old) (W.contents out.new) (fault_text fault.now)) }
 {
-    match fault {
-        Fault::Whole { number } => write!(out, "fault {number}"),
-        Fault::Line { number, line } => write!(out, "fault {number} line {line}"),
+    match *fault {
+        Fault::Whole { number } => write_figure(out, "fault ", u64::from(number)),
+        Fault::Line { number, line } => write_one(out, number, " line ", u64::from(line)),
         Fault::Cause {
             number,
             line,
             cause,
-        } => write!(out, "fault {number} line {line} cause {cause}"),
-        Fault::Card { number, card } => write!(out, "fault {number} card {card}"),
+        } => write_two(
+            out,
+            number,
+            (" line ", u64::from(line)),
+            (" cause ", u64::from(cause)),
+        ),
+        Fault::Card { number, card } => write_one(out, number, " card ", u64::from(card)),
         Fault::Column {
             number,
             card,
             column,
-        } => write!(out, "fault {number} card {card} column {column}"),
+        } => write_two(
+            out,
+            number,
+            (" card ", u64::from(card)),
+            (" column ", u64::from(column)),
+        ),
         Fault::Counters {
             number,
             width,
             wanted,
             there,
-        } => write!(
+        } => write_three(
             out,
-            "fault {number} width {width} wanted {wanted} there {there}"
+            number,
+            (" width ", u64::from(width)),
+            (" wanted ", wanted as u64),
+            (" there ", u64::from(there)),
         ),
         Fault::Capacity {
             number,
             wanted,
             there,
-        } => write!(out, "fault {number} wanted {wanted} there {there}"),
+        } => write_two(
+            out,
+            number,
+            (" wanted ", wanted as u64),
+            (" there ", u64::from(there)),
+        ),
         Fault::Indicate {
             number,
             level,
             wanted,
             there,
-        } => write!(
+        } => write_three(
             out,
-            "fault {number} level {level} wanted {wanted} there {there}"
+            number,
+            (" level ", u64::from(level)),
+            (" wanted ", wanted as u64),
+            (" there ", u64::from(there)),
         ),
         Fault::Total {
             number,
             level,
-            name,
+            ref name,
             card,
-        } => write_total(out, *number, *level, name, *card),
+        } => write_total(out, number, level, name, card),
         Fault::Unknown { word } => write!(out, "fault command {word}"),
         Fault::File { path } => write!(out, "fault file {path}"),
         Fault::Unread { card } => write!(out, "fault 4 card {card}"),

@@ -11,7 +11,7 @@ use std::io;
 use std::io::Write;
 
 /// Why a panel doesn't match a chart. Each is told on one line.
-#[derive(Clone, Copy, Debug, PartialEq, Eq)]
+#[derive(Clone, Copy)]
 pub enum Unmatched<'a> {
     /// A text is refused, the deck can't be read, the output can't be written, or memory ran out.
     Failed { fault: Fault<'a> },

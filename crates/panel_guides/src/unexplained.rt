@@ -9,7 +9,7 @@ use std::io;
 use std::io::Write;
 
 /// Why a wheel is not explained. Each is told on one line.
-#[derive(Clone, Copy, Debug, PartialEq, Eq)]
+#[derive(Clone, Copy)]
 pub enum Unexplained<'a> {
     /// The text or the deck is refused, the deck can't be read, the output can't be written, or memory ran out.
     Failed { fault: Fault<'a> },

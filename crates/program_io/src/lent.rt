@@ -53,7 +53,7 @@ impl<'a, W: Write> Lent<'a, W> {
         ensures writer { self.new.writer ≡ self.old.writer }
     {
         self.has_failed = true;
-        self.wants_memory = told == Fault::Memory;
+        self.wants_memory = matches!(told, Fault::Memory);
         DeviceFailed
     }
 }
