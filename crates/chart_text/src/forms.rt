@@ -19,7 +19,7 @@ use std::alloc::{AllocError, Global};
 use tokens::is;
 
 /// What a line of a chart says.
-#[derive(Debug, Drop)]
+#[derive(Drop)]
 pub struct Said {
     /// What it says in both versions.
     pub statement: Statement,

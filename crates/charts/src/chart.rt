@@ -4,7 +4,7 @@ use crate::statement::Statement;
 use std::marker::Model;
 
 /// A line of a chart that says something.
-#[derive(Debug, Drop)]
+#[derive(Drop)]
 pub struct Line {
     /// Its number in the text, from 1.
     pub number: u16,
@@ -25,7 +25,7 @@ pub enum Version {
 ///
 /// Contracts see it as its version, its lines in order, the numbers of those whose total bears the word COUPLED, and the number
 /// of the line END; the lines' numbers rise.
-#[derive(Debug, Drop)]
+#[derive(Drop)]
 pub struct RawChart {
     version: Version,
     lines: Vec<Line>,

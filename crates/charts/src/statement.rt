@@ -10,7 +10,7 @@ use std::marker::Model;
 pub const MAX_LITERAL: usize = 120;
 
 /// The characters of a literal, 1 to 120 print characters or blanks.
-#[derive(Debug, Drop)]
+#[derive(Drop)]
 pub struct Literal {
     characters: Vec<u8>,
 }
@@ -59,7 +59,7 @@ impl Literal {
 pub const MAX_STOPS: usize = 10;
 
 /// The lines of a channel's stops, 1 to 10 of them.
-#[derive(Debug, Drop)]
+#[derive(Drop)]
 pub struct Stops {
     lines: Vec<u16>,
 }
@@ -234,7 +234,7 @@ pub enum DetailOption {
 }
 
 /// What one line of a planning chart says. Numbers of columns, digits, wheels, channels and lines are 0 to 999.
-#[derive(Debug, Drop)]
+#[derive(Drop)]
 pub enum Statement {
     /// `FIELD`: a field of the cards.
     Field(Field),
