@@ -1,3 +1,4 @@
+pub mod Aside
 pub mod Assignments
 pub mod Counting
 pub mod Exclusions
