@@ -197,3 +197,10 @@ exits_are_exits = All-from_recursion (λ letters. (row_of letters).is_exit ≡ t
 pub entries_are_entries : All (λ letters. (row_of letters).is_exit ≡ false) entry_kinds
 unfolding entry_kinds
 entries_are_entries = All-from_recursion (λ letters. (row_of letters).is_exit ≡ false) entry_kinds (refl, (refl, (refl, (refl, (refl, (refl, (refl, (refl, (refl, (refl, (refl, (refl, (refl, (refl, (refl, (refl, (refl, (refl, (refl, (refl, (refl, tt)))))))))))))))))))))
+
+-- no kind has a place behind the table
+pub stands_within : (letters : Letters) → (row_of letters).before + count_of (row_of letters).shape ≤ 1936
+stands_within letters = grind (arith, nat_tests, is_within letters) where
+  is_within : (one : Letters) → nat_le ((row_of one).before + count_of (row_of one).shape) 1936 ≡ true
+  is_within FR = refl
+  is_within other = refl

@@ -1,3 +1,4 @@
+pub mod HelperRows
 pub mod HubTable
 pub mod Places
 pub mod Ranges

@@ -1,7 +1,9 @@
 //! The letters of hubs, and the hub table: a row for each kind of hub.
 
 ghost use Rattle.std.specs.Prelude.{◌≡◌, ◌≢◌, ◌+◌, ◌<◌, ◌≤◌, true, false, IfSome, IfNone, All};
+ghost use Rattle.hub_table.specs.HelperRows.{row_as};
 ghost use Rattle.hub_table.specs.HubTable.{row_of, HasNumber};
+ghost use Rattle.hub_table.specs.HubTable as table;
 ghost use Rattle.hub_table.specs.declared.letters.Letters.{Letters};
 
 use crate::shape::Shape;
@@ -182,11 +184,7 @@ impl Letters {
 
     // The row of the hub table.
     fn row(self) -> Row
-        ensures spelled { result.spelled.now ≡ (row_of self).spelled }
-        ensures is_exit { result.is_exit ≡ (row_of self).is_exit }
-        ensures before { result.before ≡ (row_of self).before }
-        ensures shape { result.shape ≡ (row_of self).shape }
-        ensures range { result.before + count_of (row_of self).shape ≤ 1936 }
+        ensures { row_as result ≡ row_of self }
     {
         match self {
             Letters::FR => exits("FR", 0, Shape::To(80)),
@@ -243,10 +241,7 @@ struct Row {
 
 // A row of exits.
 fn exits(spelled: &'static str, before: u32, shape: Shape) -> Row
-    ensures spelled { result.spelled.now ≡ spelled.now }
-    ensures is_exit { result.is_exit ≡ true }
-    ensures before { result.before ≡ before }
-    ensures shape { result.shape ≡ shape }
+    ensures { row_as result ≡ table.exits spelled.now before shape }
 {
     Row {
         spelled,
@@ -258,10 +253,7 @@ fn exits(spelled: &'static str, before: u32, shape: Shape) -> Row
 
 // A row of entries.
 fn entries(spelled: &'static str, before: u32, shape: Shape) -> Row
-    ensures spelled { result.spelled.now ≡ spelled.now }
-    ensures is_exit { result.is_exit ≡ false }
-    ensures before { result.before ≡ before }
-    ensures shape { result.shape ≡ shape }
+    ensures { row_as result ≡ table.entries spelled.now before shape }
 {
     Row {
         spelled,
