@@ -9,7 +9,7 @@ use std::error::Error;
 use std::fmt;
 
 /// Why a chart has no plan: the first capacity of the machine that it exceeds. Or memory was refused.
-#[derive(Clone, Copy, Debug, PartialEq, Eq)]
+#[derive(Clone, Copy, PartialEq, Eq)]
 pub enum CapacityFault {
     /// Totals want more counter groups of a width, or wider ones, than the machine has: fault 61.
     Counters {
@@ -86,37 +86,52 @@ impl CapacityFault {
             CapacityFault::Memory => None,
         }
     }
-}
 
-// By hand, since most of them say the same of different things, and one function writes that.
-impl fmt::Display for CapacityFault {
-    fn fmt<W: fmt::Write>(&self, f: &mut fmt::Formatter<W>) -> fmt::Result {
-        match *self {
+    // How many of some things are wanted, and how many there are, where there are too few of them.
+    fn lack(self) -> Option<(usize, &'static str, u32)> {
+        match self {
             CapacityFault::Counters {
                 width,
                 wanted,
                 there,
-            } => write_lack(f, wanted, groups_from(width), there),
-            CapacityFault::Pilots { wanted, there } => write_lack(f, wanted, "pilots", there),
+            } => Some((wanted, groups_from(width), there)),
+            CapacityFault::Pilots { wanted, there } => Some((wanted, "pilots", there)),
             CapacityFault::Comparing { wanted, there } => {
-                write_lack(f, wanted, "comparing positions", there)
-            }
-            CapacityFault::StorageWidth { line } => {
-                write!(f, "the text on total line {line} has more than 16 columns")
+                Some((wanted, "comparing positions", there))
             }
             CapacityFault::StorageUnits { wanted, there } => {
-                write_lack(f, wanted, "storage units", there)
+                Some((wanted, "storage units", there))
             }
-            CapacityFault::Splits { wanted, there } => {
-                write_lack(f, wanted, "column splits", there)
-            }
+            CapacityFault::Splits { wanted, there } => Some((wanted, "column splits", there)),
             CapacityFault::Indicate {
                 level,
                 wanted,
                 there,
-            } => write_lack(f, wanted, indicated_on(level), there),
-            CapacityFault::Memory => f.write_str("out of memory"),
+            } => Some((wanted, indicated_on(level), there)),
+            CapacityFault::StorageWidth { .. } | CapacityFault::Memory => None,
         }
+    }
+}
+
+// By hand, since most of them say the same of different things.
+impl fmt::Display for CapacityFault {
+    fn fmt<W: fmt::Write>(&self, f: &mut fmt::Formatter<W>) -> fmt::Result {
+        if let Some((wanted, things, there)) = self.lack() {
+            return write!(f, "{wanted} {things} are wanted, and there are {there}");
+        }
+        match self {
+            CapacityFault::StorageWidth { line } => {
+                write!(f, "the text on total line {line} has more than 16 columns")
+            }
+            _ => f.write_str("out of memory"),
+        }
+    }
+}
+
+// A fault is shown as it is told, and no second text of each is made.
+impl fmt::Debug for CapacityFault {
+    fn fmt<W: fmt::Write>(&self, f: &mut fmt::Formatter<W>) -> fmt::Result {
+        fmt::Display::fmt(self, f)
     }
 }
 
@@ -139,16 +154,6 @@ fn indicated_on(level: ControlLevel) -> &'static str {
         ControlLevel::Intermediate => "indicate positions of level 2",
         ControlLevel::Major => "indicate positions of level 3",
     }
-}
-
-// Writes how many things are wanted, and how many there are.
-fn write_lack<W: fmt::Write>(
-    f: &mut fmt::Formatter<W>,
-    wanted: usize,
-    things: &str,
-    there: u32,
-) -> fmt::Result {
-    write!(f, "{wanted} {things} are wanted, and there are {there}")
 }
 
 impl From<AllocError> for CapacityFault {
