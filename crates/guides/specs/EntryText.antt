@@ -2,6 +2,10 @@
 use Rattle.std.specs.Prelude.{ℕ, List, [], ◌∷◌, ◌++◌, codes, decimal}
 use Rattle.fault_guide.specs.declared.table.FaultEntry.{FaultEntry}
 
+-- the line with the number and the name of a fault
+abbrev pub entry_heading : (number : ℕ) → (name : List ℕ) → List ℕ
+entry_heading number name = codes "fault " ++ decimal number ++ codes " " ++ name ++ codes "\n"
+
 -- the line of one thing that an entry says
 abbrev pub named_line : (name words : List ℕ) → List ℕ
 named_line name words = name ++ codes ": " ++ words ++ codes "\n"
@@ -14,5 +18,5 @@ example_line (first ∷ others) = named_line (codes "example") (first ∷ others
 -- the number and the name of the fault, its cause, its cure and its example, a line each
 abbrev pub entry_text : FaultEntry → List ℕ
 entry_text entry =
-    codes "fault " ++ decimal entry.number ++ codes " " ++ entry.name.now ++ codes "\n"
+    entry_heading entry.number entry.name.now
     ++ named_line (codes "cause") entry.cause.now ++ named_line (codes "cure") entry.cure.now ++ example_line entry.example.now

@@ -2,7 +2,7 @@
 
 ghost use Rattle.std.specs.Prelude.{◌≡◌, ◌++◌, codes, IfOk, OnOk};
 ghost use Rattle.std.specs.String.{string_bytes};
-ghost use Rattle.guides.specs.EntryText.{entry_text, example_line, named_line};
+ghost use Rattle.guides.specs.EntryText.{entry_text, example_line, entry_heading, named_line};
 
 use fault_guide::FaultEntry;
 use std::alloc::{AllocError, Global};
@@ -25,6 +25,23 @@ fn add_example(text: &mut String, example: &str) -> Result<(), AllocError>
     }
 }
 
+// Adds the line with the number and the name of a fault.
+fn add_heading(text: &mut String, number: u8, name: &str) -> Result<(), AllocError>
+    ensures { OnOk result (string_bytes text.new ≡ string_bytes text.old ++ entry_heading number name.now) }
+{
+    write!(text, "fault {number} {name}\n")
+}
+
+// Adds the lines of an entry.
+fn add_entry(text: &mut String, entry: &FaultEntry) -> Result<(), AllocError>
+    ensures { OnOk result (string_bytes text.new ≡ string_bytes text.old ++ entry_text entry.now) }
+{
+    add_heading(text, entry.number, entry.name)?;
+    add_named(text, "cause", entry.cause)?;
+    add_named(text, "cure", entry.cure)?;
+    add_example(text, entry.example)
+}
+
 /// The text of an entry: a line with the number and the name of the fault, then a line each for its cause, its cure and its example, which
 /// not every fault has.
 ///
@@ -35,11 +52,6 @@ pub fn entry_text(alloc: Global, entry: &FaultEntry) -> Result<String, AllocErro
     ensures { IfOk result (λ text. string_bytes text ≡ entry_text entry.now) }
 {
     let mut text = String::new(alloc);
-    let number = entry.number;
-    let name = entry.name;
-    write!(&mut text, "fault {number} {name}\n")?;
-    add_named(&mut text, "cause", entry.cause)?;
-    add_named(&mut text, "cure", entry.cure)?;
-    add_example(&mut text, entry.example)?;
+    add_entry(&mut text, entry)?;
     Ok(text)
 }
