@@ -1,10 +1,10 @@
 -- What is told, wheel by wheel and line by line.
-use Rattle.std.proofs.Common.{◌≡◌, ◌∙◌, ap, sym, subst, refl, arith, Bool, true, false, ℕ, ◌+◌, ◌<◌, ◌==◌, List, [], ◌∷◌, ◌++◌, append_assoc, append-nil, flat_map, get_or, length, take}
+use Rattle.std.proofs.Common.{◌≡◌, ◌∙◌, ap, sym, subst, refl, arith, Bool, true, false, ℕ, ◌+◌, ◌<◌, ◌≤◌, ◌==◌, List, [], ◌∷◌, ◌++◌, append_assoc, append-nil, flat_map, get_or, length, take}
 use Rattle.std.specs.Prelude.{All, String, if◌then◌else◌, map}
 use Rattle.std.specs.List.{range_with_len}
 use Rattle.std.specs.declared.alloc.Global.{Global}
 use Rattle.std.proofs.lemmas.Bool.{eqb-true, eq-eqb}
-use Rattle.std.proofs.lemmas.List.{map-append, take_more}
+use Rattle.std.proofs.lemmas.List.{map-append, take_all, take_more}
 use Rattle.std.proofs.lemmas.List.Elements.{All-append, All-cons, All-contains, All-nil}
 use Rattle.placed_lines.specs.declared.placed_line.PlacedLine.{PlacedLine}
 use Rattle.setups.specs.Wiring.{Wiring}
@@ -123,9 +123,16 @@ module _ (wiring : Wiring) (asked : List (String Global × Wiring)) (deck : List
       (told_more (printed_places (take place lines)) (printed_on (get_or lines place d)) old mid new before one)
 
   -- what a list has that had nothing
-  pub told_alone : (places : List WheelPlace) (told : List ToldWheel) → GainsTold wiring asked deck places [] told
+  told_alone : (places : List WheelPlace) (told : List ToldWheel) → GainsTold wiring asked deck places [] told
       → AreTold wiring asked deck places told
   told_alone places told gains = subst (λ (l : List ToldWheel). AreTold wiring asked deck places l) (sym gains.gained) gains.are
+
+  -- what is told of all lines
+  pub told_of_all : (lines : List PlacedLine) (place : ℕ) (told : List ToldWheel) → length lines ≤ place
+      → GainsTold wiring asked deck (printed_places (take place lines)) [] told → AreTold wiring asked deck (printed_places lines) told
+  told_of_all lines place told all gains =
+      told_alone (printed_places lines) told
+      (subst (λ (l : List PlacedLine). GainsTold wiring asked deck (printed_places l) [] told) (take_all place lines all) gains)
 
 -- an explanation of a wheel of the line that was found, where that is the one that stands there
 pub explained_there : (wiring : Wiring) (deck : List (List ℕ)) (found : FoundLine) (page line wheel : ℕ) (told : Explanation)

@@ -44,7 +44,6 @@ fn tell_wheel(
     Ok(ToldWheel { why, words })
 }
 
-#[tactic(auto, using(crate::proofs::Gains::wheel_blank, crate::proofs::Gains::wheel_printed))]
 // What is told of a wheel of a line, where it printed a character.
 fn push_wheel(
     alloc: Global,
@@ -68,7 +67,6 @@ fn push_wheel(
     Ok(())
 }
 
-#[tactic(auto, using(crate::proofs::Gains::told_none, crate::proofs::Gains::wheels_more))]
 // What is told of the wheels of a line.
 fn push_wheels(
     alloc: Global,
@@ -108,7 +106,6 @@ fn push_line(
     push_wheels(alloc, told, setup, asked, cards, placed, &line)
 }
 
-#[tactic(auto, using(crate::proofs::Gains::told_none, crate::proofs::Gains::told_alone))]
 /// What is told of the printed characters of lines that a setup of the panel prints of a deck of at most 999,999 cards: for each its
 /// explanation and the words of it, in the order of the lines and of their wheels. `asked` names who asks for wires, as for
 /// [`explanation_text::explain_text`]. Fails only where no memory is left.

@@ -2,7 +2,16 @@ use Rattle.std.proofs.Common.{◌≡◌, arith, subst, ℕ}
 use Rattle.std.specs.List.{flat_map, range_with_len}
 use Rattle.wheel_sections.specs.Helper.{GainsTold}
 use Rattle.wheel_sections.specs.Told.{printed_by}
+use Rattle.wheel_sections.proofs.Gains.{told_none, wheels_more}
 use Rattle.wheel_sections.proofs.told.push_wheels.Goals as goal
+
+pub loop-passed-init : goal.loop-passed-init
+loop-passed-init c = told_none c.args.setup.now c.args.asked.now c.args.cards.now c.args.told.now.items
+
+pub loop-passed-preserved : goal.loop-passed-preserved
+loop-passed-preserved c =
+    wheels_more c.args.setup.now c.args.asked.now c.args.cards.now c.args.placed.now c.loop-passed.passed c.args.told.now.items
+    c.loop-passed.told.items c.push_wheel.new.told.items c.loop-passed.invariant c.in_ok-push_wheel.ensures
 
 pub returns : goal.returns
 returns c =
