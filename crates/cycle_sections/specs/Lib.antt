@@ -1,2 +1,3 @@
+pub mod Helper
 pub mod Rows
 pub mod Sections

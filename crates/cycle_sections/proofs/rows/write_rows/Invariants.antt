@@ -1,10 +1,10 @@
 use Rattle.std.specs.Prelude.{◌≡◌, ◌≤◌, ◌++◌, drop}
 use Rattle.cycle_sections.specs.Rows.{in_rows, rows_of}
-use Rattle.cycle_sections.proofs.rows.rows_of.Given as goal
+use Rattle.cycle_sections.proofs.rows.write_rows.Given as goal
 
 -- the rows so far, and those of the bytes that are left
 abbrev pub invariant-loop-byte : goal.invariant-loop-byte
 invariant-loop-byte l = record {
-  written : l.rows.items ++ in_rows l.inside l.spaces (drop l.byte-index l.line) ≡ rows_of l.line;
+  written : l.rows.items ++ in_rows l.inside l.spaces (drop l.byte-index l.line) ≡ l.initial.rows.items ++ rows_of l.line;
   few : l.spaces ≤ l.byte-index;
 }
