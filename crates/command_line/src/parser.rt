@@ -1,7 +1,8 @@
 //! The words that the program takes.
 
-use clap::{Arg, Command, Error, value_parser};
-use std::alloc::Global;
+use clap::builder::ValueParser;
+use clap::{Arg, Command, value_parser};
+use std::alloc::{AllocError, Global};
 
 /// The version that the program answers.
 const VERSION: &str = "0.3";
@@ -108,7 +109,7 @@ const FAULT: Word = Word::Number {
 };
 
 /// The commands in the order of the help.
-const COMMANDS: [CommandRow; 11] = [
+static COMMANDS: [CommandRow; 11] = [
     CommandRow {
         name: "run",
         about: "Prints the pages of a deck",
@@ -166,12 +167,12 @@ const COMMANDS: [CommandRow; 11] = [
     },
 ];
 
-// A word that is a number up to a size.
-fn with_size<'a>(word: Arg<'a>, size: Size) -> Arg<'a> {
+// What reads a number up to a size.
+fn number_parser<'a>(size: Size) -> ValueParser<'a> {
     match size {
-        Size::U8 => word.value_parser(value_parser!(u8)),
-        Size::U32 => word.value_parser(value_parser!(u32)),
-        Size::U64 => word.value_parser(value_parser!(u64)),
+        Size::U8 => value_parser!(u8),
+        Size::U32 => value_parser!(u32),
+        Size::U64 => value_parser!(u64),
     }
 }
 
@@ -179,9 +180,10 @@ fn with_size<'a>(word: Arg<'a>, size: Size) -> Arg<'a> {
 fn arg_of<'a>(alloc: Global, word: Word) -> Arg<'a> {
     match word {
         Word::File { name, help } => Arg::new(alloc, name).help(help).required(true),
-        Word::Number { name, help, size } => {
-            with_size(Arg::new(alloc, name).help(help).required(true), size)
-        }
+        Word::Number { name, help, size } => Arg::new(alloc, name)
+            .help(help)
+            .required(true)
+            .value_parser(number_parser(size)),
         Word::Option {
             name,
             long,
@@ -195,7 +197,7 @@ fn arg_of<'a>(alloc: Global, word: Word) -> Arg<'a> {
 }
 
 // A command as the parser takes it.
-fn command_of<'a>(alloc: Global, row: CommandRow) -> Result<Command<'a>, Error> {
+fn command_of<'a>(alloc: Global, row: &CommandRow) -> Result<Command<'a>, AllocError> {
     let mut command = Command::new(alloc, row.name).about(row.about);
     for word in row.words {
         command = command.arg(arg_of(alloc, *word))?;
@@ -204,22 +206,30 @@ fn command_of<'a>(alloc: Global, row: CommandRow) -> Result<Command<'a>, Error> 
 }
 
 // The program without its commands.
-fn program<'a>(alloc: Global) -> Result<Command<'a>, Error> {
-    let program = Command::new(alloc, "run407")
+fn program<'a>(alloc: Global) -> Result<Command<'a>, AllocError> {
+    Command::new(alloc, "run407")
         .version(VERSION)
         .about(
             "Compiles planning charts and runs decks on a simulated IBM 407. Without a command it reads a chart and then its deck from standard input, and prints the pages.",
         )
         .after_help(AFTER_HELP)
-        .bin_name("run407")?;
-    Ok(program)
+        .bin_name("run407")
 }
 
-/// The program's commands, each with its words.
-pub fn parser<'a>(alloc: Global) -> Result<Command<'a>, Error> {
-    let mut parser = program(alloc)?;
-    for row in COMMANDS {
+// A program with commands behind those that it has.
+fn with_commands<'a>(
+    alloc: Global,
+    program: Command<'a>,
+    rows: &[CommandRow],
+) -> Result<Command<'a>, AllocError> {
+    let mut parser = program;
+    for row in rows {
         parser = parser.subcommand(command_of(alloc, row)?)?;
     }
     Ok(parser)
+}
+
+/// The program's commands, each with its words.
+pub fn parser<'a>(alloc: Global) -> Result<Command<'a>, AllocError> {
+    with_commands(alloc, program(alloc)?, &COMMANDS)
 }

@@ -11,7 +11,7 @@ use std::io;
 use std::io::ErrorKind as IoErrorKind;
 
 /// What the words of the command line ask for; files are told by their paths.
-#[derive(Clone, Copy, Debug, PartialEq, Eq)]
+#[derive(Clone, Copy)]
 pub enum Wanted<'a> {
     /// The pages of a deck by a planning chart.
     Run {
@@ -170,45 +170,67 @@ fn match_wanted<'a>(given: &ArgMatches<'a>) -> Wanted<'a> {
     }
 }
 
+// What is asked for by the words of an explanation.
+fn explain_wanted<'a>(given: &ArgMatches<'a>) -> Wanted<'a> {
+    Wanted::Explain {
+        text: file_of(given, "TEXT"),
+        deck: file_of(given, "DECK"),
+        page: given.get_one("PAGE").unwrap_or(0),
+        line: given.get_one("LINE").unwrap_or(0),
+        wheel: given.get_one("WHEEL").unwrap_or(0),
+    }
+}
+
+// What is asked for by the words of a command on a planning chart and a deck, or on a text of either kind and a deck.
+fn deck_wanted<'a>(name: &str, given: &ArgMatches<'a>) -> Wanted<'a> {
+    let deck = file_of(given, "DECK");
+    match name {
+        "trace" => Wanted::Trace {
+            text: file_of(given, "TEXT"),
+            deck,
+        },
+        "show" => Wanted::Show {
+            text: file_of(given, "TEXT"),
+            deck,
+        },
+        _ => Wanted::Run {
+            chart: file_of(given, "CHART"),
+            deck,
+        },
+    }
+}
+
+// What is asked for by the words of a command on a planning chart alone.
+fn chart_wanted<'a>(name: &str, given: &ArgMatches<'a>) -> Wanted<'a> {
+    let chart = file_of(given, "CHART");
+    match name {
+        "wire" => Wanted::Wire { chart },
+        "legend" => Wanted::Legend { chart },
+        _ => Wanted::Check { chart },
+    }
+}
+
+// What is asked for by the words of a command.
+fn command_wanted<'a>(name: &str, given: &ArgMatches<'a>) -> Wanted<'a> {
+    match name {
+        "run" | "trace" | "show" => deck_wanted(name, given),
+        "replay" => replay_wanted(given),
+        "match" => match_wanted(given),
+        "explain" => explain_wanted(given),
+        "upgrade" => Wanted::Upgrade {
+            wiring: file_of(given, "WIRING"),
+        },
+        "fault" => Wanted::Fault {
+            number: given.get_one("NN").unwrap_or(0),
+        },
+        _ => chart_wanted(name, given),
+    }
+}
+
 // What is asked for by words that match.
 fn wanted_by<'a>(matches: &ArgMatches<'a>) -> Wanted<'a> {
     match matches.subcommand() {
-        Some(("run", given)) => Wanted::Run {
-            chart: file_of(given, "CHART"),
-            deck: file_of(given, "DECK"),
-        },
-        Some(("replay", given)) => replay_wanted(given),
-        Some(("wire", given)) => Wanted::Wire {
-            chart: file_of(given, "CHART"),
-        },
-        Some(("upgrade", given)) => Wanted::Upgrade {
-            wiring: file_of(given, "WIRING"),
-        },
-        Some(("match", given)) => match_wanted(given),
-        Some(("legend", given)) => Wanted::Legend {
-            chart: file_of(given, "CHART"),
-        },
-        Some(("explain", given)) => Wanted::Explain {
-            text: file_of(given, "TEXT"),
-            deck: file_of(given, "DECK"),
-            page: given.get_one("PAGE").unwrap_or(0),
-            line: given.get_one("LINE").unwrap_or(0),
-            wheel: given.get_one("WHEEL").unwrap_or(0),
-        },
-        Some(("trace", given)) => Wanted::Trace {
-            text: file_of(given, "TEXT"),
-            deck: file_of(given, "DECK"),
-        },
-        Some(("show", given)) => Wanted::Show {
-            text: file_of(given, "TEXT"),
-            deck: file_of(given, "DECK"),
-        },
-        Some(("fault", given)) => Wanted::Fault {
-            number: given.get_one("NN").unwrap_or(0),
-        },
-        Some((_, given)) => Wanted::Check {
-            chart: file_of(given, "CHART"),
-        },
+        Some((name, given)) => command_wanted(name, given),
         None => Wanted::StandardInput,
     }
 }
