@@ -69,48 +69,84 @@ fn exit_words(
 ) -> Result<String, AllocError>
     requires { place < 12 }
 {
-    let row = row_at(place);
-    let card = found.cards;
     let mut words = String::new(alloc);
     write_hub(&mut words, exit)?;
-    match exit {
-        Hub::SR(column) => {
-            write!(&mut words, ": column {column} of card {card} has ")?;
-            write_counted(&mut words, row)?;
-        }
-        Hub::FR(column) => {
-            let next = u64::from(card) + 1;
-            write!(&mut words, ": column {column} of card {next} has ")?;
-            write_counted(&mut words, row)?;
-        }
-        Hub::EM(emitter, _) => {
-            write!(&mut words, ": emitter {emitter} sends row {row} in ")?;
-            write_cycle(&mut words, found.kept.cycle)?;
-        }
-        Hub::GX(group, _) => {
-            let width = group.width;
-            let number = group.number;
-            write!(&mut words, ": group {width}.{number} held ")?;
-            write_held(&mut words, found, group)?;
-            words.push_str(", and is read out")?;
-        }
-        Hub::SX(unit, column) => {
-            write!(&mut words, ": storage {unit} holds ")?;
-            write_counted(&mut words, row)?;
-            write!(&mut words, " in column {column}, and is read out")?;
-        }
-        _ => {}
-    }
+    write_meaning(&mut words, found, row_at(place), exit)?;
     Ok(words)
+}
+
+// What an exit that emitted at a row stands for, behind its name.
+fn write_meaning(
+    words: &mut String,
+    found: &FoundLine,
+    row: u8,
+    exit: Hub,
+) -> Result<(), AllocError> {
+    match exit {
+        Hub::SR(column) => write_punch(words, column, u64::from(found.cards), row),
+        Hub::FR(column) => write_punch(words, column, u64::from(found.cards) + 1, row),
+        Hub::EM(emitter, _) => write_emitter(words, emitter, row, found.kept.cycle),
+        Hub::GX(group, _) => write_read_out(words, found, group),
+        Hub::SX(unit, column) => write_stored(words, unit, column, row),
+        _ => Ok(()),
+    }
+}
+
+// That a column of a card is punched in a row.
+fn write_punch(words: &mut String, column: u8, card: u64, row: u8) -> Result<(), AllocError> {
+    write_of_number(words, ": column ", column, " of card ")?;
+    write!(words, "{card} has ")?;
+    write_counted(words, row)
+}
+
+// That an emitter sends a row.
+fn write_emitter(words: &mut String, emitter: u8, row: u8, cycle: Cycle) -> Result<(), AllocError> {
+    write_of_number(words, ": emitter ", emitter, " sends row ")?;
+    write_of_number(words, "", row, " in ")?;
+    write_cycle(words, cycle)
+}
+
+// That a counter group is read out, and its digits.
+fn write_read_out(words: &mut String, found: &FoundLine, group: Group) -> Result<(), AllocError> {
+    write_of_group(words, ": group ", group, " held ")?;
+    write_held(words, found, group)?;
+    words.push_str(", and is read out")
+}
+
+// That a storage unit is read out, and what it holds in a column.
+fn write_stored(words: &mut String, unit: u8, column: u8, row: u8) -> Result<(), AllocError> {
+    write_of_number(words, ": storage ", unit, " holds ")?;
+    write_counted(words, row)?;
+    write_of_number(words, " in column ", column, ", and is read out")
+}
+
+// The width and the number of a counter group between words.
+fn write_of_group(
+    words: &mut String,
+    before: &str,
+    group: Group,
+    behind: &str,
+) -> Result<(), AllocError> {
+    write_of_number(words, before, group.width, ".")?;
+    write_of_number(words, "", group.number, behind)
+}
+
+// A number between words.
+pub(crate) fn write_of_number(
+    words: &mut String,
+    before: &str,
+    number: u8,
+    behind: &str,
+) -> Result<(), AllocError> {
+    words.push_str(before)?;
+    write!(words, "{number}")?;
+    words.push_str(behind)
 }
 
 // A punch or a digit with its article.
 fn write_counted(words: &mut String, row: u8) -> Result<(), AllocError> {
-    if row == 8 || row == 11 {
-        write!(words, "an {row}")
-    } else {
-        write!(words, "a {row}")
-    }
+    let article = if row == 8 || row == 11 { "an " } else { "a " };
+    write_of_number(words, article, row, "")
 }
 
 // A cycle in words.
@@ -119,9 +155,8 @@ fn write_cycle(words: &mut String, cycle: Cycle) -> Result<(), AllocError> {
         Cycle::RunIn => words.push_str("the run-in"),
         Cycle::Card => words.push_str("card cycles"),
         Cycle::Prog(level, ordinal) => {
-            let level = level.number();
             words.push_str(ordinal_word(ordinal.number()))?;
-            write!(words, " cycle of level {level}")
+            write_of_number(words, " cycle of level ", level.number(), "")
         }
         Cycle::Head(heading) => {
             words.push_str(ordinal_word(heading.number()))?;
@@ -151,8 +186,7 @@ fn write_held(words: &mut String, found: &FoundLine, group: Group) -> Result<(),
 fn write_digit(words: &mut String, found: &FoundLine, exit: Hub) -> Result<(), AllocError> {
     for place in 0..10 {
         if found.kept.points[place + 1].exits.has(exit) {
-            let digit = row_at(place);
-            return write!(words, "{digit}");
+            return write_of_number(words, "", row_at(place), "");
         }
     }
     Ok(())
@@ -161,48 +195,47 @@ fn write_digit(words: &mut String, found: &FoundLine, exit: Hub) -> Result<(), A
 // Why the contact between two hubs of a way was closed. No words where a wire leads from the one to the other.
 fn contact_words(alloc: Global, common: Hub, exit: Hub) -> Result<String, AllocError> {
     let mut words = String::new(alloc);
-    if !is_contact_exit(exit) {
-        return Ok(words);
-    }
-    write_hub(&mut words, common)?;
-    words.push_str(" => ")?;
-    write_hub(&mut words, exit)?;
-    match exit {
-        Hub::BAT(group, _) => {
-            let width = group.width;
-            let number = group.number;
-            write!(
-                &mut words,
-                ": the balance latch of group {width}.{number} is set"
-            )?;
-        }
-        Hub::BAN(group, _) => {
-            let width = group.width;
-            let number = group.number;
-            write!(
-                &mut words,
-                ": the balance latch of group {width}.{number} is not set"
-            )?;
-        }
-        Hub::PIT(pilot, _) => write!(&mut words, ": pilot {pilot} is transferred")?,
-        Hub::PIN(pilot, _) => write!(&mut words, ": pilot {pilot} is normal")?,
-        Hub::IX(level, _) => {
-            write!(
-                &mut words,
-                ": the card is the first of a group of level {level}"
-            )?
-        }
-        Hub::CSD(split) => write!(&mut words, ": split {split} leads there at the rows 9 to 0")?,
-        Hub::CSZ(split) => write!(
-            &mut words,
-            ": split {split} leads there at the rows 11 and 12"
-        )?,
-        Hub::CO(group) => {
-            let width = group.width;
-            let number = group.number;
-            write!(&mut words, ": group {width}.{number} is at nines")?;
-        }
-        _ => {}
+    if is_contact_exit(exit) {
+        write_contact(&mut words, common, exit)?;
     }
     Ok(words)
+}
+
+// A contact, and why it was closed.
+fn write_contact(words: &mut String, common: Hub, exit: Hub) -> Result<(), AllocError> {
+    write_hub(words, common)?;
+    words.push_str(" => ")?;
+    write_hub(words, exit)?;
+    write_reason(words, exit)
+}
+
+// Why the contact that leads to an exit was closed.
+fn write_reason(words: &mut String, exit: Hub) -> Result<(), AllocError> {
+    match exit {
+        Hub::BAT(group, _) => {
+            write_of_group(words, ": the balance latch of group ", group, " is set")
+        }
+        Hub::BAN(group, _) => {
+            write_of_group(words, ": the balance latch of group ", group, " is not set")
+        }
+        Hub::PIT(pilot, _) => write_of_number(words, ": pilot ", pilot, " is transferred"),
+        Hub::PIN(pilot, _) => write_of_number(words, ": pilot ", pilot, " is normal"),
+        Hub::IX(level, _) => write_of_number(
+            words,
+            ": the card is the first of a group of level ",
+            level,
+            "",
+        ),
+        Hub::CSD(split) => {
+            write_of_number(words, ": split ", split, " leads there at the rows 9 to 0")
+        }
+        Hub::CSZ(split) => write_of_number(
+            words,
+            ": split ",
+            split,
+            " leads there at the rows 11 and 12",
+        ),
+        Hub::CO(group) => write_of_group(words, ": group ", group, " is at nines"),
+        _ => Ok(()),
+    }
 }
