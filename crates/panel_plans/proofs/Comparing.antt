@@ -40,6 +40,7 @@ use Rattle.wiring_table.specs.Parts.{column_on, comparing_for}
 use Rattle.wiring_table.specs.Wires.{ChartWire, LineWire}
 use Rattle.wiring_table.specs.Wires.LineWire.{compared_first, level_called}
 use Rattle.wiring_table.proofs.Parts.{comparing-own}
+use Rattle.panel_plans.proofs.Clashes.{clash, is_calling, is_compared}
 
 -- a column with the number of its level
 abbrev pub compared_in : (column level : ℕ) → ComparedColumn
@@ -86,7 +87,7 @@ module _ (lines : List Line) (plan : Lists) where
       let same_column : field.first + j ≡ column = cc in
       let same_position : its ≡ position = cc in
       ap (comparing_for plan number) (sym same_column) ∙ served ∙ ap Some same_position
-  compared-of column position other e f = cc
+  compared-of column position other e f = clash is_compared (sym f) refl refl
 
   -- one for whose level a position calls
   record CalledOf (number : ℕ) (statement : Statement) (position at_level : ℕ) : Type 0 where
@@ -113,7 +114,7 @@ module _ (lines : List Line) (plan : Lists) where
         served = served ∙ ap Some same_position;
         at = same_level;
       }
-  called-of position at_level other e f = cc
+  called-of position at_level other e f = clash is_calling (sym f) refl refl
 
 -- the column of a control field that a place of the comparing positions serves
 record ColumnAt (lines : List Line) (place : ℕ) (at : Position) : Type 0 where

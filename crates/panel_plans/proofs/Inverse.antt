@@ -1,5 +1,5 @@
 -- The wires that name a counter group, read off the wiring table: which total asks for them.
-use Rattle.std.proofs.Common.{◌≡◌, ◌∙◌, refl, sym, ap, subst, ℕ, ◌≤◌, List, Option, Some}
+use Rattle.std.proofs.Common.{◌≡◌, ◌∙◌, refl, sym, ap, subst, ℕ, ◌+◌, ◌≤◌, List, Option, Some}
 use Rattle.capacity.specs.declared.group.CounterGroup.{CounterGroup}
 use Rattle.charts.specs.Field.{decimals_of}
 use Rattle.charts.specs.Levels.{level_number}
@@ -7,7 +7,6 @@ use Rattle.charts.specs.declared.chart.Line.{Line}
 use Rattle.charts.specs.declared.level.Level.{Level}
 use Rattle.charts.specs.declared.statement.Field.{Field}
 use Rattle.charts.specs.declared.statement.Mark.{Mark}
-use Rattle.charts.specs.declared.statement.SignRule.TheVariants as sign
 use Rattle.charts.specs.declared.statement.Statement.{Statement}
 use Rattle.charts.specs.declared.statement.Statement.TheVariants as says
 use Rattle.hubs.specs.declared.hub.Group.{Group}
@@ -19,6 +18,7 @@ use Rattle.wiring_table.specs.Figures.{IsAmount, digit_wheel}
 use Rattle.wiring_table.specs.Parts.{ServesPosition, ServesTotal, counter_for, group_for, panel_group}
 use Rattle.wiring_table.specs.Wires.{LineWire}
 use Rattle.wiring_table.specs.Wires.LineWire.{carry_round, carry_up, detail_mark_out, read_out, ring, total_digit}
+use Rattle.panel_plans.proofs.Clashes.{apart, clash, is_carried, is_digit, is_program, is_side, side-is, to_read_out, to_wheel}
 
 module _ (lines : List Line) (plan : Lists) where
   -- a total that puts the digit at the first place of a group on a wheel
@@ -59,9 +59,8 @@ module _ (lines : List Line) (plan : Lists) where
         to = to;
         at = same_wheel;
       }
-  digit-of group v (detail_mark_out wheel name mark (sign.X c) field pilot k row p0 p1 p2 p3) e f = cc
-  digit-of group v (detail_mark_out wheel name mark (sign.NX c) field pilot k row p0 p1 p2 p3) e f = cc
-  digit-of group v other e f = cc
+  digit-of group v (detail_mark_out wheel name mark rule field pilot k row p0 p1 p2 p3) e f = clash is_side e (side-is rule pilot (2 + k)) refl
+  digit-of group v other e f = apart (to_wheel is_digit) e f refl refl
 
   -- a total whose printing cycle reads a group out
   pub record ReadOutOf (number : ℕ) (statement : Statement) (cycle : ℕ) (group : Group) : Type 0 where
@@ -89,7 +88,7 @@ module _ (lines : List Line) (plan : Lists) where
         served = subst (ServesTotal lines plan number) same_group served;
         at = same_cycle;
       }
-  read-out-of cycle group other e f = cc
+  read-out-of cycle group other e f = apart (to_read_out is_program) e f refl refl
 
   -- how a carry leads from one group to another
   pub data CarryOf (number : ℕ) (from to : Group) : Type 0 where
@@ -113,4 +112,4 @@ module _ (lines : List Line) (plan : Lists) where
       let one : panel_group upper ≡ from = cc in
       let other : panel_group lower ≡ to = cc in
       round lower upper served one other
-  carry-of from to other e f = cc
+  carry-of from to other e f = clash is_carried (sym f) refl refl

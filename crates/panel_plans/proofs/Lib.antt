@@ -1,3 +1,4 @@
+mod Clashes
 mod Rows
 mod Shown
 mod Inverse

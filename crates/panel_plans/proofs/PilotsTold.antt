@@ -21,7 +21,6 @@ use Rattle.charts.specs.declared.statement.FieldKind.TheVariants as holds
 use Rattle.charts.specs.declared.statement.Mark.{Mark}
 use Rattle.charts.specs.declared.statement.Mark.TheVariants as mark_kind
 use Rattle.charts.specs.declared.statement.SignRule.{SignRule}
-use Rattle.charts.specs.declared.statement.SignRule.TheVariants as sign
 use Rattle.charts.specs.declared.statement.Statement.{Statement}
 use Rattle.charts.specs.declared.statement.Statement.TheVariants as says
 use Rattle.charts.proofs.Listed.{any-passing, given-by}
@@ -59,6 +58,7 @@ use Rattle.wiring_table.specs.Wires.LineWire.{detail_mark_out, entry_minus, pick
 use Rattle.wiring_table.proofs.ChartLines.{field-own}
 use Rattle.wiring_table.proofs.Groups.{counter-given, serves-own}
 use Rattle.wiring_table.proofs.Totals.{total-of}
+use Rattle.panel_plans.proofs.Clashes.{apart, is_side, same-side, side-is, to_minus, to_wheel}
 
 -- the rule of an amount with a sign column, and its column
 ruled-by : (kind : FieldKind) → is_some (sign_column kind) ≡ true → (rule : SignRule) × (rule_of kind ≡ Some rule)
@@ -136,18 +136,11 @@ module _ (lines : List Line) (plan : Lists) where
   minus-of : {number : ℕ} {statement : Statement} {exit entry : Hub} (rule : SignRule) (pilot : ℕ) (group : Group)
       → LineWire lines plan number statement exit entry → exit ≡ negative_side rule pilot 1 → entry ≡ MI group
       → MinusOf number statement pilot group
-  minus-of (sign.X c) pilot group (entry_minus level wheel name digits mark (sign.X d) its its_group low served signed its_pilot) e f =
-      let same_pilot : its ≡ pilot = cc in
+  minus-of rule pilot group (entry_minus level wheel name digits mark own its its_group low served signed its_pilot) e f =
+      let same_pilot : its ≡ pilot = (same-side own rule its pilot 1 1 e).0 in
       let same_group : its_group ≡ group = cc in
       minus-by level wheel name digits mark its pilot its_group group served its_pilot same_pilot same_group
-  minus-of (sign.NX c) pilot group (entry_minus level wheel name digits mark (sign.NX d) its its_group low served signed its_pilot) e f =
-      let same_pilot : its ≡ pilot = cc in
-      let same_group : its_group ≡ group = cc in
-      minus-by level wheel name digits mark its pilot its_group group served its_pilot same_pilot same_group
-  minus-of (sign.X c) pilot group (entry_minus level wheel name digits mark (sign.NX d) its its_group low served signed its_pilot) e f = cc
-  minus-of (sign.NX c) pilot group (entry_minus level wheel name digits mark (sign.X d) its its_group low served signed its_pilot) e f = cc
-  minus-of (sign.X c) pilot group other e f = cc
-  minus-of (sign.NX c) pilot group other e f = cc
+  minus-of rule pilot group other e f = apart (to_minus is_side) e f (side-is rule pilot 1) refl
 
   -- an amount whose mark a pilot puts on a wheel
   record MarkOf (statement : Statement) (pilot v : ℕ) : Type 0 where
@@ -181,20 +174,11 @@ module _ (lines : List Line) (plan : Lists) where
 
   mark-of : {number : ℕ} {statement : Statement} {exit entry : Hub} (rule : SignRule) (pilot v : ℕ)
       → LineWire lines plan number statement exit entry → exit ≡ negative_side rule pilot 2 → entry ≡ W v → MarkOf statement pilot v
-  mark-of (sign.X c) pilot v (detail_mark_out wheel name mark (sign.X d) field its k row signed named its_pilot punch) e f =
-      let same_pilot : its ≡ pilot = cc in
-      let first : 2 + k ≡ 2 = cc in
+  mark-of rule pilot v (detail_mark_out wheel name mark own field its k row signed named its_pilot punch) e f =
+      let (same_pilot, first) = same-side own rule its pilot (2 + k) 2 e in
       let at : mark_wheel wheel (columns_of field) (decimals_of field.kind) + k ≡ v = cc in
-      mark-by wheel name mark (sign.X d) field its pilot k v signed named its_pilot same_pilot first at
-  mark-of (sign.NX c) pilot v (detail_mark_out wheel name mark (sign.NX d) field its k row signed named its_pilot punch) e f =
-      let same_pilot : its ≡ pilot = cc in
-      let first : 2 + k ≡ 2 = cc in
-      let at : mark_wheel wheel (columns_of field) (decimals_of field.kind) + k ≡ v = cc in
-      mark-by wheel name mark (sign.NX d) field its pilot k v signed named its_pilot same_pilot first at
-  mark-of (sign.X c) pilot v (detail_mark_out wheel name mark (sign.NX d) field its k row signed named its_pilot punch) e f = cc
-  mark-of (sign.NX c) pilot v (detail_mark_out wheel name mark (sign.X d) field its k row signed named its_pilot punch) e f = cc
-  mark-of (sign.X c) pilot v other e f = cc
-  mark-of (sign.NX c) pilot v other e f = cc
+      mark-by wheel name mark own field its pilot k v signed named its_pilot same_pilot first at
+  mark-of rule pilot v other e f = apart (to_wheel is_side) e f (side-is rule pilot 2) refl
 
 module _ (chart : Chart) (setup : Wiring) (lawful : IsLawful chart) (rise : NumbersRise chart.lines chart.end) (its : Lists)
     (wired : IsWiredBy chart.lines setup its) where

@@ -13,7 +13,6 @@ use Rattle.charts.specs.declared.chart.Line.{Line}
 use Rattle.charts.specs.declared.level.Level.{Level}
 use Rattle.charts.specs.declared.statement.BodyLine.TheVariants as body
 use Rattle.charts.specs.declared.statement.Field.{Field}
-use Rattle.charts.specs.declared.statement.SignRule.TheVariants as sign
 use Rattle.charts.specs.declared.statement.Statement.{Statement}
 use Rattle.charts.specs.declared.statement.Statement.TheVariants as says
 use Rattle.charts.proofs.Rising.{one-line as line-by-number}
@@ -41,6 +40,7 @@ use Rattle.wiring_table.specs.WiredFor.{WiredFor}
 use Rattle.wiring_table.specs.Wires.{ChartWire, LineWire}
 use Rattle.wiring_table.specs.Wires.LineWire.{detail_mark_out, total_text_given, total_text_out}
 use Rattle.wiring_table.proofs.Parts.{unit-given, unit-own}
+use Rattle.panel_plans.proofs.Clashes.{apart, clash, is_giving, is_side, is_stored, side-is, to_wheel}
 
 module _ (lines : List Line) (plan : Lists) where
   -- a text that a storage unit gives in the printing cycle of a level
@@ -58,7 +58,7 @@ module _ (lines : List Line) (plan : Lists) where
       let same_unit : its ≡ unit = cc in
       let same_cycle : level_number level ≡ cycle = cc in
       record { level = level; wheel = wheel; name = name; says_text = refl; served = served ∙ ap Some same_unit; at = same_cycle }
-  given-of cycle unit other e f = cc
+  given-of cycle unit other e f = clash is_giving (sym f) refl refl
 
   -- a text whose first column a storage unit puts on a wheel
   record TextOf (number : ℕ) (statement : Statement) (unit v : ℕ) : Type 0 where
@@ -89,9 +89,8 @@ module _ (lines : List Line) (plan : Lists) where
         served = served ∙ ap Some same_unit;
         at = omega (arith, first, same_wheel);
       }
-  text-at unit v (detail_mark_out wheel name mark (sign.X c) field pilot k row p0 p1 p2 p3) e f = cc
-  text-at unit v (detail_mark_out wheel name mark (sign.NX c) field pilot k row p0 p1 p2 p3) e f = cc
-  text-at unit v other e f = cc
+  text-at unit v (detail_mark_out wheel name mark rule field pilot k row p0 p1 p2 p3) e f = clash is_side e (side-is rule pilot (2 + k)) refl
+  text-at unit v other e f = apart (to_wheel is_stored) e f refl refl
 
 -- the unit of a text on a line
 abbrev pub unit_on : Lists → Line → Option ℕ

@@ -23,7 +23,6 @@ use Rattle.charts.specs.declared.statement.DetailOption.TheVariants as shown
 use Rattle.charts.specs.declared.statement.Field.{Field}
 use Rattle.charts.specs.declared.statement.FieldKind.{FieldKind}
 use Rattle.charts.specs.declared.statement.FieldKind.TheVariants as holds
-use Rattle.charts.specs.declared.statement.SignRule.TheVariants as sign
 use Rattle.charts.specs.declared.statement.Statement.{Statement}
 use Rattle.charts.specs.declared.statement.Statement.TheVariants as says
 use Rattle.field_rules.specs.Fields.{field_named, fields_of}
@@ -52,6 +51,7 @@ use Rattle.wiring_table.specs.Parts.{column_on, indicate_for, split_for}
 use Rattle.wiring_table.specs.Wires.{ChartWire, LineWire}
 use Rattle.wiring_table.specs.Wires.LineWire.{detail_mark_out, indicated_text_out, split_digit_out}
 use Rattle.wiring_table.proofs.Parts.{indicate-own, split-own}
+use Rattle.panel_plans.proofs.Clashes.{apart, clash, is_indicate, is_side, is_split, side-is, to_wheel}
 
 -- a field with a sign column is an amount
 signed-amount : (kind : FieldKind) (column : ℕ) → sign_column kind ≡ Some column → is_amount kind ≡ true
@@ -222,9 +222,8 @@ module _ (lines : List Line) (plan : Lists) where
         served = served ∙ ap Some same_split;
         at = same_wheel;
       }
-  split-of split v (detail_mark_out wheel name mark (sign.X c) field pilot k row p0 p1 p2 p3) e f = cc
-  split-of split v (detail_mark_out wheel name mark (sign.NX c) field pilot k row p0 p1 p2 p3) e f = cc
-  split-of split v other e f = cc
+  split-of split v (detail_mark_out wheel name mark rule field pilot k row p0 p1 p2 p3) e f = clash is_side e (side-is rule pilot (2 + k)) refl
+  split-of split v other e f = apart (to_wheel is_split) e f refl refl
 
   -- a text of which an indicate position of a level puts a column on a wheel
   record IndicateOf (level : ControlLevel) (number : ℕ) (statement : Statement) (x v : ℕ) : Type 0 where
@@ -257,9 +256,8 @@ module _ (lines : List Line) (plan : Lists) where
         served = ap (λ l. indicate_for plan l number (field.first + j)) (sym levels) ∙ served ∙ ap Some same_own;
         at = same_wheel;
       }
-  indicate-of level x v (detail_mark_out wheel name mark (sign.X c) field pilot k row p0 p1 p2 p3) e f = cc
-  indicate-of level x v (detail_mark_out wheel name mark (sign.NX c) field pilot k row p0 p1 p2 p3) e f = cc
-  indicate-of level x v other e f = cc
+  indicate-of level x v (detail_mark_out wheel name mark rule field pilot k row p0 p1 p2 p3) e f = clash is_side e (side-is rule pilot (2 + k)) refl
+  indicate-of level x v other e f = apart (to_wheel is_indicate) e f refl refl
 
 module _ (chart : Chart) (setup : Wiring) (lawful : IsLawful chart) (rise : NumbersRise chart.lines chart.end) (its : Lists)
     (wired : IsWiredBy chart.lines setup its) where

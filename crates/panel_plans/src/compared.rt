@@ -15,7 +15,7 @@ use setups::Setup;
 use std::alloc::{AllocError, Global};
 
 /// A column that is compared on consecutive cards.
-#[derive(Clone, Copy, Debug, PartialEq, Eq)]
+#[derive(Clone, Copy)]
 pub struct ComparedColumn {
     /// The column of the cards, from 1.
     pub column: u32,

@@ -23,7 +23,7 @@ use std::alloc::{AllocError, Global};
 use wanted::{line_total, takes_two};
 
 /// Where the units of a total stand, and what it needs.
-#[derive(Clone, Copy, Debug, PartialEq, Eq)]
+#[derive(Clone, Copy)]
 pub struct Units {
     /// The number of its level, 1 to 4.
     pub level: u8,

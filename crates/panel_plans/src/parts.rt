@@ -1,6 +1,6 @@
 //! The parts other than the counters that a setup shows.
 
-ghost use Rattle.std.specs.Prelude.{◌≡◌, IfNone, IfOk, IfSome};
+ghost use Rattle.std.specs.Prelude.{◌≡◌, ◌≤◌, IfNone, IfOk, IfSome};
 ghost use Rattle.panel_plans.specs.Renumbered.{AreShown, IsUnwired, TakesShown, with_numbers};
 ghost use Rattle.panel_plans.specs.Wired.{IsWiredBy};
 ghost use Rattle.plans.specs.PartNumbers.{AreThere, last_of};
@@ -19,6 +19,35 @@ use setups::Setup;
 use std::alloc::{AllocError, Global};
 use wanted::Parts;
 
+// How many parts of a kind the standard machine has.
+fn last_of(kind: PartKind) -> u8
+    ensures last { result ≡ last_of kind }
+    ensures few { result ≤ 30 }
+{
+    match kind {
+        PartKind::Pilot | PartKind::Split => 16,
+        PartKind::Comparing | PartKind::Indicate(_) => 30,
+        PartKind::Storage => 4,
+    }
+}
+
+// The numbers of the parts of a kind that a setup shows, or for which most of its wires speak.
+fn shown_or_near(
+    alloc: Global,
+    chart: &Chart,
+    setup: &Setup,
+    parts: &Parts,
+    kind: PartKind,
+) -> Result<Vec<Option<u8>>, AllocError> {
+    match kind {
+        PartKind::Pilot => near_pilots(alloc, chart, setup, parts.pilots()),
+        PartKind::Comparing => near_positions(alloc, chart, setup),
+        PartKind::Storage => near_units(alloc, chart, setup),
+        PartKind::Split => near_splits(alloc, chart, setup),
+        PartKind::Indicate(level) => near_indicates(alloc, chart, setup, level),
+    }
+}
+
 // The numbers of the parts of a kind that a setup shows for some things, and free ones for the others; none where too few are left.
 fn near_numbers(
     alloc: Global,
@@ -29,28 +58,8 @@ fn near_numbers(
 ) -> Result<Option<Vec<u8>>, AllocError>
     ensures { IfOk result (λ numbers. IfSome numbers (λ list. AreThere (last_of kind) list.items)) }
 {
-    match kind {
-        PartKind::Pilot => {
-            let shown = near_pilots(alloc, chart, setup, parts.pilots())?;
-            filled(alloc, &shown, 16)
-        }
-        PartKind::Comparing => {
-            let shown = near_positions(alloc, chart, setup)?;
-            filled(alloc, &shown, 30)
-        }
-        PartKind::Storage => {
-            let shown = near_units(alloc, chart, setup)?;
-            filled(alloc, &shown, 4)
-        }
-        PartKind::Split => {
-            let shown = near_splits(alloc, chart, setup)?;
-            filled(alloc, &shown, 16)
-        }
-        PartKind::Indicate(level) => {
-            let shown = near_indicates(alloc, chart, setup, level)?;
-            filled(alloc, &shown, 30)
-        }
-    }
+    let shown = shown_or_near(alloc, chart, setup, parts, kind)?;
+    filled(alloc, &shown, last_of(kind))
 }
 
 // These numbers, but of a kind those that are near to what a setup shows, where there are enough parts.
@@ -107,6 +116,83 @@ fn with_indicates(
     with_shown(alloc, chart, setup, parts, kind, numbers, shown)
 }
 
+// These numbers, but the storage units are those that a setup shows, else near ones.
+fn with_units(
+    alloc: Global,
+    chart: &Chart,
+    setup: &Setup,
+    parts: &Parts,
+    numbers: PartNumbers,
+) -> Result<PartNumbers, AllocError>
+    ensures { IfOk result (λ told. (its : Lists) → IsWiredBy chart.now.lines setup.now its
+        → TakesShown chart.now.lines setup.now PartKind.Storage numbers told) }
+{
+    let shown = shown_units(alloc, chart, setup)?;
+    with_shown(
+        alloc,
+        chart,
+        setup,
+        parts,
+        PartKind::Storage,
+        numbers,
+        shown,
+    )
+}
+
+// These numbers, but the column splits are those that a setup shows, else near ones.
+fn with_splits(
+    alloc: Global,
+    chart: &Chart,
+    setup: &Setup,
+    parts: &Parts,
+    numbers: PartNumbers,
+) -> Result<PartNumbers, AllocError>
+    ensures { IfOk result (λ told. (its : Lists) → IsWiredBy chart.now.lines setup.now its
+        → TakesShown chart.now.lines setup.now PartKind.Split numbers told) }
+{
+    let shown = shown_splits(alloc, chart, setup)?;
+    with_shown(alloc, chart, setup, parts, PartKind::Split, numbers, shown)
+}
+
+// These numbers, but the comparing positions are those that a setup shows, else near ones.
+fn with_positions(
+    alloc: Global,
+    chart: &Chart,
+    setup: &Setup,
+    parts: &Parts,
+    numbers: PartNumbers,
+) -> Result<PartNumbers, AllocError>
+    ensures { IfOk result (λ told. (its : Lists) → IsWiredBy chart.now.lines setup.now its
+        → TakesShown chart.now.lines setup.now PartKind.Comparing numbers told) }
+{
+    let shown = shown_positions(alloc, chart, setup)?;
+    with_shown(
+        alloc,
+        chart,
+        setup,
+        parts,
+        PartKind::Comparing,
+        numbers,
+        shown,
+    )
+}
+
+// These numbers, but the pilots are those that a setup shows, else near ones.
+fn with_pilots(
+    alloc: Global,
+    chart: &Chart,
+    setup: &Setup,
+    parts: &Parts,
+    numbers: PartNumbers,
+) -> Result<PartNumbers, AllocError>
+    requires { parts.now ≡ parts_of chart.now.lines }
+    ensures { IfOk result (λ told. (its : Lists) → IsWiredBy chart.now.lines setup.now its
+        → TakesShown chart.now.lines setup.now PartKind.Pilot numbers told) }
+{
+    let shown = shown_pilots(alloc, chart, setup, parts.pilots())?;
+    with_shown(alloc, chart, setup, parts, PartKind::Pilot, numbers, shown)
+}
+
 /// The numbers of the parts that a setup shows for what a chart asks for; of a kind of which it shows none for some thing, those that it
 /// shows for the others, and a free one for that.
 pub(crate) fn shown_numbers(
@@ -121,13 +207,9 @@ pub(crate) fn shown_numbers(
         → IsWiredBy chart.now.lines setup.now (with_numbers its numbers)) }
 {
     let none = PartNumbers::in_order(alloc, parts)?;
-    let units = shown_units(alloc, chart, setup)?;
-    let kind = PartKind::Storage;
-    let with_units = with_shown(alloc, chart, setup, parts, kind, none, units)?;
-    let splits = shown_splits(alloc, chart, setup)?;
-    let kind = PartKind::Split;
-    let with_splits = with_shown(alloc, chart, setup, parts, kind, with_units, splits)?;
-    let minor = with_indicates(alloc, chart, setup, parts, ControlLevel::Minor, with_splits)?;
+    let units = with_units(alloc, chart, setup, parts, none)?;
+    let splits = with_splits(alloc, chart, setup, parts, units)?;
+    let minor = with_indicates(alloc, chart, setup, parts, ControlLevel::Minor, splits)?;
     let intermediate = with_indicates(
         alloc,
         chart,
@@ -144,10 +226,6 @@ pub(crate) fn shown_numbers(
         ControlLevel::Major,
         intermediate,
     )?;
-    let positions = shown_positions(alloc, chart, setup)?;
-    let kind = PartKind::Comparing;
-    let with_positions = with_shown(alloc, chart, setup, parts, kind, major, positions)?;
-    let pilots = shown_pilots(alloc, chart, setup, parts.pilots())?;
-    let kind = PartKind::Pilot;
-    with_shown(alloc, chart, setup, parts, kind, with_positions, pilots)
+    let positions = with_positions(alloc, chart, setup, parts, major)?;
+    with_pilots(alloc, chart, setup, parts, positions)
 }

@@ -31,7 +31,7 @@ use setups::Setup;
 use std::alloc::{AllocError, Global};
 
 /// An amount with a sign rule.
-#[derive(Clone, Copy, Debug, PartialEq, Eq)]
+#[derive(Clone, Copy)]
 pub struct SignedAmount {
     /// Its field.
     pub field: Field,

@@ -14,7 +14,7 @@ use setups::Setup;
 use std::alloc::{AllocError, Global};
 
 /// Where a text on a total line stands.
-#[derive(Clone, Copy, Debug, PartialEq, Eq)]
+#[derive(Clone, Copy)]
 pub struct TextPlace {
     /// The number of its level, 1 to 4.
     pub level: u8,

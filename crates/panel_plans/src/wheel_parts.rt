@@ -18,7 +18,7 @@ use setups::Setup;
 use std::alloc::{AllocError, Global};
 
 /// A kind of part that leads to print wheels.
-#[derive(Clone, Copy, Debug, PartialEq, Eq)]
+#[derive(Clone, Copy)]
 pub(crate) enum WheelPart {
     /// A column split, by its digit exit.
     Split,

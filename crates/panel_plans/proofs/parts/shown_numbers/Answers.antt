@@ -10,10 +10,10 @@ pub returns : goal.returns
 returns c =
     let lines = c.args.chart.now.lines in
     let setup = c.args.setup.now in
-    if-ok c.with_shown-4.result
-    (λ told. (its : Lists) → IsWiredBy lines setup its → TakesShown lines setup kind.Pilot c.in_ok-with_positions.with_positions told)
+    if-ok c.with_pilots.result
+    (λ told. (its : Lists) → IsWiredBy lines setup its → TakesShown lines setup kind.Pilot c.in_ok-positions.positions told)
     (λ numbers. (its : Lists) → IsWiredBy lines setup its → IsWiredBy lines setup (with_numbers its numbers))
     (λ numbers told.
-    all-shown c.in_ok-with_units.ensures c.in_ok-with_splits.ensures c.in_ok-minor.ensures c.in_ok-intermediate.ensures
-    c.in_ok-major.ensures c.in_ok-with_positions.ensures told)
-    c.with_shown-4.ensures
+    all-shown c.in_ok-units.ensures c.in_ok-splits.ensures c.in_ok-minor.ensures c.in_ok-intermediate.ensures
+    c.in_ok-major.ensures c.in_ok-positions.ensures told)
+    c.with_pilots.ensures
