@@ -1,4 +1,5 @@
 pub mod Answers
 pub mod Counted
+pub mod Laws
 pub mod Refusals
 pub mod Served

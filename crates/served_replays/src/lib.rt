@@ -9,8 +9,10 @@
 mod answers;
 mod counted;
 mod fault;
+mod laws;
 mod serving;
 
 pub use answers::{ServedPages, replayed_by_orders};
 pub use counted::write_counts;
+pub use laws::told_orders_have_entries;
 pub use serving::{print_replay_by_orders, replay_by_orders, replay_by_orders_to_end};
