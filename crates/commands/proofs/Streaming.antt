@@ -7,8 +7,9 @@ use Rattle.card_lines.specs.declared.fault.ReadFault.{ReadFault}
 use Rattle.card_lines.specs.declared.fault.ReadFault.TheVariants as read
 use Rattle.commands.proofs.Stopping.{chart_refusal}
 use Rattle.program_io.proofs.Stopping.{named_status, told_of_device, told_of_memory}
-use Rattle.commands.specs.Answers.{CompilesAs}
+use Rattle.commands.specs.Answers.{CompilesAs, HasWiring}
 use Rattle.program_io.specs.Commands.{word_of}
+use Rattle.program_io.specs.Stops.{Stops, deck_unread, memory_wanting, output_unwritten, texts_refused}
 use Rattle.commands.specs.Refusals.{RefusesChart}
 use Rattle.commands.specs.Streamed.{EndsRun, HasFailed, HasRefused, HasRunWhole, HasServed, IsToldOf, StopsInRun, chart_refused, chart_unread, read_told, run_stopped}
 use Rattle.program_io.specs.declared.command.Command.{Command}
@@ -163,10 +164,6 @@ failed_by (Ok _) given known text reader old new unreadable Unprinted same has =
 failed_by (Err told) given known text reader old new unreadable Unprinted same has =
     subst (λ (of : Command). HasFailed of text reader old new told unreadable Unprinted) (sym same) has
 
-widened : {A B C : Type 0} → A ⊎ B → A ⊎ B ⊎ C
-widened (inl a) = inl a
-widened (inr b) = inr (inl b)
-
 -- which line is told by the status of what stopped a command
 module _ (text : List ℕ) (reader old new : Option (List ℕ)) (told unreadable : Fault) (Unprinted : Type 0) (status : ℕ) (is_told : Bool)
     (before after : Option (List ℕ)) (is_status : status ≡ status_of told) (line : IsTold told is_told before after)
@@ -175,7 +172,8 @@ module _ (text : List ℕ) (reader old new : Option (List ℕ)) (told unreadable
   line_of met is = subst (λ (of : Fault). IsTold of is_told before after) is line
 
   abbrev Device : List ℕ → Type 0
-  Device word = (Unprinted × IsTold unreadable is_told before after) ⊎ IsTold fault.Write is_told before after
+  Device word = (Unprinted × (word ≡ word_of command.Replay) × HasWiring text × IsTold unreadable is_told before after)
+      ⊎ IsTold fault.Write is_told before after
       ⊎ ((word ≡ word_of command.Run) × ((card : ℕ) × IsTold (fault.Unread card) is_told before after))
 
   run_device : (word : List ℕ) → word ≡ word_of command.Run → status ≡ 4 → Tells told → Device word
@@ -190,29 +188,41 @@ module _ (text : List ℕ) (reader old new : Option (List ℕ)) (told unreadable
   run_memory five (unwritten is) = absurd (omega (arith, is_status, ap status_of is, five))
   run_memory five (memory is) = line_of fault.Memory is
 
+  -- of a command that reads no deck the output is told
+  output_device : (word : List ℕ) → status ≡ 4 → Stops told fault.Write Unprinted → Device word
+  output_device word four stops = by (told_of_device told fault.Write Unprinted status is_told before after stops is_status line refl four)
+    where
+      by : (Unprinted × IsTold fault.Write is_told before after) ⊎ IsTold fault.Write is_told before after → Device word
+      by (inl both) = inr (inl both.1)
+      by (inr told_of_it) = inr (inl told_of_it)
+
+  -- of a replay its deck too, where the wiring chart reads
+  replay_device : (word : List ℕ) → word ≡ word_of command.Replay → status ≡ 4 → Stops told unreadable Unprinted
+      → (told ≡ unreadable → HasWiring text) → Device word
+  replay_device word is_word four (texts_refused three unprinted) reads = absurd (omega (arith, is_status, three, four))
+  replay_device word is_word four (deck_unread is unprinted) reads = inl (unprinted, is_word, reads is, line_of unreadable is)
+  replay_device word is_word four (output_unwritten is) reads = inr (inl (line_of fault.Write is))
+  replay_device word is_word four (memory_wanting is) reads = absurd (omega (arith, is_status, ap status_of is, four))
+
   pub told_of_device_by : (known : Command) (word : List ℕ) → word ≡ word_of known
       → HasFailed known text reader old new told unreadable Unprinted → status ≡ 4 → Device word
   told_of_device_by command.Run word is_word has four = run_device word is_word four (ends_tell text reader old new told Unprinted has)
-  told_of_device_by command.Check word is_word has four =
-      widened (told_of_device told unreadable Unprinted status is_told before after has is_status line path four)
-  told_of_device_by command.Wire word is_word has four =
-      widened (told_of_device told unreadable Unprinted status is_told before after has is_status line path four)
-  told_of_device_by command.Replay word is_word has four =
-      widened (told_of_device told unreadable Unprinted status is_told before after has is_status line path four)
-  told_of_device_by command.Upgrade word is_word has four =
-      widened (told_of_device told unreadable Unprinted status is_told before after has is_status line path four)
+  told_of_device_by command.Check word is_word has four = output_device word four has
+  told_of_device_by command.Wire word is_word has four = output_device word four has
+  told_of_device_by command.Replay word is_word has four = replay_device word is_word four has.0 has.1
+  told_of_device_by command.Upgrade word is_word has four = output_device word four has
 
   pub told_of_memory_by : (known : Command) → HasFailed known text reader old new told unreadable Unprinted → status ≡ 5
       → IsTold fault.Memory is_told before after
   told_of_memory_by command.Run has five = run_memory five (ends_tell text reader old new told Unprinted has)
   told_of_memory_by command.Check has five =
-      told_of_memory told unreadable Unprinted status is_told before after has is_status line path five
+      told_of_memory told fault.Write Unprinted status is_told before after has is_status line refl five
   told_of_memory_by command.Wire has five =
-      told_of_memory told unreadable Unprinted status is_told before after has is_status line path five
+      told_of_memory told fault.Write Unprinted status is_told before after has is_status line refl five
   told_of_memory_by command.Replay has five =
-      told_of_memory told unreadable Unprinted status is_told before after has is_status line path five
+      told_of_memory told unreadable Unprinted status is_told before after has.0 is_status line path five
   told_of_memory_by command.Upgrade has five =
-      told_of_memory told unreadable Unprinted status is_told before after has is_status line path five
+      told_of_memory told fault.Write Unprinted status is_told before after has is_status line refl five
 
 -- what holds of an answer where it is one
 pub of_ok : {X E : Type 0} (Holds : X → Type 0) (result : Result X E) (value : X) → result ≡ Ok value → IfOk result Holds → Holds value

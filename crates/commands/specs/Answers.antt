@@ -20,6 +20,10 @@ pub record CompilesAs (text : List ℕ) (compiled : Compilation) : Type 0 where
   pub read : Reads text compiled.chart
   pub wired : IsCompiled compiled
 
+-- the text is a wiring chart
+abbrev pub HasWiring : List ℕ → Type 0
+HasWiring text = (wiring : Wiring) × ReadsAs text wiring
+
 -- the text is a chart that compiles
 abbrev pub Compiles : List ℕ → Type 0
 Compiles text = (compiled : Compilation) × CompilesAs text compiled

@@ -4,7 +4,7 @@ use Rattle.std.specs.Prelude.{◌≡◌, ◌⊎◌, ℕ, List, Option, Some}
 use Rattle.std.specs.Io.KnownBytes.{Appends}
 use Rattle.card_lines.specs.declared.fault.ReadFault.{ReadFault}
 use Rattle.card_lines.specs.declared.fault.ReadFault.TheVariants as read
-use Rattle.commands.specs.Answers.{CompilesAs}
+use Rattle.commands.specs.Answers.{CompilesAs, HasWiring}
 use Rattle.commands.specs.Refusals.{RefusesChart}
 use Rattle.commands.specs.Served.{IsDone, IsRefused}
 use Rattle.program_io.specs.Stops.{Stops}
@@ -72,10 +72,11 @@ HasRefused command.Wire text deck old new told Unprinted = IsRefused command.Wir
 HasRefused command.Replay text deck old new told Unprinted = IsRefused command.Replay text deck told × Unprinted
 HasRefused command.Upgrade text deck old new told Unprinted = IsRefused command.Upgrade text deck told × Unprinted
 
--- why a command was not carried out; the deck's own fault is that of its file
+-- Why a command was not carried out. The deck's own fault is told of a replay alone, and only where its wiring chart reads; of the commands
+-- that read no deck the one device is the output.
 abbrev pub HasFailed : Command → List ℕ → (deck old new : Option (List ℕ)) → (told unreadable : Fault) → (Unprinted : Type 0) → Type 0
 HasFailed command.Run text deck old new told unreadable Unprinted = EndsRun text deck old new told Unprinted
-HasFailed command.Check text deck old new told unreadable Unprinted = Stops told unreadable Unprinted
-HasFailed command.Wire text deck old new told unreadable Unprinted = Stops told unreadable Unprinted
-HasFailed command.Replay text deck old new told unreadable Unprinted = Stops told unreadable Unprinted
-HasFailed command.Upgrade text deck old new told unreadable Unprinted = Stops told unreadable Unprinted
+HasFailed command.Check text deck old new told unreadable Unprinted = Stops told fault.Write Unprinted
+HasFailed command.Wire text deck old new told unreadable Unprinted = Stops told fault.Write Unprinted
+HasFailed command.Replay text deck old new told unreadable Unprinted = Stops told unreadable Unprinted × (told ≡ unreadable → HasWiring text)
+HasFailed command.Upgrade text deck old new told unreadable Unprinted = Stops told fault.Write Unprinted

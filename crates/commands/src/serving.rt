@@ -2,6 +2,7 @@
 
 ghost use Rattle.std.specs.Prelude.{◌≡◌, ◌≢◌, ◌≤◌, ◌⊎◌, ℕ, List, Option, IfErr, OnOk};
 ghost use Rattle.program_io.specs.Commands.{IsNoCommand, word_of};
+ghost use Rattle.commands.specs.Answers.{HasWiring};
 ghost use Rattle.commands.specs.Served.{IsDone, IsRefused};
 ghost use Rattle.program_io.specs.Stops.{Stops};
 ghost use Rattle.commands.specs.Streamed.{HasFailed, HasRefused, HasServed};
@@ -64,6 +65,7 @@ fn serve_replay<'a, R: Read + Drop, W: Write>(
     ensures done { OnOk result (IsDone Command.Replay text.now (R.remaining deck) (W.contents out.old) (W.contents out.new)) }
     ensures refused { IfErr result (λ told. status_of told ≡ 3
         → IsRefused Command.Replay text.now (R.remaining deck) told × (out.new ≡ out.old)) }
+    ensures unread { IfErr result (λ told. told ≡ Fault.File path.entry → HasWiring text.now) }
     ensures stopped { IfErr result (λ told. Stops told (Fault.File path.entry) (out.new ≡ out.old)) }
 {
     match read_whole(alloc, deck, path) {
@@ -128,7 +130,8 @@ pub fn serve_to_end<R: Read + Drop, W: Write, V: Write>(
         × HasRefused known text.now (R.remaining deck) (W.contents out.old) (W.contents out.new) told (out.new ≡ out.old)
         × IsTold told result.is_told (V.contents faults.old) (V.contents faults.new) }
     ensures device { result.status ≡ 4
-        → ((out.new ≡ out.old) × IsTold (Fault.File path.entry) result.is_told (V.contents faults.old) (V.contents faults.new))
+        → ((out.new ≡ out.old) × (command.now ≡ word_of Command.Replay) × HasWiring text.now
+        × IsTold (Fault.File path.entry) result.is_told (V.contents faults.old) (V.contents faults.new))
         ⊎ IsTold Fault.Write result.is_told (V.contents faults.old) (V.contents faults.new)
         ⊎ ((command.now ≡ word_of Command.Run)
         × ((card : ℕ) × IsTold (Fault.Unread card) result.is_told (V.contents faults.old) (V.contents faults.new))) }

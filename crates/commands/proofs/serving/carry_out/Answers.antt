@@ -2,6 +2,7 @@ use Rattle.std.proofs.Common.{refl}
 use Rattle.program_io.specs.declared.command.Command.TheVariants as command
 use Rattle.commands.proofs.Outcomes.{done_for_deck, refused_for_deck}
 use Rattle.program_io.proofs.Stopping.{stops_for_deck}
+use Rattle.commands.proofs.Stopping.{with_wiring}
 use Rattle.commands.proofs.Streaming.{failed_by, refused_by, run_refused, served_by}
 use Rattle.commands.proofs.serving.carry_out.Goals as goal
 
@@ -84,4 +85,4 @@ returns-in-Replay-clause-refused g c =
 pub returns-in-Replay-clause-failed : goal.returns-in-Replay-clause-failed
 returns-in-Replay-clause-failed g c =
     failed_by c.serve_replay.result c.args.command command.Replay c.args.text.now (g.R.Read.remaining c.args.deck) _ _ _ _ c.in-Replay.is
-    c.serve_replay.ensures.stopped
+    (with_wiring c.serve_replay.result _ _ _ c.serve_replay.ensures.stopped c.serve_replay.ensures.unread)

@@ -1,7 +1,8 @@
-use Rattle.std.proofs.Common.{refl}
+use Rattle.std.proofs.Common.{◌≡◌, refl}
 use Rattle.std.proofs.lemmas.Result.{err_from_is_err_and}
 use Rattle.commands.proofs.Outcomes.{replay_done, replay_refused, wiring_refused_for_any}
-use Rattle.program_io.proofs.Stopping.{stops_for_deck}
+use Rattle.program_io.proofs.Stopping.{stops_for_deck, wiring_stops}
+use Rattle.commands.proofs.Stopping.{no_file, no_file_stops}
 use Rattle.commands.proofs.serving.serve_replay.Goals as goal
 
 pub returns-in-Ok-clause-done : goal.returns-in-Ok-clause-done
@@ -25,3 +26,15 @@ returns-in_err-read_setup-in-Err-clause-refused g c =
           c.in_err-read_setup-in-Err.ensures.fault exit.2 three,
       refl,
     ))
+
+pub returns-in-Ok-clause-unread : goal.returns-in-Ok-clause-unread
+returns-in-Ok-clause-unread g c = no_file c.print_replay.result _ _ _ c.print_replay.ensures.stopped
+
+pub returns-in_err-read_setup-in-Err-clause-unread : goal.returns-in_err-read_setup-in-Err-clause-unread
+returns-in_err-read_setup-in-Err-clause-unread g c =
+    let exit = err_from_is_err_and c.from_residual.result c.from_residual.ensures.1 in
+    rw exit.1 (λ is. absurd (no_file_stops exit.0 (c.args.out.now ≡ c.args.out.now)
+    (wiring_stops exit.0 _ _ c.in_err-read_setup-in-Err.field-0.0 exit.2 refl) is))
+
+pub returns-in_ok-read_setup-in-Err-clause-unread : goal.returns-in_ok-read_setup-in-Err-clause-unread
+returns-in_ok-read_setup-in-Err-clause-unread g c = λ is. (c.in_ok-read_setup-in-Err.field-0, c.in_ok-read_setup-in-Err.ensures.read)
