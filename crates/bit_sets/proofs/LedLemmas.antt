@@ -1,5 +1,5 @@
 -- What rows lead to, gained one row after another.
-use Rattle.std.proofs.Common.{⊎_elim, inl, inr, ◌≡◌, ℕ, ◌+◌, ◌-◌, ◌*◌, ◌%◌, ◌^◌, ◌<◌, ◌≤◌, ◌∙◌, sym, ap, refl, arith, Bool, true, false, not, ◌&&◌, ◌||◌, List, [], length, slice_index_or, replicate}
+use Rattle.std.proofs.Common.{⊎_elim, inl, inr, ◌≡◌, ℕ, ◌+◌, ◌-◌, ◌*◌, ◌/◌, ◌%◌, ◌^◌, ◌<◌, ◌≤◌, ◌∙◌, sym, ap, refl, arith, Bool, true, false, not, ◌&&◌, ◌||◌, List, [], length, slice_index_or, replicate}
 use Rattle.std.specs.Prelude.{nat_le, nat_lt, ◌==◌}
 use Rattle.std.specs.Int.{bit_not, w64}
 use Rattle.std.specs.Int.Bits.{bit_and}
@@ -10,7 +10,7 @@ use Rattle.std.proofs.Math.Bool.{and-false}
 use Rattle.bit_sets.specs.Bits.{is_bit, has_place, is_in_run}
 use Rattle.bit_sets.specs.Rows.{GainsLed, is_in_entries, leads}
 use Rattle.bit_sets.proofs.BitLemmas.{is_bit-and, is_bit-taken, is_bit-above, none_set}
-use Rattle.bit_sets.proofs.PlaceLemmas.{has_place-past, has_place-zeros, word_bits}
+use Rattle.bit_sets.proofs.PlaceLemmas.{has_place-past, has_place-word, has_place-zeros, word_bits}
 
 -- whether a place is one of a word's bits, and no longer one of those that are left
 abbrev pub is_done : ℕ → ℕ → ℕ → ℕ → Bool
@@ -219,6 +219,27 @@ module _ (rows : List (List ℕ)) (marked new : List ℕ) (short : length rows �
       (λ high. absurd (false≢true (sym (leads-past rows from to (omega (arith, short, high))) ∙ leads)))
       (cases_lt from 1088))
       (λ from is. (and_parts _ _ is).1) gains
+
+  -- where new and marked places have none in common, none leads on
+  pub GainsLed-apart : (words : List ℕ)
+      → ((k : ℕ) → k < 17 → bit_and (slice_index_or marked k 0) (slice_index_or new k 0) ≡ 0)
+      → GainsLed rows (λ place. has_place new place && has_place marked place) words words
+  GainsLed-apart words apart =
+      GainsLed-none rows (λ place. has_place new place && has_place marked place) words
+      (λ from to at leads. ⊎_elim
+      (λ (low : from < 1088). false≢true (sym (none from low) ∙ both from (and_parts _ _ at).0 (and_parts _ _ at).1))
+      (λ high. false≢true (sym (leads-past rows from to (omega (arith, short, high))) ∙ leads))
+      (cases_lt from 1088)) where
+        none : (from : ℕ) → from < 1088
+            → (is_bit (slice_index_or marked (from / 64) 0) (from % 64) && is_bit (slice_index_or new (from / 64) 0) (from % 64)) ≡ false
+        none from low =
+            sym (is_bit-and (slice_index_or marked (from / 64) 0) (slice_index_or new (from / 64) 0) (from % 64))
+            ∙ none_set _ (apart (from / 64) (omega (arith, low))) (from % 64)
+
+        both : (from : ℕ) → has_place new from ≡ true → has_place marked from ≡ true
+            → (is_bit (slice_index_or marked (from / 64) 0) (from % 64) && is_bit (slice_index_or new (from / 64) 0) (from % 64)) ≡ true
+        both from one other =
+            and_from _ _ (sym (has_place-word marked from) ∙ other) (sym (has_place-word new from) ∙ one)
 
 -- rows of zeros lead nowhere
 abbrev pub are_zeros : ℕ → List (List ℕ)

@@ -1,6 +1,6 @@
 //! Rows of places: which places each place leads to.
 
-ghost use Rattle.std.specs.Prelude.{◌≡◌, ℕ};
+ghost use Rattle.std.specs.Prelude.{◌≡◌, ℕ, ◌<◌, false, bit_and, slice_index_or};
 
 use crate::bundles::{LEAST, MOST, follow_runs, is_in_runs};
 use crate::contacts::Run;
@@ -122,11 +122,14 @@ impl Rows {
         count as usize > self.runs.len()
     }
 
-    // Adds what those places of `new` lead to that are marked.
+    // Adds what those places of `new` lead to that are marked. Often none is.
     fn join_marked(&self, marked: &[u64; WORDS], new: &[u64; WORDS], words: &mut [u64; WORDS])
         ensures { GainsLed self.now (λ place. has_place new.now place && has_place marked.now place) words.old words.new }
     {
         self.known();
+        if !has_marked(marked, new) {
+            return;
+        }
         for number in 0..17 {
             self.join_word(number, new, marked, words);
         }
@@ -272,4 +275,16 @@ impl Rows {
         }
         true
     }
+}
+
+// Whether the words of the places that have rows have any place in both sets.
+fn has_marked(marked: &[u64; WORDS], new: &[u64; WORDS]) -> bool
+    ensures { result ≡ false → (number : ℕ) → number < 17
+        → bit_and (slice_index_or marked.now number 0) (slice_index_or new.now number 0) ≡ 0 }
+{
+    let mut both = 0;
+    for number in 0..17 {
+        both |= marked[number] & new[number];
+    }
+    both != 0
 }
