@@ -142,16 +142,7 @@ fn half_block(sets: &[u16; HUBS], first: usize) -> u16x8
     requires { first + 8 ≤ HUBS }
     ensures { result ≡ take 8 (drop first sets.now) }
 {
-    u16x8::from_array([
-        sets[first],
-        sets[first + 1],
-        sets[first + 2],
-        sets[first + 3],
-        sets[first + 4],
-        sets[first + 5],
-        sets[first + 6],
-        sets[first + 7],
-    ])
+    u16x8::from_slice(&sets[first..])
 }
 
 // The far end of a link gains the rows of the near end.
