@@ -1,9 +1,11 @@
 //! Rows of columns and columns of rows: sixteen columns as a set of rows each, and twelve rows as a word of columns each.
 
-ghost use Rattle.std.specs.Prelude.{◌≡◌, ℕ, ◌-◌, ◌<◌, ◌≤◌, ◌&&◌, ◌==◌, length, slice_index_or};
+ghost use Rattle.std.specs.Prelude.{◌≡◌, ℕ, ◌-◌, ◌<◌, ◌≤◌, ◌&&◌, ◌==◌, ◌+◌, nat_lt, length, slice_index_or};
 ghost use Rattle.net.specs.HubSets.{is_bit};
 ghost use Rattle.net.specs.Links.{has_at};
 ghost use Rattle.storage_units.specs.Words.{word_of};
+
+use std::simd::prelude::*;
 
 // The words of the rows, in the order of the points: which of the first sixteen columns have each.
 pub(crate) fn rows_of(columns: &[u16]) -> [u16; 12]
@@ -25,11 +27,17 @@ fn row_of(columns: &[u16], place: usize) -> u16
     requires place { place < 12 }
     ensures { result ≡ word_of (λ column. has_at columns.now (column - 1) place) 16 }
 {
-    let mut word = 0;
-    for k in 0..16 {
-        word |= bit_where(has_bit(columns[k], place), k);
-    }
-    word
+    (having_row(columns, place) & 0xffff) as u16
+}
+
+// The same as the first bits of a longer word, all sixteen columns taken at once.
+fn having_row(columns: &[u16], place: usize) -> u64
+    requires columns { 16 ≤ length columns.now }
+    requires place { place < 12 }
+    ensures { (k : ℕ) → is_bit result k ≡ (nat_lt k 16 && has_at columns.now (0 + k) place) }
+{
+    let rows = u16x16::from_slice(columns) & u16x16::splat(1 << place);
+    rows.simd_ne(u16x16::splat(0)).to_bitmask()
 }
 
 // The sets of the columns: which of the rows, in the order of the points, each has.
