@@ -1,6 +1,6 @@
 //! What a counter group emits and senses at its positions.
 
-ghost use Rattle.std.specs.Prelude.{◌≡◌, ℕ, ◌≤◌, ◌<◌, ◌-◌, ◌==◌, ◌&&◌, true, All, length};
+ghost use Rattle.std.specs.Prelude.{◌≡◌, ℕ, ◌≤◌, ◌<◌, ◌+◌, ◌-◌, ◌==◌, ◌&&◌, true, All, length};
 ghost use Rattle.hub_table.specs.Places.{is_width};
 ghost use Rattle.hub_table.specs.Ranges.{is_within};
 ghost use Rattle.net.specs.HubSets.{GainsHubs, HubSet, has_hub, is_bit};
@@ -58,13 +58,21 @@ pub(crate) fn controls_in(unit: u8, row: u128) -> Controls
     requires to { unit ≤ 34 }
     ensures { (set : HubSet) → IsControlRow row set → result ≡ controls_of (group_of_unit unit) (has_hub set) }
 {
-    let place = unit as usize - 3;
+    let own = from_bit(row, unit as usize - 3);
     Controls {
-        plus: has_bit(row, place),
-        minus: has_bit(row, place + 32),
-        read_out: has_bit(row, place + 64),
-        test: has_bit(row, place + 96),
+        plus: has_bit(own, 0),
+        minus: has_bit(own, 32),
+        read_out: has_bit(own, 64),
+        test: has_bit(own, 96),
     }
+}
+
+// The bits of a word from one on.
+fn from_bit(word: u128, bit: usize) -> u128
+    requires { bit < 128 }
+    ensures { (k : ℕ) → is_bit result k ≡ is_bit word (bit + k) }
+{
+    word >> bit
 }
 
 // Whether digits are entered at a row.
