@@ -1,6 +1,6 @@
 -- Helper words: contacts that stay as they are through a cycle are closed once for all its points, those of the carries at the
 -- closing point.
-use Rattle.std.specs.Prelude.{◌≡◌, ◌||◌, Bool, true, List, map, if◌then◌else◌}
+use Rattle.std.specs.Prelude.{◌≡◌, ◌||◌, Bool, List, map, if◌then◌else◌}
 use Rattle.counters.specs.Counters.{Counter, wheels_in}
 use Rattle.counters.specs.Wheels.{all_nines}
 use Rattle.hubs.specs.declared.hub.Hub.{Hub}
@@ -12,7 +12,6 @@ use Rattle.selectors.specs.Contacts.{steady_closes}
 use Rattle.selectors.specs.Splits.{is_digit_row, split_closes}
 use Rattle.machine.specs.Machine.{MachineState}
 use Rattle.machine.specs.declared.closed.Closed.{Closed}
-use Rattle.machine.specs.declared.closed.Held.{Held}
 
 -- the balance latches of the counter groups
 abbrev pub balance_latches : List Counter → List Bool
@@ -34,7 +33,3 @@ AreSteady cycle closed machine =
     (point : Point) (hub : Hub)
     → has_hub (closed_at closed point) hub
     ≡ (steady_closes cycle point machine.pilots machine.indicate (balance_latches machine.groups) hub || split_closes point hub)
-
--- where closed contacts are held they are those
-abbrev pub AreHeld : Cycle → Held → MachineState → Type 0
-AreHeld cycle held machine = held.is_known ≡ true → AreSteady cycle held.closed machine

@@ -31,28 +31,3 @@ impl Closed {
         }
     }
 }
-
-// The closed contacts of a cycle, once they were looked for.
-#[derive(Drop)]
-pub(crate) struct Held {
-    pub(crate) is_known: bool,
-    pub(crate) closed: Closed,
-}
-
-impl Held {
-    ghost use Rattle.std.specs.Prelude.{◌≡◌, false};
-
-    // They were not looked for.
-    pub(crate) fn nothing() -> Self
-        ensures { result.is_known ≡ false }
-    {
-        Held {
-            is_known: false,
-            closed: Closed {
-                steady: Contacts::new(),
-                digits: Contacts::new(),
-                zones: Contacts::new(),
-            },
-        }
-    }
-}

@@ -3,7 +3,7 @@
 ghost use Rattle.std.specs.Prelude.{◌≡◌, map};
 ghost use Rattle.machine.specs.Steady.{balance_latches};
 
-use crate::closed::{Closed, Held};
+use crate::closed::Closed;
 use crate::groups::{comes_to_nines, latches, nines};
 use crate::units::Units;
 use card_code::Row;
@@ -12,7 +12,7 @@ use placed_lines::PlacedLine;
 use selectors::{steady_contacts, with_carries, with_splits};
 
 impl Units {
-    ghost use Rattle.std.specs.Prelude.{◌≡◌, false, option_to_list};
+    ghost use Rattle.std.specs.Prelude.{◌≡◌, true, false, option_to_list};
     ghost use Rattle.setups.specs.Wiring.{Wiring};
     ghost use Rattle.net.specs.Nets.{IsNetOf};
     ghost use Rattle.net.specs.HubSets.{has_hub};
@@ -20,8 +20,7 @@ impl Units {
     ghost use Rattle.machine.specs.Cycles.{PointStep, CycleRun, Reached, line_of};
     ghost use Rattle.machine.specs.Ends.{SensesSome, EndsCycle};
     ghost use Rattle.machine.specs.Machine.{closes};
-    ghost use Rattle.machine.specs.Steady.{AreHeld, AreSteady};
-    ghost use Rattle.machine.specs.declared.closed.Closed.{Closed};
+    ghost use Rattle.machine.specs.Steady.{AreSteady};
     ghost use Rattle.net.specs.Passing.{PassesNoCarry};
     ghost use Rattle.net.specs.RowSets.{LeadsToNoContact};
     ghost use Rattle.net.specs.declared.cycle.Cycle.{Cycle};
@@ -37,52 +36,126 @@ impl Units {
         self.end_cycle(cycle);
     }
 
-    // The points of a cycle. Those of the rows are taken all at once where that is right.
+    // The points of a cycle. Where no wire leads to a contact, no closed contact is looked for.
     pub(crate) fn run_points(&mut self, net: &Net, cycle: Cycle)
         ensures reached { (wiring : Wiring) → IsNetOf wiring net.now → Reached wiring cycle 14 self.old self.new }
         ensures keeps { Keeps cycle self.old self.new }
     {
-        let mut held = Held::nothing();
-        self.run_end(net, &mut held, cycle, Point::C);
-        self.run_rows(net, &mut held, cycle);
-        self.run_end(net, &mut held, cycle, Point::K);
+        if net.is_direct() {
+            self.run_direct_points(net, cycle);
+        } else {
+            let closed = self.closed(cycle);
+            self.run_led_points(net, &closed, cycle);
+        }
     }
 
-    // The control point or the closing point. Mostly no impulse comes to a contact there, and then no closed contact is looked for.
-    fn run_end(&mut self, net: &Net, held: &mut Held, cycle: Cycle, point: Point)
-        requires { AreHeld cycle held.old self.old }
+    // The points of a cycle, where no wire leads to a contact.
+    fn run_direct_points(&mut self, net: &Net, cycle: Cycle)
+        requires { (wiring : Wiring) → IsNetOf wiring net.now → LeadsToNoContact wiring }
+        ensures reached { (wiring : Wiring) → IsNetOf wiring net.now → Reached wiring cycle 14 self.old self.new }
+        ensures keeps { Keeps cycle self.old self.new }
+    {
+        self.run_direct_end(net, cycle, Point::C);
+        self.run_direct_rows(net, cycle);
+        self.run_direct_end(net, cycle, Point::K);
+    }
+
+    // The points of a cycle, where wires lead to contacts.
+    fn run_led_points(&mut self, net: &Net, closed: &Closed, cycle: Cycle)
+        requires { AreSteady cycle closed.now self.old }
+        ensures reached { (wiring : Wiring) → IsNetOf wiring net.now → Reached wiring cycle 14 self.old self.new }
+        ensures keeps { Keeps cycle self.old self.new }
+    {
+        self.run_led_end(net, closed, cycle, Point::C);
+        self.run_led_rows(net, closed, cycle);
+        self.run_led_end(net, closed, cycle, Point::K);
+    }
+
+    // The control point or the closing point, where no wire leads to a contact: then no impulse comes to one.
+    fn run_direct_end(&mut self, net: &Net, cycle: Cycle, point: Point)
         ensures step { (wiring : Wiring) → IsNetOf wiring net.now → PointStep wiring cycle point self.old self.new }
         ensures senses { SensesSome cycle point self.old self.new }
-        ensures held { AreHeld cycle held.new self.new }
     {
         let mut emitted = Picture::new();
         self.emit(cycle, point, &mut emitted);
         let mut picture = Picture::new();
-        self.impulse_ends(net, held, cycle, point, &emitted, &mut picture);
+        self.impulse_direct_end(net, cycle, point, &emitted, &mut picture);
         self.sense(cycle, point, &picture);
     }
 
-    // Makes the picture of the exits that emit at a point, by the wires alone where that is right.
-    fn impulse_ends(
+    // The control point or the closing point, where wires lead to contacts. Mostly no impulse comes to one there.
+    fn run_led_end(&mut self, net: &Net, closed: &Closed, cycle: Cycle, point: Point)
+        requires { AreSteady cycle closed.now self.old }
+        ensures step { (wiring : Wiring) → IsNetOf wiring net.now → PointStep wiring cycle point self.old self.new }
+        ensures senses { SensesSome cycle point self.old self.new }
+        ensures steady { AreSteady cycle closed.now self.new }
+    {
+        let mut emitted = Picture::new();
+        self.emit(cycle, point, &mut emitted);
+        let mut picture = Picture::new();
+        self.impulse_led_end(net, closed, cycle, point, &emitted, &mut picture);
+        self.sense(cycle, point, &picture);
+    }
+
+    // Makes the picture of the exits that emit at a point, by the wires alone where that is right, as it is where none leads to a contact.
+    fn impulse_direct_end(
         &self,
         net: &Net,
-        held: &mut Held,
         cycle: Cycle,
         point: Point,
         exits: &Picture,
         picture: &mut Picture,
     )
-        requires { AreHeld cycle held.old self.now }
-        ensures picture { (wiring : Wiring)
+        ensures { (wiring : Wiring)
             → IsNetOf wiring net.now
             → IsPicture wiring (has_hub exits.now) (closes self.now cycle point) (has_hub picture.new) }
-        ensures held { AreHeld cycle held.new self.now }
     {
-        if net.picture_by_wires(point, exits, picture) && !self.passes_carries(point, picture) {
+        if self.impulse_by_wires(net, point, exits, picture) {
             return;
         }
-        self.hold(held, cycle);
-        self.impulse(net, &held.closed, cycle, point, exits, picture);
+        self.impulse(net, &self.closed(cycle), cycle, point, exits, picture);
+    }
+
+    // Makes the picture of the exits that emit at a point, by the wires alone where that is right.
+    fn impulse_led_end(
+        &self,
+        net: &Net,
+        closed: &Closed,
+        cycle: Cycle,
+        point: Point,
+        exits: &Picture,
+        picture: &mut Picture,
+    )
+        requires { AreSteady cycle closed.now self.now }
+        ensures { (wiring : Wiring)
+            → IsNetOf wiring net.now
+            → IsPicture wiring (has_hub exits.now) (closes self.now cycle point) (has_hub picture.new) }
+    {
+        if self.impulse_by_wires(net, point, exits, picture) {
+            return;
+        }
+        self.impulse(net, closed, cycle, point, exits, picture);
+    }
+
+    // Makes what the wires alone make of the exits that emit at a point. Answers whether that is the picture, whatever contacts are closed.
+    fn impulse_by_wires(
+        &self,
+        net: &Net,
+        point: Point,
+        exits: &Picture,
+        picture: &mut Picture,
+    ) -> bool
+        ensures { result ≡ true
+            → (wiring : Wiring)
+            → IsNetOf wiring net.now
+            → (cycle : Cycle)
+            → IsPicture wiring (has_hub exits.now) (closes self.now cycle point) (has_hub picture.new) }
+    {
+        if net.picture_by_wires(point, exits, picture) {
+            !self.passes_carries(point, picture)
+        } else {
+            false
+        }
     }
 
     // Whether a carry comes to a group whose carry contact is closed: it is where the group stands at nines, at the closing point.
@@ -95,38 +168,11 @@ impl Units {
         }
     }
 
-    // Sees to it that the closed contacts are held.
-    fn hold(&self, held: &mut Held, cycle: Cycle)
-        requires { AreHeld cycle held.old self.now }
-        ensures { AreSteady cycle held.new.closed self.now }
-    {
-        if !held.is_known {
-            held.closed = self.closed(cycle);
-            held.is_known = true;
-        }
-    }
-
-    // The points of the rows. Where no wire leads to a contact they are taken all at once by the wires alone.
-    fn run_rows(&mut self, net: &Net, held: &mut Held, cycle: Cycle)
-        requires { AreHeld cycle held.old self.old }
-        ensures ran { (wiring : Wiring) → IsNetOf wiring net.now → RunsRows wiring cycle self.old self.new }
-        ensures keeps { Keeps cycle self.old self.new }
-        ensures held { AreHeld cycle held.new self.new }
-    {
-        if net.is_direct() {
-            self.run_direct_rows(net, cycle);
-        } else {
-            self.hold(held, cycle);
-            self.run_led_rows(net, &held.closed, cycle);
-        }
-    }
-
     // The points of the rows all at once, where no wire leads to a contact.
     fn run_direct_rows(&mut self, net: &Net, cycle: Cycle)
         requires { (wiring : Wiring) → IsNetOf wiring net.now → LeadsToNoContact wiring }
         ensures ran { (wiring : Wiring) → IsNetOf wiring net.now → RunsRows wiring cycle self.old self.new }
         ensures keeps { Keeps cycle self.old self.new }
-        ensures steady { (closed : Closed) → AreSteady cycle closed self.old → AreSteady cycle closed self.new }
     {
         let mut rows = RowSets::new();
         self.emit_rows(cycle, &mut rows);

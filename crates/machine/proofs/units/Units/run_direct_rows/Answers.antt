@@ -4,8 +4,7 @@ use Rattle.net.specs.RowSets.{pictures_of}
 use Rattle.net.specs.declared.cycle.Point.TheVariants.{Row}
 use Rattle.machine.specs.Keeps.{Keeps}
 use Rattle.machine.specs.Machine.{MachineState, emits}
-use Rattle.machine.specs.Steady.{AreSteady}
-use Rattle.machine.proofs.AllRows.{rows-direct, rows-steady}
+use Rattle.machine.proofs.AllRows.{rows-direct}
 use Rattle.machine.proofs.Keeps.{rows-keep}
 use Rattle.machine.proofs.units.Units.run_direct_rows.Goals as goal
 
@@ -21,8 +20,3 @@ pub returns-clause-keeps : goal.returns-clause-keeps
 returns-clause-keeps c =
     subst (λ (m : MachineState). Keeps c.args.cycle c.args.self.now m) (sym c.sense_rows.ensures)
     (rows-keep c.args.cycle (pictures_of c.spread.new.sets) (map Row rows) c.args.self.now)
-
-pub returns-clause-steady : goal.returns-clause-steady
-returns-clause-steady c closed steady =
-    subst (λ (m : MachineState). AreSteady c.args.cycle closed m) (sym c.sense_rows.ensures)
-    (rows-steady c.args.cycle closed (pictures_of c.spread.new.sets) (map Row rows) c.args.self.now steady)

@@ -3,7 +3,7 @@ use Rattle.net.specs.HubSets.{has_hub}
 use Rattle.machine.specs.Machine.{emits, closes}
 use Rattle.machine.proofs.Pictures.{IsPicture-same}
 use Rattle.machine.proofs.Points.{AreSteady-more}
-use Rattle.machine.proofs.units.Units.run_end.Goals as goal
+use Rattle.machine.proofs.units.Units.run_led_end.Goals as goal
 
 pub returns-clause-step : goal.returns-clause-step
 returns-clause-step c = λ wiring is_net.
@@ -11,19 +11,19 @@ returns-clause-step c = λ wiring is_net.
     let cycle = c.args.cycle in
     let point = c.args.point in
     record {
-      picture = has_hub c.impulse_ends.new.picture;
+      picture = has_hub c.impulse_led_end.new.picture;
       is_picture =
           IsPicture-same wiring (has_hub c.emit.new.exits) (emits old cycle point) (closes old cycle point)
-          (closes old cycle point) (has_hub c.impulse_ends.new.picture)
+          (closes old cycle point) (has_hub c.impulse_led_end.new.picture)
           (λ hub. c.emit.ensures hub ∙ ap (λ (b : Bool). b || emits old cycle point hub) (c.new-emitted.ensures hub))
-          (λ hub. refl) (c.impulse_ends.ensures.picture wiring is_net);
+          (λ hub. refl) (c.impulse_led_end.ensures wiring is_net);
       is_new = c.sense.ensures;
     }
 
 pub returns-clause-senses : goal.returns-clause-senses
-returns-clause-senses c = record { picture = has_hub c.impulse_ends.new.picture; is_new = c.sense.ensures }
+returns-clause-senses c = record { picture = has_hub c.impulse_led_end.new.picture; is_new = c.sense.ensures }
 
-pub returns-clause-held : goal.returns-clause-held
-returns-clause-held c known =
-    AreSteady-more c.args.cycle _ c.args.point c.args.self.now c.sense.new.self (c.impulse_ends.ensures.held known)
-    (record { picture = has_hub c.impulse_ends.new.picture; is_new = c.sense.ensures })
+pub returns-clause-steady : goal.returns-clause-steady
+returns-clause-steady c =
+    AreSteady-more c.args.cycle _ c.args.point c.args.self.now c.sense.new.self c.requires
+    (record { picture = has_hub c.impulse_led_end.new.picture; is_new = c.sense.ensures })

@@ -1,0 +1,23 @@
+use Rattle.std.proofs.Common.{Bool, ◌||◌, ◌∙◌, ap, refl}
+use Rattle.net.specs.HubSets.{has_hub}
+use Rattle.machine.specs.Machine.{emits, closes}
+use Rattle.machine.proofs.Pictures.{IsPicture-same}
+use Rattle.machine.proofs.units.Units.run_direct_end.Goals as goal
+
+pub returns-clause-step : goal.returns-clause-step
+returns-clause-step c = λ wiring is_net.
+    let old = c.args.self.now in
+    let cycle = c.args.cycle in
+    let point = c.args.point in
+    record {
+      picture = has_hub c.impulse_direct_end.new.picture;
+      is_picture =
+          IsPicture-same wiring (has_hub c.emit.new.exits) (emits old cycle point) (closes old cycle point)
+          (closes old cycle point) (has_hub c.impulse_direct_end.new.picture)
+          (λ hub. c.emit.ensures hub ∙ ap (λ (b : Bool). b || emits old cycle point hub) (c.new-emitted.ensures hub))
+          (λ hub. refl) (c.impulse_direct_end.ensures wiring is_net);
+      is_new = c.sense.ensures;
+    }
+
+pub returns-clause-senses : goal.returns-clause-senses
+returns-clause-senses c = record { picture = has_hub c.impulse_direct_end.new.picture; is_new = c.sense.ensures }
