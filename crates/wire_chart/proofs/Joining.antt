@@ -1,15 +1,14 @@
 -- Wires that couple two counter groups, sought exit by exit and entry by entry.
-use Rattle.std.proofs.Common.{◌≡◌, ◌≢◌, inl, inr, ℕ, List, ◌+◌, ◌<◌, ◌≤◌, Some, None, Option, sym, ap, ◌∙◌, subst, arith}
+use Rattle.std.proofs.Common.{◌≡◌, ◌≢◌, inl, inr, ℕ, ◌+◌, ◌<◌, ◌≤◌, Some, None, Option, sym, ap, ◌∙◌, subst, arith}
 use Rattle.std.proofs.lemmas.Option.{none-some, same_Some}
 use Rattle.hubs.specs.Hubs.{carry_into, carry_out_of, number_of}
 use Rattle.hubs.specs.declared.hub.Group.{Group}
 use Rattle.hubs.specs.declared.hub.Hub.{Hub}
 use Rattle.hubs.proofs.HubLemmas.{number_of-range}
 use Rattle.setups.specs.Wiring.{Wiring, HasWire}
-use Rattle.wire_chart.specs.WrittenText.{IsWritten, IsWrittenIn, JoinsGroups, carry_form, wire_form}
+use Rattle.wire_chart.specs.WrittenText.{carry_form, wire_form}
 use Rattle.wire_chart.specs.declared.form.WireForm.TheVariants.{Couple}
-use Rattle.wiring_text.specs.declared.statement.Version.{Version}
-use Rattle.wiring_text.specs.declared.statement.Version.TheVariants.{First, Second}
+use Rattle.wiring_text.specs.declared.statement.Version.TheVariants.{Second}
 use Rattle.wire_chart.proofs.Gains.{below_or_at}
 
 -- no wire from the exit to an entry of a lower number couples groups
@@ -76,21 +75,3 @@ pub this_exit : (wiring : Wiring) (number : ℕ) (exit : Hub)
 this_exit wiring number exit only none other entry e has =
     subst (λ (hub : Hub). HasWire wiring hub entry → wire_form Second (hub, entry) ≢ Couple) (same_Some exit other (only other e))
     (none entry) has
-
--- the version of a setup's text
-pub joined_text : (wiring : Wiring) (text : List ℕ) (version : Version) → version ≡ Second → JoinsGroups wiring
-    → IsWrittenIn version wiring text → IsWritten wiring text
-joined_text wiring text version second joins written =
-    record { version = version; second = (λ e. joins, λ it. second); written = written }
-
-pub unjoined_text : (wiring : Wiring) (text : List ℕ) (version : Version) → version ≡ First
-    → ((exit entry : Hub) → HasWire wiring exit entry → wire_form Second (exit, entry) ≢ Couple)
-    → IsWrittenIn version wiring text → IsWritten wiring text
-unjoined_text wiring text version first none written = record {
-  version = version;
-  second = (λ e. absurd (apart (sym first ∙ e)), λ joins. absurd (none joins.exit joins.entry joins.there joins.couples));
-  written = written;
-}
-  where
-    apart : First ≡ Second → ⊥
-    apart e = cc

@@ -11,6 +11,7 @@ mod RowLemmas
 mod StopGains
 mod TextLines
 mod TextSize
+mod Versions
 mod WireGains
 mod Written
 mod WrittenBytes

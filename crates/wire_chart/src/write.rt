@@ -2,19 +2,20 @@
 
 ghost use Rattle.std.specs.Prelude.{◌≡◌, ◌≢◌, ◌↔◌, ◌++◌, ◌<◌, ◌≤◌, true, false, All, Contains, Some, None, IfOk, IsTrue, OnOk, codes};
 ghost use Rattle.std.specs.String.{string_bytes};
-ghost use Rattle.hubs.specs.Hubs.{carry_out_of, is_hub_in_range, number_of};
+ghost use Rattle.hubs.specs.Hubs.{carry_out_of, is_hub_in_range};
 ghost use Rattle.hubs.specs.declared.hub.Hub.{Hub};
 ghost use Rattle.hubs.specs.declared.hub.Hub.TheVariants.{CI, CO};
 ghost use Rattle.hubs.specs.Jacks.{is_jack_in_range};
 ghost use Rattle.setups.specs.Tapes.{IsCarriageTape};
-ghost use Rattle.setups.specs.Wiring.{HasJack, HasWire};
-ghost use Rattle.wire_chart.specs.declared.form.WireForm.TheVariants.{Couple, Plain};
+ghost use Rattle.setups.specs.Wiring.{HasJack};
+ghost use Rattle.wire_chart.specs.declared.form.WireForm.TheVariants.{Plain};
 ghost use Rattle.wiring_text.specs.declared.statement.Version.TheVariants.{Second};
 ghost use Rattle.wiring_text.specs.WiringText.{ReadsAs};
-ghost use Rattle.wire_chart.specs.WrittenText.{IsWritten, IsWrittenIn, JoinsGroups, carry_line, ended, form_line, stop_line, jack_line, plain_line, title_line, wire_form, wire_line};
+ghost use Rattle.wire_chart.specs.WrittenText.{IsWritten, IsWrittenIn, carry_line, ended, form_line, stop_line, jack_line, plain_line, title_line, wire_line};
 ghost use Rattle.wire_chart.specs.Writing.{GainsAllWires, GainsStops, GainsJacks, GainsWires, IsStopOf, IsStopAt, IsStopIn, IsJackAt, IsWireTo, IsWireToAny, IsWireFrom, IsWireOf};
 
 use crate::form::{WireForm, carry_into, carry_out_of, is_one_group, is_same_form, wire_form};
+use crate::version::version_of;
 use crate::words::{write_jack_words, write_spaced_group, write_spaced_hub, write_spaced_number};
 use hubs::{Group, Hub, JACKS, Jack};
 use setups::{Setup, Tape};
@@ -31,12 +32,7 @@ pub fn write_setup(alloc: Global, setup: &Setup) -> Result<String, AllocError>
     ensures written { IfOk result (λ text. IsWritten setup.now (string_bytes text)) }
     ensures reads_back { IfOk result (λ text. ReadsAs (string_bytes text) setup.now) }
 {
-    let version = if joins_groups(setup) {
-        Version::Second
-    } else {
-        Version::First
-    };
-    write_in(alloc, version, setup)
+    write_in(alloc, version_of(setup), setup)
 }
 
 /// The wiring chart of a setup in version 2 of the language, in the order that [`write_setup`] tells. The text reads as a setup of
@@ -48,60 +44,6 @@ pub fn write_setup_2(alloc: Global, setup: &Setup) -> Result<String, AllocError>
     ensures reads_back { IfOk result (λ text. ReadsAs (string_bytes text) setup.now) }
 {
     write_in(alloc, Version::Second, setup)
-}
-
-// Whether a wire couples two counter groups.
-fn joins_groups(setup: &Setup) -> bool
-    ensures joins { result ≡ true → JoinsGroups setup.now }
-    ensures none { result ≡ false → (exit entry : Hub) → HasWire setup.now exit entry → wire_form Second (exit, entry) ≢ Couple }
-{
-    for number in 1..1937 {
-        if couples_from(setup, number) {
-            return true;
-        }
-    }
-    false
-}
-
-// Whether a wire from the hub of a number couples two counter groups.
-fn couples_from(setup: &Setup, number: u32) -> bool
-    ensures joins { result ≡ true → JoinsGroups setup.now }
-    ensures none { result ≡ false → (exit entry : Hub) → number_of exit ≡ Some number → HasWire setup.now exit entry
-        → wire_form Second (exit, entry) ≢ Couple }
-{
-    let Some(exit) = Hub::of_number(number) else {
-        return false;
-    };
-    if carry_out_of(exit).is_none() {
-        return false;
-    }
-    couples_to_any(setup, exit)
-}
-
-// Whether a wire from an exit couples two counter groups.
-fn couples_to_any(setup: &Setup, exit: Hub) -> bool
-    ensures joins { result ≡ true → JoinsGroups setup.now }
-    ensures none { result ≡ false → (entry : Hub) → HasWire setup.now exit entry → wire_form Second (exit, entry) ≢ Couple }
-{
-    for number in 1..1937 {
-        if couples_to(setup, exit, number) {
-            return true;
-        }
-    }
-    false
-}
-
-// Whether the wire from an exit to the hub of a number is there, and couples two counter groups.
-fn couples_to(setup: &Setup, exit: Hub, number: u32) -> bool
-    ensures joins { result ≡ true → JoinsGroups setup.now }
-    ensures none { result ≡ false → (entry : Hub) → number_of entry ≡ Some number → HasWire setup.now exit entry
-        → wire_form Second (exit, entry) ≢ Couple }
-{
-    match Hub::of_number(number) {
-        Some(entry) => is_same_form(wire_form(Version::Second, exit, entry), WireForm::Couple)
-            && setup.has(exit, entry),
-        None => false,
-    }
 }
 
 // The wiring chart of a setup in a version of the language.

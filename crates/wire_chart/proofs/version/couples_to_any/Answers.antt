@@ -1,6 +1,6 @@
 use Rattle.std.proofs.Common.{refl}
 use Rattle.wire_chart.proofs.Joining.{more_to, all_to}
-use Rattle.wire_chart.proofs.write.couples_to_any.Goals as goal
+use Rattle.wire_chart.proofs.version.couples_to_any.Goals as goal
 
 pub loop-number-preserved : goal.loop-number-preserved
 loop-number-preserved c =

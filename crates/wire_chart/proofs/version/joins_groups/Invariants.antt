@@ -1,5 +1,5 @@
 use Rattle.wire_chart.proofs.Joining.{NoneFrom}
-use Rattle.wire_chart.proofs.write.joins_groups.Given as goal
+use Rattle.wire_chart.proofs.version.joins_groups.Given as goal
 
 abbrev pub invariant-loop-number : goal.invariant-loop-number
 invariant-loop-number l = NoneFrom l.setup l.number

@@ -1,5 +1,5 @@
 use Rattle.wire_chart.proofs.Joining.{all_from}
-use Rattle.wire_chart.proofs.write.joins_groups.Goals as goal
+use Rattle.wire_chart.proofs.version.joins_groups.Goals as goal
 
 pub returns-clause-none : goal.returns-clause-none
 returns-clause-none c = λ none.

@@ -1,5 +1,5 @@
 use Rattle.wire_chart.proofs.Joining.{this_exit}
-use Rattle.wire_chart.proofs.write.couples_from.Goals as goal
+use Rattle.wire_chart.proofs.version.couples_from.Goals as goal
 
 pub returns-clause-none : goal.returns-clause-none
 returns-clause-none c = λ none.
