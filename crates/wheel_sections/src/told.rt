@@ -59,7 +59,8 @@ fn push_wheel(
     requires range { (1 ≤ wheel) × (wheel ≤ 120) }
     ensures { OnOk result (GainsTold setup.now asked.now cards.now (printed_by placed.now wheel) told.old.items told.new.items) }
 {
-    if placed.text[wheel as usize - 1] == b' ' {
+    let character = placed.text[wheel as usize - 1];
+    if character == b' ' {
         return Ok(());
     }
     let one = tell_wheel(alloc, setup, asked, cards, placed, line, wheel)?;

@@ -2,8 +2,8 @@ use Rattle.std.proofs.Common.{arith}
 use Rattle.wheel_sections.proofs.Gains.{wheel_blank, wheel_printed}
 use Rattle.wheel_sections.proofs.told.push_wheel.Goals as goal
 
-pub returns-then-placed-wheel-eq32 : goal.returns-then-placed-wheel-eq32
-returns-then-placed-wheel-eq32 c =
+pub returns-then-character-eq32 : goal.returns-then-character-eq32
+returns-then-character-eq32 c =
     wheel_blank c.args.setup.now c.args.asked.now c.args.cards.now c.args.placed.now c.args.wheel c.args.told.now.items (omega arith)
 
 pub returns : goal.returns
