@@ -188,6 +188,14 @@ is_right block is =
       side = three.1;
     }
 
+-- what stands before the place of a hub's number in its block: the block is where the number can be placed
+pub in_its_block : (number : ℕ) → 1 ≤ number → number ≤ 1936 → (block : Block) → block ≡ block_in blocks number
+    → (block.before < number) × (0 < block.columns) × (block.left ≤ 100) × (block.top ≤ 100)
+in_its_block number from most block is =
+    let of = in_blocks number from most in
+    let right = is_right (block_in blocks number) of.is in
+    rw is (of.behind, omega (arith, right.wide), omega (arith, right.to_right), omega (arith, right.to_bottom))
+
 -- a hub of the panel has a number
 pub numbered : (hub : Hub) → is_hub_in_range hub ≡ true → (n : ℕ) × (number_of hub ≡ Some n) × (1 ≤ n) × (n ≤ 1936)
 numbered hub is = by_number (number_of hub) refl is
