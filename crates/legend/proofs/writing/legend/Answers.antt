@@ -1,10 +1,17 @@
-use Rattle.std.proofs.Common.{Some, ap, length, refl, slice_get, sym, ◌∙◌, ◌≡◌}
+use Rattle.std.proofs.Common.{List, Some, ap, arith, length, refl, slice_get, subst, sym, ◌∙◌, ◌≡◌}
 use Rattle.std.proofs.lemmas.Option.{slice_get_read}
-use Rattle.legend.proofs.Groups.{groups-more, groups-none}
+use Rattle.std.specs.Prelude.{Contains}
+use Rattle.charts.specs.declared.chart.Line.{Line}
+use Rattle.legend.proofs.Groups.{groups-all, groups-more, groups-none}
 use Rattle.legend.proofs.writing.legend.Goals as goal
 
 pub loop-line-init : goal.loop-line-init
 loop-line-init c = groups-none c.args.version c.args.chart.now.lines c.args.plan.now c.args.source.now c.new-text.result.items c.new-text.ensures.items
+
+pub write_group-requires-clause-listed : goal.write_group-requires-clause-listed
+write_group-requires-clause-listed c =
+    subst (λ (l : List Line). Contains l c.line-item.result) c.lines-line-items.ensures.value
+    (c.loop-line.line-index, c.loop-line-test.true, sym c.line-item.is)
 
 pub loop-line-preserved : goal.loop-line-preserved
 loop-line-preserved c =
@@ -14,3 +21,9 @@ loop-line-preserved c =
     let there = ap (λ ls. slice_get ls c.loop-line.line-index) (sym c.lines-line-items.ensures.value) ∙ at in
     groups-more c.args.version c.args.chart.now.lines c.args.plan.now c.args.source.now c.loop-line.line-index c.line-item.result
     c.loop-line.text.items c.write_group.new.legend.items c.loop-line.invariant there c.in_ok-write_group.ensures
+
+pub returns : goal.returns
+returns c =
+    let long = ap length c.lines-line-items.ensures.value in
+    groups-all c.args.version c.args.chart.now.lines c.args.plan.now c.args.source.now c.loop-line.line-index c.loop-line.text.items
+    c.loop-line.invariant (omega (arith, long))
