@@ -8,7 +8,7 @@ use chart_rules::Chart;
 use charts::{After, DetailOption, Field, FieldKind, Name, Printing, Spacing, Statement};
 
 /// What kind of thing a line of a chart asks of the panel.
-#[derive(Clone, Copy, Debug, PartialEq, Eq)]
+#[derive(Clone, Copy)]
 pub enum Row {
     /// A field of which no sign column is picked up.
     Field,
