@@ -2,7 +2,7 @@
 use Rattle.std.proofs.Common.{◌≡◌, ◌≢◌, ◌⊎◌, ◌↔◌, inl, inr, ◌∙◌, refl, sym, ap, subst, arith, eqb, Bool, true, false, true≢false, ℕ, ◌+◌, ◌<◌, ◌≤◌, List, [], ◌∷◌, ◌++◌, Some, length, take, get_or}
 use Rattle.std.specs.Prelude.{All, IsTrue, map, slice_get}
 use Rattle.std.proofs.lemmas.Bool.{eqb-true, eq-eqb}
-use Rattle.std.proofs.lemmas.List.{map-append, take_more}
+use Rattle.std.proofs.lemmas.List.{map-append, take_all, take_more}
 use Rattle.std.proofs.lemmas.List.Elements.{All-append, All-cons, All-nil}
 use Rattle.std.proofs.lemmas.Option.{same_Some, slice_get_within}
 use Rattle.charts.specs.declared.chart.Line.{Line}
@@ -77,3 +77,9 @@ asked_item lines plan pairs place d old new wire less before is pushed =
     ap (λ (p : Hub × Hub). take place pairs ++ p ∷ []) is.ends_is ∙ sym (take_more pairs place d less) in
     subst (λ (l : List PanelWire). AreAsked lines plan (take (place + 1) pairs) l) (sym pushed)
     (subst (λ (l : List (Hub × Hub)). AreAsked lines plan l (old ++ wire ∷ [])) all more)
+
+-- all wires with their lines
+pub asked_all : (lines : List Line) (plan : Lists) (pairs : List (Hub × Hub)) (place : ℕ) (wires : List PanelWire) → length pairs ≤ place
+    → AreAsked lines plan (take place pairs) wires → AreAsked lines plan pairs wires
+asked_all lines plan pairs place wires all before =
+    subst (λ (l : List (Hub × Hub)). AreAsked lines plan l wires) (take_all place pairs all) before

@@ -50,7 +50,6 @@ fn asked(
     })
 }
 
-#[tactic(auto, using(crate::proofs::Asks::asked_none, crate::proofs::Asks::asked_item))]
 // The wires with the lines that ask for them.
 fn all_asked(
     alloc: Global,
