@@ -254,7 +254,6 @@ fn write_wires(text: &mut String, wires: &[PanelWire]) -> Result<(), AllocError>
     Ok(())
 }
 
-#[tactic(auto, unfolding(crate::specs::Drawing::drawing_open))]
 // The front of the drawing.
 fn write_open(text: &mut String) -> Result<(), AllocError>
     ensures { OnOk result (string_bytes text.new ≡ string_bytes text.old ++ drawing_open) }
@@ -264,7 +263,6 @@ fn write_open(text: &mut String) -> Result<(), AllocError>
     )
 }
 
-#[tactic(auto, unfolding(crate::specs::Drawing::drawing_between))]
 // What stands between the hubs and the wires.
 fn write_between(text: &mut String) -> Result<(), AllocError>
     ensures { OnOk result (string_bytes text.new ≡ string_bytes text.old ++ drawing_between) }
@@ -272,7 +270,6 @@ fn write_between(text: &mut String) -> Result<(), AllocError>
     text.push_str("</g>\n<g class=\"wires\">\n")
 }
 
-#[tactic(auto, unfolding(crate::specs::Drawing::drawing_close))]
 // The end of the drawing.
 fn write_close(text: &mut String) -> Result<(), AllocError>
     ensures { OnOk result (string_bytes text.new ≡ string_bytes text.old ++ drawing_close) }
