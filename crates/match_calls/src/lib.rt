@@ -7,12 +7,14 @@
 
 mod apart;
 mod found;
+mod laws;
 mod outcome;
 mod over_decks;
 mod panels;
 mod serving;
 mod unmatched;
 
+pub use laws::unmatched_panels_have_entries;
 pub use over_decks::{match_deck_to_end, print_deck_match};
 pub use serving::{match_to_end, print_match};
 pub use unmatched::{Unmatched, tell_unmatched, write_unmatched};

@@ -1,3 +1,4 @@
+pub mod Entries
 pub mod Explained
 pub mod Laws
 pub mod Legends

@@ -8,6 +8,7 @@
 #![tactic(auto)]
 
 mod answers;
+mod entries;
 mod laws;
 mod legends;
 mod panels;
@@ -16,6 +17,7 @@ mod serving;
 mod unexplained;
 
 pub use answers::explained;
+pub use entries::unexplained_wheels_have_entries;
 pub use laws::explained_lines_are_on_pages;
 pub use legends::{legend_of, legend_to_end, print_legend};
 pub use panels::{PlannedRun, WiredRun, check_panel, is_wiring_text, planned_run, wired_run};

@@ -1,0 +1,11 @@
+-- What is told of a panel that doesn't match a chart, and the guide to faults.
+use Rattle.fault_guide.specs.Lines.{NamesAFault}
+use Rattle.match_calls.specs.Unmatched.{unmatched_line}
+use Rattle.match_calls.specs.declared.unmatched.Unmatched.TheVariants as why
+use Rattle.match_decks.specs.declared.lines.Place.{Place}
+use Rattle.match_texts.specs.declared.counts.Counts.{Counts}
+
+-- the line names a fault that has an entry, whether it tells how much is missing and too much or where a deck prints otherwise
+pub record UnmatchedPanelsHaveEntries : Type 0 where
+  pub of_unwired : (counts : Counts) → NamesAFault (unmatched_line (why.Unwired counts))
+  pub of_others : (place : Place) → NamesAFault (unmatched_line (why.PrintsOtherwise place))
