@@ -1,5 +1,5 @@
 -- What is kept of the cards at the stations: the sets of rows of their columns, by the places of the rows among the points.
-use Rattle.std.specs.Prelude.{ℕ, Bool, true, false, List, [], map, Option, Some, None, slice_index_or}
+use Rattle.std.specs.Prelude.{ℕ, ◌-◌, Bool, true, false, List, [], map, Option, Some, None, slice_index_or}
 use Rattle.stations.specs.Columns.{column_of}
 use Rattle.stations.specs.Stations.{StationCards}
 
@@ -8,9 +8,9 @@ abbrev pub card_of : Bool → List ℕ → Option (List ℕ)
 card_of false columns = None
 card_of true columns = Some (map column_of columns)
 
--- the cards at first and at second reading
-abbrev pub kept_cards : Bool → Bool → List (List ℕ) → StationCards
-kept_cards first second columns = record {
-  first = card_of first (slice_index_or columns 0 []);
-  second = card_of second (slice_index_or columns 1 []);
+-- The cards at first and at second reading: the columns of the first are those at one place of two, and those of the second at the other.
+abbrev pub kept_cards : Bool → Bool → ℕ → List (List ℕ) → StationCards
+kept_cards first second front columns = record {
+  first = card_of first (slice_index_or columns front []);
+  second = card_of second (slice_index_or columns (1 - front) []);
 }

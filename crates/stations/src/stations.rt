@@ -18,7 +18,9 @@ pub struct Stations {
     // Whether a card stands there.
     first: bool,
     second: bool,
-    // The columns of the cards that stand there.
+    // The columns of the cards that stand there: those of the card at first reading are the first or the second of the two, as it is told
+    // here, and the others are those of the card at second reading. So no columns move when the cards do.
+    front: usize,
     columns: [[u16; CARD_COLUMNS]; 2],
 }
 
@@ -28,7 +30,11 @@ impl Model for Stations {
 
     ghost Value = { StationCards };
 
-    ghost view = { λ stations. kept_cards stations.first stations.second stations.columns };
+    ghost view = { λ stations. kept_cards stations.first stations.second stations.front stations.columns };
+
+    ghost use Rattle.std.specs.Prelude.{◌≤◌};
+
+    ghost invariant = { λ stations. stations.front ≤ 1 };
 }
 
 impl Stations {
@@ -42,6 +48,7 @@ impl Stations {
         Stations {
             first: false,
             second: false,
+            front: 0,
             columns: [[0; CARD_COLUMNS]; 2],
         }
     }
@@ -57,10 +64,10 @@ impl Stations {
     pub fn load_next(&mut self, next: &Option<Card>)
         ensures { self.new ≡ loaded next.now self.old }
     {
-        self.columns[1] = self.columns[0];
+        self.front = 1 - self.front;
         self.second = mem::replace(&mut self.first, next.is_some());
         if let Some(card) = next {
-            self.columns[0] = columns_of(card);
+            self.columns[self.front] = columns_of(card);
         }
     }
 
@@ -77,8 +84,8 @@ impl Stations {
         ensures { AreStationRows self.now result }
     {
         [
-            rows_at(self.first, &self.columns[0]),
-            rows_at(self.second, &self.columns[1]),
+            rows_at(self.first, &self.columns[self.front]),
+            rows_at(self.second, &self.columns[1 - self.front]),
         ]
     }
 }
@@ -142,27 +149,39 @@ impl Stations {
     fn emit_first_rows(&self, sets: &mut RowSets)
         ensures { GainsRows (first_emits self.now.first) sets.old sets.new }
     {
-        sets.insert_sets(Hub::FR(1), columns_at(self.first, &self.columns[0]));
+        sets.insert_sets(
+            Hub::FR(1),
+            columns_at(self.first, &self.columns[self.front]),
+        );
     }
 
     // Adds the exits of second reading, all rows at once.
     fn emit_second_rows(&self, sets: &mut RowSets)
         ensures { GainsRows (second_emits self.now.second) sets.old sets.new }
     {
-        sets.insert_sets(Hub::SR(1), columns_at(self.second, &self.columns[1]));
+        sets.insert_sets(
+            Hub::SR(1),
+            columns_at(self.second, &self.columns[1 - self.front]),
+        );
     }
 
     // Adds the exits of first reading at the point of a row.
     fn emit_first(&self, row: Row, exits: &mut Picture)
         ensures { GainsHubs (first_emits self.now.first row) exits.old exits.new }
     {
-        exits.insert_row(Hub::FR(1), row_at(self.first, &self.columns[0], row));
+        exits.insert_row(
+            Hub::FR(1),
+            row_at(self.first, &self.columns[self.front], row),
+        );
     }
 
     // Adds the exits of second reading at the point of a row.
     fn emit_second(&self, row: Row, exits: &mut Picture)
         ensures { GainsHubs (second_emits self.now.second row) exits.old exits.new }
     {
-        exits.insert_row(Hub::SR(1), row_at(self.second, &self.columns[1], row));
+        exits.insert_row(
+            Hub::SR(1),
+            row_at(self.second, &self.columns[1 - self.front], row),
+        );
     }
 }
