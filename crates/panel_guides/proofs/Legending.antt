@@ -12,14 +12,12 @@ use Rattle.faults.specs.Status.{status_of}
 use Rattle.faults.specs.declared.fault.Fault.{Fault}
 use Rattle.faults.specs.declared.fault.Fault.TheVariants as fault
 use Rattle.legend.specs.Laws.{IsOfLines}
-use Rattle.legend.specs.Legend.{IsLegend}
-use Rattle.panel_guides.specs.Legends.{IsLegendOf, PrintsLegend, StopsLegend, memory_wanting, refused, unwritten}
-use Rattle.wiring_text.specs.declared.statement.Version.TheVariants.{First}
+use Rattle.panel_guides.specs.Legends.{IsLegendOf, IsSpelledLegend, PrintsLegend, StopsLegend, memory_wanting, refused, unwritten}
 
 -- the legend of a compiled chart is its text's
 pub legend_of_text : {X : Type 0} (result : Result X Fault) (items : X → List ℕ) (text : List ℕ) (compiled : Compilation)
     → CompilesAs text compiled → IsOfLines compiled.chart.lines compiled.plan compiled.setup
-    → IfOk result (λ answer. IsLegend First compiled.chart.lines compiled.plan text (items answer))
+    → IfOk result (λ answer. IsSpelledLegend compiled text (items answer))
     → IfOk result (λ answer. IsLegendOf text (items answer))
 legend_of_text (Ok answer) items text compiled compiles whole is =
     record { compiled = compiled; compiles = compiles; legend = is; whole = whole }

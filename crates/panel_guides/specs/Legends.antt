@@ -1,5 +1,5 @@
 -- The legend of a planning chart, from its bytes, and why there is none.
-use Rattle.std.specs.Prelude.{◌≡◌, ℕ, List, Option}
+use Rattle.std.specs.Prelude.{◌≡◌, ◌↔◌, ℕ, List, Option}
 use Rattle.std.specs.Io.KnownBytes.{Appends}
 use Rattle.commands.specs.Answers.{CompilesAs}
 use Rattle.commands.specs.Refusals.{RefusesChart}
@@ -9,14 +9,22 @@ use Rattle.faults.specs.declared.fault.Fault.{Fault}
 use Rattle.faults.specs.declared.fault.Fault.TheVariants as fault
 use Rattle.legend.specs.Laws.{IsOfLines}
 use Rattle.legend.specs.Legend.{IsLegend}
-use Rattle.wiring_text.specs.declared.statement.Version.TheVariants.{First}
+use Rattle.wire_chart.specs.WrittenText.{JoinsGroups}
+use Rattle.wiring_text.specs.declared.statement.Version.{Version}
+use Rattle.wiring_text.specs.declared.statement.Version.TheVariants.{Second}
 
--- The legend of a text that is a chart which compiles: under each line of it stands what this line asks for on the panel, as a wiring
--- chart of version 1 spells it. All lines together ask for exactly the wires, jacks and stops of the setup that is wired for the chart.
+-- the legend of a compiled chart, in the version in which `wire` prints the chart's setup: the second where it joins groups, else the first
+pub record IsSpelledLegend (compiled : Compilation) (text answer : List ℕ) : Type 0 where
+  pub version : Version
+  pub second : (version ≡ Second) ↔ JoinsGroups compiled.setup
+  pub legend : IsLegend version compiled.chart.lines compiled.plan text answer
+
+-- The legend of a text that is a chart which compiles: under each line of it stands what this line asks for on the panel, as the wiring
+-- chart of the panel spells it. All lines together ask for exactly the wires, jacks and stops of the setup that is wired for the chart.
 pub record IsLegendOf (text answer : List ℕ) : Type 0 where
   pub compiled : Compilation
   pub compiles : CompilesAs text compiled
-  pub legend : IsLegend First compiled.chart.lines compiled.plan text answer
+  pub legend : IsSpelledLegend compiled text answer
   pub whole : IsOfLines compiled.chart.lines compiled.plan compiled.setup
 
 -- the legend was written after what was there

@@ -3,9 +3,7 @@
 ghost use Rattle.std.specs.Prelude.{◌≡◌, ◌≢◌, ◌≤◌, ◌⊎◌, IfErr, IfOk, OnOk};
 ghost use Rattle.commands.specs.Refusals.{RefusesChart};
 ghost use Rattle.faults.specs.Lines.{IsTold};
-ghost use Rattle.legend.specs.Legend.{IsLegend};
-ghost use Rattle.panel_guides.specs.Legends.{IsLegendOf, PrintsLegend, StopsLegend};
-ghost use Rattle.wiring_text.specs.declared.statement.Version.TheVariants.{First};
+ghost use Rattle.panel_guides.specs.Legends.{IsLegendOf, IsSpelledLegend, PrintsLegend, StopsLegend};
 
 use compile407::{Compiled, compile};
 use faults::{Ending, Fault, tell};
@@ -13,20 +11,21 @@ use legend::{legend, lines_make_the_setup};
 use program_io::put;
 use std::alloc::Global;
 use std::io::Write;
-use wiring_text::Version;
+use wire_chart::version_of;
 
-// The legend of a compiled chart, whose lines stand in this text.
+// The legend of a compiled chart, whose lines stand in this text, in the version in which the wiring chart of its panel is printed.
 fn written_legend<'a>(
     alloc: Global,
     compiled: &Compiled,
     source: &[u8],
 ) -> Result<Vec<u8>, Fault<'a>>
-    ensures legend { IfOk result (λ text. IsLegend First compiled.now.chart.lines compiled.now.plan source.now text.items) }
+    ensures legend { IfOk result (λ text. IsSpelledLegend compiled.now source.now text.items) }
     ensures memory { IfErr result (λ told. told ≡ Fault.Memory) }
 {
     let chart = compiled.chart();
     let plan = compiled.plan();
-    Ok(legend(alloc, Version::First, chart, plan, source)?)
+    let version = version_of(compiled.setup());
+    Ok(legend(alloc, version, chart, plan, source)?)
 }
 
 /// The legend of a planning chart: each line of the chart, and under it a sentence and the stops, jacks and wires that the line asks for
