@@ -12,18 +12,19 @@ use Rattle.panel_plans.specs.Wired.{IsWiredBy}
 use Rattle.plans.specs.Plans.{Lists}
 use Rattle.promises.specs.Promises.{BeginsReport, PrintsReport}
 use Rattle.setups.specs.Wiring.{Wiring}
-use Rattle.wire_chart.specs.Below.wiring_text.declared.statement.Version.TheVariants.{First}
+use Rattle.wire_chart.specs.Below.wiring_text.declared.statement.Version.{Version}
 
-pub found_text : (compiled : Compilation) (setup : Wiring) (matching : Matching) (counts : Option Counts) (text : List ℕ)
+pub found_text : (version : Version) (compiled : Compilation) (setup : Wiring) (matching : Matching) (counts : Option Counts) (text : List ℕ)
     → IsMatchingOf compiled.chart.lines setup matching
     → ((its : Lists) → IsWiredBy compiled.chart.lines setup its → IsMatched matching)
     → (IsMatched matching → PrintsReport compiled.chart setup) → (IsMatched matching → BeginsReport compiled.chart setup)
-    → TellsCounts matching counts → IsMatchText First compiled.chart.lines setup matching text → IsFoundText compiled setup counts text
-found_text compiled setup (Matched plan) None text told found prints begins counted spelled =
+    → TellsCounts matching counts → IsMatchText version compiled.chart.lines setup matching text
+    → IsFoundText version compiled setup counts text
+found_text version compiled setup (Matched plan) None text told found prints begins counted spelled =
     record { plan = plan; wired = told; prints = prints tt; begins = begins tt; spelled = spelled }
-found_text compiled setup (Matched plan) (Some counts) text told found prints begins counted spelled = absurd counted
-found_text compiled setup (Differs plan missing extra) None text told found prints begins counted spelled = absurd counted
-found_text compiled setup (Differs plan missing extra) (Some counts) text told found prints begins counted spelled =
+found_text version compiled setup (Matched plan) (Some counts) text told found prints begins counted spelled = absurd counted
+found_text version compiled setup (Differs plan missing extra) None text told found prints begins counted spelled = absurd counted
+found_text version compiled setup (Differs plan missing extra) (Some counts) text told found prints begins counted spelled =
     record {
       unwired = found;
       plan = plan;
@@ -35,11 +36,11 @@ found_text compiled setup (Differs plan missing extra) (Some counts) text told f
     }
 
 -- which text it is, by the counts
-pub wired_found : (compiled : Compilation) (setup : Wiring) (counts : Option Counts) (text : List ℕ) → counts ≡ None
-    → IsFoundText compiled setup counts text → IsWiredText compiled setup text
-wired_found compiled setup counts text is found = subst (λ (its : Option Counts). IsFoundText compiled setup its text) is found
+pub wired_found : (version : Version) (compiled : Compilation) (setup : Wiring) (counts : Option Counts) (text : List ℕ) → counts ≡ None
+    → IsFoundText version compiled setup counts text → IsWiredText compiled setup text
+wired_found version compiled setup counts text is found = subst (λ (its : Option Counts). IsFoundText version compiled setup its text) is found
 
-pub unwired_found : (compiled : Compilation) (setup : Wiring) (counts : Option Counts) (its : Counts) (text : List ℕ) → counts ≡ Some its
-    → IsFoundText compiled setup counts text → IsUnwiredText its compiled setup text
-unwired_found compiled setup counts its text is found =
-    subst (λ (of : Option Counts). IsFoundText compiled setup of text) is found
+pub unwired_found : (version : Version) (compiled : Compilation) (setup : Wiring) (counts : Option Counts) (its : Counts) (text : List ℕ) → counts ≡ Some its
+    → IsFoundText version compiled setup counts text → IsUnwiredText its version compiled setup text
+unwired_found version compiled setup counts its text is found =
+    subst (λ (of : Option Counts). IsFoundText version compiled setup of text) is found

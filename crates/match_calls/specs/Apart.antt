@@ -10,6 +10,7 @@ use Rattle.match_decks.specs.declared.lines.Place.{Place}
 use Rattle.match_decks.specs.declared.wheels.Difference.{Difference}
 use Rattle.match_texts.specs.declared.counts.Counts.{Counts}
 use Rattle.setups.specs.Wiring.{Wiring}
+use Rattle.wire_chart.specs.Below.wiring_text.declared.statement.Version.{Version}
 
 -- What is told of a wheel of a line on a panel: why it printed its character, with no word of who asks for the wires, or that no line is printed there
 pub data IsWheelText (setup : Wiring) (cards : List (List ℕ)) (at : Difference) (text : List ℕ) : Type 0 where
@@ -33,17 +34,19 @@ pub record IsApartText (own setup : Wiring) (cards : List (List ℕ)) (place : P
   pub pair : IsPairText own setup cards at text
 
 -- The panel is not wired for the chart, and yet prints the same lines of this deck as the chart's own.
-pub record IsAlikeText (deck : List ℕ) (counts : Counts) (compiled : Compilation) (setup : Wiring) (text : List ℕ) : Type 0 where
-  pub unwired : IsUnwiredText counts compiled setup text
+pub record IsAlikeText (deck : List ℕ) (counts : Counts) (version : Version) (compiled : Compilation) (setup : Wiring) (text : List ℕ)
+    : Type 0 where
+  pub unwired : IsUnwiredText counts version compiled setup text
   pub cards : List (List ℕ)
   pub punched : Deck deck cards
   pub alike : DifferOnDeck compiled.setup setup cards None
 
 -- The panel is not wired for the chart, and prints a line of this deck otherwise: behind what is missing and too much it is told how.
-pub record IsOtherwiseText (deck : List ℕ) (place : Place) (compiled : Compilation) (setup : Wiring) (text : List ℕ) : Type 0 where
+pub record IsOtherwiseText (deck : List ℕ) (place : Place) (version : Version) (compiled : Compilation) (setup : Wiring) (text : List ℕ)
+    : Type 0 where
   pub counts : Counts
   pub difference : List ℕ
-  pub unwired : IsUnwiredText counts compiled setup difference
+  pub unwired : IsUnwiredText counts version compiled setup difference
   pub cards : List (List ℕ)
   pub punched : Deck deck cards
   pub line : List ℕ

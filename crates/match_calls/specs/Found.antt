@@ -12,7 +12,7 @@ use Rattle.panel_plans.specs.Wired.{IsWiredBy}
 use Rattle.plans.specs.Plans.{Lists}
 use Rattle.promises.specs.Promises.{BeginsReport, PrintsReport}
 use Rattle.setups.specs.Wiring.{Wiring}
-use Rattle.wire_chart.specs.Below.wiring_text.declared.statement.Version.TheVariants.{First}
+use Rattle.wire_chart.specs.Below.wiring_text.declared.statement.Version.{Version}
 
 -- The panel is wired for the chart by the plan that is told. So the machine prints the chart's report of every deck that can be run, wired
 -- as this panel, and it begins the report where not all totals fit.
@@ -24,21 +24,23 @@ pub record IsWiredText (compiled : Compilation) (setup : Wiring) (text : List �
   pub spelled : text ≡ codes "ok\n" ++ plan_text compiled.chart.lines plan
 
 -- The panel is wired for the chart by no plan. By the plan that is told these are what is missing and what is too much, and so much is
--- counted of both.
-pub record IsUnwiredText (counts : Counts) (compiled : Compilation) (setup : Wiring) (text : List ℕ) : Type 0 where
+-- counted of both. Both are spelled in the version of the wiring chart, so that their lines can be put into its text and taken out of it.
+pub record IsUnwiredText (counts : Counts) (version : Version) (compiled : Compilation) (setup : Wiring) (text : List ℕ) : Type 0 where
   pub unwired : (plan : Lists) → ¬ IsWiredBy compiled.chart.lines setup plan
   pub plan : Lists
   pub missing : Wiring
   pub extra : Wiring
   pub differs : DiffersBy compiled.chart.lines setup plan missing extra
   pub counted : CountsDifferences missing extra counts
-  pub tells : TellsDifference First compiled.chart.lines setup plan missing extra text
+  pub tells : TellsDifference version compiled.chart.lines setup plan missing extra text
 
 -- a text that is right of the panels of two texts was written after what was there
-pub record Prints (chart wiring : List ℕ) (IsRight : Compilation → Wiring → List ℕ → Type 0) (old new : Option (List ℕ)) : Type 0 where
+pub record Prints (chart wiring : List ℕ) (IsRight : Version → Compilation → Wiring → List ℕ → Type 0) (old new : Option (List ℕ))
+    : Type 0 where
   pub compiled : Compilation
+  pub version : Version
   pub setup : Wiring
-  pub panels : ArePanels chart wiring compiled setup
+  pub panels : ArePanels chart wiring compiled version setup
   pub text : List ℕ
-  pub right : IsRight compiled setup text
+  pub right : IsRight version compiled setup text
   pub written : Appends old new text

@@ -12,6 +12,7 @@ use Rattle.match_texts.specs.declared.counts.Counts.{Counts}
 use Rattle.matching.specs.declared.answer.Matching.{Matching}
 use Rattle.matching.specs.declared.answer.Matching.TheVariants.{Differs, Matched}
 use Rattle.setups.specs.Wiring.{Wiring}
+use Rattle.wire_chart.specs.Below.wiring_text.declared.statement.Version.{Version}
 
 -- the counts of what was found: none where the setup is wired for the chart, and only there
 abbrev pub TellsCounts : Matching → Option Counts → Type 0
@@ -21,9 +22,9 @@ TellsCounts (Differs plan missing extra) None = ⊥
 TellsCounts (Differs plan missing extra) (Some counts) = CountsDifferences missing extra counts
 
 -- the text of what was found, by the counts
-abbrev pub IsFoundText : Compilation → Wiring → Option Counts → List ℕ → Type 0
-IsFoundText compiled setup None text = IsWiredText compiled setup text
-IsFoundText compiled setup (Some counts) text = IsUnwiredText counts compiled setup text
+abbrev pub IsFoundText : Version → Compilation → Wiring → Option Counts → List ℕ → Type 0
+IsFoundText version compiled setup None text = IsWiredText compiled setup text
+IsFoundText version compiled setup (Some counts) text = IsUnwiredText counts version compiled setup text
 
 -- the first line that two panels print differently, or none
 abbrev pub IsApart : (own setup : Wiring) (cards : List (List ℕ)) → Option Apart → Type 0
@@ -31,7 +32,7 @@ IsApart own setup cards None = DifferOnDeck own setup cards None
 IsApart own setup cards (Some apart) = IsApartText own setup cards apart.place (string_bytes apart.text)
 
 -- the text of what was found over a deck, by the outcome
-abbrev pub IsDeckText : (deck : List ℕ) → Compilation → Wiring → Outcome → List ℕ → Type 0
-IsDeckText deck compiled setup outcome.Wired text = IsWiredText compiled setup text
-IsDeckText deck compiled setup (outcome.Unwired counts) text = IsAlikeText deck counts compiled setup text
-IsDeckText deck compiled setup (outcome.PrintsOtherwise place) text = IsOtherwiseText deck place compiled setup text
+abbrev pub IsDeckText : (deck : List ℕ) → Version → Compilation → Wiring → Outcome → List ℕ → Type 0
+IsDeckText deck version compiled setup outcome.Wired text = IsWiredText compiled setup text
+IsDeckText deck version compiled setup (outcome.Unwired counts) text = IsAlikeText deck counts version compiled setup text
+IsDeckText deck version compiled setup (outcome.PrintsOtherwise place) text = IsOtherwiseText deck place version compiled setup text

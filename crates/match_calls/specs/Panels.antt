@@ -1,5 +1,5 @@
 -- The compiled chart and the panel that two texts give, and which fault is told where they don't.
-use Rattle.std.specs.Prelude.{ℕ, List}
+use Rattle.std.specs.Prelude.{◌≡◌, ℕ, List}
 use Rattle.commands.specs.Answers.{CompilesAs}
 use Rattle.commands.specs.Refusals.{RefusesChart}
 use Rattle.compile407.specs.Compilation.{Compilation}
@@ -7,17 +7,20 @@ use Rattle.faults.specs.declared.fault.Fault.{Fault}
 use Rattle.program_io.specs.Refusals.{RefusesDeck, RefusesWiring}
 use Rattle.setups.specs.Wiring.{Wiring}
 use Rattle.wire_chart.specs.Below.wiring_text.WiringText.{ReadsAs}
+use Rattle.wire_chart.specs.Below.wiring_text.declared.statement.Version.{Version}
 
--- a planning chart compiles as this, and a wiring chart reads as this setup
-pub record ArePanels (chart wiring : List ℕ) (compiled : Compilation) (setup : Wiring) : Type 0 where
+-- a planning chart compiles as this, and a wiring chart reads in this version as this setup
+pub record ArePanels (chart wiring : List ℕ) (compiled : Compilation) (version : Version) (setup : Wiring) : Type 0 where
   pub compiles : CompilesAs chart compiled
   pub reads : ReadsAs wiring setup
+  pub in_version : version ≡ reads.chart.reads.version
 
 -- the planning chart compiles, and the wiring chart reads
 pub record HasPanels (chart wiring : List ℕ) : Type 0 where
   pub compiled : Compilation
+  pub version : Version
   pub setup : Wiring
-  pub panels : ArePanels chart wiring compiled setup
+  pub panels : ArePanels chart wiring compiled version setup
 
 -- the fault of the planning chart, else that of the wiring chart
 pub data RefusesPanels (chart wiring : List ℕ) (told : Fault) : Type 0 where

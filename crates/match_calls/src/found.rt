@@ -9,7 +9,6 @@ use faults::Fault;
 use match_reports::{Matching, match_compiled};
 use match_texts::{Counts, counts_of, match_text};
 use std::alloc::{AllocError, Global};
-use wire_chart::Version;
 
 /// What is found of a compiled chart and a panel.
 #[derive(Drop)]
@@ -32,11 +31,12 @@ fn told_counts(matching: &Matching) -> Option<Counts>
 
 // Finds whether a panel is wired for a chart by some plan of it, and what is printed of that.
 fn find(alloc: Global, panels: &Panels) -> Result<Found, AllocError>
-    ensures { IfOk result (λ found. IsFoundText panels.now.compiled panels.now.setup found.counts (string_bytes found.text)) }
+    ensures { IfOk result (λ found.
+        IsFoundText panels.now.version panels.now.compiled panels.now.setup found.counts (string_bytes found.text)) }
 {
     let matching = match_compiled(alloc, &panels.compiled, &panels.setup)?;
     let chart = panels.compiled.chart();
-    let text = match_text(alloc, Version::First, chart, &panels.setup, &matching)?;
+    let text = match_text(alloc, panels.version, chart, &panels.setup, &matching)?;
     let counts = told_counts(&matching);
     Ok(Found { counts, text })
 }
@@ -48,7 +48,7 @@ fn find(alloc: Global, panels: &Panels) -> Result<Found, AllocError>
 /// `Memory` where a growth was refused.
 pub(crate) fn found_of<'a>(alloc: Global, panels: &Panels) -> Result<Found, Fault<'a>>
     ensures found { IfOk result (λ found.
-        IsFoundText panels.now.compiled panels.now.setup found.counts (string_bytes found.text)) }
+        IsFoundText panels.now.version panels.now.compiled panels.now.setup found.counts (string_bytes found.text)) }
     ensures memory { IfErr result (λ told. told ≡ Fault.Memory) }
 {
     Ok(find(alloc, panels)?)

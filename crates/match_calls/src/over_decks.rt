@@ -41,9 +41,9 @@ fn unwired_answer<'a>(
     cards: &[Card],
 ) -> Result<Answer, Fault<'a>>
     requires few { length cards.now ≤ most_cards }
-    requires unwired { IsUnwiredText counts panels.now.compiled panels.now.setup (string_bytes difference) }
+    requires unwired { IsUnwiredText counts panels.now.version panels.now.compiled panels.now.setup (string_bytes difference) }
     ensures answer { IfOk result (λ answer. (deck : List ℕ) → Deck deck cards.now
-        → IsDeckText deck panels.now.compiled panels.now.setup answer.outcome (string_bytes answer.text)) }
+        → IsDeckText deck panels.now.version panels.now.compiled panels.now.setup answer.outcome (string_bytes answer.text)) }
     ensures memory { IfErr result (λ told. told ≡ Fault.Memory) }
 {
     let mut text = difference;
@@ -65,7 +65,7 @@ fn unwired_answer<'a>(
 // What is found over the text of a deck.
 fn deck_answer<'a>(alloc: Global, panels: &Panels, deck: &[u8]) -> Result<Answer, Fault<'a>>
     ensures answer { IfOk result (λ answer.
-        IsDeckText deck.now panels.now.compiled panels.now.setup answer.outcome (string_bytes answer.text)) }
+        IsDeckText deck.now panels.now.version panels.now.compiled panels.now.setup answer.outcome (string_bytes answer.text)) }
     ensures refused { IfErr result (λ told. told ≢ Fault.Memory → RefusesDeck deck.now told) }
 {
     let cards = cards_of(alloc, deck)?;
@@ -97,7 +97,7 @@ pub fn print_deck_match<'a, R: Read + Drop, W: Write>(
     deck: R,
     out: &mut W,
 ) -> Result<(), Unmatched<'a>>
-    ensures printed { OnOk result (Prints chart.now wiring.now IsWiredText (W.contents out.old) (W.contents out.new)) }
+    ensures printed { OnOk result (Prints chart.now wiring.now (λ _. IsWiredText) (W.contents out.old) (W.contents out.new)) }
     ensures stopped { IfErr result (λ told. StopsOver chart.now wiring.now (R.remaining deck) told (Fault.File path.entry)
         (W.contents out.old) (W.contents out.new) (out.new ≡ out.old)) }
 {
@@ -129,7 +129,7 @@ pub fn match_deck_to_end<R: Read + Drop, W: Write, V: Write>(
     faults: &mut V,
 ) -> Ending
     ensures wired { result.status ≡ 0
-        → Prints chart.now wiring.now IsWiredText (W.contents out.old) (W.contents out.new) × (faults.new ≡ faults.old) }
+        → Prints chart.now wiring.now (λ _. IsWiredText) (W.contents out.old) (W.contents out.new) × (faults.new ≡ faults.old) }
     ensures unmatched { result.status ≡ 3 → (told : Unmatched)
         × LeavesOver chart.now wiring.now (R.remaining deck) told (W.contents out.old) (W.contents out.new) (out.new ≡ out.old)
         × IsToldUnmatched told result.is_told (V.contents faults.old) (V.contents faults.new) }

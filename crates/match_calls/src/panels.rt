@@ -10,11 +10,13 @@ use compile407::{Compiled, compile};
 use faults::Fault;
 use setups::Setup;
 use std::alloc::Global;
-use wire_chart::read_setup;
+use wire_chart::{Version, read_setup, version_of_text};
 
 /// A compiled chart, and a panel that is wired as a wiring chart says.
 pub(crate) struct Panels {
     pub(crate) compiled: Compiled,
+    /// The version in which the wiring chart was read.
+    pub(crate) version: Version,
     pub(crate) setup: Setup,
 }
 
@@ -23,6 +25,7 @@ impl Drop for Panels {
     fn drop(self) {
         let Panels {
             compiled: _compiled,
+            version: _,
             setup: _setup,
         } = self;
     }
@@ -34,12 +37,16 @@ impl Drop for Panels {
 ///
 /// The fault of the planning chart, else that of the wiring chart; `Memory` where a growth was refused.
 pub(crate) fn panels_of<'a>(alloc: Global, chart: &[u8], wiring: &[u8]) -> Result<Panels, Fault<'a>>
-    ensures are { IfOk result (λ panels. ArePanels chart.now wiring.now panels.compiled panels.setup) }
+    ensures are { IfOk result (λ panels. ArePanels chart.now wiring.now panels.compiled panels.version panels.setup) }
     ensures refused { IfErr result (λ told. told ≢ Fault.Memory → RefusesPanels chart.now wiring.now told) }
 {
     let compiled = compile(alloc, chart)?;
     let setup = read_setup(alloc, wiring)?;
-    Ok(Panels { compiled, setup })
+    Ok(Panels {
+        compiled,
+        version: version_of_text(wiring),
+        setup,
+    })
 }
 
 /// The cards of a deck.

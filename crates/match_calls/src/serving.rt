@@ -28,7 +28,7 @@ pub fn print_match<'a, W: Write>(
     wiring: &[u8],
     out: &mut W,
 ) -> Result<(), Unmatched<'a>>
-    ensures printed { OnOk result (Prints chart.now wiring.now IsWiredText (W.contents out.old) (W.contents out.new)) }
+    ensures printed { OnOk result (Prints chart.now wiring.now (λ _. IsWiredText) (W.contents out.old) (W.contents out.new)) }
     ensures stopped { IfErr result (λ told.
         StopsMatch chart.now wiring.now told (W.contents out.old) (W.contents out.new) (out.new ≡ out.old)) }
 {
@@ -55,7 +55,7 @@ pub fn match_to_end<W: Write, V: Write>(
     faults: &mut V,
 ) -> Ending
     ensures wired { result.status ≡ 0
-        → Prints chart.now wiring.now IsWiredText (W.contents out.old) (W.contents out.new) × (faults.new ≡ faults.old) }
+        → Prints chart.now wiring.now (λ _. IsWiredText) (W.contents out.old) (W.contents out.new) × (faults.new ≡ faults.old) }
     ensures unmatched { result.status ≡ 3 → (told : Unmatched)
         × LeavesUnmatched chart.now wiring.now told (W.contents out.old) (W.contents out.new) (out.new ≡ out.old)
         × IsToldUnmatched told result.is_told (V.contents faults.old) (V.contents faults.new) }

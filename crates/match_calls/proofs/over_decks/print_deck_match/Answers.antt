@@ -19,7 +19,7 @@ returns-in_err-bytes-clause-stopped g c =
     let exit = err_from_is_err_and c.from_residual-in_err-bytes.result c.from_residual-in_err-bytes.ensures.1 in
     rw exit.1 (deck_stops c.args.chart.now c.args.wiring.now (g.R.Read.remaining c.args.deck) _ _ _ _ c.in_err-bytes.field-0.0 exit.0
     c.in_err-bytes.ensures.told
-    (record { compiled = c.in_ok-panels.panels.compiled; setup = c.in_ok-panels.panels.setup; panels = c.in_ok-panels.ensures.are }) exit.2 refl)
+    (record { compiled = c.in_ok-panels.panels.compiled; version = c.in_ok-panels.panels.version; setup = c.in_ok-panels.panels.setup; panels = c.in_ok-panels.ensures.are }) exit.2 refl)
 
 pub returns-in_err-answer-clause-stopped : goal.returns-in_err-answer-clause-stopped
 returns-in_err-answer-clause-stopped g c =
@@ -29,7 +29,7 @@ returns-in_err-answer-clause-stopped g c =
     (read_is_known (g.R.Read.remaining c.args.deck) c.as_slice.result.now c.in_ok-bytes.bytes.items c.as_slice.ensures.value
     c.in_ok-bytes.ensures.whole)
     (λ not_memory. of_deck
-    (record { compiled = c.in_ok-panels.panels.compiled; setup = c.in_ok-panels.panels.setup; panels = c.in_ok-panels.ensures.are })
+    (record { compiled = c.in_ok-panels.panels.compiled; version = c.in_ok-panels.panels.version; setup = c.in_ok-panels.panels.setup; panels = c.in_ok-panels.ensures.are })
     (c.in_err-answer.ensures.refused not_memory)) exit.2 refl)
 
 pub returns-in_err-put-clause-stopped : goal.returns-in_err-put-clause-stopped
@@ -41,10 +41,11 @@ returns-in_err-put-clause-stopped g c =
 pub returns-in-Wired-clause-printed : goal.returns-in-Wired-clause-printed
 returns-in-Wired-clause-printed g c = record {
   compiled = c.in_ok-panels.panels.compiled;
+  version = c.in_ok-panels.panels.version;
   setup = c.in_ok-panels.panels.setup;
   panels = c.in_ok-panels.ensures.are;
   text = string_bytes c.in_ok-answer.answer.text;
-  right = wired_over c.as_slice.result.now c.in_ok-panels.panels.compiled c.in_ok-panels.panels.setup c.in_ok-answer.answer.outcome
+  right = wired_over c.as_slice.result.now c.in_ok-panels.panels.version c.in_ok-panels.panels.compiled c.in_ok-panels.panels.setup c.in_ok-answer.answer.outcome
       (string_bytes c.in_ok-answer.answer.text) c.in_ok-answer.ensures.answer c.in-Wired.is;
   written = rw (← c.as_bytes.ensures.value) c.in_ok-put.ensures.written;
 }
@@ -59,10 +60,11 @@ returns-in-Unwired-clause-stopped g c =
       leaves = alike c.in-Unwired.counts refl
           (record {
             compiled = c.in_ok-panels.panels.compiled;
+            version = c.in_ok-panels.panels.version;
             setup = c.in_ok-panels.panels.setup;
             panels = c.in_ok-panels.ensures.are;
             text = string_bytes c.in_ok-answer.answer.text;
-            right = unwired_over c.as_slice.result.now c.in_ok-panels.panels.compiled c.in_ok-panels.panels.setup c.in_ok-answer.answer.outcome
+            right = unwired_over c.as_slice.result.now c.in_ok-panels.panels.version c.in_ok-panels.panels.compiled c.in_ok-panels.panels.setup c.in_ok-answer.answer.outcome
                 (string_bytes c.in_ok-answer.answer.text) c.in_ok-answer.ensures.answer c.in-Unwired.counts c.in-Unwired.is;
             written = rw (← c.as_bytes.ensures.value) c.in_ok-put.ensures.written;
           });
@@ -78,10 +80,11 @@ returns-clause-stopped g c =
       leaves = otherwise c.in-PrintsOtherwise.place refl
           (record {
             compiled = c.in_ok-panels.panels.compiled;
+            version = c.in_ok-panels.panels.version;
             setup = c.in_ok-panels.panels.setup;
             panels = c.in_ok-panels.ensures.are;
             text = string_bytes c.in_ok-answer.answer.text;
-            right = otherwise_over c.as_slice.result.now c.in_ok-panels.panels.compiled c.in_ok-panels.panels.setup c.in_ok-answer.answer.outcome
+            right = otherwise_over c.as_slice.result.now c.in_ok-panels.panels.version c.in_ok-panels.panels.compiled c.in_ok-panels.panels.setup c.in_ok-answer.answer.outcome
                 (string_bytes c.in_ok-answer.answer.text) c.in_ok-answer.ensures.answer c.in-PrintsOtherwise.place c.in-PrintsOtherwise.is;
             written = rw (← c.as_bytes.ensures.value) c.in_ok-put.ensures.written;
           });

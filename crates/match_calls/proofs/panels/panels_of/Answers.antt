@@ -21,4 +21,5 @@ pub returns-clause-are : goal.returns-clause-are
 returns-clause-are c = record {
   compiles = record { read = c.in_ok-compiled.ensures.read; wired = c.in_ok-compiled.ensures.compiled };
   reads = c.in_ok-setup.ensures.read;
+  in_version = c.version_of_text.ensures c.in_ok-setup.setup c.in_ok-setup.ensures.read;
 }

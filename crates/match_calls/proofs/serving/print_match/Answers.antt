@@ -24,10 +24,11 @@ returns-in_err-put-clause-stopped g c =
 pub returns-in-None-clause-printed : goal.returns-in-None-clause-printed
 returns-in-None-clause-printed g c = record {
   compiled = c.in_ok-panels.panels.compiled;
+  version = c.in_ok-panels.panels.version;
   setup = c.in_ok-panels.panels.setup;
   panels = c.in_ok-panels.ensures.are;
   text = string_bytes c.in_ok-found.found.text;
-  right = wired_found c.in_ok-panels.panels.compiled c.in_ok-panels.panels.setup c.in_ok-found.found.counts _ c.in-None.is
+  right = wired_found c.in_ok-panels.panels.version c.in_ok-panels.panels.compiled c.in_ok-panels.panels.setup c.in_ok-found.found.counts _ c.in-None.is
       c.in_ok-found.ensures.found;
   written = rw (← c.as_bytes.ensures.value) c.in_ok-put.ensures.written;
 }
@@ -37,10 +38,11 @@ returns-clause-stopped g c =
     unmatched refl (unwired c.in-Some.counts refl
     (record {
       compiled = c.in_ok-panels.panels.compiled;
+      version = c.in_ok-panels.panels.version;
       setup = c.in_ok-panels.panels.setup;
       panels = c.in_ok-panels.ensures.are;
       text = string_bytes c.in_ok-found.found.text;
-      right = unwired_found c.in_ok-panels.panels.compiled c.in_ok-panels.panels.setup c.in_ok-found.found.counts c.in-Some.counts _
+      right = unwired_found c.in_ok-panels.panels.version c.in_ok-panels.panels.compiled c.in_ok-panels.panels.setup c.in_ok-found.found.counts c.in-Some.counts _
           c.in-Some.is c.in_ok-found.ensures.found;
       written = rw (← c.as_bytes.ensures.value) c.in_ok-put.ensures.written;
     }))
