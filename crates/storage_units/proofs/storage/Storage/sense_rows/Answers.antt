@@ -1,10 +1,5 @@
-use Rattle.std.proofs.Common.{◌≡◌, ◌∙◌, ◌+◌, ◌-◌, ◌*◌, ap, sym, refl, Some, arith, ℕ}
-use Rattle.std.proofs.lemmas.Bool.Decides.{nat_tests}
-use Rattle.card_code.specs.Rows.{passing_place, rows}
-use Rattle.hub_table.specs.Ranges.{is_within}
-use Rattle.hubs.specs.Hubs.{number_of}
-use Rattle.hubs.specs.declared.hub.Hub.TheVariants.{SE}
-use Rattle.net.proofs.KindRows.{SE_numbered, numbered_in}
+use Rattle.std.proofs.Common.{◌∙◌, ◌+◌, ◌-◌, ◌*◌, sym, arith}
+use Rattle.card_code.specs.Rows.{passing_place}
 use Rattle.net.specs.RowSets.{pictures_of}
 use Rattle.storage_units.specs.Fields.{state_of}
 use Rattle.storage_units.proofs.AllRows.{first-entry, place-low, received-all, words-read}
