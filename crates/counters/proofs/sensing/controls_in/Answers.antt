@@ -1,4 +1,4 @@
-use Rattle.std.proofs.Common.{◌∙◌, ◌≡◌, ◌+◌, ◌-◌, ap, ℕ, arith}
+use Rattle.std.proofs.Common.{◌∙◌, ◌≡◌, ◌+◌, ◌-◌, ap, arith}
 use Rattle.net.specs.HubSets.{is_bit}
 use Rattle.counters.proofs.ControlHubs.{controls_of-row}
 use Rattle.counters.proofs.sensing.controls_in.Goals as goal
