@@ -65,7 +65,6 @@ fn write_open(text: &mut String, page: u64, line: u32, wheel: u8) -> Result<(), 
     write_back(text, page, line)
 }
 
-#[tactic(auto, unfolding(crate::specs::Sections::words_open))]
 // What stands before the words.
 fn write_words_open(text: &mut String) -> Result<(), AllocError>
     ensures { OnOk result (string_bytes text.new ≡ string_bytes text.old ++ words_open) }
@@ -73,7 +72,6 @@ fn write_words_open(text: &mut String) -> Result<(), AllocError>
     text.push_str("<pre>")
 }
 
-#[tactic(auto, unfolding(crate::specs::Sections::picture_open))]
 // What stands before the ways.
 fn write_picture_open(text: &mut String) -> Result<(), AllocError>
     ensures { OnOk result (string_bytes text.new ≡ string_bytes text.old ++ picture_open) }
@@ -83,7 +81,6 @@ fn write_picture_open(text: &mut String) -> Result<(), AllocError>
     )
 }
 
-#[tactic(auto, unfolding(crate::specs::Sections::section_close))]
 // The end of an element.
 fn write_close(text: &mut String) -> Result<(), AllocError>
     ensures { OnOk result (string_bytes text.new ≡ string_bytes text.old ++ section_close) }

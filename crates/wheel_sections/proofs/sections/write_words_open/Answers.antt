@@ -1,0 +1,11 @@
+use Rattle.std.proofs.Common.{◌++◌}
+use Rattle.std.specs.String.{string_bytes}
+use Rattle.markup.proofs.Pieces.{pushed}
+use Rattle.wheel_sections.specs.Sections.{words_open}
+use Rattle.wheel_sections.proofs.sections.write_words_open.Goals as goal
+
+pub returns : goal.returns
+unfolding words_open
+returns c =
+    let old = string_bytes c.args.text.now in
+    pushed c.push_str.result (string_bytes c.push_str.new.self) (old ++ words_open) old c.push_str.ensures.bytes
