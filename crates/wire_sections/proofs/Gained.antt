@@ -1,12 +1,12 @@
 -- The elements of wires, and those of hubs behind them.
-use Rattle.std.proofs.Common.{◌≡◌, refl, ℕ, List, ◌++◌}
+use Rattle.std.proofs.Common.{◌≡◌, refl, ℕ, ◌==◌, false, List, [], ◌∷◌, ◌++◌, length}
 use Rattle.markup.specs.Pieces.{numbered_words}
 use Rattle.markup.proofs.Pieces.{and_more}
 use Rattle.panel_drawing.specs.Helper.{GainsHubs}
 use Rattle.panel_drawing.specs.declared.drawing.PanelWire.{PanelWire}
 use Rattle.wheel_sections.specs.declared.told.ToldWheel.{ToldWheel}
 use Rattle.wire_sections.specs.Helper.{GainsWireSections}
-use Rattle.wire_sections.specs.Sections.{hub_section, wire_sections_text}
+use Rattle.wire_sections.specs.Sections.{hub_section, some_text, through_text, wire_sections_text}
 
 pub sections_gained : (wires : List PanelWire) (told : List ToldWheel) (old mid new : List ℕ)
     → mid ≡ old ++ wire_sections_text wires told → GainsHubs (hub_section wires told) 1936 mid new
@@ -16,3 +16,8 @@ sections_gained wires told old mid new first next = record {
   are = record { hubs = next.hubs; all = next.all; spelled = refl };
   gained = and_more old mid new (wire_sections_text wires told) (numbered_words (hub_section wires told) 1 next.hubs) first next.gained;
 }
+
+-- what is said where there are links
+pub said_some : (links : List ℕ) → false ≡ (length links == 0) → through_text links ≡ some_text links
+said_some [] none = cc
+said_some (sign ∷ links) some = refl

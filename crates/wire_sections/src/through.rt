@@ -51,7 +51,6 @@ fn write_link(text: &mut String, part: Part, told: &ToldWheel) -> Result<(), All
     write_told_link(text, told)
 }
 
-#[tactic(auto, using(markup::proofs::Pieces::one_more))]
 // The links to the characters of which an impulse came through a part of the panel.
 fn write_links(text: &mut String, part: Part, told: &[ToldWheel]) -> Result<(), AllocError>
     ensures { OnOk result (string_bytes text.new ≡ string_bytes text.old ++ through_links part told.now) }

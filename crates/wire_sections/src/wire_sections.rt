@@ -51,7 +51,6 @@ pub(crate) fn write_path(text: &mut String, wire: PanelWire) -> Result<(), Alloc
     text.push_str("\"/>")
 }
 
-#[tactic(auto, unfolding(crate::specs::Sections::picture_open))]
 // What stands before the wires of a picture.
 pub(crate) fn write_picture_open(text: &mut String) -> Result<(), AllocError>
     ensures { OnOk result (string_bytes text.new ≡ string_bytes text.old ++ picture_open) }
@@ -61,7 +60,6 @@ pub(crate) fn write_picture_open(text: &mut String) -> Result<(), AllocError>
     )
 }
 
-#[tactic(auto, unfolding(crate::specs::Sections::section_close))]
 // The end of an element.
 pub(crate) fn write_close(text: &mut String) -> Result<(), AllocError>
     ensures { OnOk result (string_bytes text.new ≡ string_bytes text.old ++ section_close) }
