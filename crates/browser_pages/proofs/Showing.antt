@@ -10,10 +10,9 @@ use Rattle.faults.specs.declared.fault.Fault.TheVariants as fault
 use Rattle.panel_guides.specs.Explained.{RefusesTexts}
 use Rattle.panel_guides.specs.Panels.{is_wiring_text}
 use Rattle.setups.specs.Wiring.{Wiring}
-use Rattle.show_page.specs.Page.{ShowsChart, ShowsPanel}
+use Rattle.show_page.specs.Page.{ShowsPanel}
 use Rattle.wiring_text.specs.WiringText.{ReadsAs}
-use Rattle.wiring_text.specs.declared.statement.Version.TheVariants.{First}
-use Rattle.browser_pages.specs.Shown.{IsShown, planned, wired}
+use Rattle.browser_pages.specs.Shown.{IsShown, ShowsCompiled, planned, wired}
 
 module _ {X : Type 0} (result : Result X Fault) (bytes : X → List ℕ) (text deck : List ℕ) (cards items : List (List ℕ))
     (same : cards ≡ items) (punched : Deck deck items) where
@@ -28,15 +27,15 @@ module _ {X : Type 0} (result : Result X Fault) (bytes : X → List ℕ) (text d
       by (Err _) shows = tt
 
   pub planned_shown : (compiled : Compilation) → is_wiring_text text ≡ false → CompilesAs text compiled → IsRunnable compiled.chart items
-      → IfOk result (λ page. ShowsChart First compiled.chart.lines compiled.plan compiled.setup text cards (bytes page))
+      → IfOk result (λ page. ShowsCompiled compiled text cards (bytes page))
       → IfOk result (λ page. IsShown text deck (bytes page))
   planned_shown compiled is_chart compiles runnable = by result
     where
       by : (any : Result X Fault)
-          → IfOk any (λ page. ShowsChart First compiled.chart.lines compiled.plan compiled.setup text cards (bytes page))
+          → IfOk any (λ page. ShowsCompiled compiled text cards (bytes page))
           → IfOk any (λ page. IsShown text deck (bytes page))
       by (Ok page) shows = planned is_chart compiled compiles items punched runnable
-          (subst (λ (of : List (List ℕ)). ShowsChart First compiled.chart.lines compiled.plan compiled.setup text of (bytes page)) same shows)
+          (subst (λ (of : List (List ℕ)). ShowsCompiled compiled text of (bytes page)) same shows)
       by (Err _) shows = tt
 
 -- a call that fails for want of memory alone refuses no text

@@ -5,9 +5,8 @@ ghost use Rattle.std.specs.String.{string_bytes};
 ghost use Rattle.card_code.specs.MostCards.{most_cards};
 ghost use Rattle.panel_guides.specs.Explained.{RefusesTexts};
 ghost use Rattle.panel_guides.specs.Panels.{is_wiring_text};
-ghost use Rattle.show_page.specs.Page.{ShowsChart, ShowsPanel};
-ghost use Rattle.wiring_text.specs.declared.statement.Version.TheVariants.{First};
-ghost use Rattle.browser_pages.specs.Shown.{IsShown};
+ghost use Rattle.show_page.specs.Page.{ShowsPanel};
+ghost use Rattle.browser_pages.specs.Shown.{IsShown, ShowsCompiled};
 
 use card_code::Card;
 use compile407::Compiled;
@@ -16,7 +15,7 @@ use panel_guides::{is_wiring_text, planned_run, wired_run};
 use setups::Setup;
 use show_page::{show_chart, show_panel};
 use std::alloc::Global;
-use wiring_text::Version;
+use wire_chart::version_of;
 
 // The page of a panel that is wired as a wiring chart says, and of cards.
 fn panel_page<'a>(
@@ -32,7 +31,7 @@ fn panel_page<'a>(
     Ok(show_panel(alloc, setup, wiring, cards)?)
 }
 
-// The page of a compiled chart and of cards.
+// The page of a compiled chart and of cards; its legend is in the version in which the wiring chart of its panel is printed.
 fn chart_page<'a>(
     alloc: Global,
     compiled: &Compiled,
@@ -40,12 +39,12 @@ fn chart_page<'a>(
     cards: &[Card],
 ) -> Result<String, Fault<'a>>
     requires { length cards.now ≤ most_cards }
-    ensures shows { IfOk result (λ text. ShowsChart First compiled.now.chart.lines compiled.now.plan compiled.now.setup chart.now cards.now (string_bytes text)) }
+    ensures shows { IfOk result (λ text. ShowsCompiled compiled.now chart.now cards.now (string_bytes text)) }
     ensures memory { IfErr result (λ told. told ≡ Fault.Memory) }
 {
     let page = show_chart(
         alloc,
-        Version::First,
+        version_of(compiled.setup()),
         compiled.chart(),
         compiled.plan(),
         compiled.setup(),
