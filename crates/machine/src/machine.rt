@@ -14,7 +14,6 @@ use std::marker::Model;
 ///
 /// Where memory is refused in a feed, the machine is spoiled, and takes nothing more. So it is where [`Machine::feed_to`] has answered a
 /// cycle, since the rest of that feed isn't run.
-#[derive(Drop)]
 pub struct Machine {
     net: Net,
     units: Units,
@@ -22,6 +21,19 @@ pub struct Machine {
     cards: u32,
     is_ended: bool,
     is_spoiled: bool,
+}
+
+// By hand, so that a function that drops one calls this, and doesn't drop its parts one by one.
+impl Drop for Machine {
+    fn drop(self) {
+        let Machine {
+            net: _net,
+            units: _units,
+            cards: _cards,
+            is_ended: _is_ended,
+            is_spoiled: _is_spoiled,
+        } = self;
+    }
 }
 
 impl Model for Machine {

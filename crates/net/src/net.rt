@@ -20,7 +20,6 @@ use std::marker::Model;
 const MOST_LINKS: usize = 4096;
 
 /// The wires of one setup, made ready for pictures at every point of a run.
-#[derive(Drop)]
 pub struct Net {
     // For each exit the row of the entries that its wires lead to. The hub with the number h is the place h - 1.
     rows: Rows,
@@ -45,6 +44,27 @@ pub struct Net {
     is_direct: bool,
     // Whether a wire leads to one, other than a carry entry, from an exit that tells of a cycle.
     is_controlled: bool,
+}
+
+// By hand, so that a function that drops one calls this, and doesn't drop its parts one by one.
+impl Drop for Net {
+    fn drop(self) {
+        let Net {
+            rows: _rows,
+            links: _links,
+            skips: _skips,
+            contacts: _contacts,
+            contact_skips: _contact_skips,
+            further: _further,
+            further_skips: _further_skips,
+            behind: _behind,
+            behind_skips: _behind_skips,
+            commons: _commons,
+            others: _others,
+            is_direct: _is_direct,
+            is_controlled: _is_controlled,
+        } = self;
+    }
 }
 
 impl Model for Net {
