@@ -2,7 +2,7 @@
 use Rattle.std.proofs.Common.{◌≡◌, ◌∙◌, refl, sym, ap, ℕ, zero, suc, ◌<◌, ◌≤◌, ◌==◌, nat_lt, Bool, true, false, List, Contains, Option, Some, None, is_some, is_none, option_and_then, arith, if◌then◌else◌}
 use Rattle.std.proofs.lemmas.Bool.Decides.{nat_tests}
 use Rattle.std.proofs.lemmas.Bool.{not-false, both_ways, and_parts}
-use Rattle.wired_panels.specs.Below.wanted.ChartTotals.{names_signed}
+use Rattle.wired_panels.specs.Below.field_rules.Coupled.{has_sign}
 use Rattle.wired_panels.specs.Below.plans.Plans.{Lists}
 use Rattle.wired_panels.proofs.Below.field_rules.Places.{is_same_name-equal}
 use Rattle.wired_panels.specs.Below.field_rules.Fields.{field_named}
@@ -176,13 +176,13 @@ sign_of (holds.Amount decimals None) rule is = cc
 sign_of (holds.Amount decimals (Some its)) rule is = let same : its ≡ rule = cc in ap (λ r. Some (column_of_rule r)) same
 
 pub signed_is : (lines : List Line) (name : List ℕ) (rule : SignRule) → IsSigned lines name rule
-    → names_signed (field_named lines name) ≡ true
+    → has_sign (field_named lines name) ≡ true
 signed_is lines name rule signed =
-    ap names_signed signed.named ∙ ap is_some (sign_of signed.field.kind rule signed.ruled)
+    ap has_sign signed.named ∙ ap is_some (sign_of signed.field.kind rule signed.ruled)
 
-pub unsigned_is : (lines : List Line) (name : List ℕ) → IsUnsigned lines name → names_signed (field_named lines name) ≡ false
+pub unsigned_is : (lines : List Line) (name : List ℕ) → IsUnsigned lines name → has_sign (field_named lines name) ≡ false
 unsigned_is lines name unsigned =
-    ap names_signed unsigned.is_amount.named ∙ by unsigned.field.kind unsigned.unruled
+    ap has_sign unsigned.is_amount.named ∙ by unsigned.field.kind unsigned.unruled
   where
     by : (kind : FieldKind) → rule_of kind ≡ None → is_some (sign_column kind) ≡ false
     by holds.Text is = refl
@@ -190,8 +190,8 @@ unsigned_is lines name unsigned =
     by (holds.Amount decimals (Some its)) is = cc
 
 pub signed_from : (lines : List Line) (name : List ℕ) (field : Field) → field_named lines name ≡ Some field
-    → names_signed (field_named lines name) ≡ true → (rule : SignRule) × IsSigned lines name rule
-signed_from lines name field named signed = by field.kind refl (sym (ap names_signed named) ∙ signed)
+    → has_sign (field_named lines name) ≡ true → (rule : SignRule) × IsSigned lines name rule
+signed_from lines name field named signed = by field.kind refl (sym (ap has_sign named) ∙ signed)
   where
     by : (kind : FieldKind) → field.kind ≡ kind → is_some (sign_column kind) ≡ true → (rule : SignRule) × IsSigned lines name rule
     by holds.Text is on = cc
@@ -199,8 +199,8 @@ signed_from lines name field named signed = by field.kind refl (sym (ap names_si
     by (holds.Amount decimals (Some its)) is on = (its, record { field = field; named = named; ruled = ap rule_of is })
 
 pub unsigned_from : (lines : List Line) (name : List ℕ) (field : Field) → IsAmount lines name field
-    → names_signed (field_named lines name) ≡ false → IsUnsigned lines name
-unsigned_from lines name field amount unsigned = by field.kind refl (sym (ap names_signed amount.named) ∙ unsigned)
+    → has_sign (field_named lines name) ≡ false → IsUnsigned lines name
+unsigned_from lines name field amount unsigned = by field.kind refl (sym (ap has_sign amount.named) ∙ unsigned)
   where
     by : (kind : FieldKind) → field.kind ≡ kind → is_some (sign_column kind) ≡ false → IsUnsigned lines name
     by holds.Text is on = record { field = field; is_amount = amount; unruled = ap rule_of is }

@@ -1,7 +1,8 @@
 -- The amounts of a lawful chart with a plan are lawful amounts, and each valid card has no more digits of one than its totals.
 use Rattle.std.proofs.Common.{◌≡◌, ◌∙◌, refl, ap, ℕ, ◌^◌, ◌≤◌, true, List, Some, None, is_some, arith}
 use Rattle.std.proofs.Math.Nat.{pow-le-pow_right}
-use Rattle.wired_panels.specs.Below.wanted.ChartTotals.{names_signed, need_of}
+use Rattle.wired_panels.specs.Below.wanted.ChartTotals.{need_of}
+use Rattle.wired_panels.specs.Below.field_rules.Coupled.{has_sign}
 use Rattle.wired_panels.specs.Below.plans.Plans.{Lists, IsFor}
 use Rattle.wired_panels.specs.Below.field_rules.Fields.{field_named}
 use Rattle.wired_panels.specs.Below.chart_rules.Rules.{IsLawful}
@@ -65,7 +66,7 @@ amount_on_card chart plan name field card lawful amount = record {
       let most : 10 ^ columns_of field ≤ 10 ^ (amount_of chart.lines plan name).digits level =
       pow-le-pow_right {n = 10} (omega arith) (omega (arith, fit, digits)) in
       omega (arith, most, number_small field card);
-  negated = λ is. ap names_signed amount.named ∙ by field.kind is;
+  negated = λ is. ap has_sign amount.named ∙ by field.kind is;
 }
   where
     by : (kind : FieldKind) → is_negated kind card ≡ true → is_some (sign_column kind) ≡ true

@@ -3,7 +3,7 @@ use Rattle.std.proofs.Common.{◌≡◌, ◌∙◌, refl, sym, ap, subst, ℕ, �
 use Rattle.std.proofs.lemmas.Bool.Decides.{nat_tests}
 use Rattle.totals.specs.Below.counter_cycles.Acts.{Act, Held, act_controls, digit_of}
 use Rattle.totals.specs.Below.counter_cycles.Acts.Act.{Still}
-use Rattle.wired_panels.specs.Below.wanted.ChartTotals.{names_signed}
+use Rattle.wired_panels.specs.Below.field_rules.Coupled.{has_sign}
 use Rattle.wired_panels.specs.Below.plans.Plans.{Lists}
 use Rattle.wired_panels.specs.Below.field_rules.Fields.{field_named}
 use Rattle.wired_panels.specs.Below.charts.Chart.{Chart, NumbersRise}
@@ -118,7 +118,7 @@ module _ (chart : Chart) (plan : Lists) (wiring : Wiring) (rise : NumbersRise ch
       counter pictures
   asks_card at card read field is_amount =
       let size = number_in (digits_on field card) in
-      let negative = names_signed (field_named chart.lines name) && is_negated field.kind card in
+      let negative = has_sign (field_named chart.lines name) && is_negated field.kind card in
       subst (λ act. AsksCounter act (state level).number counter pictures)
       (sym (asked_here (card_act (lower amount.has level == 0) negative size)))
       (asks_of counter _ (state level).number pictures
@@ -155,7 +155,7 @@ module _ (chart : Chart) (plan : Lists) (wiring : Wiring) (rise : NumbersRise ch
       → AsksCounter (act_of amount (ProgKind (level_number l) First) state level) (state level).number counter pictures
   asks_first l at =
       let (field, is_amount) = total_field chart name level own.number at.panel.lawful own.total in
-      let t = names_signed (field_named chart.lines name) && (level_number l == level) in
+      let t = has_sign (field_named chart.lines name) && (level_number l == level) in
       subst (λ act. AsksCounter act (state level).number counter pictures) (sym (asked_here (test_act t)))
       (asks_of counter (test_act t) (state level).number pictures
       (λ group has.
@@ -169,9 +169,9 @@ module _ (chart : Chart) (plan : Lists) (wiring : Wiring) (rise : NumbersRise ch
   asks_second l at =
       let (field, is_amount) = total_field chart name level own.number at.panel.lawful own.total in
       let held = held_here (Prog l Second) at in
-      let t = names_signed (field_named chart.lines name) && ((level_number l == level) && is_set old top) in
-      let same : (names_signed (field_named chart.lines name) && ((level_number l == level) && (state level).latch)) ≡ t =
-      ap (λ h. names_signed (field_named chart.lines name) && ((level_number l == level) && h.latch)) held in
+      let t = has_sign (field_named chart.lines name) && ((level_number l == level) && is_set old top) in
+      let same : (has_sign (field_named chart.lines name) && ((level_number l == level) && (state level).latch)) ≡ t =
+      ap (λ h. has_sign (field_named chart.lines name) && ((level_number l == level) && h.latch)) held in
       let told : (group : Group) → HasPanelGroup counter group → AreTold group top (act_controls (turn_act t)) pictures =
       λ group has.
       second_controls chart plan wiring rise old pictures name level group (grouped chart.lines plan own group has) top
@@ -181,13 +181,13 @@ module _ (chart : Chart) (plan : Lists) (wiring : Wiring) (rise : NumbersRise ch
       (turn_entered t (state level).number counter pictures (λ is. spells field is_amount held is told)))
     where
       spells : (field : Field) → IsAmount chart.lines name field → state level ≡ held_in old (Some counter)
-          → (names_signed (field_named chart.lines name) && ((level_number l == level) && is_set old top)) ≡ true
+          → (has_sign (field_named chart.lines name) && ((level_number l == level) && is_set old top)) ≡ true
           → ((group : Group) → HasPanelGroup counter group
-          → AreTold group top (act_controls (turn_act (names_signed (field_named chart.lines name) && ((level_number l == level) && is_set old top)))) pictures)
+          → AreTold group top (act_controls (turn_act (has_sign (field_named chart.lines name) && ((level_number l == level) && is_set old top)))) pictures)
           → SpellsCounter counter (digit_of (state level).number) pictures
       spells field is_amount held is told =
-          let signed = first_holds (names_signed (field_named chart.lines name)) ((level_number l == level) && is_set old top) is in
-          let rest = second_holds (names_signed (field_named chart.lines name)) ((level_number l == level) && is_set old top) is in
+          let signed = first_holds (has_sign (field_named chart.lines name)) ((level_number l == level) && is_set old top) is in
+          let rest = second_holds (has_sign (field_named chart.lines name)) ((level_number l == level) && is_set old top) is in
           let is_level = is_number (level_number l) level (first_holds (level_number l == level) (is_set old top) rest) in
           let (rule, its_sign) = signed_from chart.lines name field is_amount.named signed in
           subst (λ h. SpellsCounter counter (digit_of h.number) pictures) (sym held)
@@ -202,7 +202,7 @@ module _ (chart : Chart) (plan : Lists) (wiring : Wiring) (rise : NumbersRise ch
       let (field, is_amount) = total_field chart name level own.number at.panel.lawful own.total in
       let e = level_number l == level in
       let u = amount.has (level_number l) && (lower amount.has level == level_number l) in
-      let m = names_signed (field_named chart.lines name) && (state (level_number l)).latch in
+      let m = has_sign (field_named chart.lines name) && (state (level_number l)).latch in
       subst (λ act. AsksCounter act (state level).number counter pictures) (sym (asked_here (show_act e u m (state (level_number l)).number)))
       (asks_of counter (show_act e u m (state (level_number l)).number) (state level).number pictures
       (λ group has.

@@ -5,7 +5,7 @@ use Rattle.std.proofs.lemmas.Bool.{not-true, false_from_ne_true, both_ways}
 use Rattle.totals.specs.Below.counter_cycles.Acts.{Act, act_controls, IsControlled}
 use Rattle.totals.specs.Below.counter_cycles.Acts.Act.{Still}
 use Rattle.totals.specs.Below.counters.declared.controls.Controls.{Controls}
-use Rattle.wired_panels.specs.Below.wanted.ChartTotals.{names_signed}
+use Rattle.wired_panels.specs.Below.field_rules.Coupled.{has_sign}
 use Rattle.wired_panels.specs.Below.plans.Plans.{Lists}
 use Rattle.wired_panels.specs.Below.field_rules.Fields.{field_named}
 use Rattle.wired_panels.specs.Below.charts.Chart.{Chart, NumbersRise}
@@ -83,7 +83,7 @@ module _ (chart : Chart) (plan : Lists) (wiring : Wiring) (rise : NumbersRise ch
     (top : Group) (balance : top_for chart.lines plan own.number ≡ Some top) where
   -- whether the amount is signed, and whether the total is the lowest
   abbrev signed : Bool
-  signed = names_signed (field_named chart.lines name)
+  signed = has_sign (field_named chart.lines name)
 
   abbrev below : ℕ
   below = lower (amount_of chart.lines plan name).has level

@@ -4,7 +4,7 @@ use Rattle.std.proofs.lemmas.Bool.{not-true, false_from_ne_true}
 use Rattle.std.proofs.lemmas.Bool.Decides.{nat_tests}
 use Rattle.totals.specs.Below.counter_cycles.Acts.{Act, Held, act_controls}
 use Rattle.totals.specs.Below.counter_cycles.Acts.Act.{Still, Test, Turn, Show}
-use Rattle.wired_panels.specs.Below.wanted.ChartTotals.{names_signed}
+use Rattle.wired_panels.specs.Below.field_rules.Coupled.{has_sign}
 use Rattle.wired_panels.specs.Below.plans.Plans.{Lists}
 use Rattle.wired_panels.specs.Below.field_rules.Fields.{field_named}
 use Rattle.wired_panels.specs.Below.charts.Chart.{Chart, NumbersRise}
@@ -113,7 +113,7 @@ module _ (chart : Chart) (plan : Lists) (wiring : Wiring) (rise : NumbersRise ch
     (top : Group) (balance : top_for chart.lines plan own.number ≡ Some top) where
   -- whether the amount is signed
   abbrev signed : Bool
-  signed = names_signed (field_named chart.lines name)
+  signed = has_sign (field_named chart.lines name)
 
   -- the amount, and what its totals hold
   abbrev amount : Amount

@@ -1,7 +1,7 @@
 -- The carries of counters: by which wires they come, and which counters form rings: those of signed totals.
 use Rattle.std.proofs.Common.{◌≡◌, ◌∙◌, refl, sym, ap, subst, ℕ, true, List, Option, Some, None, option_map, option_and_then, inl, inr}
 use Rattle.wired_panels.specs.Below.capacity.declared.group.CounterGroup.{CounterGroup}
-use Rattle.wired_panels.specs.Below.wanted.ChartTotals.{names_signed}
+use Rattle.wired_panels.specs.Below.field_rules.Coupled.{has_sign}
 use Rattle.wired_panels.specs.Below.plans.Counters.{single_group}
 use Rattle.wired_panels.specs.Below.plans.Plans.{Lists}
 use Rattle.wired_panels.specs.Below.plans.declared.counter.TotalCounter.{TotalCounter}
@@ -107,7 +107,7 @@ module _ (chart : Chart) (plan : Lists) (wiring : Wiring) (panel : IsPanel chart
 
   -- the sign of the amount, by that of a total on the line
   signed_so : NumbersRise chart.lines chart.end → (group : Group) → HasPanelGroup counter group → (its : List ℕ) (its_level : ℕ) (rule : SignRule)
-      → HasTotal chart.lines its its_level own.number → IsSigned chart.lines its rule → names_signed (field_named chart.lines name) ≡ true
+      → HasTotal chart.lines its its_level own.number → IsSigned chart.lines its rule → has_sign (field_named chart.lines name) ≡ true
   signed_so rise group has its its_level rule total its_sign =
       let given : IsGroupOf chart.lines plan its its_level group =
       record { number = own.number; total = total; served = record { counter = counter; there = own.served; has = has } } in
@@ -115,7 +115,7 @@ module _ (chart : Chart) (plan : Lists) (wiring : Wiring) (panel : IsPanel chart
       signed_is chart.lines name rule (subst (λ n. IsSigned chart.lines n rule) same.name its_sign)
 
   -- the rule of a signed amount
-  ruled : names_signed (field_named chart.lines name) ≡ true → (rule : SignRule) × IsSigned chart.lines name rule
+  ruled : has_sign (field_named chart.lines name) ≡ true → (rule : SignRule) × IsSigned chart.lines name rule
   ruled on =
       let (field, amount) = total_field chart name level own.number panel.lawful own.total in
       signed_from chart.lines name field amount.named on
@@ -132,15 +132,15 @@ module _ (chart : Chart) (plan : Lists) (wiring : Wiring) (panel : IsPanel chart
       by (from_upper lower upper there same) = absurd (no_pair there own.served)
 
   -- and forms a ring exactly where its amount is signed
-  pub ring_single : is_wired wiring (CO (panel_group group)) (CI (panel_group group)) ≡ names_signed (field_named chart.lines name)
+  pub ring_single : is_wired wiring (CO (panel_group group)) (CI (panel_group group)) ≡ has_sign (field_named chart.lines name)
   ring_single = same_tests _ _ (λ on. told (says_of chart plan wiring panel own (panel_group group) refl (CO (panel_group group)) on)) given
     where
-      told : {x : Hub} → SaysCarry chart.lines plan own.number x (panel_group group) → names_signed (field_named chart.lines name) ≡ true
+      told : {x : Hub} → SaysCarry chart.lines plan own.number x (panel_group group) → has_sign (field_named chart.lines name) ≡ true
       told (goes_up lower upper there from to) = absurd (no_pair there own.served)
       told (is_signed its its_level rule total its_sign) =
           signed_so chart plan wiring panel own rise (panel_group group) refl its its_level rule total its_sign
 
-      given : names_signed (field_named chart.lines name) ≡ true
+      given : has_sign (field_named chart.lines name) ≡ true
           → is_wired wiring (CO (panel_group group)) (CI (panel_group group)) ≡ true
       given on =
           let (rule, its_sign) = ruled chart plan wiring panel own on in
@@ -181,21 +181,21 @@ module _ (chart : Chart) (plan : Lists) (wiring : Wiring) (panel : IsPanel chart
       (wire_of chart.lines plan name level own.number (CO (panel_group lower)) (CI (panel_group upper)) own.total
       (λ its wheel mark same. carry_up its wheel name own.total.digits mark lower upper own.served))
 
-  pub ring_pair : is_wired wiring (CO (panel_group upper)) (CI (panel_group lower)) ≡ names_signed (field_named chart.lines name)
+  pub ring_pair : is_wired wiring (CO (panel_group upper)) (CI (panel_group lower)) ≡ has_sign (field_named chart.lines name)
   ring_pair = same_tests _ _ (λ on. told (says_of chart plan wiring panel own (panel_group lower) (inl refl) (CO (panel_group upper)) on) refl) given
     where
       same_group : {one other : Group} → CO one ≡ CO other → one ≡ other
       same_group same = cc
 
       told : {x : Hub} → SaysCarry chart.lines plan own.number x (panel_group lower) → x ≡ CO (panel_group upper)
-          → names_signed (field_named chart.lines name) ≡ true
+          → has_sign (field_named chart.lines name) ≡ true
       told (goes_up low up there from to) is =
           absurd (pair-apart chart.lines plan panel.planned own.number lower upper own.served
           (sym (ap panel_group (same_lower there own.served)) ∙ same_group (sym from ∙ is)))
       told (is_signed its its_level rule total its_sign) is =
           signed_so chart plan wiring panel own rise (panel_group lower) (inl refl) its its_level rule total its_sign
 
-      given : names_signed (field_named chart.lines name) ≡ true
+      given : has_sign (field_named chart.lines name) ≡ true
           → is_wired wiring (CO (panel_group upper)) (CI (panel_group lower)) ≡ true
       given on =
           let (rule, its_sign) = ruled chart plan wiring panel own on in

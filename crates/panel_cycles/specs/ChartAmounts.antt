@@ -1,6 +1,6 @@
 -- The amounts of a chart: at which levels an amount has a total, in how many digits, and in which counter.
 use Rattle.std.specs.Prelude.{ℕ, ◌==◌, ◌+◌, ◌&&◌, Bool, false, List, Option, Some, None, find, is_some, option_and_then}
-use Rattle.wired_panels.specs.Below.wanted.ChartTotals.{names_signed}
+use Rattle.wired_panels.specs.Below.field_rules.Coupled.{has_sign}
 use Rattle.wired_panels.specs.Below.plans.Plans.{Lists}
 use Rattle.wired_panels.specs.Below.plans.declared.counter.TotalCounter.{TotalCounter}
 use Rattle.wired_panels.specs.Below.plans.declared.counter.TotalCounter.TheVariants as of
@@ -48,7 +48,7 @@ positions_of None = 0
 -- counters by the plan.
 abbrev pub amount_of : List Line → Lists → List ℕ → Amount
 amount_of lines plan name = record {
-  is_signed = names_signed (field_named lines name);
+  is_signed = has_sign (field_named lines name);
   has = λ level. is_some (total_line lines name level);
   digits = λ level. total_digits (total_line lines name level);
   width = λ level. positions_of (total_counter lines plan name level);

@@ -1,6 +1,6 @@
 -- What the rules of a chart say of its amounts, and what the totals hold before the first card.
 use Rattle.std.proofs.Common.{◌≡◌, ◌∙◌, refl, sym, ap, subst, ℕ, zero, suc, ◌-◌, ◌<◌, ◌^◌, true, false, List, [], ◌∷◌, Option, Some, None, map, replicate, slice_index_or, is_some, arith, unsigned_abs, ◌+◌, ◌*◌}
-use Rattle.panel_cycles.specs.Below.wanted.ChartTotals.{names_signed}
+use Rattle.panel_cycles.specs.Below.field_rules.Coupled.{has_sign}
 use Rattle.panel_cycles.specs.Below.plans.Plans.{Lists}
 use Rattle.panel_cycles.proofs.Below.field_rules.Places.{is_same_name-equal}
 use Rattle.panel_cycles.specs.Below.field_rules.Fields.{field_named}
@@ -30,7 +30,7 @@ use Rattle.printed_reports.specs.Content.{held}
 pub never_negated :
     (chart : Chart) (plan : Lists) (name : List ℕ) (field : Field) → IsAmount chart.lines name field
     → (amount_of chart.lines plan name).is_signed ≡ false → (card : List ℕ) → is_negated field.kind card ≡ false
-never_negated chart plan name field amount none card = by field.kind (sym (ap (λ (o : Option Field). names_signed o) amount.named) ∙ none)
+never_negated chart plan name field amount none card = by field.kind (sym (ap (λ (o : Option Field). has_sign o) amount.named) ∙ none)
   where
     by : (kind : FieldKind) → is_some (sign_column kind) ≡ false → is_negated kind card ≡ false
     by holds.Text is = refl

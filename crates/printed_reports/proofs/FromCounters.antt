@@ -31,7 +31,7 @@ use Rattle.panel_cycles.specs.ChartAmounts.{amount_of, positions_of, total_count
 use Rattle.panel_cycles.specs.CounterStates.{AsksCounter, held_in, number_at}
 use Rattle.panel_cycles.proofs.Below.wired_panels.Contacts.{is_set}
 use Rattle.panel_cycles.specs.Below.wired_panels.Groups.{IsCounterOf}
-use Rattle.panel_cycles.specs.Below.wanted.ChartTotals.{names_signed}
+use Rattle.panel_cycles.specs.Below.field_rules.Coupled.{has_sign}
 use Rattle.panel_cycles.specs.Below.field_rules.Fields.{field_named}
 use Rattle.panel_cycles.specs.Below.plans.declared.counter.TotalCounter.{TotalCounter}
 use Rattle.panel_cycles.specs.Below.plans.declared.counter.TotalCounter.TheVariants as of
@@ -205,11 +205,11 @@ module _ (chart : Chart) (plan : Lists) (wiring : Wiring) (panel : IsPanel chart
         → (own : IsCounterOf chart.lines plan name level counter) → IsWithinGroup (positions_of (Some counter)) act
         → AsksCounter act (held_in old (Some counter)).number counter all.pictures
         → held_in new (Some counter)
-        ≡ held_after (names_signed (field_named chart.lines name)) (positions_of (Some counter)) act (held_in old (Some counter))
+        ≡ held_after (has_sign (field_named chart.lines name)) (positions_of (Some counter)) act (held_in old (Some counter))
     counter_done cycle old new name level (of.Single group) act is is_new all own fits asks =
         let there = planned_unit chart.lines plan own.number (panel_group group) panel.planned
         (record { counter = of.Single group; there = own.served; has = refl }) in
-        group_done wiring cycle old new (panel_group group) act (names_signed (field_named chart.lines name)) is is_new all there
+        group_done wiring cycle old new (panel_group group) act (has_sign (field_named chart.lines name)) is is_new all there
         (ring_single chart plan wiring panel rise group own) fits asks (leads chart plan wiring panel)
         (fed_single chart plan wiring panel rise group own)
     counter_done cycle old new name level (of.Coupled lower upper) act is is_new all own fits asks =
@@ -217,7 +217,7 @@ module _ (chart : Chart) (plan : Lists) (wiring : Wiring) (panel : IsPanel chart
         (record { counter = of.Coupled lower upper; there = own.served; has = inr refl }) in
         let and_there = planned_unit chart.lines plan own.number (panel_group lower) panel.planned
         (record { counter = of.Coupled lower upper; there = own.served; has = inl refl }) in
-        pair_done wiring cycle old new (panel_group upper) (panel_group lower) act (names_signed (field_named chart.lines name)) is is_new all
+        pair_done wiring cycle old new (panel_group upper) (panel_group lower) act (has_sign (field_named chart.lines name)) is is_new all
         there and_there (leads chart plan wiring panel) (goes_through chart plan wiring panel rise lower upper own)
         (ring_pair chart plan wiring panel rise lower upper own) (fed_upper chart plan wiring panel rise lower upper own)
         (fed_lower chart plan wiring panel rise lower upper own) fits asks

@@ -1,7 +1,7 @@
 -- The third program cycle of a level, put together: what the groups and units hold, and the line that they print.
 use Rattle.std.proofs.Common.{◌≡◌, ◌∙◌, refl, sym, ap, subst, ℕ, ◌+◌, ◌≤◌, ◌<◌, ◌^◌, ◌==◌, nat_lt, Bool, true, false, List, Contains, Option, Some, None, length, is_some, arith, unsigned_abs, inl, inr}
 use Rattle.std.proofs.lemmas.Bool.Decides.{nat_tests}
-use Rattle.panel_cycles.specs.Below.wanted.ChartTotals.{names_signed}
+use Rattle.panel_cycles.specs.Below.field_rules.Coupled.{has_sign}
 use Rattle.panel_cycles.specs.Below.counters.Laws.{IsCounter}
 use Rattle.panel_cycles.specs.Below.plans.Plans.{Lists}
 use Rattle.panel_cycles.specs.Below.plans.declared.counter.TotalCounter.{TotalCounter}
@@ -247,7 +247,7 @@ module _ (chart : Chart) (plan : Lists) (wiring : Wiring) (panel : IsPanel chart
             figure = shown.figure;
             below = λ marked less. shown.below less;
             above = λ marked less some.
-                shown.above (ap (λ (o : Option Field). names_signed o) named
+                shown.above (ap (λ (o : Option Field). has_sign o) named
                 ∙ marked_signed field.kind mark amount.holds_amount good_kind marked) less some;
           }
         where
