@@ -5,13 +5,13 @@ ghost use Rattle.allocate.specs.declared.fault.CapacityFault.TheVariants.{Memory
 
 use charts::ControlLevel;
 use std::alloc::{AllocError, AllocFailed};
-use std::error::Error;
-use std::fmt;
+use thiserror::Error;
 
 /// Why a chart has no plan: the first capacity of the machine that it exceeds. Or memory was refused.
-#[derive(Clone, Copy, PartialEq, Eq)]
+#[derive(Clone, Copy, Debug, PartialEq, Eq, Error)]
 pub enum CapacityFault {
     /// Totals want more counter groups of a width, or wider ones, than the machine has: fault 61.
+    #[error("{wanted} counter groups of {width} positions or more are wanted, and there are {there}")]
     Counters {
         /// The first such width of 8, 6, 4 and 3.
         width: u8,
@@ -22,6 +22,7 @@ pub enum CapacityFault {
         there: u32,
     },
     /// More signed amounts are shown than the machine has pilots: fault 62.
+    #[error("{wanted} pilots are wanted, and there are {there}")]
     Pilots {
         /// How many pilots the chart wants.
         wanted: usize,
@@ -29,6 +30,7 @@ pub enum CapacityFault {
         there: u32,
     },
     /// The control fields have more columns than the machine has comparing positions: fault 63.
+    #[error("{wanted} comparing positions are wanted, and there are {there}")]
     Comparing {
         /// How many comparing positions the chart wants.
         wanted: usize,
@@ -36,11 +38,13 @@ pub enum CapacityFault {
         there: u32,
     },
     /// A text on a total line has more than the 16 columns of a storage unit: fault 64.
+    #[error("the text on total line {line} has more than 16 columns")]
     StorageWidth {
         /// The number of the lowest such line in the chart.
         line: u16,
     },
     /// More texts stand on total lines than the machine has storage units: fault 65.
+    #[error("{wanted} storage units are wanted, and there are {there}")]
     StorageUnits {
         /// How many storage units the chart wants.
         wanted: usize,
@@ -48,6 +52,7 @@ pub enum CapacityFault {
         there: u32,
     },
     /// More amounts on DETAIL lines have their sign over one of their own columns than the machine has splits: fault 66.
+    #[error("{wanted} column splits are wanted, and there are {there}")]
     Splits {
         /// How many splits the chart wants.
         wanted: usize,
@@ -55,6 +60,7 @@ pub enum CapacityFault {
         there: u32,
     },
     /// The INDICATE items of a level have more columns than the machine has positions for it: fault 67.
+    #[error("{wanted} indicate positions of level {} are wanted, and there are {there}", level.number())]
     Indicate {
         /// The lowest such level.
         level: ControlLevel,
@@ -64,6 +70,7 @@ pub enum CapacityFault {
         there: u32,
     },
     /// Memory was refused.
+    #[error("out of memory")]
     Memory,
 }
 
@@ -85,74 +92,6 @@ impl CapacityFault {
             CapacityFault::Indicate { .. } => Some(67),
             CapacityFault::Memory => None,
         }
-    }
-
-    // How many of some things are wanted, and how many there are, where there are too few of them.
-    fn lack(self) -> Option<(usize, &'static str, u32)> {
-        match self {
-            CapacityFault::Counters {
-                width,
-                wanted,
-                there,
-            } => Some((wanted, groups_from(width), there)),
-            CapacityFault::Pilots { wanted, there } => Some((wanted, "pilots", there)),
-            CapacityFault::Comparing { wanted, there } => {
-                Some((wanted, "comparing positions", there))
-            }
-            CapacityFault::StorageUnits { wanted, there } => {
-                Some((wanted, "storage units", there))
-            }
-            CapacityFault::Splits { wanted, there } => Some((wanted, "column splits", there)),
-            CapacityFault::Indicate {
-                level,
-                wanted,
-                there,
-            } => Some((wanted, indicated_on(level), there)),
-            CapacityFault::StorageWidth { .. } | CapacityFault::Memory => None,
-        }
-    }
-}
-
-// By hand, since most of them say the same of different things.
-impl fmt::Display for CapacityFault {
-    fn fmt<W: fmt::Write>(&self, f: &mut fmt::Formatter<W>) -> fmt::Result {
-        if let Some((wanted, things, there)) = self.lack() {
-            return write!(f, "{wanted} {things} are wanted, and there are {there}");
-        }
-        match self {
-            CapacityFault::StorageWidth { line } => {
-                write!(f, "the text on total line {line} has more than 16 columns")
-            }
-            _ => f.write_str("out of memory"),
-        }
-    }
-}
-
-// A fault is shown as it is told, and no second text of each is made.
-impl fmt::Debug for CapacityFault {
-    fn fmt<W: fmt::Write>(&self, f: &mut fmt::Formatter<W>) -> fmt::Result {
-        fmt::Display::fmt(self, f)
-    }
-}
-
-impl Error for CapacityFault {}
-
-// The words for the counter groups of a width and of wider ones.
-fn groups_from(width: u8) -> &'static str {
-    match width {
-        3 => "counter groups of 3 positions or more",
-        4 => "counter groups of 4 positions or more",
-        6 => "counter groups of 6 positions or more",
-        _ => "counter groups of 8 positions or more",
-    }
-}
-
-// The words for the indicate positions of a level.
-fn indicated_on(level: ControlLevel) -> &'static str {
-    match level {
-        ControlLevel::Minor => "indicate positions of level 1",
-        ControlLevel::Intermediate => "indicate positions of level 2",
-        ControlLevel::Major => "indicate positions of level 3",
     }
 }
 
