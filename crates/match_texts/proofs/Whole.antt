@@ -1,11 +1,11 @@
 -- A text that is written piece by piece.
-use Rattle.std.proofs.Common.{◌≡◌, ℕ, List, ◌++◌, ap, ◌∙◌, codes}
+use Rattle.std.proofs.Common.{◌≡◌, ℕ, List, [], ◌∷◌, ◌++◌, ap, ◌∙◌, subst, sym, refl, append-nil, append_assoc, codes, length}
 use Rattle.charts.specs.declared.chart.Line.{Line}
 use Rattle.differences.specs.Differences.{IsDifference}
 use Rattle.match_texts.specs.Forms.{form_beside}
-use Rattle.match_texts.specs.Helper.{GainsMissing, GainsSurplus}
+use Rattle.match_texts.specs.Helper.{GainsMissing, GainsSurplus, IsSurplus}
 use Rattle.match_texts.specs.MatchText.{TellsDifference}
-use Rattle.match_texts.specs.Missing.{LacksOnLine, missing_form}
+use Rattle.match_texts.specs.Missing.{AreLacking, LacksOnLine, missing_form, under_heading}
 use Rattle.match_texts.specs.PlanText.{plan_text}
 use Rattle.plans.specs.Plans.{Lists}
 use Rattle.setups.specs.Tapes.{CarriageTape}
@@ -38,19 +38,43 @@ surplus_gained version wanted extra old mid new begun gains = record {
   gained = gains.gained ∙ ap (λ (front : List ℕ). front ++ gains.parts) begun;
 }
 
+-- texts of their own
+pub missing_alone : (version : Version) (lines : List Line) (plan : Lists) (setup : Wiring) (old new : List ℕ) → old ≡ []
+    → GainsMissing version lines plan setup old new → AreLacking version lines plan setup (length lines) new
+missing_alone version lines plan setup old new empty gains =
+    subst (AreLacking version lines plan setup (length lines)) (sym (gains.gained ∙ ap (λ (front : List ℕ). front ++ gains.told) empty)) gains.are
+
+pub surplus_alone : (version : Version) (wanted : CarriageTape) (extra : Wiring) (old new : List ℕ) → old ≡ []
+    → GainsSurplus version wanted extra old new → IsSurplus version wanted extra new
+surplus_alone version wanted extra old new empty gains = record {
+  parts = gains.parts;
+  are = gains.are;
+  spelled = gains.gained ∙ ap (λ (front : List ℕ). front ++ form_beside extra.tape wanted ++ gains.parts) empty;
+}
+
 -- the plan, what is missing, and what is too much
 pub difference_told : (version : Version) (lines : List Line) (setup : Wiring) (plan : Lists) (missing extra : Wiring)
-    (planned titled lacking headed text : List ℕ) → planned ≡ plan_text lines plan → titled ≡ planned ++ codes "missing\n"
-    → GainsMissing version lines plan setup titled lacking → headed ≡ lacking ++ codes "too much\n"
-    → GainsSurplus version missing.tape extra headed text → TellsDifference version lines setup plan missing extra text
-difference_told version lines setup plan missing extra planned titled lacking headed text first second gains third surplus = record {
-  lacking = gains.told;
-  are_lacking = gains.are;
-  surplus = surplus.parts;
-  are_surplus = surplus.are;
-  spelled = surplus.gained
-      ∙ ap (λ (front : List ℕ). front ++ form_beside extra.tape missing.tape ++ surplus.parts)
-      (third ∙ ap (λ (front : List ℕ). front ++ codes "too much\n")
-      (gains.gained ∙ ap (λ (front : List ℕ). front ++ gains.told)
-      (second ∙ ap (λ (front : List ℕ). front ++ codes "missing\n") first)));
+    (planned lacking titled surplus text : List ℕ) → planned ≡ plan_text lines plan
+    → AreLacking version lines plan setup (length lines) lacking → titled ≡ planned ++ under_heading (codes "missing\n") lacking
+    → IsSurplus version missing.tape extra surplus → text ≡ titled ++ under_heading (codes "too much\n") surplus
+    → TellsDifference version lines setup plan missing extra text
+difference_told version lines setup plan missing extra planned lacking titled surplus text first lacks second is third = record {
+  lacking = lacking;
+  are_lacking = lacks;
+  surplus = is.parts;
+  are_surplus = is.are;
+  spelled = third
+      ∙ ap (λ (body : List ℕ). titled ++ under_heading (codes "too much\n") body) is.spelled
+      ∙ ap (λ (front : List ℕ). front ++ under_heading (codes "too much\n") (form_beside extra.tape missing.tape ++ is.parts))
+      (second ∙ ap (λ (front : List ℕ). front ++ under_heading (codes "missing\n") lacking) first);
 }
+
+-- a text under a heading
+pub nothing_headed : (heading body old : List ℕ) → body ≡ [] → old ≡ old ++ under_heading heading body
+nothing_headed heading body old empty = sym (append-nil old) ∙ ap (λ (text : List ℕ). old ++ under_heading heading text) (sym empty)
+
+pub something_headed : (heading body old titled new : List ℕ) → (body ≡ [] → ⊥) → titled ≡ old ++ heading → new ≡ titled ++ body
+    → new ≡ old ++ under_heading heading body
+something_headed heading [] old titled new some first second = absurd (some refl)
+something_headed heading (byte ∷ bytes) old titled new some first second =
+    second ∙ ap (λ (front : List ℕ). front ++ byte ∷ bytes) first ∙ append_assoc old heading (byte ∷ bytes)

@@ -31,3 +31,9 @@ pub record GainsSurplus (version : Version) (wanted : CarriageTape) (extra : Wir
   pub parts : List ℕ
   pub are : ArePartsOf version extra parts
   pub gained : new ≡ old ++ form_beside extra.tape wanted ++ parts
+
+-- the same alone
+pub record IsSurplus (version : Version) (wanted : CarriageTape) (extra : Wiring) (text : List ℕ) : Type 0 where
+  pub parts : List ℕ
+  pub are : ArePartsOf version extra parts
+  pub spelled : text ≡ form_beside extra.tape wanted ++ parts

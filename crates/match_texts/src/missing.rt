@@ -1,10 +1,10 @@
 //! Writing what is missing, and what is too much.
 
-ghost use Rattle.std.specs.Prelude.{◌≡◌, ◌++◌, Contains, IfOk, OnOk};
+ghost use Rattle.std.specs.Prelude.{◌≡◌, ◌++◌, Contains, IfOk, OnOk, length};
 ghost use Rattle.std.specs.String.{string_bytes};
 ghost use Rattle.match_texts.specs.Forms.{form_beside};
-ghost use Rattle.match_texts.specs.Helper.{GainsLacking, GainsMissing, GainsSurplus};
-ghost use Rattle.match_texts.specs.Missing.{LacksOnLine, line_heading, missing_form};
+ghost use Rattle.match_texts.specs.Helper.{GainsLacking, GainsMissing, GainsSurplus, IsSurplus};
+ghost use Rattle.match_texts.specs.Missing.{AreLacking, LacksOnLine, line_heading, missing_form};
 ghost use Rattle.plans.specs.Plans.{IsFor};
 
 use crate::counts::is_same_form;
@@ -105,8 +105,8 @@ fn write_line_part(
 }
 
 #[tactic(auto, using(crate::proofs::Lacking::lacking_none, crate::proofs::Lacking::lacking_more))]
-/// Writes what a chart asks for by a plan and a setup has not, line by line of the chart. Its only refusal is memory.
-pub(crate) fn write_missing(
+// Writes what a chart asks for by a plan and a setup has not, line by line of the chart.
+fn write_missing(
     alloc: Global,
     text: &mut String,
     version: Version,
@@ -123,9 +123,26 @@ pub(crate) fn write_missing(
     Ok(())
 }
 
+#[tactic(auto, using(crate::proofs::Whole::missing_alone))]
+/// What a chart asks for by a plan and a setup has not, line by line of the chart. Its only refusal is memory.
+pub(crate) fn missing_text(
+    alloc: Global,
+    version: Version,
+    chart: &Chart,
+    plan: &Plan,
+    setup: &Setup,
+) -> Result<String, AllocError>
+    requires plan { IsFor chart.now.lines plan.now }
+    ensures { IfOk result (λ text. AreLacking version chart.now.lines plan.now setup.now (length chart.now.lines) (string_bytes text)) }
+{
+    let mut text = String::new(alloc);
+    write_missing(alloc, &mut text, version, chart, plan, setup)?;
+    Ok(text)
+}
+
 #[tactic(auto, using(crate::proofs::Whole::surplus_gained))]
-/// Writes what a setup has and a chart does not ask for: `missing` and `extra` are the two differences. Its only refusal is memory.
-pub(crate) fn write_surplus(
+// Writes what a setup has and a chart does not ask for.
+fn write_surplus(
     text: &mut String,
     version: Version,
     missing: &Setup,
@@ -135,4 +152,19 @@ pub(crate) fn write_surplus(
 {
     write_form_beside(text, extra.tape(), missing.tape())?;
     write_parts(text, version, extra)
+}
+
+#[tactic(auto, using(crate::proofs::Whole::surplus_alone))]
+/// What a setup has and a chart does not ask for: `missing` and `extra` are the two differences. Its only refusal is memory.
+pub(crate) fn surplus_text(
+    alloc: Global,
+    version: Version,
+    missing: &Setup,
+    extra: &Setup,
+) -> Result<String, AllocError>
+    ensures { IfOk result (λ text. IsSurplus version missing.now.tape extra.now (string_bytes text)) }
+{
+    let mut text = String::new(alloc);
+    write_surplus(&mut text, version, missing, extra)?;
+    Ok(text)
 }
