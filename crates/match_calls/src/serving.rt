@@ -15,13 +15,13 @@ use std::alloc::Global;
 use std::io::Write;
 
 /// Prints whether a panel is wired for a chart: `ok` and the plan by which it is; else what is missing and too much, by the plan that
-/// is told.
+/// is told, each under its heading where there is any, spelled in the version in which the wiring chart is read.
 ///
 /// # Errors
 ///
 /// The fault of the planning chart, else that of the wiring chart, and nothing is printed; else `Unwired` where no plan is found by
-/// which the panel is wired for the chart, and what is missing and too much is printed. `Memory` where a growth was refused and `Write` where the output
-/// can't be written, and then a part may have been printed.
+/// which the panel is wired for the chart, and what is missing and too much is printed. `Memory` where a growth was refused and `Write`
+/// where the output can't be written, and then a part may have been printed.
 pub fn print_match<'a, W: Write>(
     alloc: Global,
     chart: &[u8],
