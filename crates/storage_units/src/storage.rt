@@ -49,7 +49,7 @@ impl Model for Storage {
 }
 
 impl Storage {
-    ghost use Rattle.std.specs.Prelude.{◌≡◌, ◌≤◌, ◌&&◌, not, slice_index};
+    ghost use Rattle.std.specs.Prelude.{◌≡◌, ◌≤◌, slice_index};
     ghost use Rattle.card_code.specs.Rows.{passing_place};
     ghost use Rattle.net.specs.RowSets.{GainsRows, after_rows, pictures_of};
     ghost use Rattle.net.specs.declared.cycle.Point.TheVariants.{Row as AtRow};
@@ -82,13 +82,6 @@ impl Storage {
         ensures { result ≡ holds self.now row column }
     {
         1 <= column && column <= STORAGE_COLUMNS && has_bit(self.held_at(row), column as usize - 1)
-    }
-
-    /// Whether it was told neither to read in nor to read out at the last control point: then rows are nothing to it.
-    pub fn is_idle(&self) -> bool
-        ensures { result ≡ (not self.now.reads_in && not self.now.reads_out) }
-    {
-        !self.reads_in && !self.reads_out
     }
 
     /// Adds to the sets of the exits the rows at whose points they emit.
