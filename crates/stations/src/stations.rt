@@ -2,7 +2,7 @@
 
 ghost use Rattle.std.specs.Prelude.{◌≡◌, List, ℕ};
 
-use crate::punches::{columns_at, columns_of, row_at, rows_at};
+use crate::punches::{columns_at, put_columns, row_at, rows_at};
 use card_code::{CARD_COLUMNS, Card, Row};
 use hubs::Hub;
 use net::{Cycle, Picture, Point, RowSets, Unit};
@@ -67,7 +67,7 @@ impl Stations {
         self.front = 1 - self.front;
         self.second = mem::replace(&mut self.first, next.is_some());
         if let Some(card) = next {
-            self.columns[self.front] = columns_of(card);
+            put_columns(card, &mut self.columns[self.front]);
         }
     }
 

@@ -1,6 +1,6 @@
 use Rattle.std.proofs.Common.{◌*◌}
 use Rattle.stations.specs.Columns.{HasColumns}
-use Rattle.stations.proofs.punches.columns_of.Given as goal
+use Rattle.stations.proofs.punches.put_columns.Given as goal
 
 -- the columns so far are done
 abbrev pub invariant-loop-block : goal.invariant-loop-block
