@@ -38,7 +38,7 @@ pub fn first_misfit(chart: &Chart, cards: &[Card]) -> Option<Misfit>
 {
     let mut sums = OpenSums::new(chart);
     for place in 0..cards.len() {
-        if let Some(misfit) = sums.take(chart, &cards[place], card_at(cards, place + 1)) {
+        if let Some(misfit) = sums.take(chart, &cards[place], &card_at(cards, place + 1)) {
             return Some(misfit);
         }
     }

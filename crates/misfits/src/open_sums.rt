@@ -125,14 +125,14 @@ impl OpenSums {
     /// groups end. Tells the first of their totals that does not fit: by its level, the lowest first, then by its line of the chart.
     ///
     /// At most 999,998 cards were taken before.
-    pub fn take(&mut self, chart: &Chart, card: &Card, next: Option<Card>) -> Option<Misfit>
+    pub fn take(&mut self, chart: &Chart, card: &Card, next: &Option<Card>) -> Option<Misfit>
         requires { self.old.cards < most_cards }
         ensures told { (so_far : ℕ → List (List ℕ)) → AreSumsOf chart.now.lines so_far self.old →
             option_map told result ≡ first_of (misfits_to chart.now.lines (self.old.cards + 1)
-            (ended_after chart.now.lines card.now next) (taking card.now so_far)) }
+            (ended_after chart.now.lines card.now next.now) (taking card.now so_far)) }
         ensures goes_on { (so_far : ℕ → List (List ℕ)) → AreSumsOf chart.now.lines so_far self.old →
             AreSumsOf chart.now.lines
-            (cleared (ended_after chart.now.lines card.now next) (taking card.now so_far)) self.new }
+            (cleared (ended_after chart.now.lines card.now next.now) (taking card.now so_far)) self.new }
         ensures counted { self.new.cards ≡ self.old.cards + 1 }
     {
         add_card(
@@ -142,7 +142,7 @@ impl OpenSums {
             card,
         );
         self.cards += 1;
-        let ended = ended_after(chart, card, &next);
+        let ended = ended_after(chart, card, next);
         let misfit = first_misfit_to(self.totals.as_slice(), ended, self.cards);
         end_groups(self.totals.as_mut_slice(), ended);
         misfit

@@ -77,7 +77,8 @@ pub(crate) fn step<S: Source + Drop, W: Sink + Drop>(
     ensures source { S.borrow cards.new.source ≡ S.borrow cards.old.source }
     ensures sink { W.borrow pages.new.out.sink ≡ W.borrow pages.old.out.sink }
 {
-    let next = next_valid(chart, cards, run.count)?;
+    let mut next = None;
+    next_valid(chart, cards, run.count, &mut next)?;
     if let Some(misfit) = try_totals(&mut run.sums, chart, &run.last, &next) {
         return Err(StreamCause::Misfit { misfit });
     }
@@ -92,27 +93,32 @@ pub(crate) fn step<S: Source + Drop, W: Sink + Drop>(
     Ok(true)
 }
 
-// The next card, if it is valid for the chart, or `None` at the end of the deck; `number` cards were read before.
+// Puts the next card in its place, if it is valid for the chart, or `None` at the end of the deck; `number` cards were read before. A card is
+// copied once on its way there.
 fn next_valid<S: Source + Drop>(
     chart: &Chart,
     cards: &mut CardLines<S>,
     number: u32,
-) -> Result<Option<Card>, StreamCause>
+    next: &mut Option<Card>,
+) -> Result<(), StreamCause>
     requires well { cards.old.has_failed ≡ false }
     requires number { cards.old.given ≡ number }
     requires few { number ≤ most_cards }
     ensures read { (text : List ℕ) (before : List (List ℕ)) → HasToCome S.left text before cards.old → length before ≡ number →
-        MatchResult result (ReadsOn S.left text before cards.new) (HasCause chart.now text before) }
-    ensures valid { IfOk result (λ found. IfSome found (IsValidCard chart.now)) }
+        MatchResult result (λ _. ReadsOn S.left text before cards.new next.new) (HasCause chart.now text before) }
+    ensures valid { OnOk result (IfSome next.new (IsValidCard chart.now)) }
     ensures well { OnOk result (cards.new.has_failed ≡ false) }
-    ensures one_more { IfOk result (λ found. IfSome found (λ _. (cards.new.given ≡ number + 1) × (number < most_cards))) }
-    ensures all { IfOk result (λ found. IfNone found (IsAtEnd (S.left cards.new.source))) }
+    ensures one_more { OnOk result (IfSome next.new (λ _. (cards.new.given ≡ number + 1) × (number < most_cards))) }
+    ensures all { OnOk result (IfNone next.new (IsAtEnd (S.left cards.new.source))) }
     ensures kind { IfErr result IsOfNext }
     ensures failed { IfErr result (λ fault. (line : ℕ) → fault ≡ cause.Card (read.Read line) → S.has_failed cards.new.source ≡ true) }
     ensures same { S.borrow cards.new.source ≡ S.borrow cards.old.source }
 {
-    let next = cards.next_card()?;
-    if let Some(card) = &next {
+    match cards.next_card() {
+        Ok(found) => *next = found,
+        Err(fault) => return Err(fault.into()),
+    }
+    if let Some(card) = &*next {
         if let Err(fault) = valid_card(chart, card) {
             return Err(StreamCause::Invalid {
                 fault,
@@ -120,7 +126,7 @@ fn next_valid<S: Source + Drop>(
             });
         }
     }
-    Ok(next)
+    Ok(())
 }
 
 // The first misfit of the groups that end with the last card, given the next one; none before the first card.
@@ -138,7 +144,7 @@ fn try_totals(
         HaveLast chart.now.lines (cards ++ one ∷ []) (Some one) sums.new }
 {
     match last {
-        Some(card) => sums.take(chart, card, *next),
+        Some(card) => sums.take(chart, card, next),
         None => None,
     }
 }
