@@ -1,13 +1,15 @@
 -- What leads on between hubs, by their numbers.
-use Rattle.std.proofs.Common.{⊎_elim, ◌≡◌, ◌∙◌, sym, ap, subst, ℕ, Bool, true, Some, inr}
+use Rattle.std.proofs.Common.{⊎_elim, ◌≡◌, ◌≤◌, ◌-◌, ◌∙◌, sym, ap, subst, ℕ, Bool, true, Some, inr}
 use Rattle.std.proofs.lemmas.Option.{same_Some}
-use Rattle.hubs.proofs.HubLemmas.{number_of-injective}
+use Rattle.hubs.proofs.HubLemmas.{hub_numbered, number_of-injective, number_of-range}
 use Rattle.hubs.specs.Hubs.{number_of}
 use Rattle.hubs.specs.declared.hub.Hub.{Hub}
 use Rattle.setups.specs.Wiring.{Wiring, HasWire}
 use Rattle.net.specs.Panel.{contact_of}
 use Rattle.net.specs.Impulsed.{LeadsOn}
-use Rattle.ways.specs.Tables.{LeadsAt}
+use Rattle.bit_sets.specs.Bits.{has_place}
+use Rattle.net.specs.HubSets.{HubSet, has_hub, has_number}
+use Rattle.ways.specs.Tables.{LeadsAt, StartsAt}
 
 -- between two hubs with these numbers the one leads on to the other
 pub leads_between : (wiring : Wiring) (closed : Hub → Bool) (exit entry : Hub) (from to : ℕ) → number_of exit ≡ Some from
@@ -41,3 +43,14 @@ led_by_contact wiring closed exit entry common from to is and_is contact shut nu
       let same : common ≡ exit = number_of-injective common exit from numbered is in
       inr (contact ∙ ap Some same, shut);
 }
+
+-- where a stored set has a number, a way starts there, and only there
+pub starts_numbered : (exits : HubSet) (n : ℕ) → 1 ≤ n → n ≤ 1936 → has_place exits.words (n - 1) ≡ true → StartsAt (has_hub exits) n
+starts_numbered exits n low high has = let found = hub_numbered n low high in
+    record { hub = found.0; numbered = found.1; emits = ap (has_number exits) found.1 ∙ has }
+
+pub starts_in_range : (exits : Hub → Bool) (n : ℕ) → StartsAt exits n → (1 ≤ n) × (n ≤ 1936)
+starts_in_range exits n at = number_of-range at.hub n at.numbered
+
+pub starts_has : (exits : HubSet) (n : ℕ) → StartsAt (has_hub exits) n → has_place exits.words (n - 1) ≡ true
+starts_has exits n at = ap (has_number exits) (sym at.numbered) ∙ at.emits

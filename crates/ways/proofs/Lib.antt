@@ -2,3 +2,4 @@ pub mod Layers
 pub mod LeadsLemmas
 pub mod Passes
 pub mod WayLemmas
+mod Fills

@@ -122,47 +122,6 @@ IsPass-then level One Other old now new first second added is one other = record
   fewer false true e f g h i = let same = ap missing (g refl) in let other = h refl in omega (arith, same, other)
   fewer false false e f g h i = absurd (false≢true e)
 
--- one place further: it is filled, or nothing leads to it, or it was filled
-pub IsPass-led : (level to : ℕ) (Leads : ℕ → Type 0) (start steps : List ℕ) (added : Bool) → to < length steps → at steps to ≡ 0
-    → Leads to → IsPass level (λ h. (h < to) × Leads h) start steps added
-    → IsPass level (λ h. (h < to + 1) × Leads h) start (slice_set steps to (level + 1)) true
-IsPass-led level to Leads start steps added inside empty leads pass =
-    IsPass-as level (λ h. ((h < to) × Leads h) ⊎ ((h ≡ to) × Leads h)) (λ h. (h < to + 1) × Leads h) start _ true there back
-    (IsPass-then level (λ h. (h < to) × Leads h) (λ h. (h ≡ to) × Leads h) start steps _ added true true (sym (ends added)) pass
-    (IsPass-one level to (λ h. (h ≡ to) × Leads h) steps inside empty (refl, leads) (λ h led. led.0))) where
-      ends : (a : Bool) → (a || true) ≡ true
-      ends true = refl
-      ends false = refl
-
-      there : (h : ℕ) → ((h < to) × Leads h) ⊎ ((h ≡ to) × Leads h) → (h < to + 1) × Leads h
-      there h (inl below) = let low = below.0 in (omega (arith, low), below.1)
-      there h (inr here) = let same = here.0 in (omega (arith, same), here.1)
-
-      back : (h : ℕ) → (h < to + 1) × Leads h → ((h < to) × Leads h) ⊎ ((h ≡ to) × Leads h)
-      back h led = elim (cases_lt h to) [
-        | inl low ↦ inl (low, led.1)
-        | inr high ↦ let below = led.0 in inr (omega (arith, below, high), led.1)
-      ]
-
-pub IsPass-unled : (level to : ℕ) (Leads : ℕ → Type 0) (start steps : List ℕ) (added : Bool)
-    → (Leads to → 1 ≤ at steps to) → IsPass level (λ h. (h < to) × Leads h) start steps added
-    → IsPass level (λ h. (h < to + 1) × Leads h) start steps added
-IsPass-unled level to Leads start steps added filled pass = record {
-  long = pass.long;
-  kept = pass.kept;
-  gained = λ h was some. let found = pass.gained h was some in
-      let low = found.1.0 in (found.0, (omega (arith, low), found.1.1));
-  done = λ h led. elim (cases_lt h to) [
-    | inl low ↦ pass.done h (low, led.1)
-    | inr high ↦
-        let below = led.0 in
-        let same : h ≡ to = omega (arith, below, high) in
-        subst (λ (n : ℕ). 1 ≤ at steps n) (sym same) (filled (subst Leads same led.1))
-  ];
-  some = pass.some;
-  none = pass.none;
-}
-
 -- one hub further in a level: it stands there and leads on, or it doesn't stand there
 pub IsPass-from : (level n : ℕ) (Leads : ℕ → ℕ → Type 0) (start steps now : List ℕ) (first second added : Bool) → 1 ≤ level
     → at steps n ≡ level → added ≡ (first || second) → IsPass level (IsLedAt Leads level n start) start steps first

@@ -4,10 +4,11 @@ ghost use Rattle.std.specs.Prelude.{◌≡◌, ◌↔◌, true};
 ghost use Rattle.hubs.specs.Hubs.{number_of};
 ghost use Rattle.net.specs.HubSets.{has_hub};
 ghost use Rattle.net.specs.Panel.{contact_of};
-ghost use Rattle.ways.specs.Tables.{LeadsAt, StartsAt};
+ghost use Rattle.ways.specs.Tables.{LeadsAt, StartsAt, contacts_from};
 
+use bit_sets::has;
 use hubs::Hub;
-use net::{Contacts, Picture};
+use net::{Contacts, HUBS, Picture};
 use setups::Setup;
 
 // The hub from which a contact leads to this exit; none where none does.
@@ -46,12 +47,32 @@ pub(crate) fn leads(setup: &Setup, contacts: &Contacts, from: u16, to: u16) -> b
     }
 }
 
+// The hubs to which contacts lead from this one: none, one or two.
+pub(crate) fn contacts_from(common: Hub) -> (Option<Hub>, Option<Hub>)
+    ensures { result ≡ contacts_from common }
+{
+    match common {
+        Hub::CI(group) => (Some(Hub::CO(group)), None),
+        Hub::BAC(group, position) => (
+            Some(Hub::BAN(group, position)),
+            Some(Hub::BAT(group, position)),
+        ),
+        Hub::PIC(pilot, position) => (
+            Some(Hub::PIN(pilot, position)),
+            Some(Hub::PIT(pilot, position)),
+        ),
+        Hub::IE(level, position) => (Some(Hub::IX(level, position)), None),
+        Hub::CSE(split) => (Some(Hub::CSD(split)), Some(Hub::CSZ(split))),
+        _ => (None, None),
+    }
+}
+
 // Whether the hub with this number is one of the exits.
 pub(crate) fn is_start(exits: &Picture, number: u16) -> bool
     ensures { (result ≡ true) ↔ StartsAt (has_hub exits.now) number }
 {
-    match Hub::of_number(number as u32) {
-        Some(hub) => exits.has(hub),
-        None => false,
+    if number == 0 || number as usize > HUBS {
+        return false;
     }
+    has(exits.words(), number as usize - 1)
 }

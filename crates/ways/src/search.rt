@@ -1,10 +1,12 @@
 //! The search for shortest ways, layer by layer.
 
-ghost use Rattle.std.specs.Prelude.{◌≡◌, ◌<◌, ◌≤◌};
+ghost use Rattle.std.specs.Prelude.{◌≡◌, ◌<◌, ◌≤◌, All, Contains};
 ghost use Rattle.net.specs.HubSets.{has_hub};
-ghost use Rattle.ways.specs.Tables.{LeadsAt, StartsAt, IsLedAt, IsPass, IsStartTable, IsStepTable};
+ghost use Rattle.setups.specs.Wiring.{IsEntryNumber};
+ghost use Rattle.ways.specs.Tables.{LeadsAt, StartsAt, IsLedAt, IsPass, IsPassedTo, IsShutAt, IsStartTable, IsStepTable};
 
-use crate::leads::{is_start, leads};
+use crate::leads::{contacts_from, is_start};
+use hubs::Hub;
 use net::{Contacts, Picture};
 use setups::Setup;
 
@@ -51,7 +53,7 @@ fn spread_all(setup: &Setup, contacts: &Contacts, level: u16, steps: &mut [u16; 
     added
 }
 
-// Goes on from one hub of a level.
+// Goes on from one hub of a level: by its wires, and by the closed contacts that lead from it.
 fn spread(
     setup: &Setup,
     contacts: &Contacts,
@@ -62,12 +64,69 @@ fn spread(
     requires { level ≤ 2000 }
     ensures { IsPass level (LeadsAt setup.now (has_hub contacts.now) from) steps.old steps.new result }
 {
+    let Some(hub) = Hub::of_number(from as u32) else {
+        return false;
+    };
+    let mut added = fill_all(setup.entries_of(hub), level, steps);
+    added |= pass_contacts(contacts, hub, level, steps);
+    added
+}
+
+// Goes on by the closed contacts that lead from a hub.
+fn pass_contacts(contacts: &Contacts, common: Hub, level: u16, steps: &mut [u16; PLACES]) -> bool
+    requires { level ≤ 2000 }
+    ensures { IsPass level (IsPassedTo (has_hub contacts.now) common) steps.old steps.new result }
+{
+    let (one, other) = contacts_from(common);
+    let mut added = pass_contact(contacts, one, level, steps);
+    added |= pass_contact(contacts, other, level, steps);
+    added
+}
+
+// Goes on by the contact with an exit, where there is one and it is closed.
+fn pass_contact(
+    contacts: &Contacts,
+    exit: Option<Hub>,
+    level: u16,
+    steps: &mut [u16; PLACES],
+) -> bool
+    requires { level ≤ 2000 }
+    ensures { IsPass level (IsShutAt (has_hub contacts.now) exit) steps.old steps.new result }
+{
+    let Some(exit) = exit else {
+        return false;
+    };
+    if !contacts.has(exit) {
+        return false;
+    }
+    match exit.number() {
+        Some(number) => fill(number as u16, level, steps),
+        None => false,
+    }
+}
+
+// Fills the places of a table with these numbers, where they are empty.
+fn fill_all(entries: &[u16], level: u16, steps: &mut [u16; PLACES]) -> bool
+    requires level { level ≤ 2000 }
+    requires entries { All IsEntryNumber entries.now }
+    ensures { IsPass level (Contains entries.now) steps.old steps.new result }
+{
     let mut added = false;
-    for to in 0..PLACES {
-        if steps[to] == 0 && leads(setup, contacts, from, to as u16) {
-            steps[to] = level + 1;
-            added = true;
-        }
+    for to in entries {
+        added |= fill(*to, level, steps);
     }
     added
+}
+
+// Fills a place of a table, where it is empty.
+fn fill(to: u16, level: u16, steps: &mut [u16; PLACES]) -> bool
+    requires level { level ≤ 2000 }
+    requires to { to < 1937 }
+    ensures { IsPass level (λ h. h ≡ to) steps.old steps.new result }
+{
+    if steps[to as usize] != 0 {
+        return false;
+    }
+    steps[to as usize] = level + 1;
+    true
 }

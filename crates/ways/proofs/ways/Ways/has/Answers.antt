@@ -1,4 +1,4 @@
-use Rattle.std.proofs.Common.{◌≡◌, sym, ◌↔◌, ℕ, zero, suc, ◌≤◌, Some, None, Option, not, nat_eq, true, arith}
+use Rattle.std.proofs.Common.{◌≡◌, sym, ℕ, ◌≤◌, Some, None, Option, not, nat_eq, true, arith}
 use Rattle.std.proofs.lemmas.Bool.{false≢true}
 use Rattle.std.proofs.lemmas.Bool.Decides.{nat_tests}
 use Rattle.ways.proofs.WayLemmas.{impulsed_stands, stands_as_impulsed}
