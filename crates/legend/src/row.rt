@@ -66,14 +66,14 @@ impl Row {
                 "A field by itself needs no wire: the lines that name it say where its columns lead."
             }
             Row::SignedField => {
-                "The sign column at first reading picks up the pilot of the amount, if a line shows the amount: so the pilot stands right in the next cycle, in which the card is printed and added."
+                "The sign column at first reading picks up the pilot of the amount, if a line shows the amount: so the pilot stands right in the card's own cycle, in which the amount is printed or added."
             }
             Row::Control => {
                 "Each column is compared between the card at first reading and the card before it at second reading; where the two differ, the program cycles of the level follow."
             }
             Row::PrintDetail => { "Card cycles print, so each card has a line." }
             Row::PrintGroup => {
-                "Card cycles print nothing and only feed the counters: nothing is plugged for it."
+                "LIST stays unplugged: card cycles print nothing, so no card has a line."
             }
             Row::Heading => {
                 "In the heading cycle of this line its emitter sends each character's rows to the character's wheel; HEAD is plugged for this heading line and those above it."
@@ -88,10 +88,10 @@ impl Row {
                 "Each column at second reading leads to its wheel through an indicate position of the level, which is closed for the first card of each group alone."
             }
             Row::DetailAmount => {
-                "Each column at second reading leads to the wheel of its digit, a column that has the sign through a split, which keeps row 11 from the wheel; emitter 4 sends the point of an amount with decimals, and zero control leaves zeros before the first figure blank."
+                "Each column at second reading leads to the wheel of its digit; emitter 4 sends the point, if there are decimals; zero control leaves blank the zeros before the first figure, except the last digit and those behind the point."
             }
             Row::MarkedAmount => {
-                "As for every amount on the line of a card; the mark comes from emitter 4 through the side of the amount's pilot that is closed for a negative card."
+                "Each column at second reading leads to the wheel of its digit, the sign column, if it is one of them, through a split, which keeps row 11 from the wheel; emitter 4 sends the point, if there are decimals, and the mark through the side of the amount's pilot that is closed for a negative card; zero control leaves blank the zeros before the first figure, except the last digit and those behind the point, and a mark that has no figure before it."
             }
             Row::TotalLiteral => {
                 "In the third program cycle of the level its emitter sends each character's rows to the character's wheel."
