@@ -1,0 +1,6 @@
+mod Cards
+mod Lines
+mod Sums
+mod Steps
+mod Whole
+pub mod Silent

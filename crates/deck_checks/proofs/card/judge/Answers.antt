@@ -1,0 +1,15 @@
+use Rattle.std.proofs.Common.{refl}
+use Rattle.std.proofs.lemmas.Result.{err_from_is_err_and}
+use Rattle.deck_checks.proofs.Cards.{invalid_is_bad}
+use Rattle.deck_checks.specs.BadLines.{no_card}
+use Rattle.deck_checks.proofs.card.judge.Goals as goal
+
+pub returns-in_err-card-clause-bad : goal.returns-in_err-card-clause-bad
+returns-in_err-card-clause-bad c =
+    let p = err_from_is_err_and c.from_residual.result c.from_residual.ensures.1 in
+    rw (p.1, p.2) (no_card _ c.in_err-card.ensures.fault refl)
+
+pub returns-in-Err-clause-bad : goal.returns-in-Err-clause-bad
+returns-in-Err-clause-bad c =
+    rw c.told_of.ensures
+    (invalid_is_bad c.args.chart.now c.args.number c.args.line.now c.in_ok-card.card c.in-Err.fault c.in_ok-card.ensures.card c.in-Err.ensures.first)

@@ -1,0 +1,7 @@
+pub mod BadLines
+pub mod Endings
+pub mod HelperLines
+pub mod HelperStanding
+pub mod HelperTold
+pub mod Laws
+pub mod Listings
