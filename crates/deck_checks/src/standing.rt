@@ -47,7 +47,7 @@ fn try_totals<'a>(
         AreBeforeLast chart.now.lines (cards ++ one ∷ []) (Some one) sums.new }
 {
     match last {
-        Some(card) => match sums.take(chart, card, *next) {
+        Some(card) => match sums.take(chart, card, next) {
             Some(misfit) => Some(told_of(misfit)),
             None => None,
         },
