@@ -93,8 +93,8 @@ pub(crate) fn step<S: Source + Drop, W: Sink + Drop>(
     Ok(true)
 }
 
-// Puts the next card in its place, if it is valid for the chart, or `None` at the end of the deck; `number` cards were read before. A card is
-// copied once on its way there.
+// Puts the next card in its place, if it is valid for the chart, or `None` at the end of the deck; `number` cards were read before. A card
+// that were answered would be copied more often.
 fn next_valid<S: Source + Drop>(
     chart: &Chart,
     cards: &mut CardLines<S>,
