@@ -12,7 +12,7 @@ use Rattle.explanation_text.specs.Text.{AreNotes, IsTextOf, cycle_line, led_text
 use Rattle.explanation_text.specs.Text.AreNotes.{none as no-notes, more as more-notes}
 use Rattle.explanation_text.specs.Text.AreRowTexts.{begun, more as more-rows}
 use Rattle.explanation_text.specs.Text.IsRowText.{silent, told as told-row}
-use Rattle.explanation_text.specs.Writing.{GainsNotes, GainsRow, GainsRows}
+use Rattle.explanation_text.specs.Writing.{GainsClosing, GainsNotes, GainsRow, GainsRows}
 
 -- three pieces, one behind the other
 pub three_pieces : (old one two new a b c : List ℕ) → one ≡ old ++ a → two ≡ one ++ b → new ≡ two ++ c → new ≡ old ++ (a ++ b ++ c)
@@ -89,16 +89,19 @@ led_more old mid new hubs place hub less item before one =
     ∙ ap (λ (l : List Hub). old ++ flat_map led_text l)
     (sym (take_more hubs place hub less ∙ ap (λ (h : Hub). take place hubs ++ h ∷ []) item))
 
-pub text_whole : (asked : List (String Global × Wiring)) (told : Explanation) (one two three text closing : List ℕ) → one ≡ page_line told
-    → two ≡ one ++ cycle_line told.cycle told.cards → GainsRows asked told.rows.items 12 two three → text ≡ three ++ closing
+pub text_whole : (asked : List (String Global × Wiring)) (told : Explanation) (one two three text : List ℕ) → one ≡ page_line told
+    → two ≡ one ++ cycle_line told.cycle told.cards → GainsRows asked told.rows.items 12 two three → GainsClosing three text
     → IsTextOf asked told text
-text_whole asked told one two three text closing first second third last = record {
+text_whole asked told one two three text first second third last = record {
   rows = third.lines;
-  closing = closing;
+  character = last.character;
+  control = last.control;
   are_rows = third.are;
+  is_character = last.is_character;
+  is_control = last.is_control;
   spelled =
-      last
-      ∙ ap (λ (l : List ℕ). l ++ closing)
+      last.gained
+      ∙ ap (λ (l : List ℕ). l ++ last.character ++ last.control)
       (third.gained ∙ ap (λ (l : List ℕ). l ++ third.lines) (second ∙ ap (λ (l : List ℕ). l ++ cycle_line told.cycle told.cards) first));
 }
 

@@ -1,3 +1,5 @@
 mod Asking
+mod Closing
 mod Gains
+mod OnlyWays
 mod Places

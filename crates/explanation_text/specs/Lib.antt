@@ -2,3 +2,4 @@ pub mod Asked
 pub mod Text
 pub mod Told
 pub mod Writing
+pub mod Laws

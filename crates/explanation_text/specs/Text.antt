@@ -1,6 +1,6 @@
 -- The text of an explanation. Its first line tells the place and the character, the second the cycle. Then comes for each row that the
--- wheel received a line with the way, and behind it notes in words, which two spaces set off, and who asks for its wires. Other words may
--- follow at the end.
+-- wheel received a line with the way, and behind it notes in words, which two spaces set off, and who asks for its wires. At the end come
+-- a line that tells which character the rows are, and a line on zero control, where there is one.
 use Rattle.std.specs.Prelude.{◌≡◌, ℕ, ◌+◌, ◌-◌, ◌<◌, ◌==◌, Bool, true, false, List, [], ◌∷◌, ◌++◌, Option, Some, None, Vec, codes, decimal, length, String, slice_index_or, if◌then◌else◌, nat_lt}
 use Rattle.std.specs.List.{flat_map}
 use Rattle.std.specs.declared.alloc.Global.{Global}
@@ -91,10 +91,14 @@ cycle_line Card cards = codes "cycle Card " ++ decimal cards ++ codes "\n"
 cycle_line (Prog level ordinal) cards = program_line (level_number level) (ordinal_number ordinal) cards
 cycle_line (Head heading) cards = heading_line (ordinal_number heading) cards
 
+-- words that don't end a line
+abbrev pub IsPlain : List ℕ → Type 0
+IsPlain words = (place : ℕ) → place < length words → slice_index_or words place 0 ≡ 10 → ⊥
+
 -- A note is one line, which two spaces set off: so no line of it is taken for another's.
 pub record IsNote (line : List ℕ) : Type 0 where
   pub words : List ℕ
-  pub plain : (place : ℕ) → place < length words → slice_index_or words place 0 ≡ 10 → ⊥
+  pub plain : IsPlain words
   pub spelled : line ≡ codes "  " ++ words ++ codes "\n"
 
 pub data AreNotes : List ℕ → Type 0 where
@@ -115,9 +119,33 @@ pub data AreRowTexts (asked : List (String Global × Wiring)) (rows : List (Opti
       (place : ℕ) (text lines : List ℕ) → AreRowTexts asked rows place text
       → IsRowText asked place (slice_index_or rows place None) lines → AreRowTexts asked rows (place + 1) (text ++ lines)
 
+-- what the one row of a place is, and what several rows are
+abbrev pub row_is : ℕ → List ℕ → List ℕ
+row_is place words = codes "row " ++ decimal (row_at place) ++ codes " is " ++ words ++ codes "\n"
+
+abbrev pub rows_are : List ℕ → List ℕ
+rows_are words = codes "rows " ++ words ++ codes "\n"
+
+-- a line that tells which character the rows are, or none
+pub data IsCharacterLine : List ℕ → Type 0 where
+  silent : IsCharacterLine []
+  one : (place : ℕ) (words : List ℕ) → place < 12 → IsPlain words → IsCharacterLine (row_is place words)
+  several : (words : List ℕ) → IsPlain words → IsCharacterLine (rows_are words)
+
+-- a line that tells what zero control did, or none
+abbrev pub control_line : List ℕ → List ℕ
+control_line words = codes "zero control: " ++ words ++ codes "\n"
+
+pub data IsControlLine : List ℕ → Type 0 where
+  silent : IsControlLine []
+  told : (words : List ℕ) → IsPlain words → IsControlLine (control_line words)
+
 -- The text of an explanation, where it is known who asks for wires.
 pub record IsTextOf (asked : List (String Global × Wiring)) (told : Explanation) (text : List ℕ) : Type 0 where
   pub rows : List ℕ
-  pub closing : List ℕ
+  pub character : List ℕ
+  pub control : List ℕ
   pub are_rows : AreRowTexts asked told.rows.items 12 rows
-  pub spelled : text ≡ page_line told ++ cycle_line told.cycle told.cards ++ rows ++ closing
+  pub is_character : IsCharacterLine character
+  pub is_control : IsControlLine control
+  pub spelled : text ≡ page_line told ++ cycle_line told.cycle told.cards ++ rows ++ character ++ control

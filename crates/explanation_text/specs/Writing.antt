@@ -3,12 +3,7 @@ use Rattle.std.specs.Prelude.{◌≡◌, ℕ, List, ◌++◌, Option, String, Ve
 use Rattle.std.specs.declared.alloc.Global.{Global}
 use Rattle.hubs.specs.declared.hub.Hub.{Hub}
 use Rattle.setups.specs.Wiring.{Wiring}
-use Rattle.explanation_text.specs.Text.{AreNotes, AreRowTexts, IsRowText}
-
--- some words
-pub record GainsWords (old new : List ℕ) : Type 0 where
-  pub words : List ℕ
-  pub gained : new ≡ old ++ words
+use Rattle.explanation_text.specs.Text.{AreNotes, AreRowTexts, IsCharacterLine, IsControlLine, IsRowText}
 
 -- some notes
 pub record GainsNotes (old new : List ℕ) : Type 0 where
@@ -28,3 +23,23 @@ pub record GainsRows (asked : List (String Global × Wiring)) (rows : List (Opti
   pub lines : List ℕ
   pub are : AreRowTexts asked rows count lines
   pub gained : new ≡ old ++ lines
+
+-- the line that tells which character the rows are, where there is one
+pub record GainsCharacter (old new : List ℕ) : Type 0 where
+  pub line : List ℕ
+  pub is : IsCharacterLine line
+  pub gained : new ≡ old ++ line
+
+-- the line on zero control, where there is one
+pub record GainsControl (old new : List ℕ) : Type 0 where
+  pub line : List ℕ
+  pub is : IsControlLine line
+  pub gained : new ≡ old ++ line
+
+-- both
+pub record GainsClosing (old new : List ℕ) : Type 0 where
+  pub character : List ℕ
+  pub control : List ℕ
+  pub is_character : IsCharacterLine character
+  pub is_control : IsControlLine control
+  pub gained : new ≡ old ++ character ++ control

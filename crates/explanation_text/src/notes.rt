@@ -2,7 +2,8 @@
 
 ghost use Rattle.std.specs.Prelude.{◌≡◌, ◌<◌, ◌≤◌, ℕ, true, OnOk, length, slice_index_or};
 ghost use Rattle.std.specs.String.{string_bytes};
-ghost use Rattle.explanation_text.specs.Writing.{GainsNotes, GainsWords};
+ghost use Rattle.explanation_text.specs.Text.{IsPlain};
+ghost use Rattle.explanation_text.specs.Writing.{GainsNotes};
 
 use crate::names::{is_contact_exit, row_at, write_hub};
 use explanations::FoundLine;
@@ -11,8 +12,8 @@ use net::Cycle;
 use std::alloc::{AllocError, Global};
 
 // Whether words have no end of a line.
-fn is_plain(words: &[u8]) -> bool
-    ensures { result ≡ true → (place : ℕ) → place < length words.now → slice_index_or words.now place 0 ≡ 10 → ⊥ }
+pub(crate) fn is_plain(words: &[u8]) -> bool
+    ensures { result ≡ true → IsPlain words.now }
 {
     for byte in words {
         if *byte == b'\n' {

@@ -12,7 +12,7 @@ ghost use Rattle.explanation_text.specs.Writing.{GainsRow, GainsRows};
 use crate::asked::write_asked;
 use crate::lines::{write_cycle_line, write_page_line, write_row_line};
 use crate::notes::write_notes;
-use crate::zero_control::closing_words;
+use crate::zero_control::write_closing;
 use card_code::Card;
 use explanations::{Explanation, LineWays, Refusal, find_line};
 use setups::Setup;
@@ -68,8 +68,7 @@ pub fn wheel_text(
     write_page_line(&mut text, told)?;
     write_cycle_line(&mut text, told.cycle, told.cards)?;
     write_rows(alloc, &mut text, asked, line, told)?;
-    let closing = closing_words(alloc, setup, line, told)?;
-    text.push_str(&closing)?;
+    write_closing(alloc, &mut text, setup, line, told)?;
     Ok(text)
 }
 

@@ -1,45 +1,108 @@
 //! The words behind the rows: which character they are, and what zero control did.
 
-ghost use Rattle.std.specs.Prelude.{◌≡◌, ◌≤◌, ◌<◌, OnOk, length};
+ghost use Rattle.std.specs.Prelude.{◌≡◌, ◌≤◌, ◌<◌, ◌++◌, OnOk, codes, decimal, length};
+ghost use Rattle.explanation_text.specs.Text.{row_at};
 ghost use Rattle.std.specs.String.{string_bytes};
-ghost use Rattle.explanation_text.specs.Writing.{GainsWords};
+ghost use Rattle.explanation_text.specs.Writing.{GainsCharacter, GainsClosing, GainsControl};
 
 use crate::names::row_at;
-use crate::notes::write_of_number;
+use crate::notes::{is_plain, write_of_number};
 use card_code::{Column, ROWS};
 use explanations::{Explanation, LineWays, Significance};
 use hubs::{Hub, Jack};
 use setups::Setup;
 use std::alloc::{AllocError, Global};
 
-// The words behind the rows. What they say is not told by contracts.
-pub(crate) fn closing_words(
+#[tactic(auto, using(crate::proofs::Closing::closing_both))]
+// The lines behind the rows. Which of them stand, and how they begin, is told by contracts, and not what else they say.
+pub(crate) fn write_closing(
     alloc: Global,
+    text: &mut String,
     setup: &Setup,
     line: &LineWays,
     told: &Explanation,
-) -> Result<String, AllocError>
+) -> Result<(), AllocError>
     requires rows { 12 ≤ length told.now.rows.items }
     requires ways { 12 ≤ length line.now.ways.items }
+    ensures { OnOk result (GainsClosing (string_bytes text.old) (string_bytes text.new)) }
 {
-    let mut words = String::new(alloc);
-    write_character_of_rows(&mut words, told)?;
-    write_zero_control(&mut words, setup, line, told)?;
-    Ok(words)
+    write_character_of_rows(alloc, text, told)?;
+    write_zero_control(alloc, text, setup, line, told)
 }
 
+#[tactic(auto, using(crate::proofs::Closing::character_none))]
 // Which rows were received, and the character that they are.
-fn write_character_of_rows(words: &mut String, told: &Explanation) -> Result<(), AllocError>
+fn write_character_of_rows(
+    alloc: Global,
+    text: &mut String,
+    told: &Explanation,
+) -> Result<(), AllocError>
     requires { 12 ≤ length told.now.rows.items }
+    ensures { OnOk result (GainsCharacter (string_bytes text.old) (string_bytes text.new)) }
 {
     let count = received_count(told);
     if count == 0 {
         return Ok(());
     }
-    words.push_str(if count == 1 { "row " } else { "rows " })?;
-    write_received(words, told, count)?;
-    words.push_str(if count == 1 { " is " } else { " are " })?;
-    write_printed(words, received_column(told).print_character())
+    let mut words = String::new(alloc);
+    if count == 1 {
+        write_printed(&mut words, received_column(told).print_character())?;
+        return write_row_is(text, received_place(told), &words);
+    }
+    write_received(&mut words, told, count)?;
+    words.push_str(" are ")?;
+    write_printed(&mut words, received_column(told).print_character())?;
+    write_rows_are(text, &words)
+}
+
+#[tactic(auto, using(crate::proofs::Closing::character_none, crate::proofs::Closing::character_one))]
+// What the row at a place is. Words that have an end of a line, as none have, are left out.
+fn write_row_is(text: &mut String, place: usize, words: &str) -> Result<(), AllocError>
+    requires { place < 12 }
+    ensures { OnOk result (GainsCharacter (string_bytes text.old) (string_bytes text.new)) }
+{
+    if !is_plain(words.as_bytes()) {
+        return Ok(());
+    }
+    write_row(text, place)?;
+    text.push_str(" is ")?;
+    text.push_str(words)?;
+    text.push_str("\n")
+}
+
+#[tactic(auto, using(crate::proofs::Closing::character_none, crate::proofs::Closing::character_many))]
+// What several rows are. Words that have an end of a line, as none have, are left out.
+fn write_rows_are(text: &mut String, words: &str) -> Result<(), AllocError>
+    ensures { OnOk result (GainsCharacter (string_bytes text.old) (string_bytes text.new)) }
+{
+    if !is_plain(words.as_bytes()) {
+        return Ok(());
+    }
+    text.push_str("rows ")?;
+    text.push_str(words)?;
+    text.push_str("\n")
+}
+
+// The row at a place.
+fn write_row(text: &mut String, place: usize) -> Result<(), AllocError>
+    requires { place < 12 }
+    ensures { OnOk result (string_bytes text.new ≡ string_bytes text.old ++ (codes "row " ++ decimal (row_at place))) }
+{
+    let row = row_at(place);
+    write!(text, "row {row}")
+}
+
+// The place of the first row that was received.
+fn received_place(told: &Explanation) -> usize
+    requires { 12 ≤ length told.now.rows.items }
+    ensures { result < 12 }
+{
+    for place in 0..12 {
+        if told.rows[place].is_some() {
+            return place;
+        }
+    }
+    0
 }
 
 // How many rows were received.
@@ -86,10 +149,10 @@ fn write_received(words: &mut String, told: &Explanation, count: u32) -> Result<
 fn write_printed(words: &mut String, character: u8) -> Result<(), AllocError> {
     if character == b' ' {
         words.push_str("no character: a blank")?;
+        Ok(())
     } else {
-        words.push(char::from(character))?;
+        words.push(char::from(character))
     }
-    words.push_str("\n")
 }
 
 // A row of a list of so many, behind those that are written.
@@ -108,25 +171,41 @@ fn write_listed(
     write_of_number(words, "", row_at(place), "")
 }
 
+#[tactic(auto, using(crate::proofs::Closing::control_none))]
 // What zero control did to the wheel; nothing where it has neither of the jacks.
 fn write_zero_control(
-    words: &mut String,
+    alloc: Global,
+    text: &mut String,
     setup: &Setup,
     line: &LineWays,
     told: &Explanation,
 ) -> Result<(), AllocError>
     requires rows { 12 ≤ length told.now.rows.items }
     requires ways { 12 ≤ length line.now.ways.items }
+    ensures { OnOk result (GainsControl (string_bytes text.old) (string_bytes text.new)) }
 {
     let is_symbol = setup.has_jack(Jack::Symbol(told.wheel));
     if !is_symbol && !setup.has_jack(Jack::Suppress(told.wheel)) {
         return Ok(());
     }
-    words.push_str("zero control: a ")?;
-    words.push_str(if is_symbol { "SYMBOL" } else { "SUPPRESS" })?;
+    let mut words = String::new(alloc);
+    words.push_str(if is_symbol { "a SYMBOL" } else { "a SUPPRESS" })?;
     words.push_str(" wheel")?;
-    write_significance(words, line, told, is_symbol)?;
-    words.push_str("\n")
+    write_significance(&mut words, line, told, is_symbol)?;
+    write_control(text, &words)
+}
+
+#[tactic(auto, using(crate::proofs::Closing::control_none, crate::proofs::Closing::control_told))]
+// A line on zero control. Words that have an end of a line, as none have, are left out.
+fn write_control(text: &mut String, words: &str) -> Result<(), AllocError>
+    ensures { OnOk result (GainsControl (string_bytes text.old) (string_bytes text.new)) }
+{
+    if !is_plain(words.as_bytes()) {
+        return Ok(());
+    }
+    text.push_str("zero control: ")?;
+    text.push_str(words)?;
+    text.push_str("\n")
 }
 
 // Whether a SYMBOL wheel, or a SUPPRESS wheel, prints what it received, and why.

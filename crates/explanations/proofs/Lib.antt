@@ -8,3 +8,4 @@ mod RowLists
 mod SeenRows
 mod Told
 mod ZeroControl
+mod LineFeeding

@@ -4,3 +4,4 @@ pub mod Refusals
 pub mod Rows
 pub mod Pages
 pub mod PageFeeds
+pub mod LineFeeds

@@ -1,6 +1,6 @@
 -- The lines that a run over a deck places on a page, each with its cycle.
 use Rattle.std.specs.Prelude.{◌≡◌, ℕ, List, All, map}
-use Rattle.std.specs.List.{filter}
+use Rattle.std.specs.List.{AllZip, filter}
 use Rattle.placed_lines.specs.declared.placed_line.PlacedLine.{PlacedLine}
 use Rattle.setups.specs.Wiring.{Wiring}
 use Rattle.machine.specs.Kept.{is_on}
@@ -39,3 +39,13 @@ pub record IsPageOfSome (wiring : Wiring) (lines : List LineWays) : Type 0 where
   pub deck : List (List ℕ)
   pub page : ℕ
   pub is : IsPage wiring deck page lines
+
+-- The cycle that placed a printed line, told by its page and its line on the page.
+pub record IsFoundLine (wiring : Wiring) (deck : List (List ℕ)) (placed : PlacedLine) (one : FoundLine) : Type 0 where
+  pub found : IsFound wiring deck one
+  pub at_page : one.kept.line.page ≡ placed.page
+  pub at_line : one.kept.line.line ≡ placed.line
+
+-- the cycles that placed some lines, one for each, in their order
+abbrev pub AreFoundLines : Wiring → List (List ℕ) → List PlacedLine → List FoundLine → Type 0
+AreFoundLines wiring deck lines found = AllZip (IsFoundLine wiring deck) lines found

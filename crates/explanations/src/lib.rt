@@ -9,6 +9,7 @@
 mod explanation;
 mod found;
 pub mod laws;
+mod lines;
 mod page;
 mod refusal;
 mod rows;
@@ -16,6 +17,7 @@ mod significance;
 
 pub use explanation::{Explanation, LineWays, explain};
 pub use found::{FoundLine, find_line};
+pub use lines::find_lines;
 pub use page::{PageWays, find_page};
 pub use refusal::Refusal;
 pub use significance::Significance;
