@@ -1,19 +1,17 @@
 -- What is told, wheel by wheel and line by line.
-use Rattle.std.proofs.Common.{◌≡◌, ◌∙◌, ap, sym, subst, refl, arith, Bool, true, false, ℕ, ◌+◌, ◌<◌, ◌≤◌, ◌==◌, List, [], ◌∷◌, ◌++◌, append_assoc, append-nil, flat_map, get_or, length, take}
-use Rattle.std.specs.Prelude.{All, String, if◌then◌else◌, map}
+use Rattle.std.proofs.Common.{zero, suc, ◌≡◌, ◌∙◌, ap, sym, subst, refl, arith, Bool, true, false, ℕ, ◌+◌, ◌<◌, ◌≤◌, ◌==◌, List, [], ◌∷◌, ◌++◌, append_assoc, append-nil, flat_map, get_or, length, take}
+use Rattle.std.specs.Prelude.{String, if◌then◌else◌, map}
 use Rattle.std.specs.List.{range_with_len}
 use Rattle.std.specs.declared.alloc.Global.{Global}
 use Rattle.std.proofs.lemmas.Bool.{eqb-true, eq-eqb}
 use Rattle.std.proofs.lemmas.List.{map-append, take_all, take_more}
-use Rattle.std.proofs.lemmas.List.Elements.{All-append, All-cons, All-contains, All-nil}
+use Rattle.std.proofs.lemmas.List.Elements.{All-append, All-cons, All-nil}
 use Rattle.placed_lines.specs.declared.placed_line.PlacedLine.{PlacedLine}
 use Rattle.setups.specs.Wiring.{Wiring}
-use Rattle.machine.specs.Kept.{IsElsewhere}
-use Rattle.machine.proofs.OneOutcome.{MachineLines-one}
 use Rattle.explanations.specs.Explanations.{IsExplanation, character_on}
 use Rattle.explanations.specs.declared.explanation.Explanation.{Explanation}
 use Rattle.explanations.specs.declared.found.FoundLine.{FoundLine}
-use Rattle.explanations.specs.PlacedInRun.{PrintsLine, PrintsNoneAt}
+use Rattle.explanations.specs.Pages.{AreFoundLines, IsFoundLine}
 use Rattle.markup.proofs.Pieces.{numbers_more}
 use Rattle.wheel_sections.specs.Helper.{GainsTold, IsToldOf}
 use Rattle.wheel_sections.specs.Told.{AreTold, IsTold, WheelPlace, place_of, printed_by, printed_on, printed_places}
@@ -142,11 +140,27 @@ explained_there wiring deck found page line wheel told at_page at_line is =
     subst (λ (l : ℕ). IsExplanation wiring deck page l wheel told) at_line
     (subst (λ (p : ℕ). IsExplanation wiring deck p found.kept.line.line wheel told) at_page is)
 
--- a printed line stands where it stands
-pub stands_there : (wiring : Wiring) (deck : List (List ℕ)) (placed : PlacedLine) → PrintsLine wiring deck placed
-    → PrintsNoneAt wiring deck placed.page placed.line → ⊥
-stands_there wiring deck placed prints none =
-    let same : none.lines ≡ prints.lines = MachineLines-one wiring deck none.lines prints.lines none.run prints.run in
-    let elsewhere : All (IsElsewhere placed.page placed.line) prints.lines =
-    subst (λ (l : List PlacedLine). All (IsElsewhere placed.page placed.line) l) same none.elsewhere in
-    All-contains (IsElsewhere placed.page placed.line) prints.lines placed elsewhere prints.printed (refl, refl)
+-- the cycles of lines are as many as the lines
+pub found_long : (wiring : Wiring) (deck : List (List ℕ)) (lines : List PlacedLine) (found : List FoundLine)
+    → AreFoundLines wiring deck lines found → length found ≡ length lines
+found_long wiring deck [] [] are = refl
+found_long wiring deck [] (one ∷ found) are = absurd are
+found_long wiring deck (line ∷ lines) [] are = absurd are
+found_long wiring deck (line ∷ lines) (one ∷ found) are = ap suc (found_long wiring deck lines found are.1)
+
+-- each is that of its line
+found_there : (wiring : Wiring) (deck : List (List ℕ)) (lines : List PlacedLine) (found : List FoundLine) (place : ℕ)
+    (d : PlacedLine) (e : FoundLine) → AreFoundLines wiring deck lines found → place < length lines
+    → IsFoundLine wiring deck (get_or lines place d) (get_or found place e)
+found_there wiring deck [] found place d e are less = absurd (omega (arith, less))
+found_there wiring deck (line ∷ lines) [] place d e are less = absurd are
+found_there wiring deck (line ∷ lines) (one ∷ found) zero d e are less = are.0
+found_there wiring deck (line ∷ lines) (one ∷ found) (suc place) d e are less =
+    found_there wiring deck lines found place d e are.1 (omega (arith, less))
+
+pub found_is : (wiring : Wiring) (deck : List (List ℕ)) (lines : List PlacedLine) (found : List FoundLine) (place : ℕ)
+    (d : PlacedLine) (one : FoundLine) → AreFoundLines wiring deck lines found → place < length lines → one ≡ get_or found place one
+    → IsFoundLine wiring deck (get_or lines place d) one
+found_is wiring deck lines found place d one are less is =
+    subst (λ (f : FoundLine). IsFoundLine wiring deck (get_or lines place d) f) (sym is)
+    (found_there wiring deck lines found place d one are less)

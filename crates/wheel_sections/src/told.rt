@@ -3,13 +3,14 @@
 ghost use Rattle.std.specs.Prelude.{◌≡◌, ◌≤◌, ◌<◌, ◌+◌, [], All, IfOk, OnOk, length};
 ghost use Rattle.std.specs.List.{flat_map, range_with_len};
 ghost use Rattle.card_code.specs.MostCards.{most_cards};
+ghost use Rattle.explanations.specs.Pages.{IsFoundLine};
 ghost use Rattle.explanations.specs.PlacedInRun.{PrintsLine};
 ghost use Rattle.wheel_sections.specs.Helper.{AreWaysOfLine, GainsTold, IsToldOf};
 ghost use Rattle.wheel_sections.specs.Told.{AreTold, printed_by, printed_on, printed_places};
 
 use card_code::Card;
 use explanation_text::wheel_text;
-use explanations::{Explanation, LineWays, find_line};
+use explanations::{Explanation, FoundLine, LineWays, find_lines};
 use placed_lines::PlacedLine;
 use setups::Setup;
 use std::alloc::{AllocError, Global};
@@ -87,7 +88,7 @@ fn push_wheels(
     Ok(())
 }
 
-// What is told of a line that the setup prints of the deck.
+// What is told of a line, by the cycle that placed it.
 fn push_line(
     alloc: Global,
     told: &mut Vec<ToldWheel>,
@@ -95,21 +96,19 @@ fn push_line(
     asked: &[(String, Setup)],
     cards: &[Card],
     placed: &PlacedLine,
+    found: &FoundLine,
 ) -> Result<(), AllocError>
-    requires few { length cards.now ≤ most_cards }
-    requires printed { PrintsLine setup.now cards.now placed.now }
+    requires { IsFoundLine setup.now cards.now placed.now found.now }
     ensures { OnOk result (GainsTold setup.now asked.now cards.now (printed_on placed.now) told.old.items told.new.items) }
 {
-    let Some(found) = find_line(alloc, setup, cards, placed.page, placed.line)? else {
-        unreachable!();
-    };
-    let line = LineWays::of(alloc, setup, found)?;
+    let line = LineWays::of(alloc, setup, *found)?;
     push_wheels(alloc, told, setup, asked, cards, placed, &line)
 }
 
 /// What is told of the printed characters of lines that a setup of the panel prints of a deck of at most 999,999 cards: for each its
 /// explanation and the words of it, in the order of the lines and of their wheels. `asked` names who asks for wires, as for
-/// [`explanation_text::explain_text`]. Fails only where no memory is left.
+/// [`explanation_text::explain_text`]. Where the lines are the first ones of the run, the deck is run once, up to the last of them. Fails
+/// only where no memory is left.
 pub fn told_wheels(
     alloc: Global,
     setup: &Setup,
@@ -121,9 +120,18 @@ pub fn told_wheels(
     requires printed { All (PrintsLine setup.now cards.now) lines.now }
     ensures { IfOk result (λ told. AreTold setup.now asked.now cards.now (printed_places lines.now) told.items) }
 {
+    let found = find_lines(alloc, setup, cards, lines)?;
     let mut told = Vec::new(alloc);
-    for placed in lines {
-        push_line(alloc, &mut told, setup, asked, cards, placed)?;
+    for place in 0..lines.len() {
+        push_line(
+            alloc,
+            &mut told,
+            setup,
+            asked,
+            cards,
+            &lines[place],
+            &found[place],
+        )?;
     }
     Ok(told)
 }

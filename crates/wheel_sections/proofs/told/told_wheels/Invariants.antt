@@ -4,6 +4,5 @@ use Rattle.wheel_sections.specs.Told.{printed_places}
 use Rattle.wheel_sections.proofs.told.told_wheels.Given as goal
 
 -- the lines so far are told of
-abbrev pub invariant-loop-placed : goal.invariant-loop-placed
-invariant-loop-placed l =
-    GainsTold l.setup l.asked l.cards (printed_places (take l.placed-index l.lines)) [] l.told.items
+abbrev pub invariant-loop-place : goal.invariant-loop-place
+invariant-loop-place l = GainsTold l.setup l.asked l.cards (printed_places (take l.place l.lines)) [] l.told.items
