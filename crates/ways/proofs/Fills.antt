@@ -7,7 +7,8 @@ use Rattle.hubs.specs.declared.hub.Hub.{Hub}
 use Rattle.hubs.specs.declared.hub.Hub.TheVariants.{CO, BAN, BAT, PIN, PIT, IX, CSD, CSZ, CI, BAC, PIC, IE, CSE}
 use Rattle.setups.specs.Wiring.{HasWire, Wiring}
 use Rattle.net.specs.Panel.{contact_of}
-use Rattle.ways.specs.Tables.{IsPass, IsPassedTo, IsShutAt, LeadsAt, contacts_from}
+use Rattle.ways.specs.Passed.{IsPassedTo, IsShutAt, contacts_from}
+use Rattle.ways.specs.Tables.{IsPass, LeadsAt}
 use Rattle.ways.proofs.LeadsLemmas.{leads_between}
 use Rattle.ways.proofs.Passes.{IsPass-as, IsPass-then}
 

@@ -1,11 +1,9 @@
 -- Tables of numbers of hubs: at the number of a hub stands how many hubs a shortest way to it has, 0 where there is none.
-use Rattle.std.specs.Prelude.{◌≡◌, ℕ, ◌+◌, ◌≤◌, ◌<◌, ◌⊎◌, Bool, true, false, List, Option, Some, None, length, slice_index_or, if◌then◌else◌, nat_eq, sum_by}
+use Rattle.std.specs.Prelude.{◌≡◌, ℕ, ◌+◌, ◌≤◌, ◌<◌, ◌⊎◌, Bool, true, false, List, Some, length, slice_index_or, if◌then◌else◌, nat_eq, sum_by}
 use Rattle.hubs.specs.declared.hub.Hub.{Hub}
-use Rattle.hubs.specs.declared.hub.Hub.TheVariants.{CO, BAN, BAT, PIN, PIT, IX, CSD, CSZ, CI, BAC, PIC, IE, CSE}
 use Rattle.hubs.specs.Hubs.{number_of}
 use Rattle.setups.specs.Wiring.{Wiring}
 use Rattle.net.specs.Impulsed.{LeadsOn}
-use Rattle.net.specs.Panel.{contact_of}
 
 -- the hub with one number leads on to that with another
 pub record LeadsAt (wiring : Wiring) (closed : Hub → Bool) (from to : ℕ) : Type 0 where
@@ -20,29 +18,6 @@ pub record StartsAt (exits : Hub → Bool) (number : ℕ) : Type 0 where
   pub hub : Hub
   pub numbered : number_of hub ≡ Some number
   pub emits : exits hub ≡ true
-
--- the hubs to which contacts lead from a hub: none, one or two
-abbrev pub contacts_from : Hub → Option Hub × Option Hub
-contacts_from (CI group) = (Some (CO group), None)
-contacts_from (BAC group position) = (Some (BAN group position), Some (BAT group position))
-contacts_from (PIC pilot position) = (Some (PIN pilot position), Some (PIT pilot position))
-contacts_from (IE level position) = (Some (IX level position), None)
-contacts_from (CSE split) = (Some (CSD split), Some (CSZ split))
-contacts_from other = (None, None)
-
--- there is an exit, its contact is closed, and it has this number
-pub record IsShutAt (closed : Hub → Bool) (exit : Option Hub) (to : ℕ) : Type 0 where
-  pub hub : Hub
-  pub is : exit ≡ Some hub
-  pub shut : closed hub ≡ true
-  pub numbered : number_of hub ≡ Some to
-
--- a closed contact leads from a hub to that with this number
-pub record IsPassedTo (closed : Hub → Bool) (common : Hub) (to : ℕ) : Type 0 where
-  pub exit : Hub
-  pub contact : contact_of exit ≡ Some common
-  pub shut : closed exit ≡ true
-  pub numbered : number_of exit ≡ Some to
 
 -- the number that stands in a table for the hub with a number
 abbrev pub at : List ℕ → ℕ → ℕ

@@ -4,7 +4,8 @@ ghost use Rattle.std.specs.Prelude.{◌≡◌, ◌↔◌, true};
 ghost use Rattle.hubs.specs.Hubs.{number_of};
 ghost use Rattle.net.specs.HubSets.{has_hub};
 ghost use Rattle.net.specs.Panel.{contact_of};
-ghost use Rattle.ways.specs.Tables.{LeadsAt, StartsAt, contacts_from};
+ghost use Rattle.ways.specs.Passed.{contacts_from};
+ghost use Rattle.ways.specs.Tables.{LeadsAt, StartsAt};
 
 use bit_sets::has;
 use hubs::Hub;

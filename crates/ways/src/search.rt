@@ -3,7 +3,8 @@
 ghost use Rattle.std.specs.Prelude.{◌≡◌, ◌<◌, ◌≤◌, All, Contains};
 ghost use Rattle.net.specs.HubSets.{has_hub};
 ghost use Rattle.setups.specs.Wiring.{IsEntryNumber};
-ghost use Rattle.ways.specs.Tables.{LeadsAt, StartsAt, IsLedAt, IsPass, IsPassedTo, IsShutAt, IsStartTable, IsStepTable};
+ghost use Rattle.ways.specs.Passed.{IsPassedTo, IsShutAt};
+ghost use Rattle.ways.specs.Tables.{LeadsAt, StartsAt, IsLedAt, IsPass, IsStartTable, IsStepTable};
 
 use crate::leads::{contacts_from, is_start};
 use hubs::Hub;
