@@ -2,6 +2,7 @@
 
 use anyhow::Result;
 use browser_pages::show_to_end;
+use check_calls::check_deck_to_end;
 use commands::{replay_by_orders, serve};
 use guides::fault_to_end;
 use match_calls::{match_deck_to_end, match_to_end};
@@ -113,6 +114,18 @@ impl Served {
         let mut output = Vec::new(alloc);
         let mut told = Vec::new(alloc);
         let status = trace_to_end(alloc, text, "my.deck", deck, &mut output, &mut told).status;
+        Served {
+            output,
+            told,
+            status,
+        }
+    }
+
+    /// The check of a deck.
+    pub fn check_deck<R: Read + Drop>(alloc: Global, chart: &[u8], deck: R) -> Served {
+        let mut output = Vec::new(alloc);
+        let mut told = Vec::new(alloc);
+        let status = check_deck_to_end(alloc, chart, deck, &mut output, &mut told).status;
         Served {
             output,
             told,

@@ -5,7 +5,7 @@
 //! and `(divide)` in place of a command, a text that has a chart and its deck, which are run, or of which the lengths are told;
 //! `(10000000 letters)` in one line, and `(1000000 empty lines)` and `(1000001 empty lines)`, in place of a text or deck; `(unreadable)` and `(1000000 blank cards)` in place of a deck; and last of all `(unwritable)`, where the output can't be written.
 //! A command `replay --orders` has its orders behind it, given as a text is; `fault` has its number behind it, and `explain` the page, the
-//! line and the wheel. The rows of `show` are refused; its pages stand in `shown_cases`.
+//! line and the wheel. A `check deck` checks the deck too, where `check` leaves it alone. The rows of `show` are refused; its pages stand in `shown_cases`.
 //! Of a million cards the number of bytes printed stands in place of these.
 
 use crate::answered::Served;
@@ -139,6 +139,16 @@ fn trace_deck(rt: &HostRuntime, text: &[u8], deck: &str) -> Result<Served> {
     Ok(Served::trace(alloc, text, cards.as_slice()))
 }
 
+// What is listed of the deck of a row.
+fn check_deck(rt: &HostRuntime, text: &[u8], deck: &str) -> Result<Served> {
+    let alloc = rt.alloc();
+    if deck == "(unreadable)" {
+        return Ok(Served::check_deck(alloc, text, Broken));
+    }
+    let cards = bytes_of(rt, deck)?;
+    Ok(Served::check_deck(alloc, text, cards.as_slice()))
+}
+
 // What is shown of the deck of a row.
 fn show_deck(rt: &HostRuntime, text: &[u8], deck: &str) -> Result<Served> {
     let alloc = rt.alloc();
@@ -156,6 +166,9 @@ fn guided(rt: &HostRuntime, command: &str, text: &[u8], deck: &str) -> Result<Op
     }
     if command == "trace" {
         return Ok(Some(trace_deck(rt, text, deck)?));
+    }
+    if command == "check deck" {
+        return Ok(Some(check_deck(rt, text, deck)?));
     }
     if command == "show" {
         return Ok(Some(show_deck(rt, text, deck)?));

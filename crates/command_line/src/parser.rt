@@ -33,6 +33,11 @@ enum Word {
         help: &'static str,
         size: Size,
     },
+    /// A file, which may be left out.
+    Extra {
+        name: &'static str,
+        help: &'static str,
+    },
     /// A file behind a word of two hyphens, which may be left out.
     Option {
         name: &'static str,
@@ -58,6 +63,11 @@ const CHART: Word = Word::File {
 const DECK: Word = Word::File {
     name: "DECK",
     help: "the deck of cards, a file",
+};
+
+const DECK_TOO: Word = Word::Extra {
+    name: "DECK",
+    help: "a deck of cards, a file; all its cards that the chart can't be run with are listed",
 };
 
 const WIRING: Word = Word::File {
@@ -117,8 +127,8 @@ static COMMANDS: [CommandRow; 11] = [
     },
     CommandRow {
         name: "check",
-        about: "Checks a planning chart",
-        words: &[CHART],
+        about: "Checks a planning chart, and all cards of a deck",
+        words: &[CHART, DECK_TOO],
     },
     CommandRow {
         name: "wire",
@@ -184,6 +194,7 @@ fn arg_of<'a>(alloc: Global, word: Word) -> Arg<'a> {
             .help(help)
             .required(true)
             .value_parser(number_parser(size)),
+        Word::Extra { name, help } => Arg::new(alloc, name).help(help),
         Word::Option {
             name,
             long,

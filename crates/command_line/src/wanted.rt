@@ -22,6 +22,11 @@ pub enum Wanted<'a> {
     Check {
         chart: &'a str,
     },
+    /// Whether a planning chart compiles, and all cards of a deck that it can't be run with.
+    CheckDeck {
+        chart: &'a str,
+        deck: &'a str,
+    },
     /// The wiring chart of a planning chart.
     Wire {
         chart: &'a str,
@@ -200,13 +205,21 @@ fn deck_wanted<'a>(name: &str, given: &ArgMatches<'a>) -> Wanted<'a> {
     }
 }
 
+// What is asked for by the words of a check, with a deck or without.
+fn check_wanted<'a>(given: &ArgMatches<'a>) -> Wanted<'a> {
+    let chart = file_of(given, "CHART");
+    match given.get_str("DECK") {
+        Some(deck) => Wanted::CheckDeck { chart, deck },
+        None => Wanted::Check { chart },
+    }
+}
+
 // What is asked for by the words of a command on a planning chart alone.
 fn chart_wanted<'a>(name: &str, given: &ArgMatches<'a>) -> Wanted<'a> {
     let chart = file_of(given, "CHART");
     match name {
-        "wire" => Wanted::Wire { chart },
         "legend" => Wanted::Legend { chart },
-        _ => Wanted::Check { chart },
+        _ => Wanted::Wire { chart },
     }
 }
 
@@ -216,6 +229,7 @@ fn command_wanted<'a>(name: &str, given: &ArgMatches<'a>) -> Wanted<'a> {
         "run" | "trace" | "show" => deck_wanted(name, given),
         "replay" => replay_wanted(given),
         "match" => match_wanted(given),
+        "check" => check_wanted(given),
         "explain" => explain_wanted(given),
         "upgrade" => Wanted::Upgrade {
             wiring: file_of(given, "WIRING"),

@@ -4,6 +4,7 @@ ghost use Rattle.std.specs.Prelude.{◌≡◌, ◌≢◌};
 ghost use Rattle.std.specs.IoError.{error_kind};
 
 use browser_pages::show_to_end;
+use check_calls::check_deck_to_end;
 use command_line::{Refused, Wanted, read_words};
 use commands::{Fault, chart_and_deck, read_whole, replay_by_orders, serve, tell, unprinted};
 use guides::fault_to_end;
@@ -91,6 +92,20 @@ fn serve_chart<'a>(rt: &HostRuntime, command: &str, chart: &'a str) -> Result<u8
         &mut rt.stdout(),
         &mut rt.stderr(),
     ))
+}
+
+// Checks a chart, and all cards of a deck. The chart is read whole and the deck is opened before a fault of either is told.
+fn check_deck<'a>(rt: &HostRuntime, chart: &'a str, deck: &'a str) -> Result<u8, Fault<'a>> {
+    let text = read_file(rt, chart)?;
+    let cards = open(rt, deck)?;
+    let done = check_deck_to_end(
+        rt.alloc(),
+        text.as_slice(),
+        cards,
+        &mut rt.stdout(),
+        &mut rt.stderr(),
+    );
+    Ok(done.status)
 }
 
 // Matches a panel with a chart.
@@ -220,6 +235,7 @@ fn obey<'a>(rt: &HostRuntime, wanted: Wanted<'a>) -> Result<u8, Fault<'a>> {
     match wanted {
         Wanted::Run { chart, deck } => serve_deck(rt, "run", chart, deck),
         Wanted::Check { chart } => serve_chart(rt, "check", chart),
+        Wanted::CheckDeck { chart, deck } => check_deck(rt, chart, deck),
         Wanted::Wire { chart } => serve_chart(rt, "wire", chart),
         Wanted::Replay { wiring, deck } => serve_deck(rt, "replay", wiring, deck),
         Wanted::ReplayByOrders {

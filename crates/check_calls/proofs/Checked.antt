@@ -1,0 +1,54 @@
+-- What was checked, by the text of the chart.
+use Rattle.std.proofs.Common.{◌≡◌, ◌≢◌, ◌⊎◌, inl, inr, ℕ, List, Option, Some, None, IfSome, Result, Ok, Err, OnOk, IfErr, codes, [], subst}
+use Rattle.std.specs.Io.KnownBytes.{Appends}
+use Rattle.check_calls.specs.Served.{HasRunnableDeck, PrintsOk, StopsCheck, chart_refused, chart_unread, deck_told}
+use Rattle.commands.specs.Answers.{CompilesAs}
+use Rattle.compile407.specs.ChartFaults.{HasChartFault}
+use Rattle.compile407.specs.Compilation.{Compilation}
+use Rattle.deck_checks.proofs.Silent.{decks_without_faults}
+use Rattle.deck_checks.specs.Endings.{EndsCheck}
+use Rattle.deck_checks.specs.Listings.{IsListing}
+use Rattle.compile407.specs.Below.charts.Chart.{Chart}
+use Rattle.faults.proofs.Statuses.{memory_or_not}
+use Rattle.faults.specs.Told.{chart_told}
+use Rattle.faults.specs.declared.chart.ChartFault.{ChartFault}
+use Rattle.faults.specs.declared.chart.ChartFault.TheVariants as chart
+use Rattle.faults.specs.declared.fault.Fault.{Fault}
+use Rattle.faults.specs.declared.fault.Fault.TheVariants as fault
+use Rattle.commands.proofs.Refusing.{chart_refused as refused_chart}
+
+-- the chart is refused, or memory is wanting
+pub chart_stops : (text : List ℕ) (deck old new : Option (List ℕ)) (cause : ChartFault) (told : Fault) (Unprinted : Type 0)
+    → (cause ≢ chart.Memory → HasChartFault text cause) → told ≡ chart_told cause → Unprinted → StopsCheck text deck old new told Unprinted
+chart_stops text deck old new cause told Unprinted has named unprinted = by (memory_or_not told)
+  where
+    by : (told ≡ fault.Memory) ⊎ (told ≢ fault.Memory) → StopsCheck text deck old new told Unprinted
+    by (inl is) = chart_unread is unprinted
+    by (inr not_memory) = chart_refused (refused_chart text cause told has named not_memory) unprinted
+
+-- nothing is told of the deck
+runnable : (compiled : Compilation) (deck : Option (List ℕ)) → IfSome deck (λ text. IsListing compiled.chart text [])
+    → IfSome deck (HasRunnableDeck compiled)
+runnable compiled None listing = tt
+runnable compiled (Some text) listing = let free = decks_without_faults compiled.chart text listing in record {
+  cards = free.cards;
+  deck = free.deck;
+  runnable = record { deck = record { valid = free.valid; long = free.deck.few }; fits = free.fit };
+}
+
+module _ (text : List ℕ) (deck old new : Option (List ℕ)) (compiled : Compilation) (chart : Chart) (same : chart ≡ compiled.chart)
+    (compiles : CompilesAs text compiled) where
+  pub prints_ok : {X E : Type 0} (result : Result X E) → OnOk result (IfSome deck (λ text. IsListing chart text []))
+      → OnOk result (Appends old new (codes "ok\n")) → OnOk result (PrintsOk text deck old new)
+  prints_ok (Ok x) listing written = record {
+    compiled = compiled;
+    compiles = compiles;
+    fine = runnable compiled deck (subst (λ c. IfSome deck (λ text. IsListing c text [])) same listing);
+    written = written;
+  }
+  prints_ok (Err e) listing written = tt
+
+  pub deck_stops : {X : Type 0} (result : Result X Fault) (Unprinted : Type 0) → IfErr result (λ told. EndsCheck chart deck old new told)
+      → IfErr result (λ told. StopsCheck text deck old new told Unprinted)
+  deck_stops (Ok x) Unprinted ends = tt
+  deck_stops (Err told) Unprinted ends = deck_told compiled compiles (subst (λ c. EndsCheck c deck old new told) same ends)

@@ -1,0 +1,6 @@
+//! The command that checks a chart and then all cards of a deck, from the bytes of the chart and a reader of the deck.
+#![tactic(auto)]
+
+mod serving;
+
+pub use serving::{check_deck_to_end, print_check};
