@@ -78,8 +78,9 @@ fn check_lines<'a, R: Read, W: Write>(
 ///
 /// # Errors
 ///
-/// The fault that was listed first, once the whole deck was read. `Unread` where the reader fails, and `Whole` with number 3 at line 1,000,000: what was listed before stands written. `Memory` where a growth was refused and
-/// `Write` where the output can't be written: then the front of the listing stands written.
+/// The fault that was listed first, once the whole deck was read. `Unread` where the reader fails, and `Whole` with number 3 at line
+/// 1,000,000: what was listed before stands written. `Memory` where a growth was refused and `Write` where the output can't be written:
+/// then the front of the listing stands written.
 pub fn check_cards<'a, R: Read + Drop, W: Write>(
     alloc: Global,
     chart: &Chart,

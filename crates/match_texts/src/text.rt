@@ -31,8 +31,8 @@ fn write_under_heading(text: &mut String, heading: &str, body: &String) -> Resul
 /// counter by the plan, as `line 12: counter 6.1`. Else those lines, then `missing` and under it, for each line of the chart that asks for
 /// something that the setup has not, its number and the sentence of its row, the form if it is another, and these stops, jacks and wires;
 /// then `too much` and the form, stops, jacks and wires that the chart does not ask for. A heading under which nothing would stand is left
-/// out. A wire that several lines ask for stands under each. They are spelled as in a wiring chart in a version of the language. `matching` is what was found of the setup and the chart. Its only
-/// refusal is memory.
+/// out. A wire that several lines ask for stands under each. They are spelled as in a wiring chart in a version of the language. `matching`
+/// is what was found of the setup and the chart. Its only refusal is memory.
 pub fn match_text(
     alloc: Global,
     version: Version,
