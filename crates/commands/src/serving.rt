@@ -105,9 +105,9 @@ fn carry_out<'a, R: Read + Drop, W: Write>(
 ///
 /// The command is `check`, which compiles the chart `text` and prints `ok`, `wire`, which prints its wiring chart, `run`,
 /// which prints the pages of the deck, `replay`, which prints the pages that the machine wired as the wiring chart `text` says
-/// prints of the deck, whatever is on its cards, or `upgrade`, which prints the wiring chart in version 2. By any other word nothing is read and nothing printed. `path` names the deck in what
-/// `replay` tells of one that can't be read, after a fault of the wiring chart. The statuses are 0 done, and then nothing is told, 2 no
-/// such command, 3 refused input, 4 file fault, 5 memory.
+/// prints of the deck, whatever is on its cards, or `upgrade`, which prints the wiring chart in version 2. By any other word nothing is
+/// read and nothing printed. `path` names the deck in what `replay` tells of one that can't be read, after a fault of the wiring chart.
+/// The statuses are 0 done, and then nothing is told, 2 no such command, 3 refused input, 4 file fault, 5 memory.
 ///
 /// `run` reads and prints card by card, after the chart has compiled. A fault of a card, of a total or of the reader then leaves the lines
 /// before those of a card printed, and no byte more. The other commands print nothing by status 3, nor where the deck can't be read; by
