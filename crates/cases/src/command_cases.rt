@@ -3,9 +3,11 @@
 //! The file `rows` has a command, its text and its deck in each line, divided by `|`. A text or deck stands in its row with `;` in
 //! place of each line feed, or in a file whose name is given between parentheses. Between parentheses stand too: `(standard input)`
 //! and `(divide)` in place of a command, a text that has a chart and its deck, which are run, or of which the lengths are told;
-//! `(10000000 letters)` in one line, and `(1000000 empty lines)` and `(1000001 empty lines)`, in place of a text or deck; `(unreadable)` and `(1000000 blank cards)` in place of a deck; and last of all `(unwritable)`, where the output can't be written.
+//! `(10000000 letters)` in one line, and `(1000000 empty lines)` and `(1000001 empty lines)`, in place of a text or deck; `(unreadable)`
+//! and `(1000000 blank cards)` in place of a deck; and last of all `(unwritable)`, where the output can't be written.
 //! A command `replay --orders` has its orders behind it, given as a text is; `fault` has its number behind it, and `explain` the page, the
-//! line and the wheel. A `check deck` checks the deck too, where `check` leaves it alone. The rows of `show` are refused; its pages stand in `shown_cases`.
+//! line and the wheel. A `check deck` checks the deck too, where `check` leaves it alone. The rows of `show` are refused; its pages stand
+//! in `shown_cases`.
 //! Of a million cards the number of bytes printed stands in place of these.
 
 use crate::answered::Served;
