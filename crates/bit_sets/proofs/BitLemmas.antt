@@ -2,7 +2,7 @@
 use Rattle.std.proofs.Common.{⊎_elim, add-zero, ◌≡◌, ◌≢◌, ℕ, ◌+◌, ◌-◌, ◌*◌, ◌/◌, ◌%◌, ◌^◌, ◌<◌, ◌≤◌, ◌∙◌, sym, ap, refl, arith, Bool, true, false, not, ◌&&◌, ◌||◌, min, max, nat_eq}
 use Rattle.std.specs.Prelude.{nat_le, nat_lt, ◌==◌}
 use Rattle.std.specs.Int.Bits.{bit_and, bit_or}
-use Rattle.std.specs.Int.{bit_at, bit_not, trailing_zeros, Width, w64}
+use Rattle.std.specs.Int.{bit_at, bit_not, trailing_zeros, Width, w64, w128}
 use Rattle.std.proofs.lemmas.Bool.Decides.{nat_tests}
 use Rattle.std.proofs.lemmas.Nat.{and_le_l, and_mask, shr_split, shr-shr, pow_pos, one_shl}
 use Rattle.std.proofs.lemmas.Bool.{cases_eq, cases_lt, false≢true, and_parts}
@@ -132,6 +132,13 @@ unfolding is_bit
 lowest_bit n some small =
     let lowest = bit_at-trailing_zeros w64 n some small in
     (lowest.0, ap (λ b. b == 1) lowest.1)
+
+-- a row of 128 bits that has any
+pub first_set : (n : ℕ) → 0 < n → n < 2 ^ 128 → (j : ℕ) × (is_bit n j ≡ true)
+unfolding is_bit
+first_set n some small =
+    let lowest = bit_at-trailing_zeros w128 n some small in
+    (trailing_zeros w128 n, ap (λ b. b == 1) lowest.1)
 
 -- a bit taken out, and the others kept
 pub is_bit-taken : (n k j : ℕ) → k < 64 → j < 64

@@ -1,5 +1,5 @@
 -- Runs of wires beside the rows.
-use Rattle.std.proofs.Common.{suc, ⊎_elim, ◌⊎◌, inl, inr, ◌≡◌, ℕ, ◌+◌, ◌-◌, ◌<◌, ◌≤◌, ◌∙◌, sym, ap, refl, arith, Bool, true, false, not, ◌&&◌, ◌||◌, List, [], ◌∷◌, length, slice_index_or, drop, add-one}
+use Rattle.std.proofs.Common.{suc, ⊎_elim, ◌⊎◌, inl, inr, ◌≡◌, ℕ, ◌+◌, ◌-◌, ◌*◌, ◌^◌, ◌<◌, ◌≤◌, ◌∙◌, sym, ap, refl, arith, Bool, true, false, not, ◌&&◌, ◌||◌, List, [], ◌∷◌, length, slice_index_or, drop, add-one}
 use Rattle.std.proofs.Math.Seq.{drop-cons}
 use Rattle.std.proofs.lemmas.Grind.{common_steps}
 use Rattle.std.specs.Prelude.{nat_le, nat_lt, ◌==◌, All}
@@ -12,9 +12,10 @@ use Rattle.bit_sets.specs.Bundles.{follows_run, follows, IsBundle, AreCovered, A
 use Rattle.bit_sets.specs.Contacts.{is_contact, is_any_contact, IsRunInRange}
 use Rattle.bit_sets.specs.Rows.{GainsLed, leads}
 use Rattle.bit_sets.specs.declared.contacts.Run.{Run}
-use Rattle.bit_sets.proofs.BitLemmas.{is_bit-and, none_set}
+use Rattle.bit_sets.specs.declared.shorts.Short.{Short}
+use Rattle.bit_sets.proofs.BitLemmas.{is_bit-above, is_bit-and, none_set}
 use Rattle.bit_sets.proofs.ContactLemmas.{IsRow}
-use Rattle.bit_sets.proofs.LedLemmas.{GainsLed-like, are_zeros, leads-past, leads-zeros, length-zeros}
+use Rattle.bit_sets.proofs.LedLemmas.{GainsLed-same, are_zeros, in_both, leads-low, leads-past, leads-zeros, length-zeros, near_word}
 
 all : (a b c : Bool) → a ≡ true → b ≡ true → c ≡ true → (a && (b && c)) ≡ true
 all a b c e f g = grind (arith, nat_tests)
@@ -141,21 +142,13 @@ bundled_any rows (run ∷ runs) bundled from to wire =
     (λ there. bundled_any rows runs (λ i d inside. bundled (suc i) d (omega (arith, inside))) from to there)
     (or_cases (is_contact run from to) (is_any_contact runs from to) wire)
 
--- the marked places are all that lead anywhere
-pub GainsLed-marked : (rows : List (List ℕ)) (marked apart new : List ℕ) (runs : List Run) (old after : List ℕ)
-    → AreRows marked apart runs rows → GainsLed rows (λ place. has_place new place && has_place marked place) old after
-    → GainsLed rows (has_place new) old after
-GainsLed-marked rows marked apart new runs old after are_rows gains =
-    GainsLed-like rows (λ place. has_place new place && has_place marked place) (has_place new) old after
-    (λ from to at leads. and_from _ _ at (are_rows.marks from to leads)) (λ from at. (and_parts _ _ at).0) gains
-
 -- the runs and the places kept apart are all that lead anywhere
-pub GainsLed-bundled : (rows : List (List ℕ)) (marked apart new : List ℕ) (runs : List Run) (old now after : List ℕ)
-    → AreRows marked apart runs rows
+pub GainsLed-bundled : (rows : List (List ℕ)) (marked apart new : List ℕ) (runs : List Run) (shorts : List Short) (old now after : List ℕ)
+    → AreRows marked apart runs shorts rows
     → ((place : ℕ) → has_place now place ≡ (has_place old place || (nat_lt place 1984 && follows new runs place)))
     → GainsLed rows (λ place. has_place new place && has_place apart place) now after
     → GainsLed rows (has_place new) old after
-GainsLed-bundled rows marked apart new runs old now after are_rows gained gains = record {
+GainsLed-bundled rows marked apart new runs shorts old now after are_rows gained gains = record {
   kept = λ place held. gains.kept place (gained place ∙ or_left _ _ held);
   led = λ from to at leads. ⊎_elim
       (λ is_apart. gains.led from to (and_from _ _ at is_apart) leads)
@@ -174,6 +167,43 @@ GainsLed-bundled rows marked apart new runs old now after are_rows gained gains 
       (λ by. inr (by.0, (and_parts _ _ by.1).0, by.2))
       (gains.only to held);
 }
+
+-- the places of one word alone, led on by runs and, those kept apart, by rows
+pub GainsLed-word_bundled : (rows : List (List ℕ)) (marked apart new : List ℕ) (runs : List Run) (shorts : List Short) (old now after : List ℕ) (number bits : ℕ)
+    → AreRows marked apart runs shorts rows → bits < 2 ^ 64
+    → ((place : ℕ) → has_place new place ≡ (nat_lt place 1984 && is_in_run (64 * number) bits place))
+    → ((place : ℕ) → has_place now place ≡ (has_place old place || (nat_lt place 1984 && follows new runs place)))
+    → GainsLed rows (is_in_run (64 * number) (bit_and bits (slice_index_or apart number 0))) now after
+    → GainsLed rows (is_in_run (64 * number) bits) old after
+GainsLed-word_bundled rows marked apart new runs shorts old now after number bits are_rows few is gained gains =
+    GainsLed-same rows are_rows.short (has_place new) (is_in_run (64 * number) bits) old after
+    (λ from to at leads. is from ∙ and_from _ _ (inside from to leads) at)
+    (λ from to at leads. (and_parts (nat_lt from 1984) _ (sym (is from) ∙ at)).1)
+    (GainsLed-bundled rows marked apart new runs shorts old now after are_rows gained
+    (GainsLed-same rows are_rows.short
+    (is_in_run (64 * number) (bit_and bits (slice_index_or apart number 0)))
+    (λ place. has_place new place && has_place apart place) now after
+    (λ from to at leads.
+    let run : is_in_run (64 * number) bits from ≡ true = (and_parts (nat_lt from 1984) _ (sym (is from) ∙ (and_parts _ _ at).0)).1 in
+    in_both (64 * number) bits (slice_index_or apart number 0) from
+    ∙ and_from _ _ run (near from run ∙ (and_parts (has_place new from) _ at).1))
+    (λ from to at leads.
+    let parts = and_parts _ _ (sym (in_both (64 * number) bits (slice_index_or apart number 0) from) ∙ at) in
+    and_from _ _ (is from ∙ and_from _ _ (inside from to leads) parts.0) (sym (near from parts.0) ∙ parts.1))
+    gains)) where
+      inside : (from to : ℕ) → leads rows from to ≡ true → nat_lt from 1984 ≡ true
+      inside from to at = let low = leads-low rows are_rows.short from to at in grind (arith, nat_tests, low)
+
+      near : (from : ℕ) → is_in_run (64 * number) bits from ≡ true
+          → is_in_run (64 * number) (slice_index_or apart number 0) from ≡ has_place apart from
+      near from run =
+          let low : 64 * number ≤ from = leb-true _ _ (and_parts _ _ run).0 in
+          let high : from < 64 * number + 64 = ⊎_elim
+          (λ (below : from < 64 * number + 64). below)
+          (λ above. absurd (false≢true
+          (sym (is_bit-above bits 64 (from - 64 * number) few (omega arith)) ∙ (and_parts (nat_le (64 * number) from) _ run).1)))
+          (cases_lt from (64 * number + 64)) in
+          near_word apart number from low high
 
 -- rows that are covered as far as a place
 abbrev pub AreCoveredBelow : ℕ → List ℕ → List Run → List (List ℕ) → Type 0
@@ -206,13 +236,14 @@ AreCovered-all rows runs end apart short far covered from to leads_on = ⊎_elim
     (cases_lt from end)
 
 -- rows of zeros have no wire and no run
-pub AreRows-zeros : (count : ℕ) (marked apart : List ℕ) (runs : List Run) (rows : List (List ℕ)) → count ≤ 1040 → runs ≡ []
-    → rows ≡ are_zeros count → AreRows marked apart runs rows
-AreRows-zeros count marked apart runs rows low empty are = record {
+pub AreRows-zeros : (count : ℕ) (marked apart : List ℕ) (runs : List Run) (shorts : List Short) (rows : List (List ℕ)) → count ≤ 1040
+    → runs ≡ [] → shorts ≡ [] → rows ≡ are_zeros count → AreRows marked apart runs shorts rows
+AreRows-zeros count marked apart runs shorts rows low empty none are = record {
   short = omega (arith, length-zeros count rows are);
   onward = λ from to at. absurd (false≢true (sym (leads-zeros count from to rows are) ∙ at));
   within = λ from to at. absurd (false≢true (sym (leads-zeros count from to rows are) ∙ at));
   marks = λ from to at. absurd (false≢true (sym (leads-zeros count from to rows are) ∙ at));
   bundled = λ i d inside. absurd (omega (arith, inside, ap (λ (r : List Run). length r) empty));
   covered = λ from to at. absurd (false≢true (sym (leads-zeros count from to rows are) ∙ at));
+  shortened = λ from d inside. absurd (omega (arith, inside, ap (λ (s : List Short). length s) none));
 }

@@ -8,9 +8,9 @@ use Rattle.std.specs.Int.Bits.{bit_and}
 use Rattle.std.proofs.lemmas.Bool.Decides.{nat_tests}
 use Rattle.std.proofs.lemmas.Bool.{cases_lt, false≢true, or_cases, or_left, or_right}
 use Rattle.std.proofs.lemmas.Nat.{one_shl}
-use Rattle.std.proofs.Math.Bool.{and-false, or-false}
+use Rattle.std.proofs.Math.Bool.{and-false}
 use Rattle.bit_sets.specs.Bits.{is_bit, has_place, is_in_run}
-use Rattle.bit_sets.specs.Contacts.{AreCommons, is_any_contact, is_contact, passes_run, passes, IsRunInRange}
+use Rattle.bit_sets.specs.Contacts.{AreCommons, is_any_contact, is_contact, passes_run, IsRunInRange}
 use Rattle.bit_sets.specs.declared.contacts.Run.{Run}
 use Rattle.bit_sets.proofs.BitLemmas.{is_bit-and, is_bit-not, is_bit-ones, none_set}
 
@@ -75,6 +75,11 @@ run_passes run closed words commons ones shut there place range at_commons at_on
                   none : (a o s t lt rest : Bool) → a ≡ false → lt ≡ false → (((a && o) && s) && t) ≡ (lt && rest)
                   none a o s t lt rest e f = grind (arith, nat_tests)
 
+-- a row without a bit has no place
+pub none_in_run : (first bits place : ℕ) → bits ≡ 0 → is_in_run first bits place ≡ false
+none_in_run first bits place none =
+    ap (λ b. nat_le first place && b) (none_set bits none (place - first)) ∙ and-false (nat_le first place)
+
 -- where no common place is impulsed a run passes nothing on
 pub run_passes_none :
     (run : Run) (closed words : List ℕ) (commons ones place : ℕ) → IsRunInRange run → IsRow commons words run.common
@@ -96,31 +101,6 @@ run_passes_none run closed words commons ones place range at_commons at_ones non
           (nat_lt (place - run.exits) run.count) (has_place closed place) (not (has_place words place)) a o both where
             all : (a o hc le lt hs ht : Bool) → a ≡ hc → o ≡ true → (a && o) ≡ false → (le && (lt && (hs && (hc && ht)))) ≡ false
             all a o hc le lt hs ht p q r = grind (arith, nat_tests)
-
--- one run more
-
-pub passes_first : (closed words : List ℕ) (runs : List Run) (new : List ℕ) (k : ℕ) → has_place new k ≡ false
-    → (has_place new k || (nat_lt k 1984 && passes closed words runs k)) ≡ (nat_lt k 1984 && passes closed words runs k)
-passes_first closed words runs new k none = ap (λ b. b || (nat_lt k 1984 && passes closed words runs k)) none
-
-pub passes_more :
-    (closed words : List ℕ) (runs : List Run) (i : ℕ) (d : Run) (k : ℕ) (old now whole : Bool) → i < length runs
-    → (old || (nat_lt k 1984 && passes closed words (drop i runs) k)) ≡ whole
-    → now ≡ (old || (nat_lt k 1984 && passes_run closed words (slice_index_or runs i d) k))
-    → (now || (nat_lt k 1984 && passes closed words (drop (i + 1) runs) k)) ≡ whole
-passes_more closed words runs i d k old now whole inside before gained =
-    let parts : drop i runs ≡ slice_index_or runs i d ∷ drop (i + 1) runs = rw (add-one, drop-cons runs i d) in
-    by (nat_lt k 1984) (passes_run closed words (slice_index_or runs i d) k) (passes closed words (drop (i + 1) runs) k) whole
-    gained (ap (λ (rest : List Run). old || (nat_lt k 1984 && passes closed words rest k)) (sym parts) ∙ before) where
-      by : (t r rest w : Bool) → now ≡ (old || (t && r)) → (old || (t && (r || rest))) ≡ w → (now || (t && rest)) ≡ w
-      by t r rest w e f = grind (arith, nat_tests)
-
-pub passes_last : (closed words : List ℕ) (runs : List Run) (i k : ℕ) (old whole : Bool) → length runs ≤ i
-    → (old || (nat_lt k 1984 && passes closed words (drop i runs) k)) ≡ whole → old ≡ whole
-passes_last closed words runs i k old whole end before =
-    let none : drop i runs ≡ [] = grind (arith, common_steps) in
-    sym (ap (λ (rest : List Run). old || (nat_lt k 1984 && passes closed words rest k)) none
-    ∙ ap (λ b. old || b) (and-false _) ∙ or-false _) ∙ before
 
 -- a contact leads from one of its run's common places
 contact_parts : (exits common count from to : ℕ)

@@ -4,13 +4,13 @@ use Rattle.std.specs.Prelude.{nat_le, nat_lt, ◌==◌}
 use Rattle.std.specs.Int.{bit_not, w64}
 use Rattle.std.specs.Int.Bits.{bit_and}
 use Rattle.std.proofs.lemmas.Bool.Decides.{nat_tests}
-use Rattle.std.proofs.lemmas.Bool.{cases_lt, false≢true, and_parts, and_from, or_right, or_left, or_cases, eq-eqb}
+use Rattle.std.proofs.lemmas.Bool.{cases_lt, false≢true, and_parts, and_from, or_right, or_left, or_cases, eq-eqb, leb-true, ltb-true}
 use Rattle.std.proofs.lemmas.List.{get_or_past, get_or-replicate, length-replicate}
 use Rattle.std.proofs.Math.Bool.{and-false}
 use Rattle.bit_sets.specs.Bits.{is_bit, has_place, is_in_run}
-use Rattle.bit_sets.specs.Rows.{GainsLed, is_in_entries, leads}
-use Rattle.bit_sets.proofs.BitLemmas.{is_bit-and, is_bit-taken, is_bit-above, none_set}
-use Rattle.bit_sets.proofs.PlaceLemmas.{has_place-past, has_place-word, has_place-zeros, word_bits}
+use Rattle.bit_sets.specs.Rows.{GainsLed, is_in_entries, is_in_words, leads}
+use Rattle.bit_sets.proofs.BitLemmas.{is_bit-and, is_bit-shr, is_bit-taken, is_bit-above, none_set}
+use Rattle.bit_sets.proofs.PlaceLemmas.{has_place-past, has_place-zeros, word_bits}
 
 -- whether a place is one of a word's bits, and no longer one of those that are left
 abbrev pub is_done : ℕ → ℕ → ℕ → ℕ → Bool
@@ -142,104 +142,212 @@ module _ (rows : List (List ℕ)) where
         forth : (a b : Bool) → (a && not b) ≡ true → a ≡ true
         forth a b e = grind (arith, nat_tests)
 
--- whether a place is new and marked, and in a word below this one
-abbrev pub is_new_below : List ℕ → List ℕ → ℕ → ℕ → Bool
-is_new_below marked new number place = nat_lt place (64 * number) && (has_place new place && has_place marked place)
+-- The places of a word of a set, as a row of bits.
+pub run_is_word : (words : List ℕ) (number from : ℕ) → slice_index_or words number 0 < 2 ^ 64
+    → is_in_run (64 * number) (slice_index_or words number 0) from ≡ is_in_words number (number + 1) words from
+run_is_word words number from small = ⊎_elim
+    (λ (low : from < 64 * number).
+    let a : nat_le (64 * number) from ≡ false = grind (arith, nat_tests) in
+    let b : nat_le number (from / 64) ≡ false = grind (arith, nat_tests) in
+    neither (nat_le (64 * number) from) (nat_le number (from / 64)) (nat_lt (from / 64) (number + 1)) (has_place words from)
+    (is_bit (slice_index_or words number 0) (from - 64 * number)) a b)
+    (λ high. ⊎_elim
+    (λ (near : from < 64 * (number + 1)).
+    let a : nat_le (64 * number) from ≡ true = grind (arith, nat_tests) in
+    let b : nat_le number (from / 64) ≡ true = grind (arith, nat_tests) in
+    let c : nat_lt (from / 64) (number + 1) ≡ true = grind (arith, nat_tests) in
+    let index : 64 * number + (from - 64 * number) ≡ from = omega arith in
+    both (nat_le (64 * number) from) (nat_le number (from / 64)) (nat_lt (from / 64) (number + 1)) (has_place words from)
+    (is_bit (slice_index_or words number 0) (from - 64 * number)) a b c (word_bits words number (from - 64 * number) (omega arith) ∙ ap (has_place words) index))
+    (λ far.
+    let c : nat_lt (from / 64) (number + 1) ≡ false = grind (arith, nat_tests) in
+    let none : is_bit (slice_index_or words number 0) (from - 64 * number) ≡ false =
+    is_bit-above (slice_index_or words number 0) 64 (from - 64 * number) small (omega arith) in
+    past (nat_le (64 * number) from) (nat_le number (from / 64)) (nat_lt (from / 64) (number + 1)) (has_place words from)
+    (is_bit (slice_index_or words number 0) (from - 64 * number)) none c)
+    (cases_lt from (64 * (number + 1))))
+    (cases_lt from (64 * number)) where
+      neither : (a b c h i : Bool) → a ≡ false → b ≡ false → (a && i) ≡ (b && (c && h))
+      neither a b c h i p q = grind (arith, nat_tests)
 
--- the words of new and marked places whose rows are in
-module _ (rows : List (List ℕ)) (marked new : List ℕ) (short : length rows ≤ 1040) where
-  pub GainsLed-begin : (words : List ℕ) → GainsLed rows (is_new_below marked new 0) words words
-  GainsLed-begin words = GainsLed-none rows (is_new_below marked new 0) words
-      (λ from to at leads. never from (has_place new from && has_place marked from) at) where
-        never : (n : ℕ) (b : Bool) → (nat_lt n 0 && b) ≡ true → ⊥
-        never n b e = absurd (grind (arith, nat_tests, e))
+      both : (a b c h i : Bool) → a ≡ true → b ≡ true → c ≡ true → i ≡ h → (a && i) ≡ (b && (c && h))
+      both a b c h i p q r e = grind (arith, nat_tests)
 
-  pub GainsLed-next : (number : ℕ) (old now after : List ℕ) → GainsLed rows (is_new_below marked new number) old now
-      → GainsLed rows (is_in_run (64 * number) (bit_and (slice_index_or new number 0) (slice_index_or marked number 0))) now after
-      → slice_index_or new number 0 < 2 ^ 64
-      → GainsLed rows (is_new_below marked new (number + 1)) old after
-  GainsLed-next number old now after before gains small =
-      GainsLed-like rows
-      (λ place. is_new_below marked new number place
-      || is_in_run (64 * number) (bit_and (slice_index_or new number 0) (slice_index_or marked number 0)) place)
-      (is_new_below marked new (number + 1)) old after
-      (λ from to is leads. ⊎_elim
-      (λ (low : from < 64 * number).
-      let yes : nat_lt from (64 * number) ≡ true = grind (arith, nat_tests) in
-      or_left _ _ (ap (λ b. b && (has_place new from && has_place marked from)) yes ∙ (and_parts _ _ is).1))
-      (λ high.
-      let test : nat_lt from (64 * (number + 1)) ≡ true = (and_parts _ _ is).0 in
-      let near : from < 64 * (number + 1) = grind (arith, nat_tests, test) in
-      let there : nat_le (64 * number) from ≡ true = grind (arith, nat_tests) in
-      or_right (is_new_below marked new number from) _
-      (ap (λ b. b && is_bit (bit_and (slice_index_or new number 0) (slice_index_or marked number 0)) (from - 64 * number)) there
-      ∙ at_word from high near ∙ (and_parts _ _ is).1))
-      (cases_lt from (64 * number)))
-      (λ from is. ⊎_elim
-      (λ before.
-      let low : nat_lt from (64 * number) ≡ true = (and_parts _ _ before).0 in
-      let yes : nat_lt from (64 * (number + 1)) ≡ true = grind (arith, nat_tests) in
-      and_from _ _ yes (and_parts _ _ before).1)
-      (λ in_run.
-      let test : nat_le (64 * number) from ≡ true = (and_parts _ _ in_run).0 in
-      let there : 64 * number ≤ from = grind (arith, nat_tests, test) in
-      let bit : (is_bit (slice_index_or new number 0) (from - 64 * number)
-      && is_bit (slice_index_or marked number 0) (from - 64 * number)) ≡ true =
-      sym (is_bit-and (slice_index_or new number 0) (slice_index_or marked number 0) (from - 64 * number)) ∙ (and_parts _ _ in_run).1 in
-      ⊎_elim
-      (λ (near : from < 64 * (number + 1)).
-      let yes : nat_lt from (64 * (number + 1)) ≡ true = grind (arith, nat_tests) in
-      and_from _ _ yes (sym (at_word from there near) ∙ (and_parts _ _ in_run).1))
-      (λ far. absurd (false≢true
-      (sym (is_bit-above (slice_index_or new number 0) 64 (from - 64 * number) small (omega arith)) ∙ (and_parts _ _ bit).0)))
-      (cases_lt from (64 * (number + 1))))
-      (or_cases (is_new_below marked new number from)
-      (is_in_run (64 * number) (bit_and (slice_index_or new number 0) (slice_index_or marked number 0)) from) is))
-      (GainsLed-then rows (is_new_below marked new number)
-      (is_in_run (64 * number) (bit_and (slice_index_or new number 0) (slice_index_or marked number 0))) old now after before gains) where
-        at_word : (from : ℕ) → 64 * number ≤ from → from < 64 * (number + 1)
-            → is_bit (bit_and (slice_index_or new number 0) (slice_index_or marked number 0)) (from - 64 * number)
-            ≡ (has_place new from && has_place marked from)
-        at_word from low high =
-            let index : 64 * number + (from - 64 * number) ≡ from = omega arith in
-            let short : from - 64 * number < 64 = omega arith in
-            is_bit-and (slice_index_or new number 0) (slice_index_or marked number 0) (from - 64 * number)
-            ∙ ap (λ b. b && is_bit (slice_index_or marked number 0) (from - 64 * number))
-            (word_bits new number (from - 64 * number) short ∙ ap (has_place new) index)
-            ∙ ap (λ b. has_place new from && b) (word_bits marked number (from - 64 * number) short ∙ ap (has_place marked) index)
+      past : (a b c h i : Bool) → i ≡ false → c ≡ false → (a && i) ≡ (b && (c && h))
+      past a b c h i p q = grind (arith, nat_tests)
 
-  pub GainsLed-end : (number : ℕ) (old after : List ℕ) → 17 ≤ number → GainsLed rows (is_new_below marked new number) old after
-      → GainsLed rows (λ place. has_place new place && has_place marked place) old after
-  GainsLed-end number old after end gains =
-      GainsLed-like rows (is_new_below marked new number) (λ place. has_place new place && has_place marked place) old after
-      (λ from to is leads. ⊎_elim
-      (λ (low : from < 1088).
-      let yes : nat_lt from (64 * number) ≡ true = grind (arith, nat_tests) in
-      ap (λ b. b && (has_place new from && has_place marked from)) yes ∙ is)
-      (λ high. absurd (false≢true (sym (leads-past rows from to (omega (arith, short, high))) ∙ leads)))
-      (cases_lt from 1088))
-      (λ from is. (and_parts _ _ is).1) gains
+pub near_word : (words : List ℕ) (number from : ℕ) → 64 * number ≤ from → from < 64 * number + 64
+    → is_in_run (64 * number) (slice_index_or words number 0) from ≡ has_place words from
+near_word words number from low high =
+    let yes : nat_le (64 * number) from ≡ true = grind (arith, nat_tests) in
+    let index : 64 * number + (from - 64 * number) ≡ from = omega arith in
+    ap (λ t. t && is_bit (slice_index_or words number 0) (from - 64 * number)) yes
+    ∙ word_bits words number (from - 64 * number) (omega arith) ∙ ap (has_place words) index
 
-  -- where new and marked places have none in common, none leads on
-  pub GainsLed-apart : (words : List ℕ)
-      → ((k : ℕ) → k < 17 → bit_and (slice_index_or marked k 0) (slice_index_or new k 0) ≡ 0)
-      → GainsLed rows (λ place. has_place new place && has_place marked place) words words
-  GainsLed-apart words apart =
-      GainsLed-none rows (λ place. has_place new place && has_place marked place) words
-      (λ from to at leads. ⊎_elim
-      (λ (low : from < 1088). false≢true (sym (none from low) ∙ both from (and_parts _ _ at).0 (and_parts _ _ at).1))
-      (λ high. false≢true (sym (leads-past rows from to (omega (arith, short, high))) ∙ leads))
-      (cases_lt from 1088)) where
-        none : (from : ℕ) → from < 1088
-            → (is_bit (slice_index_or marked (from / 64) 0) (from % 64) && is_bit (slice_index_or new (from / 64) 0) (from % 64)) ≡ false
-        none from low =
-            sym (is_bit-and (slice_index_or marked (from / 64) 0) (slice_index_or new (from / 64) 0) (from % 64))
-            ∙ none_set _ (apart (from / 64) (omega (arith, low))) (from % 64)
+pub word_is_run : (words : List ℕ) (number from : ℕ) → is_in_words number (number + 1) words from ≡ true
+    → is_in_run (64 * number) (slice_index_or words number 0) from ≡ true
+word_is_run words number from at =
+    let rest = (and_parts (nat_le number (from / 64)) _ at).1 in
+    let low : number ≤ from / 64 = leb-true _ _ (and_parts _ _ at).0 in
+    let high : from / 64 < number + 1 = ltb-true _ _ (and_parts _ _ rest).0 in
+    near_word words number from (omega arith) (omega arith) ∙ (and_parts (nat_lt (from / 64) (number + 1)) _ rest).1
 
-        both : (from : ℕ) → has_place new from ≡ true → has_place marked from ≡ true
-            → (is_bit (slice_index_or marked (from / 64) 0) (from % 64) && is_bit (slice_index_or new (from / 64) 0) (from % 64)) ≡ true
-        both from one other =
-            and_from _ _ (sym (has_place-word marked from) ∙ other) (sym (has_place-word new from) ∙ one)
+-- a row of bits that two rows have in common
+pub in_both : (first a b from : ℕ) → is_in_run first (bit_and a b) from ≡ (is_in_run first a from && is_in_run first b from)
+in_both first a b from = ap (λ t. nat_le first from && t) (is_bit-and a b (from - first))
+    ∙ all (nat_le first from) (is_bit a (from - first)) (is_bit b (from - first)) where
+      all : (t p q : Bool) → (t && (p && q)) ≡ ((t && p) && (t && q))
+      all t p q = grind (arith, nat_tests)
+
+-- a row of 128 bits in two halves
+pub in_halves : (first bits low high from : ℕ) → bits < 2 ^ 128 → low < 2 ^ 64 → high < 2 ^ 64
+    → ((j : ℕ) → j < 64 → is_bit low j ≡ is_bit bits j) → ((j : ℕ) → j < 64 → is_bit high j ≡ is_bit (bits / 2 ^ 64) j)
+    → is_in_run first bits from ≡ (is_in_run first low from || is_in_run (first + 64) high from)
+in_halves first bits low high from small small_low small_high at_low at_high = ⊎_elim
+    (λ (before : from < first).
+    let a : nat_le first from ≡ false = grind (arith, nat_tests) in
+    let b : nat_le (first + 64) from ≡ false = grind (arith, nat_tests) in
+    neither _ _ _ _ _ a b)
+    (λ after. ⊎_elim
+    (λ (near : from < first + 64).
+    let b : nat_le (first + 64) from ≡ false = grind (arith, nat_tests) in
+    lower _ _ _ _ _ b (at_low (from - first) (omega arith)))
+    (λ far.
+    let a : nat_le first from ≡ true = grind (arith, nat_tests) in
+    let b : nat_le (first + 64) from ≡ true = grind (arith, nat_tests) in
+    let none : is_bit low (from - first) ≡ false = is_bit-above low 64 (from - first) small_low (omega arith) in
+    let index : 64 + (from - (first + 64)) ≡ from - first = omega arith in
+    upper _ _ _ _ _ a b none (⊎_elim
+    (λ (inside : from - (first + 64) < 64).
+    at_high (from - (first + 64)) inside ∙ is_bit-shr bits 64 (from - (first + 64)) ∙ ap (is_bit bits) index)
+    (λ outside.
+    is_bit-above high 64 (from - (first + 64)) small_high (omega arith)
+    ∙ sym (is_bit-above bits 128 (from - first) small (omega arith)))
+    (cases_lt (from - (first + 64)) 64)))
+    (cases_lt from (first + 64)))
+    (cases_lt from first) where
+      neither : (a b p q r : Bool) → a ≡ false → b ≡ false → (a && p) ≡ ((a && q) || (b && r))
+      neither a b p q r e f = grind (arith, nat_tests)
+
+      lower : (a b p q r : Bool) → b ≡ false → q ≡ p → (a && p) ≡ ((a && q) || (b && r))
+      lower a b p q r e f = grind (arith, nat_tests)
+
+      upper : (a b p q r : Bool) → a ≡ true → b ≡ true → q ≡ false → r ≡ p → (a && p) ≡ ((a && q) || (b && r))
+      upper a b p q r e f g h = grind (arith, nat_tests)
+
+-- what the words of a set lead to, joined with the set itself
+module _ (rows : List (List ℕ)) (short : length rows ≤ 1040) where
+  -- a test that is true of the same places with a row, and of no other
+  pub GainsLed-same : (one other : ℕ → Bool) (old new : List ℕ)
+      → ((from to : ℕ) → other from ≡ true → leads rows from to ≡ true → one from ≡ true)
+      → ((from to : ℕ) → one from ≡ true → leads rows from to ≡ true → other from ≡ true)
+      → GainsLed rows one old new → GainsLed rows other old new
+  GainsLed-same one other old new back forth gains = record {
+    kept = gains.kept;
+    led = λ from to at leads. gains.led from to (back from to at leads) leads;
+    only = λ to held. ⊎_elim (λ at_old. inl at_old) (λ by. inr (by.0, forth by.0 to by.1 by.2, by.2)) (gains.only to held);
+  }
+
+  -- a place with a row is low
+  pub leads-low : (from to : ℕ) → leads rows from to ≡ true → from < 1040
+  leads-low from to at = ⊎_elim
+      (λ (low : from < 1040). low)
+      (λ high. absurd (false≢true (sym (leads-past rows from to (omega (arith, short, high))) ∙ at)))
+      (cases_lt from 1040)
+
+  -- words after words
+  pub GainsLed-words : ((from to : ℕ) → leads rows from to ≡ true → 1040 ≤ to) → (first middle end : ℕ) → first ≤ middle → middle ≤ end
+      → (old now new : List ℕ) → GainsLed rows (is_in_words first middle old) old now
+      → GainsLed rows (is_in_words middle end now) now new → GainsLed rows (is_in_words first end old) old new
+  GainsLed-words onward first middle end low high old now new before then = record {
+    kept = λ place held. then.kept place (before.kept place held);
+    led = λ from to at leads.
+        let parts = in_words first end from old at in
+        ⊎_elim
+        (λ (below : from / 64 < middle). then.kept to (before.led from to (words_in first middle from old parts.0 below parts.2) leads))
+        (λ above. then.led from to (words_in middle end from now above parts.1 (before.kept from parts.2)) leads)
+        (cases_lt (from / 64) middle);
+    only = λ to held. ⊎_elim
+        (λ at_now. ⊎_elim
+        (λ at_old. inl at_old)
+        (λ led.
+        let parts = in_words first middle led.0 old led.1 in
+        inr (led.0, words_in first end led.0 old parts.0 (omega (arith, high, parts.1)) parts.2, led.2))
+        (before.only to at_now))
+        (λ led.
+        let parts = in_words middle end led.0 now led.1 in
+        ⊎_elim
+        (λ at_old. inr (led.0, words_in first end led.0 old (omega (arith, low, parts.0)) parts.1 at_old, led.2))
+        (λ other.
+        let up = onward other.0 led.0 other.2 in
+        let down = leads-low led.0 to led.2 in
+        absurd (omega (arith, up, down)))
+        (before.only led.0 parts.2))
+        (then.only to held);
+  } where
+    in_words : (a b place : ℕ) (words : List ℕ) → is_in_words a b words place ≡ true
+        → (a ≤ place / 64) × (place / 64 < b) × (has_place words place ≡ true)
+    in_words a b place words at =
+        let one : nat_le a (place / 64) ≡ true = (and_parts _ _ at).0 in
+        let rest = (and_parts (nat_le a (place / 64)) _ at).1 in
+        let two : nat_lt (place / 64) b ≡ true = (and_parts _ _ rest).0 in
+        (leb-true _ _ one, ltb-true _ _ two, (and_parts (nat_lt (place / 64) b) _ rest).1)
+
+    words_in : (a b place : ℕ) (words : List ℕ) → a ≤ place / 64 → place / 64 < b → has_place words place ≡ true
+        → is_in_words a b words place ≡ true
+    words_in a b place words low high at =
+        let one : nat_le a (place / 64) ≡ true = grind (arith, nat_tests) in
+        let two : nat_lt (place / 64) b ≡ true = grind (arith, nat_tests) in
+        and_from _ _ one (and_from _ _ two at)
+
+  -- the first words have all places with a row
+  pub GainsLed-all : (old new : List ℕ) → GainsLed rows (is_in_words 0 17 old) old new → GainsLed rows (has_place old) old new
+  GainsLed-all old new gains =
+      GainsLed-same (is_in_words 0 17 old) (has_place old) old new
+      (λ from to at leads.
+      let low = leads-low from to leads in
+      let yes : nat_lt (from / 64) 17 ≡ true = grind (arith, nat_tests, low) in
+      let any : nat_le 0 (from / 64) ≡ true = grind (arith, nat_tests) in
+      and_from _ _ any (and_from _ _ yes at))
+      (λ from to at leads. (and_parts (nat_lt (from / 64) 17) _ (and_parts (nat_le 0 (from / 64)) _ at).1).1)
+      gains
+
+  -- where no place of a word is marked, none of it leads on
+  pub GainsLed-unmarked : (marked words : List ℕ) (number : ℕ) → ((from to : ℕ) → leads rows from to ≡ true → has_place marked from ≡ true)
+      → slice_index_or words number 0 < 2 ^ 64
+      → bit_and (slice_index_or words number 0) (slice_index_or marked number 0) ≡ 0
+      → GainsLed rows (is_in_words number (number + 1) words) words words
+  GainsLed-unmarked marked words number marks small none =
+      GainsLed-none rows (is_in_words number (number + 1) words) words
+      (λ from to at leads.
+      let rest = (and_parts _ _ at).1 in
+      let there : is_in_words number (number + 1) marked from ≡ true =
+      and_from _ _ (and_parts _ _ at).0 (and_from _ _ (and_parts _ _ rest).0 (marks from to leads)) in
+      false≢true
+      (sym (ap (λ b. nat_le (64 * number) from && b)
+      (none_set (bit_and (slice_index_or words number 0) (slice_index_or marked number 0)) none (from - 64 * number)) ∙ and-false _)
+      ∙ in_both (64 * number) (slice_index_or words number 0) (slice_index_or marked number 0) from
+      ∙ and_from _ _ (word_is_run words number from at) (word_is_run marked number from there)))
+
+  -- the marked places of a word are all of it that leads on
+  pub GainsLed-marked : (marked words new : List ℕ) (number : ℕ) → ((from to : ℕ) → leads rows from to ≡ true → has_place marked from ≡ true)
+      → slice_index_or words number 0 < 2 ^ 64
+      → GainsLed rows (is_in_run (64 * number) (bit_and (slice_index_or words number 0) (slice_index_or marked number 0))) words new
+      → GainsLed rows (is_in_words number (number + 1) words) words new
+  GainsLed-marked marked words new number marks small gains =
+      GainsLed-same
+      (is_in_run (64 * number) (bit_and (slice_index_or words number 0) (slice_index_or marked number 0)))
+      (is_in_words number (number + 1) words) words new
+      (λ from to at leads.
+      let rest = (and_parts _ _ at).1 in
+      let there : is_in_words number (number + 1) marked from ≡ true =
+      and_from _ _ (and_parts _ _ at).0 (and_from _ _ (and_parts _ _ rest).0 (marks from to leads)) in
+      in_both (64 * number) (slice_index_or words number 0) (slice_index_or marked number 0) from
+      ∙ and_from _ _ (word_is_run words number from at) (word_is_run marked number from there))
+      (λ from to at leads.
+      sym (run_is_word words number from small)
+      ∙ (and_parts _ _ (sym (in_both (64 * number) (slice_index_or words number 0) (slice_index_or marked number 0) from) ∙ at)).0)
+      gains
 
 -- rows of zeros lead nowhere
 abbrev pub are_zeros : ℕ → List (List ℕ)

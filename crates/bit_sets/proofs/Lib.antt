@@ -4,4 +4,6 @@ pub mod JoinLemmas
 pub mod ContactLemmas
 pub mod LedLemmas
 pub mod BundleLemmas
+pub mod PassLemmas
 pub mod SearchLemmas
+pub mod ShortLemmas

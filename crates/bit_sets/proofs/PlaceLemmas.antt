@@ -1,7 +1,6 @@
 -- Sets of places: what their words have, and what comes to them with a word.
-use Rattle.std.proofs.Common.{⊎_elim, ◌⊎◌, inl, inr, ◌≡◌, ◌≢◌, ℕ, ◌+◌, ◌-◌, ◌*◌, ◌/◌, ◌%◌, ◌^◌, ◌<◌, ◌≤◌, ◌∙◌, sym, ap, refl, arith, Bool, true, false, not, ◌&&◌, ◌||◌, List, length, replicate, slice_index_or, slice_set}
+use Rattle.std.proofs.Common.{⊎_elim, ◌⊎◌, inl, inr, ◌≡◌, ◌≢◌, ℕ, ◌+◌, ◌-◌, ◌*◌, ◌/◌, ◌%◌, ◌^◌, ◌<◌, ◌≤◌, ◌∙◌, sym, ap, refl, arith, Bool, true, false, ◌&&◌, ◌||◌, List, length, replicate, slice_index_or, slice_set}
 use Rattle.std.specs.Prelude.{nat_le, nat_lt, ◌==◌}
-use Rattle.std.specs.Int.{bit_not, trailing_zeros, w64}
 use Rattle.std.specs.Int.Bits.{bit_and, bit_or}
 use Rattle.std.proofs.lemmas.Nat.{le_or_l, le_or_r}
 use Rattle.std.proofs.lemmas.Bool.Decides.{nat_tests}
@@ -10,7 +9,7 @@ use Rattle.std.proofs.Math.Bool.{and-false, or-false}
 use Rattle.std.proofs.lemmas.Grind.{common_steps}
 use Rattle.std.proofs.lemmas.List.{get_or_past, get_or-replicate}
 use Rattle.bit_sets.specs.Bits.{is_bit, has_place, is_in_run}
-use Rattle.bit_sets.proofs.BitLemmas.{is_bit-and, is_bit-not, is_bit-or, is_bit-zero, is_bit-above, lowest_bit, none_set}
+use Rattle.bit_sets.proofs.BitLemmas.{is_bit-and, is_bit-or, is_bit-zero, is_bit-above, none_set}
 
 pub has_place-word : (words : List ℕ) (k : ℕ) → has_place words k ≡ is_bit (slice_index_or words (k / 64) 0) (k % 64)
 unfolding has_place
@@ -210,6 +209,34 @@ read_last words first number bits k long end before = before ∙ ⊎_elim
       by_none : (t a h : Bool) → h ≡ false → (t && (a && h)) ≡ (t && h)
       by_none t a h e = grind (arith, nat_tests)
 
+-- a row of three words side by side
+pub read_three : (words : List ℕ) (first a b c k : ℕ) → length words ≡ 31
+    → ((number : ℕ) → slice_index_or words number 0 < 2 ^ 64) → a < 2 ^ 128 → b < 2 ^ 128 → c < 2 ^ 128
+    → (k < 128 → is_bit a k ≡ is_in_run (64 * (first / 64)) (slice_index_or words (first / 64) 0) (first + k))
+    → (k < 128 → is_bit b k ≡ is_in_run (64 * (first / 64 + 1)) (slice_index_or words (first / 64 + 1) 0) (first + k))
+    → (k < 128 → is_bit c k ≡ is_in_run (64 * (first / 64 + 2)) (slice_index_or words (first / 64 + 2) 0) (first + k))
+    → is_bit (bit_or (bit_or a b) c) k ≡ (nat_lt k 128 && has_place words (first + k))
+read_three words first a b c k long small small_a small_b small_c at_a at_b at_c =
+    let from : ℕ = first / 64 in
+    let start = read_next words first from 0 a k (small from) small_a at_a (read_first words first k) in
+    let one : is_bit a k ≡ read_before words first (from + 1) k =
+    sym (is_bit-or 0 a k ∙ ap (λ t. t || is_bit a k) (is_bit-zero k)) ∙ start in
+    let second : first / 64 + 1 + 1 ≡ first / 64 + 2 = omega arith in
+    let third : first / 64 + 2 + 1 ≡ first / 64 + 3 = omega arith in
+    let two = read_next words first (from + 1) a b k (small (from + 1)) small_b at_b one
+    ∙ ap (λ n. read_before words first n k) second in
+    let three = read_next words first (from + 2) (bit_or a b) c k (small (from + 2)) small_c at_c two
+    ∙ ap (λ n. read_before words first n k) third in
+    read_last words first (from + 3) (bit_or (bit_or a b) c) k long (inr (omega arith)) three
+
+-- no word, no part of a row
+pub part_past : (words : List ℕ) (number to k : ℕ) → length words ≤ number
+    → is_bit 0 k ≡ is_in_run (64 * number) (slice_index_or words number 0) (to + k)
+part_past words number to k past =
+    let none : is_bit (slice_index_or words number 0) (to + k - 64 * number) ≡ false =
+    none_set (slice_index_or words number 0) (get_or_past words number 0 past) (to + k - 64 * number) in
+    is_bit-zero k ∙ sym (ap (λ b. nat_le (64 * number) (to + k) && b) none ∙ and-false _)
+
 -- words of zeros have no place
 pub has_place-zeros : (n k : ℕ) → has_place (replicate n 0) k ≡ false
 has_place-zeros n k =
@@ -224,33 +251,6 @@ word_bits words number j low =
     let bit : (64 * number + j) % 64 ≡ j = omega arith in
     sym (has_place-word words (64 * number + j) ∙ ap (λ n. is_bit (slice_index_or words n 0) ((64 * number + j) % 64)) at
     ∙ ap (is_bit (slice_index_or words number 0)) bit)
-
--- as far as there are words is as far as there are places
-pub as_far : (words : List ℕ) (number k : ℕ) → length words ≡ 31 → 31 ≤ number
-    → (nat_lt k (64 * number) && has_place words k) ≡ has_place words k
-as_far words number k long end =
-    ⊎_elim
-    (λ (low : k < 1984). let yes : nat_lt k (64 * number) ≡ true = grind (arith, nat_tests) in ap (λ b. b && has_place words k) yes)
-    (λ high. let none = has_place-past words k (omega arith) in
-    ap (λ b. nat_lt k (64 * number) && b) none ∙ and-false _ ∙ sym none)
-    (cases_lt k 1984)
-
--- a set with a word that is not zero has a place
-pub some_place : (words : List ℕ) (number : ℕ) → slice_index_or words number 0 ≢ 0 → slice_index_or words number 0 < 2 ^ 64
-    → (place : ℕ) × (has_place words place ≡ true)
-some_place words number some small =
-    let lowest = lowest_bit (slice_index_or words number 0) (omega arith) small in
-    let bit = trailing_zeros w64 (slice_index_or words number 0) in
-    (64 * number + bit, sym (word_bits words number bit lowest.0) ∙ lowest.1)
-
--- a set whose words are zero has none
-pub no_place : (words : List ℕ) → ((number : ℕ) → number < length words → slice_index_or words number 0 ≡ 0)
-    → (place : ℕ) → has_place words place ≡ false
-no_place words zero place =
-    ⊎_elim
-    (λ (inside : place / 64 < length words). has_place-word words place ∙ none_set _ (zero (place / 64) inside) (place % 64))
-    (λ outside. has_place-past words place (omega arith))
-    (cases_lt (place / 64) (length words))
 
 -- two sets whose words so far have no bit in common, while none was found
 pub none-more : (one other : List ℕ) (number both : ℕ)
@@ -280,50 +280,3 @@ apart-words one other none place at = by (cases_lt (place / 64) (length one)) wh
         both : (a b : Bool) → a ≡ true → (a && b) ≡ false → b ≡ false
         both a b e f = grind (arith, nat_tests, e, f)
   by (inr high) = absurd (false≢true (sym (has_place-past one place (omega (arith, high))) ∙ at))
-
--- each bit that words of two sets have in common, up to one of them, is in that of a third
-abbrev pub AreAmongBefore : List ℕ → List ℕ → List ℕ → ℕ → Type 0
-AreAmongBefore one other third number =
-    (k j : ℕ) → k < number → j < 64 → is_bit (slice_index_or one k 0) j ≡ true → is_bit (slice_index_or other k 0) j ≡ true
-    → is_bit (slice_index_or third k 0) j ≡ true
-
-pub among-more : (one other third : List ℕ) (number others : ℕ) → slice_index_or third number 0 < 2 ^ 64
-    → (others ≡ 0 → AreAmongBefore one other third number)
-    → bit_or others (bit_and (bit_and (slice_index_or one number 0) (slice_index_or other number 0)) (bit_not w64 (slice_index_or third number 0))) ≡ 0
-    → AreAmongBefore one other third (number + 1)
-among-more one other third number others small before none k j low bit at and_at =
-    let word =
-    bit_and (bit_and (slice_index_or one number 0) (slice_index_or other number 0)) (bit_not w64 (slice_index_or third number 0)) in
-    let left = le_or_l others word in
-    let right = le_or_r others word in
-    elim (cases_lt k number) [
-      | inl less ↦ before (omega (arith, left, none)) k j less bit at and_at
-      | inr more ↦
-          let same : k ≡ number = omega (arith, low, more) in
-          rw same (here (omega (arith, right, none)) (rw (sym same) at) (rw (sym same) and_at))
-    ]
-  where
-    all : (a b c : Bool) → a ≡ true → b ≡ true → ((a && b) && not c) ≡ false → c ≡ true
-    all a b c e f g = grind (arith, nat_tests, e, f, g)
-
-    here : bit_and (bit_and (slice_index_or one number 0) (slice_index_or other number 0)) (bit_not w64 (slice_index_or third number 0)) ≡ 0
-        → is_bit (slice_index_or one number 0) j ≡ true → is_bit (slice_index_or other number 0) j ≡ true
-        → is_bit (slice_index_or third number 0) j ≡ true
-    here empty a b =
-        all _ _ _ a b
-        (sym
-        (is_bit-and (bit_and (slice_index_or one number 0) (slice_index_or other number 0)) (bit_not w64 (slice_index_or third number 0)) j
-        ∙ ap (λ t. t && is_bit (bit_not w64 (slice_index_or third number 0)) j)
-        (is_bit-and (slice_index_or one number 0) (slice_index_or other number 0) j)
-        ∙ ap (λ t. (is_bit (slice_index_or one number 0) j && is_bit (slice_index_or other number 0) j) && t)
-        (is_bit-not w64 (slice_index_or third number 0) j small bit))
-        ∙ none_set _ empty j)
-
-pub among-places : (one other third : List ℕ) (number : ℕ) → length one ≤ number → AreAmongBefore one other third number → (place : ℕ)
-    → has_place one place ≡ true → has_place other place ≡ true → has_place third place ≡ true
-among-places one other third number end among place at and_at = by (cases_lt (place / 64) number) where
-  by : (place / 64 < number) ⊎ (number ≤ place / 64) → has_place third place ≡ true
-  by (inl low) =
-      has_place-word third place
-      ∙ among (place / 64) (place % 64) low (omega arith) (sym (has_place-word one place) ∙ at) (sym (has_place-word other place) ∙ and_at)
-  by (inr high) = absurd (false≢true (sym (has_place-past one place (omega (arith, end, high))) ∙ at))

@@ -3,7 +3,9 @@ use Rattle.std.specs.Prelude.{◌≡◌, ℕ, ◌+◌, ◌-◌, ◌<◌, ◌≤�
 use Rattle.bit_sets.specs.Bits.{has_place}
 use Rattle.bit_sets.specs.Contacts.{is_contact, is_any_contact, IsRunInRange}
 use Rattle.bit_sets.specs.Rows.{leads}
+use Rattle.bit_sets.specs.Shorts.{AreShorts}
 use Rattle.bit_sets.specs.declared.contacts.Run.{Run}
+use Rattle.bit_sets.specs.declared.shorts.Short.{Short}
 
 -- whether a wire of the run leads to a place from one that the set has
 abbrev pub follows_run : List ℕ → Run → ℕ → Bool
@@ -26,11 +28,13 @@ AreCovered apart runs rows =
     (from to : ℕ) → leads rows from to ≡ true → (has_place apart from ≡ true) ⊎ (is_any_contact runs from to ≡ true)
 
 -- The rows of exits: they are those of places below 1040, they lead to places from there on and below 1984, the places with
--- a row that has any place are marked, and beside the rows stand runs of their wires, and the places that have others.
-pub record AreRows (marked apart : List ℕ) (runs : List Run) (rows : List (List ℕ)) : Type 0 where
+-- a row that has any place are marked, and beside the rows stand runs of their wires, the places that have others, and the rows of
+-- few words.
+pub record AreRows (marked apart : List ℕ) (runs : List Run) (shorts : List Short) (rows : List (List ℕ)) : Type 0 where
   pub short : length rows ≤ 1040
   pub onward : (from to : ℕ) → leads rows from to ≡ true → 1040 ≤ to
   pub within : (from to : ℕ) → leads rows from to ≡ true → to < 1984
   pub marks : (from to : ℕ) → leads rows from to ≡ true → has_place marked from ≡ true
   pub bundled : All (IsBundle rows) runs
   pub covered : AreCovered apart runs rows
+  pub shortened : AreShorts shorts rows

@@ -20,11 +20,6 @@ passes_run closed hubs run to =
     && (nat_lt (to - run.exits) run.count
     && (has_place closed to && (has_place hubs (run.common + (to - run.exits)) && not (has_place hubs to))))
 
--- whether a closed contact of the runs leads to a place that the set does not have, from one that it has
-abbrev pub passes : List ℕ → List ℕ → List Run → ℕ → Bool
-passes closed hubs [] to = false
-passes closed hubs (run ∷ runs) to = passes_run closed hubs run to || passes closed hubs runs to
-
 -- the run's first places are among those of a set, and it has at most 128 contacts
 pub record IsRunInRange (run : Run) : Type 0 where
   pub exits : run.exits < 1984
@@ -39,8 +34,3 @@ AreCommons runs commons =
 -- two sets have no place in common
 abbrev pub ArePlacesApart : List ℕ → List ℕ → Type 0
 ArePlacesApart one other = (place : ℕ) → has_place one place ≡ true → has_place other place ≡ false
-
--- each place that two sets have in common is one of a third
-abbrev pub AreAmong : List ℕ → List ℕ → List ℕ → Type 0
-AreAmong one other third =
-    (place : ℕ) → has_place one place ≡ true → has_place other place ≡ true → has_place third place ≡ true

@@ -1,5 +1,5 @@
 -- Rows of places: which places each place leads to. A row stands for the places from 1024 on.
-use Rattle.std.specs.Prelude.{◌≡◌, ℕ, ◌-◌, ◌&&◌, ◌⊎◌, nat_le, Bool, true, List, [], slice_index_or}
+use Rattle.std.specs.Prelude.{◌≡◌, ℕ, ◌-◌, ◌/◌, ◌&&◌, ◌⊎◌, nat_le, nat_lt, Bool, true, List, [], slice_index_or}
 use Rattle.bit_sets.specs.Bits.{has_place}
 
 -- whether a row has a place
@@ -17,3 +17,7 @@ pub record GainsLed (rows : List (List ℕ)) (test : ℕ → Bool) (old new : Li
   pub only :
       (to : ℕ) → has_place new to ≡ true
       → (has_place old to ≡ true) ⊎ ((from : ℕ) × (test from ≡ true) × (leads rows from to ≡ true))
+
+-- whether a set has a place in its words from one to another
+abbrev pub is_in_words : ℕ → ℕ → List ℕ → ℕ → Bool
+is_in_words from to words place = nat_le from (place / 64) && (nat_lt (place / 64) to && has_place words place)

@@ -22,7 +22,7 @@ pub(crate) fn bit_where(bit: usize, test: bool) -> u64
 
 // The low word of a row.
 #[inline(always)]
-fn low_word(bits: u128) -> u64
+pub(crate) fn low_word(bits: u128) -> u64
     ensures { (j : ℕ) → j < 64 → is_bit result j ≡ is_bit bits j }
 {
     (bits & 0xffff_ffff_ffff_ffff) as u64
@@ -47,17 +47,8 @@ pub(crate) fn word_of_run(bits: u128, from: usize, to: usize) -> u64
 }
 
 // The part of a word that stands in a row of 128 places: the word begins at the place `from`, the row at the place `to`.
-// A word without a bit, as most are, has no part.
 #[inline(always)]
 pub(crate) fn run_of_word(word: u64, from: usize, to: usize) -> u128
-    ensures { (j : ℕ) → j < 128 → is_bit result j ≡ is_in_run from word (to + j) }
-{
-    if word == 0 { 0 } else { moved(word, from, to) }
-}
-
-// A word, moved from the place where it begins to the place where a row begins.
-#[inline(always)]
-fn moved(word: u64, from: usize, to: usize) -> u128
     ensures { (j : ℕ) → j < 128 → is_bit result j ≡ is_in_run from word (to + j) }
 {
     let bits = u128::from(word);

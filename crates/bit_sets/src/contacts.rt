@@ -1,10 +1,10 @@
-//! Closed contacts, passed on by rows.
+//! Runs of contacts.
 
-ghost use Rattle.std.specs.Prelude.{◌≡◌, ℕ, ◌≤◌, ◌&&◌, nat_lt, All};
-ghost use Rattle.bit_sets.specs.Bits.{is_bit, has_place, GainsPlaces};
-ghost use Rattle.bit_sets.specs.Contacts.{AreCommons, passes, passes_run, IsRunInRange};
+ghost use Rattle.std.specs.Prelude.{◌≡◌, ℕ, ◌≤◌, nat_lt, All};
+ghost use Rattle.bit_sets.specs.Bits.{is_bit};
+ghost use Rattle.bit_sets.specs.Contacts.{AreCommons, IsRunInRange};
 
-use crate::places::{WORDS, put_run, run};
+use crate::places::{WORDS, put_run};
 
 /// A run of contacts: for each k below `count` a contact leads from the place `common + k` to the place `exits + k`. A
 /// contact is named by the place that it leads to. Wires side by side are a run too.
@@ -16,34 +16,6 @@ pub struct Run {
     pub exits: usize,
     /// How many contacts there are, up to 128.
     pub count: usize,
-}
-
-// The places that the set does not have, and to which closed contacts lead from those that it has.
-pub(crate) fn passed_on(runs: &[Run], closed: &[u64; WORDS], words: &[u64; WORDS]) -> [u64; WORDS]
-    requires { All IsRunInRange runs.now }
-    ensures { (place : ℕ) → has_place result place ≡ (nat_lt place 1984 && passes closed.now words.now runs.now place) }
-{
-    let mut new = [0; WORDS];
-    for run in runs {
-        pass_run(*run, closed, words, &mut new);
-    }
-    new
-}
-
-// Adds the places that the set does not have, and to which closed contacts of a run lead from those that it has.
-fn pass_run(contacts: Run, closed: &[u64; WORDS], words: &[u64; WORDS], new: &mut [u64; WORDS])
-    requires { IsRunInRange contacts }
-    ensures { GainsPlaces (λ place. nat_lt place 1984 && passes_run closed.now words.now contacts place) new.old new.new }
-{
-    let found = run(words, contacts.common);
-    if found == 0 {
-        return;
-    }
-    let impulsed = found & first_bits(contacts.count);
-    if impulsed != 0 {
-        let bits = impulsed & run(closed, contacts.exits) & !run(words, contacts.exits);
-        put_run(new, contacts.exits, bits);
-    }
 }
 
 /// All places that a contact of the runs leads from.
@@ -59,6 +31,7 @@ pub fn commons_of(runs: &[Run]) -> [u64; WORDS]
 }
 
 // A row with so many bits from the first on, and no other.
+#[inline(always)]
 pub(crate) fn first_bits(count: usize) -> u128
     requires { count ≤ 128 }
     ensures { (k : ℕ) → is_bit result k ≡ nat_lt k count }

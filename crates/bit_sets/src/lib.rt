@@ -8,9 +8,11 @@ mod bits;
 mod bundles;
 mod contacts;
 mod joins;
+mod passing;
 mod places;
 mod rows;
 mod search;
+mod shorts;
 
 pub use contacts::{Run, commons_of};
 pub use places::{PLACES, WORDS, has, has_within, put_run, put_where, run};

@@ -1,6 +1,6 @@
 //! Sets of places.
 
-ghost use Rattle.std.specs.Prelude.{◌≡◌, ℕ, ◌+◌, ◌*◌, ◌<◌, ◌&&◌, ◌==◌, nat_lt, length};
+ghost use Rattle.std.specs.Prelude.{◌≡◌, ℕ, ◌+◌, ◌*◌, ◌<◌, ◌&&◌, ◌==◌, nat_lt, length, slice_index_or};
 ghost use Rattle.bit_sets.specs.Bits.{is_bit, is_in_run, has_place, GainsPlaces};
 
 use crate::bits::{bit_where, has_bit, run_of_word, word_of_run};
@@ -72,9 +72,19 @@ pub fn run(words: &[u64; WORDS], first: usize) -> u128
     ensures { (k : ℕ) → is_bit result k ≡ (nat_lt k 128 && has_place words.now (first + k)) }
 {
     let from = first / 64;
-    let mut bits = 0;
-    for number in from..WORDS.min(from + 3) {
-        bits |= run_of_word(words[number], 64 * number, first);
+    part_of_run(words, from, first)
+        | part_of_run(words, from + 1, first)
+        | part_of_run(words, from + 2, first)
+}
+
+// The same of one word alone; none where the set has no such word.
+#[inline(always)]
+fn part_of_run(words: &[u64; WORDS], number: usize, first: usize) -> u128
+    ensures { (k : ℕ) → k < 128 → is_bit result k ≡ is_in_run (64 * number) (slice_index_or words.now number 0) (first + k) }
+{
+    if number < WORDS {
+        run_of_word(words[number], 64 * number, first)
+    } else {
+        0
     }
-    bits
 }

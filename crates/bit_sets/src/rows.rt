@@ -1,11 +1,14 @@
 //! Rows of places: which places each place leads to.
 
-ghost use Rattle.std.specs.Prelude.{◌≡◌, ℕ, ◌<◌, false, bit_and, slice_index_or};
+ghost use Rattle.std.specs.Prelude.{◌≡◌, ℕ, ◌<◌, ◌*◌, ◌&&◌, nat_lt};
+ghost use Rattle.bit_sets.specs.Bits.{has_place, is_in_run};
 
+use crate::bits::low_word;
 use crate::bundles::{LEAST, MOST, follow_runs, is_in_runs};
 use crate::contacts::Run;
 use crate::joins::{ROW_WORDS, join};
-use crate::places::{PLACES, WORDS, has, has_in, put, put_where};
+use crate::places::{PLACES, WORDS, has, has_in, put, put_run, put_where};
+use crate::shorts::{Short, short_of};
 use std::alloc::{AllocError, Global};
 use std::marker::Model;
 
@@ -21,6 +24,8 @@ pub struct Rows {
     apart: [u64; WORDS],
     // Wires side by side. The rows have them too.
     runs: Vec<Run>,
+    // The rows of few words as these words, in the same order, once the wires are bundled.
+    shorts: Vec<Short>,
     // The rows in the order of the places that have them. A row stands for the places from 1024 on.
     rows: Vec<[u64; ROW_WORDS]>,
 }
@@ -33,15 +38,16 @@ impl Model for Rows {
 
     ghost view = { λ rows. rows.rows.items };
 
-    ghost invariant = { λ rows. AreRows rows.marked rows.apart rows.runs.items rows.rows.items };
+    ghost invariant = { λ rows. AreRows rows.marked rows.apart rows.runs.items rows.shorts.items rows.rows.items };
 }
 
 impl Rows {
-    ghost use Rattle.std.specs.Prelude.{◌≡◌, ℕ, ◌*◌, ◌<◌, ◌≤◌, ◌⊎◌, ◌==◌, ◌&&◌, ◌||◌, true, false, bit_and, length, slice_index_or, All, IfOk, IfSome, OnOk};
+    ghost use Rattle.std.specs.Prelude.{◌≡◌, ℕ, ◌+◌, ◌*◌, ◌<◌, ◌≤◌, ◌⊎◌, ◌==◌, ◌&&◌, ◌||◌, true, false, length, All, IfOk, IfSome, OnOk};
     ghost use Rattle.bit_sets.specs.Bits.{has_place, is_in_run};
     ghost use Rattle.bit_sets.specs.Bundles.{AreCovered, IsBundle};
     ghost use Rattle.bit_sets.specs.Contacts.{is_any_contact};
-    ghost use Rattle.bit_sets.specs.Rows.{leads, GainsLed};
+    ghost use Rattle.bit_sets.specs.Rows.{leads, is_in_words, GainsLed};
+    ghost use Rattle.bit_sets.specs.Shorts.{AreShorts};
 
     /// Empty rows.
     pub fn new(alloc: Global) -> Result<Rows, AllocError>
@@ -56,6 +62,7 @@ impl Rows {
             marked: [0; WORDS],
             apart: [0; WORDS],
             runs: Vec::new(alloc),
+            shorts: Vec::new(alloc),
             rows,
         })
     }
@@ -68,18 +75,21 @@ impl Rows {
         ensures long { length self.new ≡ length self.old }
         ensures added { (f t : ℕ) → leads self.new f t ≡ (leads self.old f t || ((f == from) && (t == to))) }
     {
+        self.shorts.clear();
         put(&mut self.rows[from], to - 1024);
         put(&mut self.marked, from);
         put(&mut self.apart, from);
     }
 
-    /// Notes wires side by side, so that many of them are followed at once. Nothing leads to other places than before.
+    /// Notes wires side by side, so that many of them are followed at once, and rows of few words. Nothing leads to other places than before.
     pub fn bundle(&mut self, alloc: Global) -> Result<(), AllocError>
         ensures { self.new ≡ self.old }
     {
         let runs = self.bundled(alloc)?;
+        let shorts = self.shortened(alloc)?;
         self.apart = self.set_apart(&runs);
         self.runs = runs;
+        self.shorts = shorts;
         Ok(())
     }
 
@@ -91,89 +101,124 @@ impl Rows {
         let _rows = &self.rows;
     }
 
-    // Adds what the places of `new` lead to: by runs where they save rows.
-    pub(crate) fn join_all(&self, new: &[u64; WORDS], words: &mut [u64; WORDS])
-        ensures { GainsLed self.now (has_place new.now) words.old words.new }
-    {
-        if self.has_more_exits(new) {
-            follow_runs(&self.runs, new, words);
-            self.join_marked(&self.apart, new, words);
-        } else {
-            self.join_marked(&self.marked, new, words);
-        }
-    }
-
-    // The same row by row, which is faster for a few places.
-    pub(crate) fn join_few(&self, new: &[u64; WORDS], words: &mut [u64; WORDS])
-        ensures { GainsLed self.now (has_place new.now) words.old words.new }
-    {
-        self.join_marked(&self.marked, new, words);
-    }
-
-    // Whether more places of `new` lead on by runs alone than there are runs. The answer saves time and changes nothing else.
-    fn has_more_exits(&self, new: &[u64; WORDS]) -> bool {
-        let mut count: u32 = 0;
-        for number in 0..17 {
-            if new[number] != 0 {
-                let by_runs = new[number] & self.marked[number] & !self.apart[number];
-                count = count.wrapping_add(by_runs.count_ones());
-            }
-        }
-        count as usize > self.runs.len()
-    }
-
-    // Adds what those places of `new` lead to that are marked. Often none is.
-    fn join_marked(&self, marked: &[u64; WORDS], new: &[u64; WORDS], words: &mut [u64; WORDS])
-        ensures { GainsLed self.now (λ place. has_place new.now place && has_place marked.now place) words.old words.new }
+    // Adds to a set what its places lead to. Only the first words have places with a row.
+    #[inline(always)]
+    pub(crate) fn join_own(&self, words: &mut [u64; WORDS])
+        ensures { GainsLed self.now (has_place words.old) words.old words.new }
     {
         self.known();
-        if !has_marked(marked, new) {
-            return;
+        for block in 0..4 {
+            self.join_four(4 * block, words);
         }
-        for number in 0..17 {
-            self.join_word(number, new, marked, words);
+        self.join_word(16, words);
+    }
+
+    // Adds what the places of four words of a set lead to.
+    #[inline(always)]
+    fn join_four(&self, at: usize, words: &mut [u64; WORDS])
+        requires { at + 4 ≤ 16 }
+        ensures { GainsLed self.now (is_in_words at (at + 4) words.old) words.old words.new }
+    {
+        self.known();
+        self.join_word(at, words);
+        self.join_word(at + 1, words);
+        self.join_word(at + 2, words);
+        self.join_word(at + 3, words);
+    }
+
+    // Adds what the places of a word of a set lead to. Most words have none that is marked.
+    #[inline(always)]
+    fn join_word(&self, number: usize, words: &mut [u64; WORDS])
+        requires { number < 17 }
+        ensures { GainsLed self.now (is_in_words number (number + 1) words.old) words.old words.new }
+    {
+        if words[number] & self.marked[number] != 0 {
+            self.join_marked(number, words);
         }
     }
 
-    // Adds what those places of a word of `new` lead to that are marked. Most words have no place.
-    #[inline(always)]
-    fn join_word(
-        &self,
-        number: usize,
-        new: &[u64; WORDS],
-        marked: &[u64; WORDS],
-        words: &mut [u64; WORDS],
-    )
+    // Adds what the marked places of a word of a set lead to: by runs where they save rows.
+    fn join_marked(&self, number: usize, words: &mut [u64; WORDS])
         requires { number < 17 }
-        ensures { GainsLed self.now
-            (is_in_run (64 * number) (bit_and (slice_index_or new.now number 0) (slice_index_or marked.now number 0))) words.old words.new }
+        ensures { GainsLed self.now (is_in_words number (number + 1) words.old) words.old words.new }
     {
-        if new[number] == 0 {
-            return;
+        let bits = words[number] & self.marked[number];
+        let apart = bits & self.apart[number];
+        let by_runs = bits & !self.apart[number];
+        if by_runs.count_ones() as usize > self.runs.len() {
+            follow_runs(&self.runs, &set_of_word(number, bits), words);
+            self.join_bits(64 * number, apart, words);
+        } else {
+            self.join_bits(64 * number, bits, words);
         }
-        self.join_bits(64 * number, new[number] & marked[number], words);
+    }
+
+    // Adds what a row of up to 128 places that follow one another leads to: bit k stands for the place that is k after the first one.
+    #[inline(always)]
+    pub(crate) fn join_run(&self, first: usize, bits: u128, words: &mut [u64; WORDS])
+        requires { first < PLACES }
+        ensures { GainsLed self.now (is_in_run first bits) words.old words.new }
+    {
+        self.join_some(first, low_word(bits), words);
+        self.join_some(first + 64, low_word(bits >> 64), words);
+    }
+
+    // Adds what the places of a word lead to, if it has any.
+    #[inline(always)]
+    fn join_some(&self, first: usize, bits: u64, words: &mut [u64; WORDS])
+        requires { first ≤ 2048 }
+        ensures { GainsLed self.now (is_in_run first bits) words.old words.new }
+    {
+        if bits != 0 {
+            self.join_bits(first, bits, words);
+        }
     }
 
     // Adds what the places of a word lead to, of which the first stands for `first`.
     fn join_bits(&self, first: usize, bits: u64, words: &mut [u64; WORDS])
-        requires { first ≤ 1024 }
+        requires { first ≤ 2048 }
         ensures { GainsLed self.now (is_in_run first bits) words.old words.new }
     {
         let mut left = bits;
         while left != 0 {
             let bit = left.trailing_zeros() as usize;
             left &= !(1 << bit);
-            self.join_row(first + bit, words);
+            self.join_place(first + bit, words);
         }
     }
 
-    // Adds what a place leads to.
+    // Adds what a place leads to: by the words of its row where these are few.
+    #[inline(always)]
+    fn join_place(&self, from: usize, words: &mut [u64; WORDS])
+        ensures { GainsLed self.now (λ place. place == from) words.old words.new }
+    {
+        if from < self.shorts.len() && self.shorts[from].is_whole {
+            let short = &self.shorts[from];
+            words[short.first] |= short.first_bits;
+            words[short.last] |= short.last_bits;
+        } else {
+            self.join_row(from, words);
+        }
+    }
+
+    // Adds what a place leads to, by its row.
     fn join_row(&self, from: usize, words: &mut [u64; WORDS])
         ensures { GainsLed self.now (λ place. place == from) words.old words.new }
     {
         if from < self.rows.len() {
             join(words, &self.rows[from]);
         }
+    }
+
+    // The rows of few words.
+    fn shortened(&self, alloc: Global) -> Result<Vec<Short>, AllocError>
+        ensures { IfOk result (λ shorts. AreShorts shorts.items self.now) }
+    {
+        let mut shorts = Vec::new(alloc);
+        for from in 0..self.rows.len() {
+            shorts.push(short_of(&self.rows[from]))?;
+        }
+        Ok(shorts)
     }
 
     // Whether one place leads to another.
@@ -277,14 +322,12 @@ impl Rows {
     }
 }
 
-// Whether the words of the places that have rows have any place in both sets.
-fn has_marked(marked: &[u64; WORDS], new: &[u64; WORDS]) -> bool
-    ensures { result ≡ false → (number : ℕ) → number < 17
-        → bit_and (slice_index_or marked.now number 0) (slice_index_or new.now number 0) ≡ 0 }
+// A set that has the places of a word, and no other.
+fn set_of_word(number: usize, bits: u64) -> [u64; WORDS]
+    requires { number < 17 }
+    ensures { (place : ℕ) → has_place result place ≡ (nat_lt place 1984 && is_in_run (64 * number) bits place) }
 {
-    let mut both = 0;
-    for number in 0..17 {
-        both |= marked[number] & new[number];
-    }
-    both != 0
+    let mut words = [0; WORDS];
+    put_run(&mut words, 64 * number, u128::from(bits));
+    words
 }

@@ -4,7 +4,7 @@ use Rattle.bit_sets.proofs.SearchLemmas.{IsSearching, missing_below}
 use Rattle.bit_sets.proofs.search.reach.Given as goal
 
 abbrev pub invariant-loop-has_new : goal.invariant-loop-has_new
-invariant-loop-has_new l = IsSearching l.rows l.runs l.fn.words l.closed l.passed l.words l.new l.has_new
+invariant-loop-has_new l = IsSearching l.rows l.runs l.fn.words l.closed l.words l.has_new
 
 abbrev pub decreases-loop-has_new : goal.decreases-loop-has_new
 decreases-loop-has_new l = missing_below l.words 1984 + (if l.has_new then 1 else 0)

@@ -15,7 +15,7 @@ loop-left-preserved c =
     record {
       within = λ j at. c.loop-left.invariant.within j (is_bit-kept c.loop-left.left _ j at);
       led = GainsLed-bit c.args.self.now c.args.first c.args.bits c.loop-left.left _ _ _ _ lowest.0 c.loop-left.auto.left-fits.fits lowest.1
-          c.loop-left.invariant.within c.loop-left.invariant.led c.join_row.ensures;
+          c.loop-left.invariant.within c.loop-left.invariant.led c.join_place.ensures;
     }
 
 pub loop-left-smaller : goal.loop-left-smaller

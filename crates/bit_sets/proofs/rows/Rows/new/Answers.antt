@@ -10,7 +10,7 @@ loop-exit-preserved c =
     ∙ sym (replicate_next c.loop-exit._exit (replicate {A = ℕ} 15 0))
 
 pub invariant_of-result : goal.invariant_of-result
-invariant_of-result c = AreRows-zeros c.loop-exit._exit _ _ c.new.result.items c.loop-exit.rows.items (omega arith) c.new.ensures.items c.loop-exit.invariant
+invariant_of-result c = AreRows-zeros c.loop-exit._exit _ _ c.new.result.items c.new-2.result.items c.loop-exit.rows.items (omega arith) c.new.ensures.items c.new-2.ensures.items c.loop-exit.invariant
 
 pub returns-clause-long : goal.returns-clause-long
 returns-clause-long c =

@@ -1,0 +1,20 @@
+use Rattle.std.proofs.Common.{List, ℕ, [], ◌≡◌, ◌<◌, ◌∙◌, ap, sym, subst, refl, rules, length, slice_index_or}
+use Rattle.std.proofs.lemmas.List.{get_or_read_under}
+use Rattle.bit_sets.specs.Bundles.{AreRows}
+use Rattle.bit_sets.specs.Shorts.{IsShort}
+use Rattle.bit_sets.specs.declared.shorts.Short.{Short}
+use Rattle.bit_sets.proofs.ShortLemmas.{GainsLed-short}
+use Rattle.bit_sets.proofs.rows.Rows.join_place.Goals as goal
+
+pub returns-then-index : goal.returns-then-index
+returns-then-index c =
+    let shorts = c.self.inside.shorts.items in
+    let are_rows = subst (λ (rows : List (List ℕ)). AreRows c.self.inside.marked c.self.inside.apart c.self.inside.runs.items shorts rows) c.self.view_is c.self.invariant in
+    let inside : c.args.from < length shorts = search rules in
+    let same : c.index-short.result.now ≡ c.index.result.now =
+    get_or_read_under shorts c.args.from c.len.result c.index-short.result.now c.index.result.now c.index-short.ensures c.if-from-len.true (search rules)
+    ∙ sym c.index.ensures in
+    GainsLed-short c.args.self.now c.args.from c.index-short.result.now c.args.words.now c.told-words
+    (subst (λ (s : Short). IsShort (slice_index_or c.args.self.now c.args.from []) s) (sym c.index.ensures ∙ sym same)
+    (are_rows.shortened c.args.from c.index.result.now inside))
+    (ap (λ (s : Short). s.is_whole) same ∙ c.if-index.true) _ _ refl refl
