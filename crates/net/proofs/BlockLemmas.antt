@@ -51,6 +51,14 @@ none-at (set ∷ sets) (suc k) row within none =
     second : (a b : Bool) → (a || b) ≡ false → b ≡ false
     second a b e = grind (arith, nat_tests, e)
 
+-- where no row is joined no lane has one
+pub lanes-empty : (rows : List ℕ) (k row : ℕ) → length rows ≡ 8 → (fold_l bit_or 0 rows == 0) ≡ true → k < 8
+    → is_bit (get_or rows k 0) row ≡ false
+lanes-empty rows k row eight none low =
+    let empty : fold_l bit_or 0 rows ≡ 0 = grind (arith, nat_tests, none) in
+    none-at rows k row (omega (arith, eight, low))
+    (ap (λ b. b || has_some row rows) (sym (is_bit-zero row)) ∙ sym (folded rows 0 row) ∙ ap (λ (w : ℕ). is_bit w row) empty ∙ is_bit-zero row)
+
 -- eight of the sets
 abbrev eight : List ℕ → ℕ → List ℕ
 eight sets first = take 8 (drop first sets)

@@ -12,6 +12,7 @@ pub mod LinkLemmas
 pub mod SetLemmas
 pub mod DirectWires
 pub mod PassLemmas
+pub mod ContactRuns
 pub mod PassedRows
 pub mod PassedHubs
 pub mod WiredPictures

@@ -135,11 +135,12 @@ fed-from (link ∷ links) sets from place row linked at =
             turned : (m n : ℕ) → (m == n) ≡ true → (n == m) ≡ true
             turned m n e = grind (arith, nat_tests, e)
 
--- what is spread along the links of a setup's net comes along its wires
-pub spread-fed : (wiring : Wiring) (net : NetRows) (links : List Link) (old new : List ℕ) → IsNetOf wiring net
-    → All IsInRange links → ((from to : ℕ) → is_linked links from to ≡ leads net.rows from to) → Spreads links old new
-    → (row : ℕ) (hub : Hub) → (has_row_at new row hub ≡ true) ↔ EmitsOrIsFed wiring (has_row_at old row) hub
-spread-fed wiring net links old new is_net range agree spreads row hub = by (number_of hub) refl where
+-- a row that is spread along the links of a setup's net comes along its wires
+pub row-fed : (wiring : Wiring) (net : NetRows) (links : List Link) (old new : List ℕ) (row : ℕ) → IsNetOf wiring net
+    → All IsInRange links → ((from to : ℕ) → is_linked links from to ≡ leads net.rows from to)
+    → ((place : ℕ) → has_at new place row ≡ (has_at old place row || is_fed_at links old place row))
+    → (hub : Hub) → (has_row_at new row hub ≡ true) ↔ EmitsOrIsFed wiring (has_row_at old row) hub
+row-fed wiring net links old new row is_net range agree spreads hub = by (number_of hub) refl where
   by_number : (from to : Hub) (g h : ℕ) → number_of from ≡ Some g → number_of to ≡ Some h
       → (leads net.rows (g - 1) (h - 1) ≡ true) ↔ HasWire wiring from to
   by_number from to g h is also =
@@ -167,15 +168,15 @@ spread-fed wiring net links old new is_net range agree spreads row hub = by (num
       (λ fed.
       let found = fed-found links old (n - 1) row range fed in
       fed_by n found.0 is found.1 found.2 found.3)
-      (or_cases (has_at old (n - 1) row) (is_fed_at links old (n - 1) row) (sym (spreads (n - 1) row) ∙ at))
+      (or_cases (has_at old (n - 1) row) (is_fed_at links old (n - 1) row) (sym (spreads (n - 1)) ∙ at))
 
   back : (n : ℕ) → number_of hub ≡ Some n → EmitsOrIsFed wiring (has_row_at old row) hub → has_at new (n - 1) row ≡ true
-  back n is (inl emits) = spreads (n - 1) row ∙ or_left _ _ (sym (ap (has_at_number old row) is) ∙ emits.1)
+  back n is (inl emits) = spreads (n - 1) ∙ or_left _ _ (sym (ap (has_at_number old row) is) ∙ emits.1)
   back n is (inr fed) =
       let wire = fed.wire in
       let linked = agree (wire.number - 1) (n - 1) ∙ (by_number fed.exit hub wire.number n wire.numbered is).1 wire in
       let at = sym (ap (has_at_number old row) wire.numbered) ∙ fed.emits in
-      spreads (n - 1) row
+      spreads (n - 1)
       ∙ or_right (has_at old (n - 1) row) _ (fed-from links old (wire.number - 1) (n - 1) row linked at)
 
   by : (number : Option ℕ) → number_of hub ≡ number → (has_row_at new row hub ≡ true) ↔ EmitsOrIsFed wiring (has_row_at old row) hub
@@ -190,6 +191,13 @@ spread-fed wiring net links old new is_net range agree spreads row hub = by (num
     no_way : EmitsOrIsFed wiring (has_row_at old row) hub → ⊥
     no_way (inl emits) = false≢true (sym (ap is_some is) ∙ emits.0)
     no_way (inr fed) = let n = fed.wire.entry_numbered in cc
+
+-- so it is of all rows that are spread
+pub spread-fed : (wiring : Wiring) (net : NetRows) (links : List Link) (old new : List ℕ) → IsNetOf wiring net
+    → All IsInRange links → ((from to : ℕ) → is_linked links from to ≡ leads net.rows from to) → Spreads links old new
+    → (row : ℕ) (hub : Hub) → (has_row_at new row hub ≡ true) ↔ EmitsOrIsFed wiring (has_row_at old row) hub
+spread-fed wiring net links old new is_net range agree spreads row hub =
+    row-fed wiring net links old new row is_net range agree (λ place. spreads place row) hub
 
 -- a link whose near end has no row is followed by nothing
 not-followed : (link : Link) (sets : List ℕ) → ((row : ℕ) → has_at sets link.from row ≡ false) → IsFollowed link sets sets

@@ -58,16 +58,21 @@ two_rows (suc (suc (suc (suc (suc (suc (suc (suc (suc (suc (suc (suc row))))))))
         && nat_lt (suc (suc (suc (suc (suc (suc (suc (suc (suc (suc (suc (suc n)))))))))))) 12)
     by n = grind (arith, nat_tests)
 
--- the rows at which a contact is closed
-pub closed-at : (digits zones : List ℕ) (place row one other : ℕ) → is_bit one row ≡ (has_place digits place && is_bit 1023 row)
-    → is_bit other row ≡ (has_place zones place && is_bit 3072 row) → is_bit (bit_or one other) row ≡ is_closed_at digits zones row place
-closed-at digits zones place row one other is and_is =
-    is_bit-or one other row
-    ∙ rw (is, and_is, ten_rows row, two_rows row) (by (has_place digits place) (has_place zones place) (cases_lt row 10)) where
+-- the rows at which a contact is closed, as bits
+pub closed-by : (digits zones : List ℕ) (place row : ℕ)
+    → ((has_place digits place && is_bit 1023 row) || (has_place zones place && is_bit 3072 row)) ≡ is_closed_at digits zones row place
+closed-by digits zones place row =
+    rw (ten_rows row, two_rows row) (by (has_place digits place) (has_place zones place) (cases_lt row 10)) where
       by : (d z : Bool) → (row < 10) ⊎ (10 ≤ row)
           → ((d && nat_lt row 10) || (z && (nat_le 10 row && nat_lt row 12))) ≡ (if nat_lt row 10 then d else nat_lt row 12 && z)
       by d z (inl low) = grind (arith, nat_tests)
       by d z (inr high) = grind (arith, nat_tests)
+
+-- the rows at which a contact is closed
+pub closed-at : (digits zones : List ℕ) (place row one other : ℕ) → is_bit one row ≡ (has_place digits place && is_bit 1023 row)
+    → is_bit other row ≡ (has_place zones place && is_bit 3072 row) → is_bit (bit_or one other) row ≡ is_closed_at digits zones row place
+closed-at digits zones place row one other is and_is =
+    is_bit-or one other row ∙ (λ i. is i || and_is i) ∙ closed-by digits zones place row
 
 -- a set joined with what one contact passes on
 pub passed-at : (digits zones sets : List ℕ) (to from place row closed : ℕ) → to < length sets
@@ -267,6 +272,30 @@ linked-led (link ∷ links) from to linked =
       here is = or_left (link.to == to) _ (turned to link.to (and_parts (from == link.from) (to == link.to) is).1) where
         turned : (m n : ℕ) → (m == n) ≡ true → (n == m) ≡ true
         turned m n e = grind (arith, nat_tests, e)
+
+-- a place that a contact leads to is linked to one that it leads from
+pub led-linked : (contacts : List Link) (to : ℕ) → All IsPassing contacts → is_led_to contacts to ≡ true
+    → (from : ℕ) × (from < 1936) × (to < 1040) × (is_linked contacts from to ≡ true)
+led-linked [] to passing led = absurd (false≢true led)
+led-linked (contact ∷ contacts) to passing led =
+    ⊎_elim here (λ at. there (led-linked contacts to (All-tail IsPassing contact contacts passing) at))
+    (or_cases (contact.to == to) (is_led_to contacts to) led)
+  where
+    here : (contact.to == to) ≡ true → (from : ℕ) × (from < 1936) × (to < 1040) × (is_linked (contact ∷ contacts) from to ≡ true)
+    here is =
+        let range = All-head IsPassing contact contacts passing in
+        let same : contact.to ≡ to = equal contact.to to is in
+        (contact.from, range.high, subst (λ (p : ℕ). p < 1040) same range.to, or_left _ _ (linked contact.from contact.to to is))
+      where
+        equal : (m n : ℕ) → (m == n) ≡ true → m ≡ n
+        equal m n e = grind (arith, nat_tests, e)
+
+        linked : (from at place : ℕ) → (at == place) ≡ true → ((from == from) && (place == at)) ≡ true
+        linked from at place e = grind (arith, nat_tests, e)
+
+    there : (from : ℕ) × (from < 1936) × (to < 1040) × (is_linked contacts from to ≡ true)
+        → (from : ℕ) × (from < 1936) × (to < 1040) × (is_linked (contact ∷ contacts) from to ≡ true)
+    there found = (found.0, found.1, found.2, or_right ((found.0 == contact.from) && (to == contact.to)) _ found.3)
 
 -- what is not true is false
 pub not-true : (test : Bool) → not test ≡ true → test ≡ false

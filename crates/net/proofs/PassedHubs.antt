@@ -1,5 +1,5 @@
 -- What contacts pass on, told of hubs: contacts lead from common hubs, and wires lead there.
-use Rattle.std.proofs.Common.{⊎_elim, ◌≡◌, ◌∙◌, ℕ, ◌+◌, ◌-◌, ◌<◌, ◌≤◌, ◌&&◌, ◌⊎◌, inl, inr, true, List, Option, Some, None, All, sym, ap, refl, arith}
+use Rattle.std.proofs.Common.{⊎_elim, ◌≡◌, ◌∙◌, ℕ, zero, suc, ◌+◌, ◌-◌, ◌<◌, ◌≤◌, ◌&&◌, ◌||◌, not, ◌⊎◌, inl, inr, Bool, true, false, List, Option, Some, None, All, sym, ap, refl, arith}
 use Rattle.std.specs.List.{list_any}
 use Rattle.std.proofs.lemmas.Bool.{and_from, and_parts, false≢true, or_cases, or_left, or_right}
 use Rattle.std.proofs.lemmas.Option.{same_Some}
@@ -14,16 +14,17 @@ use Rattle.bit_sets.specs.Contacts.{is_any_contact}
 use Rattle.bit_sets.specs.Rows.{leads}
 use Rattle.net.specs.HubSets.{HubSet, has_number}
 use Rattle.net.specs.Laws.{EmitsOrIsFed}
-use Rattle.net.proofs.LinkLemmas.{fed-found, fed-from}
+use Rattle.net.proofs.LinkLemmas.{fed-found, fed-from, row-fed}
 use Rattle.net.specs.Links.{IsInRange, IsPassing, Spreads, is_fed_at, has_at, has_at_number, has_row_at, is_led_to, is_linked}
 use Rattle.net.specs.Nets.{IsNetOf, NetRows, leads_by}
 use Rattle.net.specs.Panel.{contact_of}
-use Rattle.net.specs.Passing.{IsPassedOn, Passes, PassesBehind, PassesOn, SpreadsOn, closes_at_row, is_closed_at, is_passed_by}
+use Rattle.net.specs.Passing.{AreContactsSilent, HasRoom, IsPassedOn, Passes, PassesBehind, PassesOn, RunsPass, SpreadsOn, SpreadsRows, closes_at_row, is_closed_at, is_passed_in}
 use Rattle.net.specs.declared.contacts.TheConstants.{CONTACTS}
 use Rattle.net.specs.declared.links.Link.{Link}
-use Rattle.net.proofs.DirectWires.{exit_numbered, wires-lead}
+use Rattle.net.proofs.DirectWires.{exit_numbered}
 use Rattle.net.proofs.PanelContacts.{IsInRuns, contact_by_place, contact_numbered, in_runs, of_runs}
-use Rattle.net.proofs.PassLemmas.{linked-led, passed-found, passed-from}
+use Rattle.net.proofs.PassLemmas.{led-linked, linked-led, passed-from}
+use Rattle.net.proofs.ContactRuns.{run-found, run-from}
 
 -- whether a contact is closed at a row, by the number of its exit
 closes-number : (digits zones : HubSet) (row : CardRow) (hub : Hub) (n : ℕ) → number_of hub ≡ Some n
@@ -52,11 +53,18 @@ numbered sets row hub on = by (number_of hub) refl where
 low-common : (from to : ℕ) → IsInRuns CONTACTS from to → 1040 ≤ from
 low-common from to at = grind (arith, at)
 
-module _ (wiring : Wiring) (net : NetRows) (links contacts : List Link) (digits zones : HubSet) (old new : List ℕ)
-    (is_net : IsNetOf wiring net) (range : All IsInRange links) (agree : (from to : ℕ) → is_linked links from to ≡ leads net.rows from to)
-    (passing : All IsPassing contacts)
-    (wired : (from to : ℕ) → is_linked contacts from to ≡ (is_any_contact CONTACTS from to && is_led_to links from))
-    (passes : Passes digits.words zones.words contacts old new) where
+-- the runs of the panel's contacts have room
+pub rooms : All HasRoom CONTACTS
+rooms zero d low = record { from = omega arith; high = omega arith; to = omega arith }
+rooms (suc zero) d low = record { from = omega arith; high = omega arith; to = omega arith }
+rooms (suc (suc zero)) d low = record { from = omega arith; high = omega arith; to = omega arith }
+rooms (suc (suc (suc zero))) d low = record { from = omega arith; high = omega arith; to = omega arith }
+rooms (suc (suc (suc (suc zero)))) d low = record { from = omega arith; high = omega arith; to = omega arith }
+rooms (suc (suc (suc (suc (suc zero))))) d low = record { from = omega arith; high = omega arith; to = omega arith }
+rooms (suc (suc (suc (suc (suc (suc zero)))))) d low = record { from = omega arith; high = omega arith; to = omega arith }
+rooms (suc (suc (suc (suc (suc (suc (suc k))))))) d low = absurd (omega (arith, low))
+
+module _ (digits zones : HubSet) (old new : List ℕ) (passes : RunsPass digits.words zones.words CONTACTS old new) where
   -- by the number of a hub
   at-number : (sets : List ℕ) (row : ℕ) (hub : Hub) (n : ℕ) → number_of hub ≡ Some n → has_row_at sets row hub ≡ has_at sets (n - 1) row
   at-number sets row hub n is = ap (has_at_number sets row) is
@@ -75,12 +83,13 @@ module _ (wiring : Wiring) (net : NetRows) (links contacts : List Link) (digits 
       let r = passing_place row in
       ⊎_elim
       (λ at. inl (at-number old r hub n number.1 ∙ at))
-      (λ passed. inr (by n number.1 (passed-found digits.words zones.words old contacts (n - 1) r passing passed)))
-      (or_cases (has_at old (n - 1) r) (list_any (is_passed_by digits.words zones.words old (n - 1) r) contacts)
+      (λ passed. inr (by n number.1 (run-found digits.words zones.words old CONTACTS (n - 1) r rooms passed)))
+      (or_cases (has_at old (n - 1) r) (list_any (is_passed_in digits.words zones.words old (n - 1) r) CONTACTS)
       (sym (passes (n - 1) r) ∙ sym (at-number new r hub n number.1) ∙ on))
     where
       by : (n : ℕ) → number_of hub ≡ Some n
-          → (from : ℕ) × (from < 1936) × (n - 1 < 1040) × (is_linked contacts from (n - 1) ≡ true) × (has_at old from (passing_place row) ≡ true)
+          → (from : ℕ) × (from < 1936) × (n - 1 < 1040) × (is_any_contact CONTACTS from (n - 1) ≡ true)
+          × (has_at old from (passing_place row) ≡ true)
           × (is_closed_at digits.words zones.words (passing_place row) (n - 1) ≡ true)
           → IsPassedOn digits zones old row hub
       by n is found =
@@ -89,43 +98,29 @@ module _ (wiring : Wiring) (net : NetRows) (links contacts : List Link) (digits 
           let index : from + 1 - 1 ≡ from = omega arith in
           let first : 1 ≤ n = (number_of-range hub n is).0 in
           let place : n ≡ n - 1 + 1 = omega (arith, first) in
-          let contact : is_any_contact CONTACTS from (n - 1) ≡ true =
-          (and_parts (is_any_contact CONTACTS from (n - 1)) (is_led_to links from) (sym (wired from (n - 1)) ∙ found.3)).0 in
           record {
             common = common.0;
-            contact = contact_by_place common.0 hub from (n - 1) common.1 (is ∙ ap Some place) (in_runs CONTACTS from (n - 1) contact);
+            contact = contact_by_place common.0 hub from (n - 1) common.1 (is ∙ ap Some place) (in_runs CONTACTS from (n - 1) found.3);
             closed = closes-number digits zones row hub n is ∙ found.5;
             on = at-number old (passing_place row) common.0 (from + 1) common.1 ∙ ap (λ (p : ℕ). has_at old p (passing_place row)) index ∙ found.4;
           }
 
-  passed : (row : CardRow) (exit hub : Hub) (on : IsPassedOn digits zones old row hub) → HasWire wiring exit on.common
-      → has_row_at new (passing_place row) hub ≡ true
-  passed row exit hub on wire =
+  passed : (row : CardRow) (hub : Hub) → IsPassedOn digits zones old row hub → has_row_at new (passing_place row) hub ≡ true
+  passed row hub on =
       let r = passing_place row in
-      let at = exit_numbered hub on.common wire.to on.contact wire.entry_numbered in
+      let number = numbered old r on.common on.on in
+      let at = exit_numbered hub on.common number.0 on.contact number.1 in
       let h = at.0 in
       let found = contact_numbered on.common hub h on.contact at.1 in
       let g = found.0 in
       let index : h + 1 - 1 ≡ h = omega arith in
       let common_index : g + 1 - 1 ≡ g = omega arith in
-      let place : wire.to - 1 ≡ g = before wire.to g (same_Some _ _ (sym wire.entry_numbered ∙ found.1)) in
-      let linked : is_linked links (wire.number - 1) (wire.to - 1) ≡ true =
-      agree (wire.number - 1) (wire.to - 1)
-      ∙ sym (ap (λ n. leads_by net.rows n (number_of on.common)) wire.numbered ∙ ap (leads_by net.rows (Some wire.number)) wire.entry_numbered)
-      ∙ (is_net exit on.common).1 wire in
-      let led : is_led_to links g ≡ true =
-      ap (λ (p : ℕ). is_led_to links p) (sym place) ∙ linked-led links (wire.number - 1) (wire.to - 1) linked in
-      let contact : is_linked contacts g h ≡ true =
-      wired g h ∙ and_from (is_any_contact CONTACTS g h) (is_led_to links g) (of_runs CONTACTS g h found.2) led in
       let there : has_at old g r ≡ true =
       ap (λ (p : ℕ). has_at old p r) (sym common_index) ∙ sym (at-number old r on.common (g + 1) found.1) ∙ on.on in
       let shut : is_closed_at digits.words zones.words r h ≡ true =
       ap (λ (p : ℕ). is_closed_at digits.words zones.words r p) (sym index) ∙ sym (closes-number digits zones row hub (h + 1) at.1) ∙ on.closed in
       at-number new r hub (h + 1) at.1 ∙ ap (λ (p : ℕ). has_at new p r) index ∙ passes h r
-      ∙ or_right (has_at old h r) _ (passed-from digits.words zones.words old contacts g h r contact there shut)
-    where
-      before : (n g : ℕ) → n ≡ g + 1 → n - 1 ≡ g
-      before n g e = omega (arith, e)
+      ∙ or_right (has_at old h r) _ (run-from digits.words zones.words old CONTACTS g h r (of_runs CONTACTS g h found.2) there shut)
 
   commons : (row : CardRow) (common hub : Hub) → contact_of hub ≡ Some common → has_row_at new (passing_place row) common ≡ true
       → has_row_at old (passing_place row) common ≡ true
@@ -139,26 +134,72 @@ module _ (wiring : Wiring) (net : NetRows) (links contacts : List Link) (digits 
       let there : has_at new g r ≡ true = ap (λ (p : ℕ). has_at new p r) (sym index) ∙ sym (at-number new r common (g + 1) found.1) ∙ on in
       at-number old r common (g + 1) found.1 ∙ ap (λ (p : ℕ). has_at old p r) index
       ∙ by g r (low-common g at.0 found.2)
-      (or_cases (has_at old g r) (list_any (is_passed_by digits.words zones.words old g r) contacts) (sym (passes g r) ∙ there))
+      (or_cases (has_at old g r) (list_any (is_passed_in digits.words zones.words old g r) CONTACTS) (sym (passes g r) ∙ there))
     where
-      by : (g r : ℕ) → 1040 ≤ g → (has_at old g r ≡ true) ⊎ (list_any (is_passed_by digits.words zones.words old g r) contacts ≡ true)
+      by : (g r : ℕ) → 1040 ≤ g → (has_at old g r ≡ true) ⊎ (list_any (is_passed_in digits.words zones.words old g r) CONTACTS ≡ true)
           → has_at old g r ≡ true
       by g r high (inl at) = at
       by g r high (inr passed) =
-          let low = (passed-found digits.words zones.words old contacts g r passing passed).2 in absurd (omega (arith, high, low))
+          let low = (run-found digits.words zones.words old CONTACTS g r rooms passed).2 in absurd (omega (arith, high, low))
 
-pub passes-on : (wiring : Wiring) (net : NetRows) (links contacts : List Link) (digits zones : HubSet) (old new : List ℕ)
-    → IsNetOf wiring net → All IsInRange links → ((from to : ℕ) → is_linked links from to ≡ leads net.rows from to)
-    → All IsPassing contacts
-    → ((from to : ℕ) → is_linked contacts from to ≡ (is_any_contact CONTACTS from to && is_led_to links from))
-    → Passes digits.words zones.words contacts old new → PassesOn wiring digits zones old new
-passes-on wiring net links contacts digits zones old new is_net range agree passing wired passes = record {
-  leads = wires-lead wiring net links is_net range agree;
-  kept = kept wiring net links contacts digits zones old new is_net range agree passing wired passes;
-  only = only wiring net links contacts digits zones old new is_net range agree passing wired passes;
-  passed = passed wiring net links contacts digits zones old new is_net range agree passing wired passes;
-  commons = commons wiring net links contacts digits zones old new is_net range agree passing wired passes;
+pub passes-on : (digits zones : HubSet) (old new : List ℕ) → RunsPass digits.words zones.words CONTACTS old new
+    → PassesOn digits zones old new
+passes-on digits zones old new passes = record {
+  kept = kept digits zones old new passes;
+  only = only digits zones old new passes;
+  passed = passed digits zones old new passes;
+  commons = commons digits zones old new passes;
 }
+
+-- two tests of which each follows from the other
+either-way : (a b : Bool) → (a ≡ true → b ≡ true) → (b ≡ true → a ≡ true) → a ≡ b
+either-way true b there back = sym (there refl)
+either-way false true there back = back refl
+either-way false false there back = refl
+
+-- what is spread along the links from all exits but those of contacts, where these have no row, told of hubs
+pub outer-fed : (wiring : Wiring) (net : NetRows) (links contacts outer : List Link) (old new : List ℕ) → IsNetOf wiring net
+    → All IsInRange links → ((from to : ℕ) → is_linked links from to ≡ leads net.rows from to) → All IsPassing contacts
+    → ((from to : ℕ) → is_linked contacts from to ≡ (is_any_contact CONTACTS from to && is_led_to links from))
+    → All IsInRange outer → ((from to : ℕ) → is_linked outer from to ≡ (is_linked links from to && not (is_led_to contacts from)))
+    → AreContactsSilent old → Spreads outer old new → SpreadsRows wiring old new
+outer-fed wiring net links contacts outer old new is_net range agree passing wired outer_range others silent spreads row hub =
+    row-fed wiring net links old new r is_net range agree
+    (λ place. spreads place r ∙ ap (λ b. has_at old place r || b) (either-way _ _ (there place) (back place))) hub
+  where
+    r : ℕ
+    r = passing_place row
+
+    there : (place : ℕ) → is_fed_at outer old place r ≡ true → is_fed_at links old place r ≡ true
+    there place fed =
+        let found = fed-found outer old place r outer_range fed in
+        fed-from links old found.0 place r
+        (and_parts (is_linked links found.0 place) (not (is_led_to contacts found.0)) (sym (others found.0 place) ∙ found.2)).0 found.3
+
+    -- an exit of a contact has no row
+    quiet : (from : ℕ) → is_led_to contacts from ≡ true → has_at old from r ≡ false
+    quiet from led =
+        let contact = led-linked contacts from passing led in
+        let common = hub_numbered (contact.0 + 1) (omega arith) (let high = contact.1 in omega (arith, high)) in
+        let exit = hub_numbered (from + 1) (omega arith) (let low = contact.2 in omega (arith, low)) in
+        let index : from + 1 - 1 ≡ from = omega arith in
+        let place : from + 1 - 1 + 1 ≡ from + 1 = omega arith in
+        let in_panel = (and_parts (is_any_contact CONTACTS contact.0 from) (is_led_to links contact.0) (sym (wired contact.0 from) ∙ contact.3)).0 in
+        ap (λ (p : ℕ). has_at old p r) (sym index) ∙ sym (ap (has_at_number old r) exit.1)
+        ∙ (silent common.0 exit.0 (contact_by_place common.0 exit.0 contact.0 from common.1 exit.1 (in_runs CONTACTS contact.0 from in_panel)) row).1
+
+    back : (place : ℕ) → is_fed_at links old place r ≡ true → is_fed_at outer old place r ≡ true
+    back place fed = by (fed-found links old place r range fed)
+      where
+        by : (from : ℕ) × (from < 1040) × (is_linked links from place ≡ true) × (has_at old from r ≡ true)
+            → is_fed_at outer old place r ≡ true
+        by found = led (is_led_to contacts found.0) refl
+          where
+            led : (b : Bool) → is_led_to contacts found.0 ≡ b → is_fed_at outer old place r ≡ true
+            led true is = absurd (false≢true (sym (quiet found.0 is) ∙ found.3))
+            led false is =
+                fed-from outer old found.0 place r
+                (others found.0 place ∙ and_from (is_linked links found.0 place) _ found.2 (ap not is)) found.3
 
 -- what is spread along the links from the exits of contacts, told of hubs
 pub spreads-on : (wiring : Wiring) (net : NetRows) (links contacts further : List Link) (old new : List ℕ)

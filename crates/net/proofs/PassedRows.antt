@@ -14,14 +14,9 @@ use Rattle.net.specs.Impulsed.IsImpulsed.{emitting, led_on}
 use Rattle.net.specs.Laws.{EmitsOrIsFed, FollowsLeads}
 use Rattle.net.specs.Links.{has_at_number, has_row_at}
 use Rattle.net.specs.Panel.{contact_of}
-use Rattle.net.specs.Passing.{AreCommonsSilent, IsPassedOn, PassesBehind, PassesOn, SameSets, SpreadsOn, closes_at_row}
+use Rattle.net.specs.Passing.{AreContactsSilent, IsPassedOn, PassesBehind, PassesOn, SameSets, SpreadsOn, SpreadsRows, closes_at_row}
 use Rattle.net.specs.RowSets.{pictures_of}
 use Rattle.net.specs.declared.cycle.Point.TheVariants.{Row}
-
--- rows are spread along the wires of a setup
-abbrev pub SpreadsWires : Wiring → List ℕ → List ℕ → Type 0
-SpreadsWires wiring old new =
-    (row : ℕ) (hub : Hub) → (has_row_at new row hub ≡ true) ↔ EmitsOrIsFed wiring (has_row_at old row) hub
 
 -- the same sets are asked alike
 same-row : (old new : List ℕ) → SameSets old new → (row : ℕ) (hub : Hub) → has_row_at new row hub ≡ has_row_at old row hub
@@ -30,7 +25,7 @@ same-row old new same row hub = by (number_of hub) where
   by (Some n) = same (n - 1) row
   by None = refl
 
-module _ (wiring : Wiring) (digits zones : HubSet) (row : CardRow) (first : List ℕ) where
+module _ (wiring : Wiring) (digits zones : HubSet) (row : CardRow) (first : List ℕ) (leads : LeadsToEntries wiring) where
   abbrev exits : Hub → Bool
   exits hub = has_row_at first (passing_place row) hub
 
@@ -47,8 +42,8 @@ module _ (wiring : Wiring) (digits zones : HubSet) (row : CardRow) (first : List
   AreImpulsed sets = (hub : Hub) → has_row_at sets (passing_place row) hub ≡ true → IsImpulsed wiring exits closed hub
 
   -- so it is of the first sets once they are spread, of others that are spread, and of those that are passed on
-  first-impulsed : (new : List ℕ) → SpreadsWires wiring first new → AreImpulsed new
-  first-impulsed new spread hub on = by ((spread (passing_place row) hub).0 on) where
+  first-impulsed : (new : List ℕ) → SpreadsRows wiring first new → AreImpulsed new
+  first-impulsed new spread hub on = by ((spread row hub).0 on) where
     by : EmitsOrIsFed wiring exits hub → IsImpulsed wiring exits closed hub
     by (inl emits) = emitting hub emits.0 emits.1
     by (inr fed) = led_on fed.exit hub (emitting fed.exit (exit-there fed.exit fed.emits) fed.emits) (inl fed.wire)
@@ -66,7 +61,7 @@ module _ (wiring : Wiring) (digits zones : HubSet) (row : CardRow) (first : List
     by (inl emits) = before hub emits.1
     by (inr fed) = led_on fed.exit hub (before fed.exit fed.emits) (inl fed.wire)
 
-  passed-impulsed : (old new : List ℕ) → PassesOn wiring digits zones old new → AreImpulsed old → AreImpulsed new
+  passed-impulsed : (old new : List ℕ) → PassesOn digits zones old new → AreImpulsed old → AreImpulsed new
   passed-impulsed old new passes before hub on = by (passes.only row hub on) where
     by : (has_row_at old (passing_place row) hub ≡ true) ⊎ IsPassedOn digits zones old row hub → IsImpulsed wiring exits closed hub
     by (inl at) = before hub at
@@ -97,57 +92,57 @@ module _ (wiring : Wiring) (digits zones : HubSet) (row : CardRow) (first : List
       follows from to on (inr contact) = contacts from to contact.0 contact.1 on
 
   -- where nothing is passed on
-  once : (spread passed : List ℕ) → AreCommonsSilent first → SpreadsWires wiring first spread
-      → PassesOn wiring digits zones spread passed → SameSets spread passed
+  once : (spread passed : List ℕ) → AreContactsSilent first → SpreadsRows wiring first spread
+      → PassesOn digits zones spread passed → SameSets spread passed
       → IsPicture wiring exits closed (has_row_at spread (passing_place row))
   once spread passed silent spreads passes same =
       picture-of spread (first-impulsed spread spreads)
-      (λ hub there emits. (spreads (passing_place row) hub).1 (inl (there, emits)))
-      (spread-follows first spread passes.leads (λ h. spreads (passing_place row) h))
+      (λ hub there emits. (spreads row hub).1 (inl (there, emits)))
+      (spread-follows first spread leads (λ h. spreads row h))
       (λ common hub contact shut on.
       sym (same-row spread passed same (passing_place row) hub)
-      ∙ by common hub contact shut on ((spreads (passing_place row) common).0 on))
+      ∙ by common hub contact shut on ((spreads row common).0 on))
     where
       by : (common hub : Hub) → contact_of hub ≡ Some common → closed hub ≡ true → has_row_at spread (passing_place row) common ≡ true
           → EmitsOrIsFed wiring exits common → has_row_at passed (passing_place row) hub ≡ true
       by common hub contact shut on (inl emits) =
-          absurd (false≢true (sym (silent common hub contact row) ∙ emits.1))
+          absurd (false≢true (sym (silent common hub contact row).0 ∙ emits.1))
       by common hub contact shut on (inr fed) =
-          passes.passed row fed.exit hub (record { common = common; contact = contact; closed = shut; on = on }) fed.wire
+          passes.passed row hub (record { common = common; contact = contact; closed = shut; on = on })
 
   -- what is passed on once is spread on by the wires from the exits of contacts alone
-  spread-on : (spread passed spread_on : List ℕ) → AreCommonsSilent first → SpreadsWires wiring first spread
-      → PassesOn wiring digits zones spread passed → SpreadsOn wiring passed spread_on → SpreadsRow passed spread_on
+  spread-on : (spread passed spread_on : List ℕ) → AreContactsSilent first → SpreadsRows wiring first spread
+      → PassesOn digits zones spread passed → SpreadsOn wiring passed spread_on → SpreadsRow passed spread_on
   spread-on spread passed spread_on silent spreads passes on hub = (on.only (passing_place row) hub, by) where
     from-spread : (exit : Hub) → has_row_at spread (passing_place row) exit ≡ true → HasWire wiring exit hub
         → has_row_at spread_on (passing_place row) hub ≡ true
     from-spread exit at wire =
         on.kept (passing_place row) hub
-        (passes.kept row hub (spread-follows first spread passes.leads (λ h. spreads (passing_place row) h) exit hub at wire))
+        (passes.kept row hub (spread-follows first spread leads (λ h. spreads row h) exit hub at wire))
 
     by : EmitsOrIsFed wiring (has_row_at passed (passing_place row)) hub → has_row_at spread_on (passing_place row) hub ≡ true
     by (inl emits) = on.kept (passing_place row) hub emits.1
     by (inr fed) = elim (passes.only row fed.exit fed.emits) [
       | inl at ↦ from-spread fed.exit at fed.wire
-      | inr contact ↦ wired contact ((spreads (passing_place row) contact.common).0 contact.on)
+      | inr contact ↦ wired contact ((spreads row contact.common).0 contact.on)
     ]
       where
         wired : (contact : IsPassedOn digits zones spread row fed.exit) → EmitsOrIsFed wiring exits contact.common
             → has_row_at spread_on (passing_place row) hub ≡ true
-        wired contact (inl emits) = absurd (false≢true (sym (silent contact.common fed.exit contact.contact row) ∙ emits.1))
+        wired contact (inl emits) = absurd (false≢true (sym (silent contact.common fed.exit contact.contact row).0 ∙ emits.1))
         wired contact (inr before) =
             on.fed (passing_place row) fed.exit contact.common hub before.exit contact.contact before.wire fed.wire fed.emits
 
   -- where what is passed on once passes no further contact
-  twice : (spread passed spread_on passed_on : List ℕ) → AreCommonsSilent first → SpreadsWires wiring first spread
-      → PassesOn wiring digits zones spread passed → SpreadsRow passed spread_on
+  twice : (spread passed spread_on passed_on : List ℕ) → AreContactsSilent first → SpreadsRows wiring first spread
+      → PassesOn digits zones spread passed → SpreadsRow passed spread_on
       → PassesBehind wiring digits zones spread_on passed_on → SameSets spread_on passed_on
       → IsPicture wiring exits closed (has_row_at spread_on (passing_place row))
   twice spread passed spread_on passed_on silent spreads passes spreads_on passes_on same =
       picture-of spread_on
       (spread-impulsed passed spread_on spreads_on (passed-impulsed spread passed passes (first-impulsed spread spreads)))
-      (λ hub there emits. stays hub (passes.kept row hub ((spreads (passing_place row) hub).1 (inl (there, emits)))))
-      (spread-follows passed spread_on passes.leads spreads_on)
+      (λ hub there emits. stays hub (passes.kept row hub ((spreads row hub).1 (inl (there, emits)))))
+      (spread-follows passed spread_on leads spreads_on)
       (λ common hub contact shut on. by common hub contact shut on ((spreads_on common).0 on))
     where
       stays : (hub : Hub) → has_row_at passed (passing_place row) hub ≡ true → has_row_at spread_on (passing_place row) hub ≡ true
@@ -160,13 +155,13 @@ module _ (wiring : Wiring) (digits zones : HubSet) (row : CardRow) (first : List
       -- a contact at which a row was before contacts passed any on
       before : (common hub : Hub) → contact_of hub ≡ Some common → closed hub ≡ true → has_row_at spread (passing_place row) common ≡ true
           → has_row_at spread_on (passing_place row) hub ≡ true
-      before common hub contact shut at = arrived ((spreads (passing_place row) common).0 at)
+      before common hub contact shut at = arrived ((spreads row common).0 at)
         where
           arrived : EmitsOrIsFed wiring exits common → has_row_at spread_on (passing_place row) hub ≡ true
-          arrived (inl emits) = absurd (false≢true (sym (silent common hub contact row) ∙ emits.1))
+          arrived (inl emits) = absurd (false≢true (sym (silent common hub contact row).0 ∙ emits.1))
           arrived (inr fed) =
               stays hub
-              (passes.passed row fed.exit hub (record { common = common; contact = contact; closed = shut; on = at }) fed.wire)
+              (passes.passed row hub (record { common = common; contact = contact; closed = shut; on = at }))
 
       by : (common hub : Hub) → contact_of hub ≡ Some common → closed hub ≡ true
           → has_row_at spread_on (passing_place row) common ≡ true → EmitsOrIsFed wiring (has_row_at passed (passing_place row)) common
@@ -175,13 +170,13 @@ module _ (wiring : Wiring) (digits zones : HubSet) (row : CardRow) (first : List
       by common hub contact shut on (inr fed) = elim (passes.only row fed.exit fed.emits) [
         | inl at ↦
             before common hub contact shut
-            (spread-follows first spread passes.leads (λ h. spreads (passing_place row) h) fed.exit common at fed.wire)
-        | inr other ↦ through other ((spreads (passing_place row) other.common).0 other.on)
+            (spread-follows first spread leads (λ h. spreads row h) fed.exit common at fed.wire)
+        | inr other ↦ through other ((spreads row other.common).0 other.on)
       ]
         where
           through : (other : IsPassedOn digits zones spread row fed.exit) → EmitsOrIsFed wiring exits other.common
               → has_row_at spread_on (passing_place row) hub ≡ true
-          through other (inl emits) = absurd (false≢true (sym (silent other.common fed.exit other.contact row) ∙ emits.1))
+          through other (inl emits) = absurd (false≢true (sym (silent other.common fed.exit other.contact row).0 ∙ emits.1))
           through other (inr first_wire) =
               sym (same-row spread_on passed_on same (passing_place row) hub)
               ∙ passes_on.passed row first_wire.exit other.common fed.exit hub
@@ -195,17 +190,17 @@ picture-same wiring exits closed old new row same is hub = (
   λ at. same-row old new same row hub ∙ (is hub).1 at,
 )
 
-pub passed_once : (wiring : Wiring) (digits zones : HubSet) (row : CardRow) (first spread passed : List ℕ) → AreCommonsSilent first
-    → SpreadsWires wiring first spread → PassesOn wiring digits zones spread passed → SameSets spread passed
+pub passed_once : (wiring : Wiring) (digits zones : HubSet) (row : CardRow) (first spread passed : List ℕ) → LeadsToEntries wiring → AreContactsSilent first
+    → SpreadsRows wiring first spread → PassesOn digits zones spread passed → SameSets spread passed
     → IsPicture wiring (pictures_of first (Row row)) (closes_at_row digits zones row) (pictures_of passed (Row row))
-passed_once wiring digits zones row first spread passed silent spreads passes same =
-    picture-same wiring _ _ spread passed (passing_place row) same (once wiring digits zones row first spread passed silent spreads passes same)
+passed_once wiring digits zones row first spread passed leads silent spreads passes same =
+    picture-same wiring _ _ spread passed (passing_place row) same (once wiring digits zones row first leads spread passed silent spreads passes same)
 
 pub passed_twice : (wiring : Wiring) (digits zones : HubSet) (row : CardRow) (first spread passed spread_on passed_on : List ℕ)
-    → AreCommonsSilent first → SpreadsWires wiring first spread → PassesOn wiring digits zones spread passed
+    → LeadsToEntries wiring → AreContactsSilent first → SpreadsRows wiring first spread → PassesOn digits zones spread passed
     → SpreadsOn wiring passed spread_on → PassesBehind wiring digits zones spread_on passed_on → SameSets spread_on passed_on
     → IsPicture wiring (pictures_of first (Row row)) (closes_at_row digits zones row) (pictures_of passed_on (Row row))
-passed_twice wiring digits zones row first spread passed spread_on passed_on silent spreads passes spreads_on passes_on same =
+passed_twice wiring digits zones row first spread passed spread_on passed_on leads silent spreads passes spreads_on passes_on same =
     picture-same wiring _ _ spread_on passed_on (passing_place row) same
-    (twice wiring digits zones row first spread passed spread_on passed_on silent spreads passes
-    (spread-on wiring digits zones row first spread passed spread_on silent spreads passes spreads_on) passes_on same)
+    (twice wiring digits zones row first leads spread passed spread_on passed_on silent spreads passes
+    (spread-on wiring digits zones row first leads spread passed spread_on silent spreads passes spreads_on) passes_on same)

@@ -1,6 +1,6 @@
 -- Links: wires one by one, from place to place. A set of rows for each place is a number: bit r tells of the row at place r among the
 -- points. Sets are spread along links.
-use Rattle.std.specs.Prelude.{◌≡◌, ℕ, ◌-◌, ◌/◌, ◌<◌, ◌≤◌, ◌==◌, ◌&&◌, ◌||◌, All, Bool, true, false, List, Option, Some, None, drop, length, slice_index_or}
+use Rattle.std.specs.Prelude.{◌≡◌, ℕ, ◌-◌, ◌/◌, ◌<◌, ◌≤◌, ◌==◌, ◌&&◌, ◌||◌, not, All, Bool, true, false, List, Option, Some, None, drop, length, slice_index_or}
 use Rattle.std.specs.List.{list_any}
 use Rattle.hubs.specs.Hubs.{number_of}
 use Rattle.hubs.specs.declared.hub.Hub.{Hub}
@@ -87,8 +87,8 @@ has_row_at sets row hub = has_at_number sets row (number_of hub)
 
 -- The links lead on where the rows do, each in range, and the common places of the contacts are known, as it is where no link leads
 -- to any of them. The contacts that a link leads to stand one by one.
-pub record IsNetInside (contacts : List Run) (common_places other_places : List ℕ) (links wired_contacts further behind : List Link)
-    (skips contact_skips further_skips behind_skips : List ℕ) (is_direct : Bool) (rows : List (List ℕ)) : Type 0 where
+pub record IsNetInside (contacts : List Run) (common_places other_places : List ℕ) (links wired_contacts outer further behind : List Link)
+    (skips outer_skips further_skips behind_skips : List ℕ) (is_direct : Bool) (rows : List (List ℕ)) : Type 0 where
   pub commons : AreCommons contacts common_places
   pub others : AreCommons (drop 1 contacts) other_places
   pub in_range : All IsInRange links
@@ -96,7 +96,9 @@ pub record IsNetInside (contacts : List Run) (common_places other_places : List 
   pub passing : All IsPassing wired_contacts
   pub wired : (from to : ℕ) → is_linked wired_contacts from to ≡ (is_any_contact contacts from to && is_led_to links from)
   pub skipped : AreSkips links skips
-  pub contacts_skipped : AreSkips wired_contacts contact_skips
+  pub outer_range : All IsInRange outer
+  pub others_outer : (from to : ℕ) → is_linked outer from to ≡ (is_linked links from to && not (is_led_to wired_contacts from))
+  pub outer_skipped : AreSkips outer outer_skips
   pub further_range : All IsInRange further
   pub follows : (from to : ℕ) → is_linked further from to ≡ (is_linked links from to && is_led_to wired_contacts from)
   pub further_skipped : AreSkips further further_skips

@@ -1,13 +1,13 @@
 -- Contacts as links: sets of rows, one for each place, are passed on along closed contacts. A contact passes on the rows of its near end
 -- at which it is closed.
-use Rattle.std.specs.Prelude.{◌≡◌, ◌⊎◌, ℕ, ◌+◌, ◌≤◌, ◌==◌, ◌&&◌, ◌||◌, nat_lt, Bool, true, false, List, Some, if◌then◌else◌}
+use Rattle.std.specs.Prelude.{◌≡◌, ◌↔◌, ◌⊎◌, ℕ, ◌+◌, ◌-◌, ◌≤◌, min, nat_le, ◌==◌, ◌&&◌, ◌||◌, not, nat_lt, Bool, true, false, List, Some, if◌then◌else◌}
 use Rattle.std.specs.List.{list_any}
 use Rattle.card_code.specs.Rows.{passing_place}
 use Rattle.card_code.specs.declared.row.Row.{Row as CardRow}
 use Rattle.hubs.specs.declared.hub.Group.{Group}
 use Rattle.hubs.specs.declared.hub.Hub.{Hub}
 use Rattle.hubs.specs.declared.hub.Hub.TheVariants.{CI, CO}
-use Rattle.setups.specs.Wiring.{HasWire, LeadsToEntries, Wiring}
+use Rattle.setups.specs.Wiring.{HasWire, Wiring}
 use Rattle.bit_sets.specs.Bits.{has_place}
 use Rattle.bit_sets.specs.declared.contacts.Run.{Run}
 use Rattle.net.specs.HubSets.{HubSet, has_hub}
@@ -40,6 +40,37 @@ abbrev pub Passes : List ℕ → List ℕ → List Link → List ℕ → List �
 Passes digits zones contacts old new =
     (place row : ℕ) → has_at new place row ≡ (has_at old place row || list_any (is_passed_by digits zones old place row) contacts)
 
+-- A run of contacts leads from entries of the panel to exits, and behind its last entry there are eight more.
+pub record HasRoom (run : Run) : Type 0 where
+  pub from : 1040 ≤ run.common
+  pub high : run.common + run.count + 8 ≤ 1936
+  pub to : run.exits + run.count ≤ 1040
+
+-- a run from one of its contacts on
+abbrev pub rest_of : Run → ℕ → Run
+rest_of run from = record { common = run.common + from; exits = run.exits + from; count = run.count - from }
+
+-- the first eight contacts of a run, or all where it has fewer
+abbrev pub first_eight : Run → Run
+first_eight run = record run { count = min 8 run.count }
+
+-- whether the contact of the run to a place leads from one whose set has the row, and is closed at the row
+abbrev pub is_passed_in : List ℕ → List ℕ → List ℕ → ℕ → ℕ → Run → Bool
+is_passed_in digits zones sets place row run =
+    nat_le run.exits place
+    && (nat_lt (place - run.exits) run.count
+    && (has_at sets (run.common + (place - run.exits)) row && is_closed_at digits zones row place))
+
+-- each place has the rows that it had, and those that the contacts of the run pass on to it, and no other
+abbrev pub IsRunPassed : List ℕ → List ℕ → Run → List ℕ → List ℕ → Type 0
+IsRunPassed digits zones run old new =
+    (place row : ℕ) → has_at new place row ≡ (has_at old place row || is_passed_in digits zones old place row run)
+
+-- so it is with the contacts of all runs
+abbrev pub RunsPass : List ℕ → List ℕ → List Run → List ℕ → List ℕ → Type 0
+RunsPass digits zones runs old new =
+    (place row : ℕ) → has_at new place row ≡ (has_at old place row || list_any (is_passed_in digits zones old place row) runs)
+
 -- each place has the rows that it had
 abbrev pub SameSets : List ℕ → List ℕ → Type 0
 SameSets old new = (place row : ℕ) → has_at new place row ≡ has_at old place row
@@ -53,6 +84,17 @@ AddsContacts test links old new =
 abbrev pub AddsFurther : List Link → List Link → List Link → List Link → Type 0
 AddsFurther links contacts old new =
     (from to : ℕ) → is_linked new from to ≡ (is_linked old from to || (is_linked links from to && is_led_to contacts from))
+
+-- new has what old has, and the links from where no contact leads
+abbrev pub AddsOuter : List Link → List Link → List Link → List Link → Type 0
+AddsOuter links contacts old new =
+    (from to : ℕ) → is_linked new from to ≡ (is_linked old from to || (is_linked links from to && not (is_led_to contacts from)))
+
+-- each hub has the rows that it had, and those of the exits from which wires lead to it, and no others
+abbrev pub SpreadsRows : Wiring → List ℕ → List ℕ → Type 0
+SpreadsRows wiring old new =
+    (row : CardRow) (hub : Hub)
+    → (has_row_at new (passing_place row) hub ≡ true) ↔ EmitsOrIsFed wiring (has_row_at old (passing_place row)) hub
 
 -- Hubs have the rows that they had, and no others but those that wires lead to them: all those from the exits of contacts to which a
 -- wire leads.
@@ -76,18 +118,14 @@ pub record IsPassedOn (digits zones : HubSet) (sets : List ℕ) (row : CardRow) 
   pub closed : closes_at_row digits zones row hub ≡ true
   pub on : has_row_at sets (passing_place row) common ≡ true
 
--- Hubs have the rows that they had, and no others but those that closed contacts pass on to them: all that pass a contact to which a wire
--- leads. Hubs from which contacts lead gain none. All wires lead from exits to entries.
-pub record PassesOn (wiring : Wiring) (digits zones : HubSet) (old new : List ℕ) : Type 0 where
-  pub leads : LeadsToEntries wiring
+-- Hubs have the rows that they had, and those that closed contacts pass on to them, and no others. Hubs from which contacts lead gain none.
+pub record PassesOn (digits zones : HubSet) (old new : List ℕ) : Type 0 where
   pub kept :
       (row : CardRow) (hub : Hub) → has_row_at old (passing_place row) hub ≡ true → has_row_at new (passing_place row) hub ≡ true
   pub only :
       (row : CardRow) (hub : Hub) → has_row_at new (passing_place row) hub ≡ true
       → (has_row_at old (passing_place row) hub ≡ true) ⊎ IsPassedOn digits zones old row hub
-  pub passed :
-      (row : CardRow) (exit hub : Hub) (passed : IsPassedOn digits zones old row hub) → HasWire wiring exit passed.common
-      → has_row_at new (passing_place row) hub ≡ true
+  pub passed : (row : CardRow) (hub : Hub) → IsPassedOn digits zones old row hub → has_row_at new (passing_place row) hub ≡ true
   pub commons :
       (row : CardRow) (common hub : Hub) → contact_of hub ≡ Some common → has_row_at new (passing_place row) common ≡ true
       → has_row_at old (passing_place row) common ≡ true
@@ -102,7 +140,8 @@ pub record PassesBehind (wiring : Wiring) (digits zones : HubSet) (old new : Lis
       (row : CardRow) (before first exit hub : Hub) (passed : IsPassedOn digits zones old row hub) → HasWire wiring before first
       → contact_of exit ≡ Some first → HasWire wiring exit passed.common → has_row_at new (passing_place row) hub ≡ true
 
--- no hub from which contacts lead has a row
-abbrev pub AreCommonsSilent : List ℕ → Type 0
-AreCommonsSilent sets =
-    (common hub : Hub) → contact_of hub ≡ Some common → (row : CardRow) → has_row_at sets (passing_place row) common ≡ false
+-- no hub from which contacts lead has a row, nor has one that they lead to
+abbrev pub AreContactsSilent : List ℕ → Type 0
+AreContactsSilent sets =
+    (common hub : Hub) → contact_of hub ≡ Some common → (row : CardRow)
+    → (has_row_at sets (passing_place row) common ≡ false) × (has_row_at sets (passing_place row) hub ≡ false)

@@ -1,8 +1,10 @@
 //! What is impulsed at a point of a cycle: cycles, points, pictures of the panel, and the trait of its units.
 #![tactic(auto)]
 
+mod contact_runs;
 mod contacts;
 mod cycle;
+mod lanes;
 mod laws;
 mod links;
 mod net;

@@ -5,6 +5,7 @@ ghost use Rattle.bit_sets.specs.Bits.{has_place};
 ghost use Rattle.setups.specs.Wiring.{IsEntryNumber};
 ghost use Rattle.net.specs.Links.{AddsLinks, AreSkips, HasExitsOf, IsFollowed, IsInRange, IsSkip, Spreads, has_at};
 
+use crate::lanes::{LANES, eight_from};
 use crate::picture::HUBS;
 use bit_sets::WORDS;
 use std::alloc::{AllocError, Global};
@@ -133,16 +134,8 @@ pub(crate) fn is_block_empty(sets: &[u16; HUBS], place: usize) -> bool
     ensures { result ≡ true → (other row : ℕ) → other / 16 ≡ place / 16 → has_at sets.now other row ≡ false }
 {
     let first = place / BLOCK * BLOCK;
-    let joined = half_block(sets, first) | half_block(sets, first + BLOCK / 2);
+    let joined = eight_from(sets, first) | eight_from(sets, first + LANES);
     joined.reduce_or() == 0
-}
-
-// Eight sets from a place on, all taken at once.
-fn half_block(sets: &[u16; HUBS], first: usize) -> u16x8
-    requires { first + 8 ≤ HUBS }
-    ensures { result ≡ take 8 (drop first sets.now) }
-{
-    u16x8::from_slice(&sets[first..])
 }
 
 // The far end of a link gains the rows of the near end.

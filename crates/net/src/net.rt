@@ -1,13 +1,15 @@
 //! The wires of a setup, made ready for pictures.
 
-ghost use Rattle.std.specs.Prelude.{◌≡◌, ◌<◌, All, length};
+ghost use Rattle.std.specs.Prelude.{◌≡◌, ◌<◌, All, false, length};
 ghost use Rattle.setups.specs.Wiring.{IsEntryNumber};
 ghost use Rattle.net.specs.NetRows.{AddsRow};
+ghost use Rattle.net.specs.Passing.{PassesOn, SameSets};
 
+use crate::contact_runs::pass_runs;
 use crate::contacts::CONTACTS;
 use crate::cycle::Point;
 use crate::links::{Link, add_links, follow_all, leads_on, leads_to_any, skips_of};
-use crate::passing::{add_behind, add_contacts, add_further, pass_all};
+use crate::passing::{add_behind, add_contacts, add_further, add_outer, pass_all};
 use crate::picture::{Contacts, Picture, cut_after_hubs};
 use crate::row_sets::RowSets;
 use bit_sets::{EXITS, Rows, WORDS, commons_of, meet, reach, reach_by_rows};
@@ -31,9 +33,11 @@ pub struct Net {
     links: Vec<Link>,
     // For each of the links where those after it end that lead from the same block of places.
     skips: Vec<usize>,
-    // The contacts that a wire leads to, one by one, and the same of each of them.
+    // The contacts that a wire leads to, one by one.
     contacts: Vec<Link>,
-    contact_skips: Vec<usize>,
+    // The wires from all exits but those of these contacts, and for each of them where those after it end that lead from the same block.
+    outer: Vec<Link>,
+    outer_skips: Vec<usize>,
     // The wires from the exits of these contacts, and the same of each of them.
     further: Vec<Link>,
     further_skips: Vec<usize>,
@@ -54,7 +58,8 @@ impl Drop for Net {
             links: _links,
             skips: _skips,
             contacts: _contacts,
-            contact_skips: _contact_skips,
+            outer: _outer,
+            outer_skips: _outer_skips,
             further: _further,
             further_skips: _further_skips,
             behind: _behind,
@@ -77,7 +82,7 @@ impl Model for Net {
 
     ghost use Rattle.net.specs.Links.{IsNetInside};
 
-    ghost invariant = { λ net. IsNetInside CONTACTS net.commons net.others net.links.items net.contacts.items net.further.items net.behind.items net.skips.items net.contact_skips.items net.further_skips.items net.behind_skips.items net.is_direct net.rows };
+    ghost invariant = { λ net. IsNetInside CONTACTS net.commons net.others net.links.items net.contacts.items net.outer.items net.further.items net.behind.items net.skips.items net.outer_skips.items net.further_skips.items net.behind_skips.items net.is_direct net.rows };
 }
 
 impl Net {
@@ -93,7 +98,7 @@ impl Net {
     ghost use Rattle.net.specs.Links.{has_row_at};
     ghost use Rattle.std.specs.Prelude.{false};
     ghost use Rattle.card_code.specs.declared.row.Row.{Row as CardRow};
-    ghost use Rattle.net.specs.Passing.{AreCommonsSilent, PassesBehind, PassesOn, SameSets, SpreadsOn, closes_at_row};
+    ghost use Rattle.net.specs.Passing.{AreContactsSilent, PassesBehind, SameSets, SpreadsOn, SpreadsRows, closes_at_row};
     ghost use Rattle.net.specs.RowSets.{LeadsToNoContact, pictures_of};
     ghost use Rattle.net.specs.declared.cycle.Point.TheVariants.{Row};
 
@@ -114,7 +119,9 @@ impl Net {
         let skips = skips_of(alloc, links.as_slice())?;
         let mut contacts = Vec::new(alloc);
         add_contacts(&CONTACTS, links.as_slice(), &mut contacts)?;
-        let contact_skips = skips_of(alloc, contacts.as_slice())?;
+        let mut outer = Vec::new(alloc);
+        add_outer(links.as_slice(), contacts.as_slice(), &mut outer)?;
+        let outer_skips = skips_of(alloc, outer.as_slice())?;
         let mut further = Vec::new(alloc);
         add_further(links.as_slice(), contacts.as_slice(), &mut further)?;
         let further_skips = skips_of(alloc, further.as_slice())?;
@@ -132,7 +139,8 @@ impl Net {
             links,
             skips,
             contacts,
-            contact_skips,
+            outer,
+            outer_skips,
             further,
             further_skips,
             behind,
@@ -205,7 +213,7 @@ impl Net {
     /// Answers false where impulses may pass one contact behind another: then the sets are not yet complete. It also does where there are
     /// more than 4,096 wires, since so many are followed faster by the words of their rows, point by point.
     pub fn spread_through(&self, digits: &Contacts, zones: &Contacts, sets: &mut RowSets) -> bool
-        requires { AreCommonsSilent sets.old }
+        requires { AreContactsSilent sets.old }
         ensures { result ≡ true
             → (wiring : Wiring)
             → IsNetOf wiring self.now
@@ -215,12 +223,24 @@ impl Net {
         if self.links.len() > MOST_LINKS {
             return false;
         }
-        self.spread(sets);
-        if !self.pass(digits, zones, sets) {
+        self.spread_outer(sets);
+        if !pass(digits, zones, sets) {
             return true;
         }
         self.spread_on(sets);
         !self.pass_behind(digits, zones, sets)
+    }
+
+    // Spreads rows along the wires, where no exit of a contact has any.
+    fn spread_outer(&self, sets: &mut RowSets)
+        requires { AreContactsSilent sets.old }
+        ensures { (wiring : Wiring) → IsNetOf wiring self.now → SpreadsRows wiring sets.old sets.new }
+    {
+        follow_all(
+            self.outer.as_slice(),
+            self.outer_skips.as_slice(),
+            &mut sets.sets,
+        );
     }
 
     // Spreads rows along the wires from the exits of the contacts that wires lead to.
@@ -249,22 +269,14 @@ impl Net {
             &mut sets.sets,
         )
     }
+}
 
-    // Passes rows on along the closed contacts that wires lead to. Answers whether a hub may have gained any.
-    fn pass(&self, digits: &Contacts, zones: &Contacts, sets: &mut RowSets) -> bool
-        ensures passes { (wiring : Wiring)
-            → IsNetOf wiring self.now
-            → PassesOn wiring digits.now zones.now sets.old sets.new }
-        ensures same { result ≡ false → SameSets sets.old sets.new }
-    {
-        pass_all(
-            self.contacts.as_slice(),
-            self.contact_skips.as_slice(),
-            digits.words(),
-            zones.words(),
-            &mut sets.sets,
-        )
-    }
+// Passes rows on along the closed contacts. Answers whether one passed any on.
+fn pass(digits: &Contacts, zones: &Contacts, sets: &mut RowSets) -> bool
+    ensures passes { PassesOn digits.now zones.now sets.old sets.new }
+    ensures same { result ≡ false → SameSets sets.old sets.new }
+{
+    pass_runs(&CONTACTS, digits.words(), zones.words(), &mut sets.sets)
 }
 
 // Adds to a place's row the places of the entries with these numbers.

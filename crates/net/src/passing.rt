@@ -5,7 +5,7 @@ ghost use Rattle.std.specs.List.{list_any};
 ghost use Rattle.bit_sets.specs.Contacts.{is_any_contact, is_contact};
 ghost use Rattle.net.specs.HubSets.{is_bit};
 ghost use Rattle.net.specs.Links.{AreSkips, HasEntriesOf, IsInRange, IsPassing, is_led_to};
-ghost use Rattle.net.specs.Passing.{AddsContacts, AddsFurther, IsPassed, LeadsToExits, Passes, SameSets, is_closed_at};
+ghost use Rattle.net.specs.Passing.{AddsContacts, AddsFurther, AddsOuter, IsPassed, LeadsToExits, Passes, SameSets, is_closed_at};
 
 use crate::links::{Link, is_block_empty};
 use crate::picture::HUBS;
@@ -61,6 +61,25 @@ pub(crate) fn add_further(
     for link in links {
         if is_led_to(contacts, link.from as usize) {
             further.push(*link)?;
+        }
+    }
+    Ok(())
+}
+
+// Adds the links from all other exits.
+pub(crate) fn add_outer(
+    links: &[Link],
+    contacts: &[Link],
+    outer: &mut Vec<Link>,
+) -> Result<(), AllocError>
+    requires range { All IsInRange links.now }
+    requires lawful { All IsInRange outer.old.items }
+    ensures lawful { OnOk result (All IsInRange outer.new.items) }
+    ensures added { OnOk result (AddsOuter links.now contacts.now outer.old.items outer.new.items) }
+{
+    for link in links {
+        if !is_led_to(contacts, link.from as usize) {
+            outer.push(*link)?;
         }
     }
     Ok(())

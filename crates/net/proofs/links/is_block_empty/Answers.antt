@@ -4,5 +4,5 @@ use Rattle.net.proofs.links.is_block_empty.Goals as goal
 
 pub returns : goal.returns
 returns c empty other row same =
-    block-empty c.args.sets.now c.args.place other row c.told-sets c.requires (rw (sym c.half_block.ensures, sym c.half_block-2.ensures) empty)
+    block-empty c.args.sets.now c.args.place other row c.told-sets c.requires (rw (sym c.eight_from.ensures, sym c.eight_from-2.ensures) empty)
     same
