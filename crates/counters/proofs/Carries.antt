@@ -4,8 +4,7 @@ use Rattle.std.proofs.lemmas.Bool.{and_from, and_parts, false≢true, or_cases, 
 use Rattle.std.proofs.lemmas.Bool.Decides.{nat_tests}
 use Rattle.std.proofs.lemmas.List.{take-append-drop}
 use Rattle.counters.specs.Places.{FollowsSteps, GetsCarry, PassOn, RingsFollowCarryRule, WheelsFollowCarryRule, wheel_at, wheels_below}
-use Rattle.counters.specs.Wheels.{all_nines, passes, stands, stepped, carries_out, carries_in, turned, turned_round}
-use Rattle.counters.specs.declared.wheel.Wheel.{Wheel}
+use Rattle.counters.specs.Wheels.{Wheel, all_nines, passes, stands, stepped, carries_out, carries_in, turned, turned_round}
 
 -- as many digits as wheels
 pub length-turned : (ws : List Wheel) (carry : Bool) → length (turned ws carry) ≡ length ws

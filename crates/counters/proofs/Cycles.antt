@@ -6,9 +6,8 @@ use Rattle.std.proofs.Math.Nat.{pow-succ'}
 use Rattle.counters.specs.Counters.{base_of, advance_of, counter_ended, wheel_of, wheels_in, wheels_of}
 use Rattle.counters.specs.Laws.{CyclesAreSums, IsDigit, IsWheel, SumsAreLeft, carry_number}
 use Rattle.counters.specs.Numbers.{number, start_number, added_number, left_number}
-use Rattle.counters.specs.Wheels.{carries_out, turned, turned_round}
+use Rattle.counters.specs.Wheels.{Wheel, carries_out, turned, turned_round}
 use Rattle.counters.specs.declared.controls.Controls.{Controls}
-use Rattle.counters.specs.declared.wheel.Wheel.{Wheel}
 use Rattle.counters.proofs.Sums.{turned-sum, turned_round-number}
 
 -- as many wheels as digits

@@ -1,5 +1,5 @@
 -- Without plus, minus and read-out nothing turns.
-use Rattle.std.proofs.Common.{◌≡◌, ◌∙◌, refl, sym, ap, ℕ, ◌≤◌, ◌==◌, ◌&&◌, ◌||◌, Bool, false, List, [], ◌∷◌, All, length, arith}
+use Rattle.std.proofs.Common.{◌≡◌, ◌∙◌, refl, ap, ℕ, ◌≤◌, ◌==◌, ◌&&◌, ◌||◌, Bool, false, List, [], ◌∷◌, All, length, arith}
 use Rattle.std.proofs.lemmas.Bool.Decides.{nat_tests}
 use Rattle.std.proofs.lemmas.List.Elements.{All-head, All-tail}
 use Rattle.counters.specs.Counters.{wheel_of, wheels_of}
@@ -35,9 +35,3 @@ idle-turned controls (d ∷ ds) (e ∷ es) read minus plus all same =
     ap (λ b. stepped (wheel_of controls d e) b ∷ turned (wheels_of controls ds es) false) out
     ∙ ap (λ k. k ∷ turned (wheels_of controls ds es) false) (rests controls d e read minus plus (All-head IsDigit d ds all)).0
     ∙ ap (λ ks. d ∷ ks) (idle-turned controls ds es read minus plus (All-tail IsDigit d ds all) (omega (arith, same)))
-
--- the wheels of a group that rests turn back to its digits
-pub idle-turned_back : (controls : Controls) (ds es : List ℕ)
-    → controls.read_out ≡ false → controls.minus ≡ false → controls.plus ≡ false → All IsDigit ds → length ds ≡ length es
-    → ds ≡ turned (wheels_of controls ds es) false
-idle-turned_back controls ds es read minus plus all same = sym (idle-turned controls ds es read minus plus all same)

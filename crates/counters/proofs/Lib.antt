@@ -8,9 +8,12 @@ pub mod NumberLemmas
 pub mod Staying
 pub mod TakenRows
 pub mod OwnHubs
+pub mod Packed
+pub mod PackedViews
 pub mod Pairs
 pub mod Rings
 pub mod SetDigits
+pub mod SetLanes
 pub mod RowsSensed
 pub mod ShownRows
 pub mod Starts

@@ -12,8 +12,7 @@ use Rattle.net.specs.Panel.{contact_of}
 use Rattle.setups.proofs.WiredLemmas.{HasWire-is_wired}
 use Rattle.setups.specs.Wiring.{HasWire, LeadsToEntries, Wiring, is_wired}
 use Rattle.counters.specs.Rings.{CarriesBy, IsFedAlone, WiredGroupsAreRings, WiredPairsAreCoupled}
-use Rattle.counters.specs.Wheels.{all_nines, carries_in, carries_out}
-use Rattle.counters.specs.declared.wheel.Wheel.{Wheel}
+use Rattle.counters.specs.Wheels.{Wheel, all_nines, carries_in, carries_out}
 use Rattle.counters.proofs.Carries.{carries_out-again, carries_out-append, carries_out-split}
 
 -- two tests that hold of each other are the same

@@ -1,10 +1,10 @@
 -- Digits that are read off sets of rows, and entered by them.
-use Rattle.std.proofs.Common.{◌≡◌, ◌≢◌, ◌∙◌, refl, sym, ap, ℕ, zero, suc, ◌+◌, ◌-◌, ◌*◌, ◌%◌, ◌^◌, ◌<◌, ◌≤◌, ◌==◌, ◌&&◌, ◌||◌, ◌⊎◌, inl, inr, Bool, true, false, List, [], ◌∷◌, length, replicate, get_or, slice_index_or, arith, if◌then◌else◌, bit_or, w16}
+use Rattle.std.proofs.Common.{◌≡◌, ◌≢◌, ◌∙◌, refl, sym, ap, ℕ, zero, suc, ◌+◌, ◌-◌, ◌*◌, ◌%◌, ◌^◌, ◌<◌, ◌≤◌, ◌==◌, ◌&&◌, ◌||◌, ◌⊎◌, inl, inr, Bool, true, false, List, [], ◌∷◌, length, replicate, reverse, get_or, slice_index_or, arith, if◌then◌else◌, bit_or, w16}
 use Rattle.std.specs.Prelude.{nat_lt}
 use Rattle.std.specs.Int.{trailing_zeros}
 use Rattle.std.proofs.lemmas.Bool.{cases_lt}
 use Rattle.std.proofs.lemmas.Bool.Decides.{eqb_tells, nat_tests}
-use Rattle.std.proofs.lemmas.List.{get_or-replicate, get_or_past}
+use Rattle.std.proofs.lemmas.List.{get_or-replicate, get_or_past, length-reverse}
 use Rattle.std.proofs.lemmas.Nat.{le_or_r, mul-le, one_shl, or_lt}
 use Rattle.std.proofs.lemmas.Nat.Bits.{bit_at-trailing_zeros}
 use Rattle.card_code.specs.Rows.{passing_place, row_number, rows}
@@ -23,6 +23,7 @@ use Rattle.counters.specs.declared.controls.Controls.{Controls}
 use Rattle.counters.proofs.EarliestRows.{digit_after, digit_after-kept, digit_after-rows, impulsed_at, rows_taken, rows_taken-listed}
 use Rattle.counters.proofs.ListedDigits.{listed-same}
 use Rattle.counters.proofs.ShownRows.{is_bit-or, is_bit-pow, is_bit-zero}
+use Rattle.counters.proofs.TakenRows.{reversed-at}
 
 -- the row of a digit has its place among the points
 pub row-of : (digit : ℕ) (row : CardRow) → digit ≤ 9 → is_bit (1 * 2 ^ (9 - digit) % 2 ^ 16) (passing_place row) ≡ (digit == row_number row)
@@ -131,34 +132,39 @@ digit-rows impulsed digit = by (eqb_tells digit 0) where
   by (inr some) =
       digit_after-kept impulsed rows digit some.0 ∙ ap (λ b. if b then first_digit impulsed digit_rows else digit) (sym some.0)
 
--- all positions of a group that takes digits, by their sets
+-- all positions of a group that takes digits, from the top down, by their sets and digits from the units on
 pub taken-by_sets : (controls : Controls) (name : Group) (sets read old new : List ℕ) → (controls.plus || controls.minus) ≡ true
     → length new ≡ length old
     → ((position row : ℕ) → 1 ≤ position → position ≤ length old → has_at read (position - 1) row ≡ has_row_at sets row (GE name position))
-    → ((k : ℕ) → k < length old → slice_index_or new k 0 ≡ digit_entered (slice_index_or read (length old - 1 - k) 0) (slice_index_or old k 0))
-    → new ≡ rows_taken controls name (pictures_of sets) rows old
+    → ((k : ℕ) → k < length old → slice_index_or new k 0 ≡ digit_entered (slice_index_or read k 0) (slice_index_or old k 0))
+    → reverse new ≡ rows_taken controls name (pictures_of sets) rows (reverse old)
 taken-by_sets controls name sets read old new takes long reads entered =
-    listed-of new
-    ∙ ap (listed (digit_at new)) long
-    ∙ listed-same (digit_at new)
-    (λ position. digit_after (controls.plus || controls.minus) (λ row. impulsed_at name (pictures_of sets) row position) rows (digit_at old position))
+    listed-of (reverse new)
+    ∙ ap (listed (digit_at (reverse new))) (length-reverse new ∙ long)
+    ∙ listed-same (digit_at (reverse new))
+    (λ position. digit_after (controls.plus || controls.minus) (λ row. impulsed_at name (pictures_of sets) row position) rows (digit_at (reverse old) position))
     (length old) each
-    ∙ sym (ap (rows_taken controls name (pictures_of sets) rows) (listed-of old)
-    ∙ rows_taken-listed controls name (pictures_of sets) rows (digit_at old) (length old))
+    ∙ ap (listed (λ position. digit_after (controls.plus || controls.minus) (λ row. impulsed_at name (pictures_of sets) row position) rows
+    (digit_at (reverse old) position))) (sym (length-reverse old))
+    ∙ sym (ap (rows_taken controls name (pictures_of sets) rows) (listed-of (reverse old))
+    ∙ rows_taken-listed controls name (pictures_of sets) rows (digit_at (reverse old)) (length (reverse old)))
   where
     each : (position : ℕ) → 1 ≤ position → position ≤ length old
-        → digit_at new position
-        ≡ digit_after (controls.plus || controls.minus) (λ row. impulsed_at name (pictures_of sets) row position) rows (digit_at old position)
+        → digit_at (reverse new) position
+        ≡ digit_after (controls.plus || controls.minus) (λ row. impulsed_at name (pictures_of sets) row position) rows (digit_at (reverse old) position)
     each position from to =
-        let index : length new - position ≡ length old - position = ap (λ (n : ℕ). n - position) long in
-        let place : length old - 1 - (length old - position) ≡ position - 1 = omega (arith, from, to) in
-        ap (λ (k : ℕ). get_or new k 0) index
-        ∙ entered (length old - position) (omega (arith, from, to))
-        ∙ ap (λ (k : ℕ). digit_entered (slice_index_or read k 0) (digit_at old position)) place
-        ∙ ap (λ (impulsed : CardRow → Bool). if digit_at old position == 0 then first_digit impulsed digit_rows else digit_at old position)
+        let index : length (reverse new) - position ≡ length (reverse old) - position
+        = ap (λ (n : ℕ). n - position) (length-reverse new ∙ long ∙ sym (length-reverse old)) in
+        let place : length old - 1 - (length (reverse old) - position) ≡ position - 1 = omega (arith, from, to, length-reverse old) in
+        ap (λ (k : ℕ). get_or (reverse new) k 0) index
+        ∙ reversed-at (λ k d. digit_entered (slice_index_or read k 0) d) old new long entered (length (reverse old) - position)
+        (omega (arith, from, to, length-reverse old))
+        ∙ ap (λ (k : ℕ). digit_entered (slice_index_or read k 0) (digit_at (reverse old) position)) place
+        ∙ ap (λ (impulsed : CardRow → Bool). if digit_at (reverse old) position == 0 then first_digit impulsed digit_rows
+        else digit_at (reverse old) position)
         (λ i row. reads position (passing_place row) from to i)
-        ∙ sym (digit-rows (λ row. impulsed_at name (pictures_of sets) row position) (digit_at old position))
-        ∙ ap (λ b. digit_after b (λ row. impulsed_at name (pictures_of sets) row position) rows (digit_at old position)) (sym takes)
+        ∙ sym (digit-rows (λ row. impulsed_at name (pictures_of sets) row position) (digit_at (reverse old) position))
+        ∙ ap (λ b. digit_after b (λ row. impulsed_at name (pictures_of sets) row position) rows (digit_at (reverse old) position)) (sym takes)
 
 -- before any position no row is shown
 pub no-sets : (k place : ℕ) (test : Bool) → has_at (replicate 8 0) k place ≡ (nat_lt k 0 && test)
@@ -178,9 +184,9 @@ no-sets k place test =
     none : false ≡ (nat_lt k 0 && test)
     none = grind (arith, nat_tests)
 
--- the hubs from a group's first entry on are as many as its positions
+-- from a group's first entry on there are eight hubs at least
 pub entries-near : (name : Group) → is_width name.width ≡ true → is_within name.number 8 ≡ true
-    → 1100 + positions_before name.width + (name.number - 1) * name.width + 1 + name.width ≤ 1937
+    → 1100 + positions_before name.width + (name.number - 1) * name.width + 1 + 8 ≤ 1937
 entries-near name wide named =
     let small : name.width ≤ 8 = grind (arith, nat_tests, wide) in
     let number : name.number - 1 ≤ 7 = grind (arith, nat_tests, named) in

@@ -7,8 +7,7 @@ use Rattle.std.proofs.lemmas.Nat.{mod-mul-add}
 use Rattle.std.proofs.Math.Nat.{pow-succ'}
 use Rattle.counters.specs.Laws.{IsDigit, IsWheel, carry_number}
 use Rattle.counters.specs.Numbers.{number, left_number}
-use Rattle.counters.specs.Wheels.{stepped, carries_out, turned, turned_round}
-use Rattle.counters.specs.declared.wheel.Wheel.{Wheel}
+use Rattle.counters.specs.Wheels.{Wheel, stepped, carries_out, turned, turned_round}
 use Rattle.counters.proofs.Carries.{length-turned, carries_out-again}
 use Rattle.counters.proofs.NumberLemmas.{number-lt}
 

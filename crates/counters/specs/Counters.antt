@@ -15,9 +15,8 @@ use Rattle.net.specs.Panel.{unit_of}
 use Rattle.net.specs.declared.cycle.Cycle.{Cycle}
 use Rattle.net.specs.declared.cycle.Point.{Point}
 use Rattle.net.specs.declared.cycle.Point.TheVariants.{C, Row, K}
-use Rattle.counters.specs.Wheels.{all_nines, carries_out, turned}
+use Rattle.counters.specs.Wheels.{Wheel, all_nines, carries_out, turned}
 use Rattle.counters.specs.declared.controls.Controls.{Controls}
-use Rattle.counters.specs.declared.wheel.Wheel.{Wheel}
 
 -- A counter group. Digits and entered digits are given by position, the top one first; the units are last. An entered
 -- digit is 0 where nothing was entered. The controls are those of the cycle that runs, and so is the carry, which tells whether

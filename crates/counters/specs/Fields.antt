@@ -1,16 +1,16 @@
 -- What contracts see of the fields of a counter group.
-use Rattle.std.specs.Prelude.{◌≡◌, ◌≤◌, true, All, take}
+use Rattle.std.specs.Prelude.{◌≡◌, ◌≤◌, true, All, reverse, take}
 use Rattle.hub_table.specs.Places.{is_width}
 use Rattle.hub_table.specs.Ranges.{is_within}
 use Rattle.counters.specs.Counters.{Counter, group_of_unit}
 use Rattle.counters.specs.declared.group.Group.TheInside.{Inside}
 
--- a group: the first of its eight places stand for its positions, as many as it has
+-- a group: the first of its eight places stand for its positions, the units first, as many as it has
 abbrev pub counter_in : Inside → Counter
 counter_in group = record {
   name = group.name;
-  digits = take group.name.width group.digits;
-  entered = take group.name.width group.entered;
+  digits = reverse (take group.name.width group.digits);
+  entered = reverse (take group.name.width group.entered);
   carry = group.carry;
   controls = group.controls;
   latch = group.latch;

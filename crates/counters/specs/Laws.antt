@@ -9,8 +9,7 @@ use Rattle.net.specs.declared.cycle.Point.{Point}
 use Rattle.net.specs.Panel.{owner_of, reader_of}
 use Rattle.counters.specs.Counters.{Counter, counter_at_start, counter_closes, counter_emits, counter_ended, counter_number, counter_sensed, wheels_in}
 use Rattle.counters.specs.Numbers.{number, start_number, added_number, left_number}
-use Rattle.counters.specs.Wheels.{carries_in, carries_out, turned}
-use Rattle.counters.specs.declared.wheel.Wheel.{Wheel}
+use Rattle.counters.specs.Wheels.{Wheel, carries_in, carries_out, turned}
 
 -- a digit is 0 to 9
 abbrev pub IsDigit : ℕ → Type 0

@@ -3,6 +3,7 @@ pub mod Counters
 pub mod Fields
 pub mod Laws
 pub mod Numbers
+pub mod Packed
 pub mod Places
 pub mod Rings
 pub mod Shown

@@ -2,8 +2,7 @@
 -- passed from 9 to 0 and all between stand at 9; or where a carry came in at the units and all lower ones stand at 9. In a ring
 -- the top follows the lowest, and the way goes on as far as the wheel itself.
 use Rattle.std.specs.Prelude.{◌≡◌, ℕ, ◌+◌, ◌<◌, ◌%◌, ◌⊎◌, Bool, true, List, [], ◌++◌, length, take, drop, if◌then◌else◌, slice_index, slice_index_or}
-use Rattle.counters.specs.Wheels.{passes, stands, turned, turned_round}
-use Rattle.counters.specs.declared.wheel.Wheel.{Wheel}
+use Rattle.counters.specs.Wheels.{Wheel, passes, stands, turned, turned_round}
 
 -- the wheel at a place, the first one at 0; one at rest where there is none
 abbrev pub wheel_at : List Wheel → ℕ → Wheel

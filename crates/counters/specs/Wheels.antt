@@ -2,7 +2,11 @@
 -- that passes from 9 to 0 carries a step to the wheel above it, and one that stands at 9 passes on the step that it
 -- gets from below.
 use Rattle.std.specs.Prelude.{ℕ, ◌+◌, ◌%◌, ◌==◌, ◌&&◌, ◌||◌, nat_le, Bool, true, false, List, [], ◌∷◌, if◌then◌else◌}
-use Rattle.counters.specs.declared.wheel.Wheel.{Wheel}
+
+-- A wheel: the digit from which it starts, and by how many steps it advances, before any carry.
+pub record Wheel : Type 0 where
+  pub base : ℕ
+  pub advance : ℕ
 
 -- whether a wheel passes from 9 to 0 by its own advance
 abbrev pub passes : Wheel → Bool

@@ -14,7 +14,7 @@ pub struct Controls {
 }
 
 impl Controls {
-    ghost use Rattle.std.specs.Prelude.{◌≡◌, ◌||◌, not};
+    ghost use Rattle.std.specs.Prelude.{◌≡◌, ◌||◌};
     ghost use Rattle.counters.specs.Counters.{no_controls};
 
     // No control is on.
@@ -34,12 +34,5 @@ impl Controls {
         ensures { result ≡ (self.plus || self.minus) }
     {
         self.plus || self.minus
-    }
-
-    // Whether no wheel turns under them: nothing is entered and nothing read out.
-    pub(crate) fn rest(self) -> bool
-        ensures { result ≡ not (self.plus || (self.minus || self.read_out)) }
-    {
-        !(self.plus || self.minus || self.read_out)
     }
 }

@@ -34,24 +34,23 @@ impl Digits {
     }
 }
 
-// The first so many digits, given from the top down.
-pub(crate) fn from_units(mut places: [u8; 8], count: usize) -> Digits
+// The first so many digits, given from the units on.
+pub(crate) fn from_units(places: [u8; 8], count: usize) -> Digits
     requires { count ≤ 8 }
-    ensures { result ≡ reverse (take count places) }
+    ensures { result ≡ take count places }
 {
-    places[..count].reverse();
     Digits { places, count }
 }
 
-// The number that digits spell, from the top down.
+// The number that digits spell, given from the units on.
 pub(crate) fn number_of(digits: &[u8]) -> u64
     requires positions { length digits.now ≤ 8 }
     requires digits { All IsDigit digits.now }
-    ensures { result ≡ number digits.now }
+    ensures { result ≡ number (reverse digits.now) }
 {
     let mut number = 0;
-    for digit in digits {
-        number = 10 * number + u64::from(*digit);
+    for k in (0..digits.len()).rev() {
+        number = 10 * number + u64::from(digits[k]);
     }
     number
 }

@@ -2,11 +2,11 @@
 
 ghost use Rattle.std.specs.Prelude.{◌≡◌, ◌≤◌};
 
-use crate::all_rows::{enter, rows_shown};
+use crate::all_rows::{entered_after, rows_shown};
 use crate::controls::Controls;
 use crate::digits::{Digits, from_units, number_of};
-use crate::sensing::{controls_in, controls_of, show, take_row, takes};
-use crate::turn::{all_nines, carry_of, latch_after, turn_wheels};
+use crate::sensing::{controls_in, controls_of, low_half, show, take_row, takes};
+use crate::turn::{all_nines, carries_out, latch_after, turned};
 use hubs::Hub;
 use net::{Cycle, Picture, Point, RowSets, Unit};
 use std::marker::Model;
@@ -25,7 +25,7 @@ pub(crate) const PLACES: usize = 8;
 pub struct Group {
     unit: u8,
     name: hubs::Group,
-    // By position, the top one first; the places after the units stay as they are.
+    // By place, the units first. Those after the top turn like the others, and are never looked at.
     digits: [u8; PLACES],
     entered: [u8; PLACES],
     // Whether a carry came in at the units, in the cycle that runs.
@@ -47,10 +47,10 @@ impl Model for Group {
 }
 
 impl Group {
-    ghost use Rattle.std.specs.Prelude.{◌≡◌, ◌≤◌, reverse};
+    ghost use Rattle.std.specs.Prelude.{◌≡◌, ◌≤◌, false, reverse};
     ghost use Rattle.counters.specs.Counters.{counter_at_start, counter_ended, wheels_in};
     ghost use Rattle.counters.specs.Numbers.{number};
-    ghost use Rattle.counters.specs.Wheels.{all_nines};
+    ghost use Rattle.counters.specs.Wheels.{all_nines, carries_out};
 
     /// The group that is a unit, 3 to 34, with all wheels at 0 and its latch reset: eight groups each of 3, 4, 6 and
     /// 8 positions, in this order.
@@ -91,7 +91,16 @@ impl Group {
         ensures { result ≡ all_nines (wheels_in self.now) }
     {
         let width = self.name.width as usize;
-        all_nines(&self.digits[..width], &self.entered[..width], self.controls)
+        all_nines(self.digits, self.entered, self.controls, width)
+    }
+
+    /// Whether a carry leaves its top at the closing point: as the wheels make it by themselves, by what was entered so far, and without
+    /// one that comes in at the units.
+    pub fn carries_out(&self) -> bool
+        ensures { result ≡ carries_out (wheels_in self.now) false }
+    {
+        let width = self.name.width as usize;
+        carries_out(self.digits, self.entered, self.controls, width)
     }
 
     /// The balance latch.
@@ -180,17 +189,16 @@ impl Unit for Group {
     ghost number = { counter_number };
 
     fn emit(&self, _cycle: Cycle, point: Point, exits: &mut Picture) {
-        let width = self.name.width as usize;
         match point {
             Point::C => {}
             Point::Row(row) => {
                 if self.controls.read_out {
+                    let width = self.name.width as usize;
                     show(&self.digits[..width], self.name, row.number(), exits);
                 }
             }
             Point::K => {
-                let carry = carry_of(&self.digits[..width], &self.entered[..width], self.controls);
-                if carry {
+                if self.carries_out() {
                     exits.insert(Hub::CO(self.name));
                 }
             }
@@ -205,7 +213,7 @@ impl Unit for Group {
                 if takes(self.controls, row) {
                     let impulsed = picture.row(Hub::GE(self.name, 1));
                     let width = self.name.width as usize;
-                    take_row(&mut self.entered[..width], row, impulsed);
+                    take_row(&mut self.entered[..width], row, low_half(impulsed));
                 }
             }
             Point::K => self.carry = picture.has(Hub::CI(self.name)),
@@ -214,16 +222,8 @@ impl Unit for Group {
 
     fn end_cycle(&mut self, _cycle: Cycle) {
         let width = self.name.width as usize;
-        let controls = self.controls;
-        let carry = self.carry;
-        let entered = self.entered;
-        turn_wheels(
-            &mut self.digits[..width],
-            &entered[..width],
-            controls,
-            carry,
-        );
-        self.latch = latch_after(&self.digits[..width], controls, self.latch);
+        self.digits = turned(self.digits, self.entered, self.controls, self.carry);
+        self.latch = latch_after(self.digits[width - 1], self.controls, self.latch);
         self.entered = [0; PLACES];
         self.carry = false;
         self.controls = Controls::none();
@@ -268,8 +268,7 @@ impl Group {
     {
         if self.controls.takes_digits() {
             let read = pictures.from(Hub::GE(self.name, 1));
-            let width = self.name.width as usize;
-            enter(&mut self.entered[..width], read);
+            self.entered = entered_after(self.entered, read);
         }
     }
 }

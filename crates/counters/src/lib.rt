@@ -8,7 +8,6 @@ mod group;
 mod laws;
 mod sensing;
 mod turn;
-mod wheel;
 
 pub use controls::Controls;
 pub use digits::Digits;

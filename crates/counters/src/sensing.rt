@@ -1,11 +1,11 @@
 //! What a counter group emits and senses at its positions.
 
-ghost use Rattle.std.specs.Prelude.{◌≡◌, ℕ, ◌≤◌, ◌<◌, ◌+◌, ◌-◌, ◌==◌, ◌&&◌, true, All, length};
+ghost use Rattle.std.specs.Prelude.{◌≡◌, ℕ, ◌≤◌, ◌<◌, ◌+◌, ◌==◌, ◌&&◌, true, All, length, reverse, slice_index_or};
 ghost use Rattle.hub_table.specs.Places.{is_width};
 ghost use Rattle.hub_table.specs.Ranges.{is_within};
 ghost use Rattle.net.specs.HubSets.{GainsHubs, HubSet, has_hub, is_bit};
 ghost use Rattle.counters.specs.ControlRows.{IsControlRow};
-ghost use Rattle.counters.specs.Counters.{all_taken, controls_of, group_of_unit, shows, taken, takes};
+ghost use Rattle.counters.specs.Counters.{controls_of, group_of_unit, shows, taken, takes};
 ghost use Rattle.counters.specs.Laws.{IsDigit};
 ghost use Rattle.counters.specs.Shown.{shows_at};
 
@@ -13,24 +13,24 @@ use crate::controls::Controls;
 use hubs::Hub;
 use net::Picture;
 
-// Adds the exits of the positions whose digit is the given one.
+// Adds the exits of the positions whose digit is the given one, by the digits from the units on.
 pub(crate) fn show(digits: &[u8], name: hubs::Group, given: u8, exits: &mut Picture)
     requires width { is_width name.width ≡ true }
     requires named { is_within name.number 8 ≡ true }
     requires positions { length digits.now ≡ name.width }
-    ensures { GainsHubs (shows name given digits.now) exits.old exits.new }
+    ensures { GainsHubs (shows name given (reverse digits.now)) exits.old exits.new }
 {
     exits.insert_row(Hub::GX(name, 1), positions_of(digits, given));
 }
 
-// The positions whose digit is the given one, as the bits of a word from the units on.
+// The positions whose digit is the given one, as the bits of a word, both from the units on.
 fn positions_of(digits: &[u8], given: u8) -> u128
     requires { length digits.now ≤ 8 }
     ensures { (bit : ℕ) → is_bit result bit ≡ shows_at given digits.now bit }
 {
     let mut bits = 0;
     for k in 0..digits.len() {
-        bits |= bit_where(k, digits[digits.len() - 1 - k] == given);
+        bits |= bit_where(k, digits[k] == given);
     }
     bits
 }
@@ -58,18 +58,27 @@ pub(crate) fn controls_in(unit: u8, row: u128) -> Controls
     requires to { unit ≤ 34 }
     ensures { (set : HubSet) → IsControlRow row set → result ≡ controls_of (group_of_unit unit) (has_hub set) }
 {
-    let own = from_bit(row, unit as usize - 3);
+    let place = unit as usize - 3;
+    let entering = from_bit(low_half(row), place);
+    let others = from_bit(low_half(row >> 64), place);
     Controls {
-        plus: has_bit(own, 0),
-        minus: has_bit(own, 32),
-        read_out: has_bit(own, 64),
-        test: has_bit(own, 96),
+        plus: has_bit(entering, 0),
+        minus: has_bit(entering, 32),
+        read_out: has_bit(others, 0),
+        test: has_bit(others, 32),
     }
 }
 
+// The low half of a row.
+pub(crate) fn low_half(row: u128) -> u64
+    ensures { (k : ℕ) → k < 64 → is_bit result k ≡ is_bit row k }
+{
+    (row & 0xFFFF_FFFF_FFFF_FFFF) as u64
+}
+
 // The bits of a word from one on.
-fn from_bit(word: u128, bit: usize) -> u128
-    requires { bit < 128 }
+fn from_bit(word: u64, bit: usize) -> u64
+    requires { bit < 64 }
     ensures { (k : ℕ) → is_bit result k ≡ is_bit word (bit + k) }
 {
     word >> bit
@@ -82,18 +91,19 @@ pub(crate) fn takes(controls: Controls, row: u8) -> bool
     (controls.plus || controls.minus) && (1 <= row && row <= 9)
 }
 
-// Enters a row at the positions that are impulsed, given by the bits of a word from the units on, and where none was
-// entered before.
-pub(crate) fn take_row(entered: &mut [u8], row: u8, impulsed: u128)
+// Enters a row at the positions that are impulsed, given by the bits of a word, and where none was entered before, all from the units on.
+pub(crate) fn take_row(entered: &mut [u8], row: u8, impulsed: u64)
     requires places { length entered.old ≤ 8 }
     requires row { row ≤ 9 }
     requires digits { All IsDigit entered.old }
-    ensures entered { entered.new ≡ all_taken row (λ position. is_bit impulsed (position - 1)) entered.old }
+    ensures entered { (k : ℕ)
+        → k < length entered.old
+        → slice_index_or entered.new k 0 ≡ taken row (is_bit impulsed k) (slice_index_or entered.old k 0) }
+    ensures positions { length entered.new ≡ length entered.old }
     ensures digits { All IsDigit entered.new }
 {
-    for i in (0..entered.len()).rev() {
-        let is_impulsed = has_bit(impulsed, entered.len() - 1 - i);
-        entered[i] = taken(row, is_impulsed, entered[i]);
+    for k in 0..entered.len() {
+        entered[k] = taken(row, has_bit(impulsed, k), entered[k]);
     }
 }
 
@@ -109,8 +119,8 @@ fn taken(row: u8, impulsed: bool, entered: u8) -> u8
 }
 
 // Whether a bit of a word is set.
-fn has_bit(word: u128, bit: usize) -> bool
-    requires { bit < 128 }
+fn has_bit(word: u64, bit: usize) -> bool
+    requires { bit < 64 }
     ensures { result ≡ is_bit word bit }
 {
     word >> bit & 1 == 1

@@ -1,4 +1,4 @@
-use Rattle.std.proofs.Common.{◌≡◌, ℕ, ◌-◌, ◌&&◌, ◌==◌, nat_lt, length, get_or}
+use Rattle.std.proofs.Common.{◌≡◌, ℕ, ◌&&◌, ◌==◌, nat_lt, length, get_or}
 use Rattle.card_code.specs.Rows.{passing_place, row_number}
 use Rattle.card_code.specs.declared.row.Row.{Row as CardRow}
 use Rattle.net.specs.Links.{has_at}
@@ -9,6 +9,6 @@ abbrev pub invariant-loop-k : goal.invariant-loop-k
 invariant-loop-k l = record {
   shown :
       (row : CardRow) (k : ℕ)
-      → has_at l.sets k (passing_place row) ≡ (nat_lt k l.k && (get_or l.digits (length l.digits - 1 - k) 0 == row_number row));
+      → has_at l.sets k (passing_place row) ≡ (nat_lt k l.k && (get_or l.digits k 0 == row_number row));
   long : length l.sets ≡ 8;
 }

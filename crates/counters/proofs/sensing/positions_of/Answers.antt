@@ -1,4 +1,4 @@
-use Rattle.std.proofs.Common.{◌-◌, length, get_or, refl}
+use Rattle.std.proofs.Common.{get_or, refl}
 use Rattle.std.specs.Prelude.{◌==◌}
 use Rattle.counters.proofs.ShownRows.{no_bits, one_bit_more}
 use Rattle.counters.proofs.sensing.positions_of.Goals as goal
@@ -10,5 +10,5 @@ pub loop-k-preserved : goal.loop-k-preserved
 loop-k-preserved c bit =
     let digits = c.args.digits.now in
     one_bit_more c.args.given digits c.loop-k.k bit c.loop-k.bits c.bit_where-bits.result
-    (get_or digits (length digits - 1 - c.loop-k.k) 0 == c.args.given) refl (c.loop-k.invariant bit)
+    (get_or digits c.loop-k.k 0 == c.args.given) refl (c.loop-k.invariant bit)
     (c.bit_where-bits.ensures bit)

@@ -1,13 +1,16 @@
-use Rattle.std.proofs.Common.{◌≡◌, ◌-◌, All, drop, take}
+use Rattle.std.proofs.Common.{◌≡◌, ℕ, ◌<◌, ◌≤◌, All, length, slice_index_or}
 use Rattle.net.specs.HubSets.{is_bit}
-use Rattle.counters.specs.Counters.{all_taken}
+use Rattle.counters.specs.Counters.{taken}
 use Rattle.counters.specs.Laws.{IsDigit}
 use Rattle.counters.proofs.sensing.take_row.Given as goal
 
--- the positions from the lowest up have taken the row so far; those above are as they were
-abbrev pub invariant-loop-i : goal.invariant-loop-i
-invariant-loop-i l = record {
-  done : drop l.i l.entered ≡ all_taken l.row (λ position. is_bit l.impulsed (position - 1)) (drop l.i l.initial.entered);
-  left : take l.i l.entered ≡ take l.i l.initial.entered;
+-- the first positions have taken the row, and the others are as they were
+abbrev pub invariant-loop-k : goal.invariant-loop-k
+invariant-loop-k l = record {
+  done :
+      (k : ℕ) → k < l.k
+      → slice_index_or l.entered k 0 ≡ taken l.row (is_bit l.impulsed k) (slice_index_or l.fn.entered k 0);
+  left : (k : ℕ) → l.k ≤ k → slice_index_or l.entered k 0 ≡ slice_index_or l.fn.entered k 0;
+  long : length l.entered ≡ length l.fn.entered;
   digits : All IsDigit l.entered;
 }

@@ -1,4 +1,4 @@
-use Rattle.std.proofs.Common.{◌∙◌, ◌≤◌, ◌&&◌, ◌||◌, ap, sym, arith}
+use Rattle.std.proofs.Common.{◌∙◌, ◌≤◌, ◌&&◌, ◌||◌, ap, sym, arith, take}
 use Rattle.std.proofs.lemmas.Bool.Decides.{nat_tests}
 use Rattle.std.proofs.lemmas.List.{length-take-le}
 use Rattle.card_code.specs.Rows.{passing_place, row_number}
@@ -18,6 +18,6 @@ returns-then-self c row hub =
     rw (sym c.self.view_is)
     (c.insert_sets.ensures (passing_place row) hub
     ∙ ap (λ b. old || b)
-    (shows-sets counter.name (row_number row) (passing_place row) counter.digits c.rows_shown-shown.result hub c.self.invariant.width
+    (shows-sets counter.name (row_number row) (passing_place row) (take width c.self.inside.digits) c.rows_shown-shown.result hub c.self.invariant.width
     c.self.invariant.named (length-take-le width c.self.inside.digits (omega (arith, small))) (λ k. c.rows_shown-shown.ensures row k))
     ∙ ap (λ b. old || (b && shown)) (sym c.if-self.true))

@@ -1,21 +1,22 @@
-use Rattle.std.proofs.Common.{lit≤, drop}
-use Rattle.std.proofs.lemmas.List.Elements.{All-append, All-drop, All-replicate}
-use borrow.Rule.Slice.PartMut.{post_of}
-use Rattle.counters.specs.Laws.{IsDigit}
+use Rattle.std.proofs.Common.{◌∙◌, ◌≤◌, ap, arith, reverse, replicate, take, if◌then◌else◌, List, ℕ}
+use Rattle.std.proofs.lemmas.Bool.Decides.{nat_tests}
+use Rattle.counters.specs.Counters.{Counter, counter_ended}
+use Rattle.counters.specs.Fields.{counter_in}
+use Rattle.counters.proofs.PackedViews.{top-packed, turned-packed, zeros-packed}
+use Rattle.counters.proofs.Starts.{counter_ended-parts}
 use Rattle.counters.proofs.group.GroupUnit.end_cycle.Goals as goal
 
-pub invariant_of-self : goal.invariant_of-self
-invariant_of-self c =
-    let width = c.self.inside.name.width in
-    let digits = c.self.inside.digits in
-    record {
-      from = c.self.invariant.from;
-      to = c.self.invariant.to;
-      unit = c.self.invariant.unit;
-      width = c.self.invariant.width;
-      named = c.self.invariant.named;
-      digits =
-          All-append IsDigit c.turn_wheels.new.digits (post_of 0 width digits) c.turn_wheels.ensures.digits
-          (All-drop IsDigit width (drop 0 digits) (All-drop IsDigit 0 digits c.self.invariant.digits));
-      entered = All-replicate IsDigit 8 0 (lit≤ tt);
-    }
+pub returns : goal.returns
+returns c =
+    let inside = c.self.inside in
+    let width = inside.name.width in
+    let new = c.turned-self-inside.result in
+    let near : width ≤ 8 = grind (arith, nat_tests, c.self.invariant.width) in
+    let some : 1 ≤ width = grind (arith, nat_tests, c.self.invariant.width) in
+    counter_ended-parts (counter_in inside) c.args._cycle (reverse (take width new)) (reverse (take width (replicate 8 0)))
+    c.none-self-inside.result c.latch_after-self-inside.result
+    (ap (λ (ds : List ℕ). reverse (take width ds)) c.turned-self-inside.ensures.turned
+    ∙ turned-packed inside.controls inside.digits inside.entered width inside.carry (omega arith) (omega (arith, near)))
+    (zeros-packed width near) c.none-self-inside.ensures
+    (c.latch_after-self-inside.ensures ∙ ap (λ b. if inside.controls.test then b else inside.latch) (top-packed new width some (omega (arith, near))))
+    ∙ ap (λ (k : Counter). counter_ended k c.args._cycle) c.self.view_is

@@ -1,7 +1,6 @@
-use Rattle.std.proofs.Common.{drop, ◌≡◌, ◌≤◌, ◌-◌, ◌+◌, ◌*◌, ◌∙◌, sym, ap, arith, length, ℕ, List, true}
+use Rattle.std.proofs.Common.{take, reverse, ◌≡◌, ◌≤◌, ◌-◌, ◌+◌, ◌*◌, ◌∙◌, sym, ap, arith, length, ℕ, List, true}
 use Rattle.std.proofs.lemmas.Bool.Decides.{nat_tests}
-use Rattle.std.proofs.lemmas.List.{length-take-le}
-use Rattle.std.proofs.lemmas.List.Elements.{All-append, All-drop}
+use Rattle.std.proofs.lemmas.List.{length-reverse, length-take-le}
 use borrow.Rule.Slice.PartMut.{post_of}
 use Rattle.card_code.specs.Rows.{row_number}
 use Rattle.hub_table.specs.Places.{positions_before}
@@ -10,9 +9,8 @@ use Rattle.net.proofs.KindRows.{row_bit, GE_numbered}
 use Rattle.net.specs.HubSets.{has_hub, is_bit}
 use Rattle.net.specs.declared.cycle.Point.TheVariants.{Row}
 use Rattle.counters.specs.Counters.{Counter, counter_sensed, entered_after, takes, all_taken}
-use Rattle.counters.specs.Laws.{IsDigit}
 use Rattle.counters.specs.Fields.{counter_in}
-use Rattle.counters.proofs.TakenRows.{entered_after-taking, length-all_taken, take-first_part}
+use Rattle.counters.proofs.TakenRows.{entered_after-taking, take-first_part, taken-by_bits}
 use Rattle.counters.proofs.group.GroupUnit.sense.Goals as goal
 
 pub returns-then-takes : goal.returns-then-takes
@@ -21,42 +19,28 @@ returns-then-takes c =
     let width = c.self.inside.name.width in
     let row = row_number c.in-Row.row in
     let picture = has_hub c.args.picture.now in
-    let bits = c.row-impulsed.result in
+    let bits = c.low_half.result in
+    let old = take width c.self.inside.entered in
     let new = c.take_row.new.entered in
     let rest = post_of 0 width c.self.inside.entered in
     let impulsed = λ (position : ℕ). is_bit bits (position - 1) in
     let value : c.number-row.result ≡ row = c.number-row.ensures.value in
     let small : width ≤ 8 = grind (arith, nat_tests, c.self.invariant.width) in
-    let long : length counter.entered ≡ width = length-take-le width c.self.inside.entered (omega arith) in
+    let long : length old ≡ width = length-take-le width c.self.inside.entered (omega arith) in
     let taking : takes counter.controls row ≡ true
     = ap (λ r. takes counter.controls r) (sym value) ∙ sym c.takes.ensures ∙ c.if-takes.true in
-    let is : new ≡ all_taken row impulsed counter.entered
-    = c.take_row.ensures.entered ∙ ap (λ r. all_taken r impulsed counter.entered) value in
-    let as_many : length new ≡ width = ap length is ∙ length-all_taken row impulsed counter.entered ∙ long in
-    let after : new ≡ entered_after counter row picture
-    = entered_after-taking counter row picture impulsed width new taking (omega (arith, long))
+    let is : reverse new ≡ all_taken row impulsed (reverse old)
+    = taken-by_bits c.number-row.result bits old new c.take_row.ensures.positions c.take_row.ensures.entered
+    ∙ ap (λ r. all_taken r impulsed (reverse old)) value in
+    let after : reverse new ≡ entered_after counter row picture
+    = entered_after-taking counter row picture impulsed width (reverse new) taking (omega (arith, long, length-reverse old))
     (λ position from to.
-    row_bit (λ n. GE counter.name n) (1100 + positions_before width + (counter.name.number - 1) * width) width
-    (GE_numbered counter.name c.self.invariant.width c.self.invariant.named) bits position c.args.picture.now
+    c.low_half.ensures (position - 1) (omega (arith, small, to))
+    ∙ row_bit (λ n. GE counter.name n) (1100 + positions_before width + (counter.name.number - 1) * width) width
+    (GE_numbered counter.name c.self.invariant.width c.self.invariant.named) c.row-impulsed.result position c.args.picture.now
     (grind (arith, nat_tests, from, to)) (omega (arith, small)) c.row-impulsed.ensures.hubs)
     is in
     let made : List ℕ → Counter = λ entered. record counter { entered = entered } in
-    ap made (take-first_part width new rest as_many ∙ after)
+    ap made (ap (λ (xs : List ℕ). reverse xs) (take-first_part width new rest (c.take_row.ensures.positions ∙ long)) ∙ after)
     ∙ ap (λ (k : Counter). counter_sensed k c.args._cycle (Row c.in-Row.row) picture) c.self.view_is
     ∙ ap (λ p. counter_sensed c.args.self.now c.args._cycle p picture) (sym c.in-Row.is)
-
-pub invariant_of-self-then-takes : goal.invariant_of-self-then-takes
-invariant_of-self-then-takes c =
-    let width = c.self.inside.name.width in
-    let entered = c.self.inside.entered in
-    record {
-      from = c.self.invariant.from;
-      to = c.self.invariant.to;
-      unit = c.self.invariant.unit;
-      width = c.self.invariant.width;
-      named = c.self.invariant.named;
-      digits = c.self.invariant.digits;
-      entered =
-          All-append IsDigit c.take_row.new.entered (post_of 0 width entered) c.take_row.ensures.digits
-          (All-drop IsDigit width (drop 0 entered) (All-drop IsDigit 0 entered c.self.invariant.entered));
-    }
