@@ -134,6 +134,7 @@ impl Shape {
 }
 
 // The place of a number 1 to the last.
+#[inline(always)]
 fn up_to(last: u16, n: u16) -> Option<u32>
     ensures place { result ≡ up_to last n }
     ensures range { IfSome result (λ place. (1 ≤ place) × (place ≤ last)) }
@@ -178,6 +179,7 @@ fn row_at(place: u16) -> u16
 }
 
 // The place of a width of counter groups.
+#[inline(always)]
 fn width_place(width: u16) -> Option<u32>
     ensures place { result ≡ width_place width }
     ensures range { IfSome result (λ place. (1 ≤ place) × (place ≤ 4)) }
@@ -206,6 +208,7 @@ fn width_at(place: u16) -> u16
 }
 
 // The place of a part of a thing, where each thing has so many parts.
+#[inline(always)]
 fn part_place(parts: u16, thing: Option<u32>, part: Option<u32>) -> Option<u32>
     requires thing { IfSome thing (λ place. (1 ≤ place) × (place ≤ 65535)) }
     requires part { IfSome part (λ place. place ≤ parts) }
@@ -233,6 +236,7 @@ fn thing_and_part(place: u32, parts: u16) -> (u16, u16)
 }
 
 // The place of a counter group.
+#[inline(always)]
 fn group_place(width: u16, n: u16) -> Option<u32>
     ensures place { result ≡ group_place width n }
     ensures range { IfSome result (λ place. (1 ≤ place) × (place ≤ 32)) }
@@ -251,6 +255,7 @@ fn group_at(place: u16) -> (u16, u16)
 }
 
 // How many counter positions stand before those of the groups of a width.
+#[inline(always)]
 fn positions_before(width: u16) -> u32
     ensures { result ≡ positions_before width }
 {
@@ -263,6 +268,7 @@ fn positions_before(width: u16) -> u32
 }
 
 // The place of a counter position.
+#[inline(always)]
 fn position_place(width: u16, n: u16, position: u16) -> Option<u32>
     ensures { result ≡ position_place width n position }
 {

@@ -17,7 +17,7 @@ use Rattle.net.specs.HubSets.{has_hub, is_hub}
 use Rattle.net.specs.Impulsed.{IsPicture}
 use Rattle.net.specs.Links.{has_row_at}
 use Rattle.net.specs.Panel.{contact_of}
-use Rattle.net.specs.Passing.{AreCommonsSilent, closes_at_row}
+use Rattle.net.specs.Passing.{AreContactsSilent, closes_at_row}
 use Rattle.net.specs.Laws.{EmitsOrIsFed}
 use Rattle.net.proofs.ImpulsedLaws.{wires_make}
 use Rattle.net.specs.RowSets.{LeadsToNoContact, after_rows, pictures_of}
@@ -227,6 +227,22 @@ common-silent machine cycle at common hub is = none-emitted machine cycle at com
     by (CSZ number) e = same (CSE number) common (split number) e
     by other e = cc
 
+-- nor is one that they lead to
+exit-silent : (machine : MachineState) (cycle : Cycle) (at : CardRow) (common hub : Hub) → contact_of hub ≡ Some common
+    → emits machine cycle (Row at) hub ≡ false
+exit-silent machine cycle at common hub is = none-emitted machine cycle at hub (by hub is)
+  where
+    by : (h : Hub) → contact_of h ≡ Some common → IsNoExit h
+    by (CO group) e = record { first = λ card at. refl; second = λ card at. refl; group = λ name position e. cc; storage = λ unit cycle at. refl; emitter = λ emitter at e. cc }
+    by (BAN group position) e = record { first = λ card at. refl; second = λ card at. refl; group = λ name position e. cc; storage = λ unit cycle at. refl; emitter = λ emitter at e. cc }
+    by (BAT group position) e = record { first = λ card at. refl; second = λ card at. refl; group = λ name position e. cc; storage = λ unit cycle at. refl; emitter = λ emitter at e. cc }
+    by (PIN number position) e = record { first = λ card at. refl; second = λ card at. refl; group = λ name position e. cc; storage = λ unit cycle at. refl; emitter = λ emitter at e. cc }
+    by (PIT number position) e = record { first = λ card at. refl; second = λ card at. refl; group = λ name position e. cc; storage = λ unit cycle at. refl; emitter = λ emitter at e. cc }
+    by (IX number position) e = record { first = λ card at. refl; second = λ card at. refl; group = λ name position e. cc; storage = λ unit cycle at. refl; emitter = λ emitter at e. cc }
+    by (CSD number) e = record { first = λ card at. refl; second = λ card at. refl; group = λ name position e. cc; storage = λ unit cycle at. refl; emitter = λ emitter at e. cc }
+    by (CSZ number) e = record { first = λ card at. refl; second = λ card at. refl; group = λ name position e. cc; storage = λ unit cycle at. refl; emitter = λ emitter at e. cc }
+    by other e = cc
+
 -- the contacts that are closed at a row are those of the machine
 closed-rows : (cycle : Cycle) (closed : Closed) (machine : MachineState) (at : CardRow) (hub : Hub) → AreInUnitOrder machine.groups
     → AreSteady cycle closed machine → closes_at_row closed.digits closed.zones at hub ≡ closes machine cycle (Row at) hub
@@ -245,10 +261,13 @@ closed-rows cycle closed machine at hub ordered steady = as_well at ∙ closes-o
   as_well row.Eleven = refl
   as_well row.Twelve = refl
 
--- hubs from which contacts lead have no row, where the rows are what a machine emits
-pub commons-silent : (machine : MachineState) (cycle : Cycle) (sets : List ℕ)
-    → ((at : CardRow) (hub : Hub) → has_row_at sets (passing_place at) hub ≡ emits machine cycle (Row at) hub) → AreCommonsSilent sets
-commons-silent machine cycle sets emitted common hub contact at = emitted at common ∙ common-silent machine cycle at common hub contact
+-- hubs on both sides of contacts have no row, where the rows are what a machine emits
+pub contacts-silent : (machine : MachineState) (cycle : Cycle) (sets : List ℕ)
+    → ((at : CardRow) (hub : Hub) → has_row_at sets (passing_place at) hub ≡ emits machine cycle (Row at) hub) → AreContactsSilent sets
+contacts-silent machine cycle sets emitted common hub contact at = (
+  emitted at common ∙ common-silent machine cycle at common hub contact,
+  emitted at hub ∙ exit-silent machine cycle at common hub contact,
+)
 
 -- what is spread of the rows that are emitted are the pictures of the rows
 pub rows-run : (wiring : Wiring) (cycle : Cycle) (closed : Closed) (mid new : MachineState) (exits final : List ℕ)
@@ -279,7 +298,7 @@ rows-direct wiring cycle mid new exits final direct emitted spread is =
         (pictures_of final (Row at)) (emitted at) (λ hub. refl)
         (wires_make wiring (pictures_of exits (Row at)) (closes mid cycle (Row at)) (pictures_of final (Row at)) direct.leads
         (record {
-          silent = λ common hub contact. commons-silent mid cycle exits emitted common hub contact at;
+          silent = λ common hub contact. (contacts-silent mid cycle exits emitted common hub contact at).0;
           unwired = direct.unwired;
         })
         (λ hub. spread (passing_place at) hub))

@@ -22,6 +22,7 @@ mod KeptPoints
 pub mod Pictures
 mod Points
 mod Rest
+mod CarryExits
 mod Marks
 mod UnitOrder
 pub mod AllRows

@@ -4,6 +4,7 @@ use Rattle.std.proofs.lemmas.Bool.Decides.{nat_tests}
 use Rattle.std.specs.List.{list_any}
 use Rattle.std.proofs.lemmas.Bool.{false≢true}
 use Rattle.card_code.specs.Rows.{row_number}
+use Rattle.card_code.specs.declared.row.Row.{Row as CardRow}
 use Rattle.counters.specs.Counters.{Counter, no_controls, controls_of, counter_emits, counter_number, counter_sensed, counter_ended, counter_at_start, digits_ended, all_taken, takes, top_is_nine, shows, wheels_in}
 use Rattle.counters.specs.Laws.{IsCounter}
 use Rattle.counters.proofs.Idle.{idle-carries_out, idle-turned}
@@ -29,7 +30,7 @@ use Rattle.machine.specs.Fields.{AreInUnitOrder}
 use Rattle.selectors.specs.Contacts.{is_nines}
 use Rattle.machine.specs.Machine.{group_units}
 use Rattle.machine.specs.Marked.{any_marked, marked_changed}
-use Rattle.machine.specs.Rest.{AreApart, AreBusy, AreCarriesMarked, AreSilent, AreToldMarked, ComeToNoNines, HaveNoMore, IsAtRest}
+use Rattle.machine.specs.Rest.{AreApart, AreBusy, AreCarriesMarked, AreReadOutsMarked, AreSilent, AreToldMarked, ComeToNoNines, HaveNoMore, IsAtRest}
 use Rattle.machine.specs.declared.groups.Busy.{Busy}
 use Rattle.machine.proofs.ClosedContacts.{AreFrom, are_from, group_units-up, unit_of-last}
 use Rattle.machine.proofs.Marks.{IsTaken}
@@ -64,6 +65,26 @@ pub busy-emits : (busy : Busy) (groups : List Counter) (cycle : Cycle) (point : 
     ≡ list_any (λ group. counter_emits group cycle point exit) groups
 busy-emits busy groups cycle point exit held = emits-from busy 0 groups cycle point exit held
 
+shows-from : (busy : Busy) (k : ℕ) (groups : List Counter) (cycle : Cycle) (row : CardRow) (exit : Hub) → HaveNoMore busy k groups
+    → any_marked busy.reading_out k (λ group. counter_emits group cycle (Row row) exit) groups
+    ≡ list_any (λ group. counter_emits group cycle (Row row) exit) groups
+shows-from busy k [] cycle row exit held = refl
+shows-from busy k (group ∷ groups) cycle row exit (here, others) =
+    ap (λ b. b || any_marked busy.reading_out (suc k) (λ group. counter_emits group cycle (Row row) exit) groups)
+    (by (is_bit busy.reading_out k) here.silent)
+    ∙ ap (λ b. counter_emits group cycle (Row row) exit || b) (shows-from busy (suc k) groups cycle row exit others)
+  where
+    by : (b : Bool) → (b ≡ false → group.controls.read_out ≡ false)
+        → (b && counter_emits group cycle (Row row) exit) ≡ counter_emits group cycle (Row row) exit
+    by true silent = refl
+    by false silent = sym (ap (λ (reads : Bool). reads && shows group.name (row_number row) group.digits exit) (silent refl))
+
+-- at a row the groups emit alone that may be told to read out
+pub busy-shows : (busy : Busy) (groups : List Counter) (cycle : Cycle) (row : CardRow) (exit : Hub) → AreBusy busy groups
+    → any_marked busy.reading_out 0 (λ group. counter_emits group cycle (Row row) exit) groups
+    ≡ list_any (λ group. counter_emits group cycle (Row row) exit) groups
+busy-shows busy groups cycle row exit held = shows-from busy 0 groups cycle row exit held
+
 silent-controls : (name : Group) (picture : Hub → Bool) → AreSilent picture name → controls_of name picture ≡ no_controls
 silent-controls name picture silent = λ i. record {
   plus = silent.plus i;
@@ -96,6 +117,8 @@ rest-stays group cycle K picture rest empty silent none = λ i. record group { c
 pub record BusyAfter (point : Point) (picture : Hub → Bool) (before after : Busy) : Type 0 where
   pub uncontrolled : (k : ℕ) → is_bit after.controlled k ≡ false → is_bit before.controlled k ≡ false
   pub told : point ≡ C → AreToldMarked after.controlled picture
+  pub unread : (k : ℕ) → is_bit after.reading_out k ≡ false → is_bit before.reading_out k ≡ false
+  pub read_out : point ≡ C → AreReadOutsMarked after.reading_out picture
   pub empty : (k : ℕ) → is_bit after.carried k ≡ false → is_bit before.carried k ≡ false
   pub carries : point ≡ K → AreCarriesMarked after.carried picture
 
@@ -136,7 +159,7 @@ senses-from n k (group ∷ groups) cycle point picture before after up (is, from
         (λ at. goes.told at group.name third (group_bit after.controlled k group (is ∙ up) (controls (ap is_closing at))))
         (λ at. goes.carries at group.name third (group_bit after.carried k group (is ∙ up) (carries (ap is_closing at)))))
 
-from_third : (groups : List Counter) → AreInUnitOrder groups → AreFrom 3 groups
+pub from_third : (groups : List Counter) → AreInUnitOrder groups → AreFrom 3 groups
 from_third groups ordered = are_from 3 groups group_units ordered group_units-up
 
 -- groups that have nothing to do with a point stay as they are
@@ -167,6 +190,13 @@ rest-after group cycle (Row row) picture rest silent = record {
 }
 rest-after group cycle K picture rest silent = record { controls = rest.controls; entered = rest.entered }
 
+-- one that doesn't read out doesn't where it isn't told to
+silent-after : (group : Counter) (cycle : Cycle) (point : Point) (picture : Hub → Bool) → group.controls.read_out ≡ false
+    → (point ≡ C → picture (RO group.name) ≡ false) → (counter_sensed group cycle point picture).controls.read_out ≡ false
+silent-after group cycle C picture silent none = none refl
+silent-after group cycle (Row row) picture silent none = silent
+silent-after group cycle K picture silent none = silent
+
 -- and one without a carry has none where none comes in
 empty-after : (group : Counter) (cycle : Cycle) (point : Point) (picture : Hub → Bool) → group.carry ≡ false
     → (point ≡ K → picture (CI group.name) ≡ false) → (counter_sensed group cycle point picture).carry ≡ false
@@ -185,6 +215,9 @@ after-from n k (group ∷ groups) cycle point picture before after up (is, from)
         rest = λ off.
             rest-after group cycle point picture (here.rest (goes.uncontrolled k off))
             (λ at. goes.told at group.name third (group_bit after.controlled k group (is ∙ up) off));
+        silent = λ off.
+            silent-after group cycle point picture (here.silent (goes.unread k off))
+            (λ at. goes.read_out at group.name third (group_bit after.reading_out k group (is ∙ up) off));
         empty = λ off.
             empty-after group cycle point picture (here.empty (goes.empty k off))
             (λ at. goes.carries at group.name third (group_bit after.carried k group (is ∙ up) off));
@@ -245,6 +278,7 @@ ended-from k (group ∷ groups) cycle before busy (here, others) = (
   record {
     lawful = counters-stay.ended group cycle here.lawful;
     rest = λ off. record { controls = refl; entered = refl };
+    silent = λ off. refl;
     empty = λ off. refl;
   },
   ended-from (suc k) groups cycle before busy others,
@@ -265,6 +299,7 @@ start-from k (unit ∷ units) busy (from, to, all) = (
   record {
     lawful = counters-stay.start unit (grind (arith, nat_tests, from)) (grind (arith, nat_tests, to));
     rest = λ off. record { controls = refl; entered = refl };
+    silent = λ off. refl;
     empty = λ off. refl;
   },
   start-from (suc k) units busy all,
@@ -360,22 +395,39 @@ told-marked set bits marks are row name from off =
     none_of_four false false false false e = (refl, refl, refl, refl)
     none_of_four a b c d e = cc
 
--- the carries that come in are the bits of the row from the first carry entry on
-near_carry : (place : Option ℕ) → 3 ≤ unit_after 2 place → unit_after 2 place < 35
-    → is_near (Some 1397) (option_map (λ p. 1396 + p) place) ≡ true
-near_carry None from to = absurd (omega (arith, from))
-near_carry (Some p) from to = grind (arith, nat_tests, from, to)
+-- The hubs of one kind of all groups are within reach of the first one's.
+near_first : (before : ℕ) (place : Option ℕ) → 3 ≤ unit_after 2 place → unit_after 2 place < 35
+    → is_near (Some (before + 1)) (option_map (λ p. before + p) place) ≡ true
+near_first before None from to = absurd (omega (arith, from))
+near_first before (Some p) from to = grind (arith, nat_tests, from, to)
 
+-- a hub of a group whose bit is not set, where the bits are those of the row from the first group's hub on
+unmarked : (set : HubSet) (bits marks before : ℕ) (first hub : Hub) (name : Group) → number_of first ≡ Some (before + 1)
+    → number_of hub ≡ option_map (λ p. before + p) (group_place name.width name.number)
+    → ((k : ℕ) → k < 32 → is_bit marks k ≡ is_bit bits k)
+    → ((other : Hub) → is_in_reach first other ≡ true → is_in_row first bits other ≡ has_hub set other)
+    → 3 ≤ unit_of name → is_bit marks (unit_of name - 3) ≡ false → has_hub set hub ≡ false
+unmarked set bits marks before first hub name numbered also are row from off =
+    let place = group_place name.width name.number in
+    let last = unit_of-last name in
+    let u = unit_of name in
+    let here : before + u ≡ before + 1 + (u - 3) + 2 = omega (arith, from) in
+    hub-at set bits first hub (before + 1) before (u - 3) place numbered also from here row (near_first before place from last)
+    ∙ sym (are (u - 3) (omega (arith, from, last))) ∙ off
+
+-- the groups that are told to read out are the bits of the row from the first read-out entry on
+pub read-outs-marked : (set : HubSet) (bits marks : ℕ) → ((k : ℕ) → k < 32 → is_bit marks k ≡ is_bit bits k)
+    → ((hub : Hub) → is_in_reach (RO first_group) hub ≡ true → is_in_row (RO first_group) bits hub ≡ has_hub set hub)
+    → AreReadOutsMarked marks (has_hub set)
+read-outs-marked set bits marks are row name from off =
+    unmarked set bits marks 1332 (RO first_group) (RO name) name refl refl are row from off
+
+-- the carries that come in are the bits of the row from the first carry entry on
 pub carries-marked : (set : HubSet) (bits marks : ℕ) → ((k : ℕ) → k < 32 → is_bit marks k ≡ is_bit bits k)
     → ((hub : Hub) → is_in_reach (CI first_group) hub ≡ true → is_in_row (CI first_group) bits hub ≡ has_hub set hub)
     → AreCarriesMarked marks (has_hub set)
 carries-marked set bits marks are row name from off =
-    let place = group_place name.width name.number in
-    let last = unit_of-last name in
-    let u = unit_of name in
-    let here : 1396 + u ≡ 1397 + (u - 3) + 2 = omega (arith, from) in
-    hub-at set bits (CI first_group) (CI name) 1397 1396 (u - 3) place refl refl from here row (near_carry place from last)
-    ∙ sym (are (u - 3) (omega (arith, from, last))) ∙ off
+    unmarked set bits marks 1396 (CI first_group) (CI name) name refl refl are row from off
 
 -- no carry comes to a group that stands at nines where no group whose carry is marked does
 pub none-nines : (marks : ℕ) (picture : Hub → Bool) (nines : List Bool) → AreCarriesMarked marks picture → AreApart marks nines

@@ -16,18 +16,20 @@ pub record IsAtRest (group : Counter) : Type 0 where
   pub controls : group.controls ≡ no_controls
   pub entered : group.entered ≡ replicate group.name.width 0
 
--- A group of the panel has no more to do than what is held of it: where it isn't held to be under a control it is at rest, and where no
--- carry is held to have come in it has none.
-pub record HasNoMore (controlled carried : Bool) (group : Counter) : Type 0 where
+-- A group of the panel has no more to do than what is held of it: where it isn't held to be under a control it is at rest, where it isn't
+-- held to read out it doesn't, and where no carry is held to have come in it has none.
+pub record HasNoMore (controlled reading_out carried : Bool) (group : Counter) : Type 0 where
   pub lawful : IsCounter group
   pub rest : controlled ≡ false → IsAtRest group
+  pub silent : reading_out ≡ false → group.controls.read_out ≡ false
   pub empty : carried ≡ false → group.carry ≡ false
 
 -- so it is with each group by its bits, where the first of these stands at place k
 abbrev pub HaveNoMore : Busy → ℕ → List Counter → Type 0
 HaveNoMore busy k [] = Unit {0}
 HaveNoMore busy k (group ∷ groups) =
-    HasNoMore (is_bit busy.controlled k) (is_bit busy.carried k) group × HaveNoMore busy (suc k) groups
+    HasNoMore (is_bit busy.controlled k) (is_bit busy.reading_out k) (is_bit busy.carried k) group
+    × HaveNoMore busy (suc k) groups
 
 -- The groups have no more to do than what is held of them.
 abbrev pub AreBusy : Busy → List Counter → Type 0
@@ -43,6 +45,11 @@ pub record AreSilent (picture : Hub → Bool) (name : Group) : Type 0 where
 -- no control hub is impulsed of a group whose bit is not set; the first group of the panel, unit 3, has bit 0
 abbrev pub AreToldMarked : ℕ → (Hub → Bool) → Type 0
 AreToldMarked marks picture = (name : Group) → 3 ≤ unit_of name → is_bit marks (unit_of name - 3) ≡ false → AreSilent picture name
+
+-- no read-out entry is impulsed of a group whose bit is not set
+abbrev pub AreReadOutsMarked : ℕ → (Hub → Bool) → Type 0
+AreReadOutsMarked marks picture =
+    (name : Group) → 3 ≤ unit_of name → is_bit marks (unit_of name - 3) ≡ false → picture (RO name) ≡ false
 
 -- no carry entry is impulsed of a group whose bit is not set
 abbrev pub AreCarriesMarked : ℕ → (Hub → Bool) → Type 0

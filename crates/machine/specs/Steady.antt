@@ -1,8 +1,8 @@
 -- Helper words: contacts that stay as they are through a cycle are closed once for all its points, those of the carries at the
 -- closing point.
-use Rattle.std.specs.Prelude.{◌≡◌, ◌||◌, Bool, List, map, if◌then◌else◌}
+use Rattle.std.specs.Prelude.{◌≡◌, ◌||◌, Bool, false, List, map, if◌then◌else◌}
 use Rattle.counters.specs.Counters.{Counter, wheels_in}
-use Rattle.counters.specs.Wheels.{all_nines}
+use Rattle.counters.specs.Wheels.{all_nines, carries_out}
 use Rattle.hubs.specs.declared.hub.Hub.{Hub}
 use Rattle.net.specs.HubSets.{HubSet, has_hub}
 use Rattle.net.specs.declared.cycle.Cycle.{Cycle}
@@ -20,6 +20,10 @@ balance_latches groups = map (λ group. group.latch) groups
 -- which counter groups stand at nines: all their positions at 9, with the advance of the cycle and before any carry
 abbrev pub nines_of : List Counter → List Bool
 nines_of groups = map (λ group. all_nines (wheels_in group)) groups
+
+-- which counter groups a carry leaves, as their wheels make it by themselves
+abbrev pub carries_of : List Counter → List Bool
+carries_of groups = map (λ group. carries_out (wheels_in group) false) groups
 
 -- the contacts that are closed at a point, but for those of the carries
 abbrev pub closed_at : Closed → Point → HubSet

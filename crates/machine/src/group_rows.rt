@@ -13,7 +13,7 @@ use counters::Group;
 use net::{Cycle, RowSets};
 use selectors::GROUPS;
 
-// All groups add to the sets of their exits the rows at whose points they emit. One that is under no control emits nothing.
+// All groups add to the sets of their exits the rows at whose points they emit. One that isn't told to read out emits nothing there.
 pub(crate) fn emit_group_rows(
     groups: &[Group; GROUPS],
     busy: Busy,
@@ -23,7 +23,7 @@ pub(crate) fn emit_group_rows(
     requires { AreBusy busy groups.now }
     ensures { GainsRows (λ row exit. list_any (λ group. counter_emits group cycle (AtRow row) exit) groups.now) sets.old sets.new }
 {
-    emit_marked_rows(groups, busy.controlled, cycle, sets);
+    emit_marked_rows(groups, busy.reading_out, cycle, sets);
 }
 
 // All groups sense the points of all rows, and stay as they are where they have nothing to do with them. What they may have to do stays

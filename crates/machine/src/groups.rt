@@ -1,19 +1,19 @@
 //! The counter groups of a machine. A group that is told nothing at the control point emits nothing in the cycle, and senses nothing
 //! but a carry: so the groups that may have work are noted, a bit for each, and the others are left alone.
 
-ghost use Rattle.std.specs.Prelude.{◌≡◌, ℕ, ◌<◌, false, map, if◌then◌else◌};
+ghost use Rattle.std.specs.Prelude.{◌≡◌, ℕ, ◌<◌, ◌==◌, ◌&&◌, false, map, slice_index_or, if◌then◌else◌};
 ghost use Rattle.std.specs.List.{list_any};
 ghost use Rattle.counters.specs.ControlRows.{IsControlRow};
 ghost use Rattle.counters.specs.Counters.{counter_at_start, counter_emits, counter_ended, counter_sensed};
 ghost use Rattle.net.specs.Cycles.{is_closing};
 ghost use Rattle.net.specs.HubSets.{GainsHubs, HubSet, has_hub, is_bit};
 ghost use Rattle.net.specs.declared.cycle.Cycle.{Cycle};
-ghost use Rattle.net.specs.declared.cycle.Point.TheVariants.{C};
+ghost use Rattle.net.specs.declared.cycle.Point.TheVariants.{C, K};
 ghost use Rattle.machine.specs.Fields.{AreInUnitOrder};
 ghost use Rattle.machine.specs.Machine.{group_units};
-ghost use Rattle.machine.specs.Marked.{marked_changed};
-ghost use Rattle.machine.specs.Rest.{AreApart, AreBusy, AreCarriesMarked, AreToldMarked, ComeToNoNines};
-ghost use Rattle.machine.specs.Steady.{balance_latches, nines_of};
+ghost use Rattle.machine.specs.Marked.{any_marked, marked_changed};
+ghost use Rattle.machine.specs.Rest.{AreApart, AreBusy, AreCarriesMarked, AreReadOutsMarked, AreToldMarked, ComeToNoNines};
+ghost use Rattle.machine.specs.Steady.{balance_latches, carries_of, nines_of};
 
 use crate::marked::{emit_marked, end_marked, sense_marked};
 use counters::Group;
@@ -72,6 +72,8 @@ pub(crate) fn groups() -> [Group; GROUPS]
 pub(crate) struct Busy {
     // The groups that may be under a control.
     pub(crate) controlled: u64,
+    // The groups that may be told to read out.
+    pub(crate) reading_out: u64,
     // The groups into which a carry may have come.
     pub(crate) carried: u64,
 }
@@ -81,15 +83,17 @@ impl Busy {
     ghost use Rattle.net.specs.Cycles.{is_closing};
     ghost use Rattle.net.specs.HubSets.{has_hub, is_bit};
     ghost use Rattle.net.specs.declared.cycle.Point.TheVariants.{C, K};
-    ghost use Rattle.machine.specs.Rest.{AreCarriesMarked, AreToldMarked};
+    ghost use Rattle.machine.specs.Rest.{AreCarriesMarked, AreReadOutsMarked, AreToldMarked};
 
     // No group is told anything, and no carry came in.
     pub(crate) fn none() -> Self
         ensures controlled { result.controlled ≡ 0 }
+        ensures reading_out { result.reading_out ≡ 0 }
         ensures carried { result.carried ≡ 0 }
     {
         Busy {
             controlled: 0,
+            reading_out: 0,
             carried: 0,
         }
     }
@@ -98,17 +102,21 @@ impl Busy {
     fn after(self, point: Point, picture: &Picture) -> Self
         ensures uncontrolled { (k : ℕ) → is_bit result.controlled k ≡ false → is_bit self.controlled k ≡ false }
         ensures told { point ≡ C → AreToldMarked result.controlled (has_hub picture.now) }
+        ensures unread { (k : ℕ) → is_bit result.reading_out k ≡ false → is_bit self.reading_out k ≡ false }
+        ensures read_out { point ≡ C → AreReadOutsMarked result.reading_out (has_hub picture.now) }
         ensures empty { (k : ℕ) → is_bit result.carried k ≡ false → is_bit self.carried k ≡ false }
         ensures carries { point ≡ K → AreCarriesMarked result.carried (has_hub picture.now) }
     {
         match point {
             Point::C => Busy {
                 controlled: self.controlled | told(picture),
+                reading_out: self.reading_out | read_outs(picture),
                 carried: self.carried,
             },
             Point::Row(_) => self,
             Point::K => Busy {
                 controlled: self.controlled,
+                reading_out: self.reading_out,
                 carried: self.carried | carries(picture),
             },
         }
@@ -132,7 +140,8 @@ impl Busy {
     }
 }
 
-// All groups emit. One that is under no control emits nothing.
+// All groups emit: none at the control point, and at the closing point each the carry that leaves it. One that is under no control emits
+// nothing.
 pub(crate) fn emit_groups(
     groups: &[Group; GROUPS],
     busy: Busy,
@@ -140,10 +149,48 @@ pub(crate) fn emit_groups(
     point: Point,
     exits: &mut Picture,
 )
-    requires { AreBusy busy groups.now }
+    requires ordered { AreInUnitOrder groups.now }
+    requires busy { AreBusy busy groups.now }
     ensures { GainsHubs (λ exit. list_any (λ group. counter_emits group cycle point exit) groups.now) exits.old exits.new }
 {
-    emit_marked(groups, busy.controlled, cycle, point, exits);
+    match point {
+        Point::C => {}
+        Point::Row(_) => emit_marked(groups, busy.controlled, cycle, point, exits),
+        Point::K => emit_carries(groups, busy.controlled, exits),
+    }
+}
+
+// The marked groups emit the carries that leave them, as a row: the carry exits of all groups follow one another.
+fn emit_carries(groups: &[Group; GROUPS], marks: u64, exits: &mut Picture)
+    requires { AreInUnitOrder groups.now }
+    ensures { (cycle : Cycle) → GainsHubs (λ exit. any_marked marks 0 (λ group. counter_emits group cycle K exit) groups.now)
+        exits.old exits.new }
+{
+    exits.insert_row(Hub::CO(FIRST), u128::from(carrying(groups, marks)));
+}
+
+// The marked groups that a carry leaves, a bit for each.
+fn carrying(groups: &[Group; GROUPS], marks: u64) -> u64
+    ensures { (k : ℕ) → is_bit result k ≡ (is_bit marks k && slice_index_or (carries_of groups.now) k false) }
+{
+    let mut bits = 0;
+    let mut left = marks;
+    while left != 0 {
+        let place = left.trailing_zeros() as usize;
+        left &= !(1 << place);
+        if place < GROUPS {
+            bits |= bit_where(place, groups[place].carries_out());
+        }
+    }
+    bits
+}
+
+// The word with one bit, where the test is true, or none.
+fn bit_where(bit: usize, test: bool) -> u64
+    requires { bit < 64 }
+    ensures { (other : ℕ) → is_bit result other ≡ (test && (other == bit)) }
+{
+    u64::from(test) << bit
 }
 
 // All groups sense the picture, and stay as they are where they have nothing to do with it. Answers what they may have to do from then
@@ -214,6 +261,13 @@ fn told(picture: &Picture) -> u64
     let row = picture.row(Hub::PL(FIRST));
     let pairs = row | row >> 64;
     low_bits(pairs | pairs >> 32)
+}
+
+// The groups of which the read-out entry is impulsed.
+fn read_outs(picture: &Picture) -> u64
+    ensures { AreReadOutsMarked result (has_hub picture.now) }
+{
+    low_bits(picture.row(Hub::RO(FIRST)))
 }
 
 // The groups of which the carry entry is impulsed.

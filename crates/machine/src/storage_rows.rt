@@ -1,13 +1,35 @@
-//! The storage units of a machine at the points of all rows at once.
+//! The storage units of a machine, at one point and at the points of all rows at once.
 
 ghost use Rattle.std.specs.Prelude.{◌≡◌, map};
 ghost use Rattle.std.specs.List.{list_any};
+ghost use Rattle.net.specs.HubSets.{GainsHubs, has_hub};
 ghost use Rattle.net.specs.RowSets.{GainsRows, after_rows, pictures_of};
 ghost use Rattle.net.specs.declared.cycle.Point.TheVariants.{Row as AtRow};
 ghost use Rattle.storage_units.specs.Storage.{storage_emits, storage_sensed};
 
-use net::{Cycle, RowSets};
+use crate::rows::{emit_all, sense_all};
+use net::{Cycle, Picture, Point, RowSets};
 use storage_units::Storage;
+
+// All storage units emit, which they do at the points of rows alone.
+pub(crate) fn emit_storage(storage: &[Storage], cycle: Cycle, point: Point, exits: &mut Picture)
+    ensures { GainsHubs (λ exit. list_any (λ unit. storage_emits unit cycle point exit) storage.now) exits.old exits.new }
+{
+    match point {
+        Point::C | Point::K => {}
+        Point::Row(_) => emit_all(storage, cycle, point, exits),
+    }
+}
+
+// All storage units sense the picture: nothing of it at the closing point.
+pub(crate) fn sense_storage(storage: &mut [Storage], cycle: Cycle, point: Point, picture: &Picture)
+    ensures { storage.new ≡ map (λ unit. storage_sensed unit cycle point (has_hub picture.now)) storage.old }
+{
+    match point {
+        Point::C | Point::Row(_) => sense_all(storage, cycle, point, picture),
+        Point::K => {}
+    }
+}
 
 // All storage units add to the sets of their exits the rows at whose points they emit.
 pub(crate) fn emit_storage_rows(storage: &[Storage], cycle: Cycle, sets: &mut RowSets)

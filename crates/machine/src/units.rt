@@ -2,8 +2,8 @@
 
 use crate::group_rows::{emit_group_rows, sense_group_rows};
 use crate::groups::{Busy, emit_groups, end_groups, groups, sense_groups};
-use crate::rows::{emit_all, end_all, sense_all};
-use crate::storage_rows::{emit_storage_rows, sense_storage_rows};
+use crate::rows::end_all;
+use crate::storage_rows::{emit_storage, emit_storage_rows, sense_storage, sense_storage_rows};
 use carriage::Carriage;
 use counters::Group;
 use net::{Cycle, Picture, Point, RowSets, Unit};
@@ -89,7 +89,7 @@ impl Units {
         self.stations.emit(cycle, point, exits);
         self.comparing.emit(cycle, point, exits);
         emit_groups(&self.groups, self.busy, cycle, point, exits);
-        emit_all(&self.storage, cycle, point, exits);
+        emit_storage(&self.storage, cycle, point, exits);
         self.emitters.emit(cycle, point, exits);
         self.program.emit(cycle, point, exits);
     }
@@ -101,7 +101,7 @@ impl Units {
         self.comparing.sense(cycle, point, picture);
         let busy = sense_groups(&mut self.groups, self.busy, cycle, point, picture);
         self.busy = busy;
-        sense_all(&mut self.storage, cycle, point, picture);
+        sense_storage(&mut self.storage, cycle, point, picture);
         self.pilots.sense(cycle, point, picture);
         self.wheels.sense(cycle, point, picture);
         self.carriage.sense(cycle, point, picture);

@@ -41,6 +41,7 @@ pub fn contacts(
 }
 
 /// The contacts that are closed at all points of a cycle: all but those of the carries and of the column splits.
+#[inline(always)]
 pub fn steady_contacts(
     cycle: Cycle,
     pilots: &Pilots,
@@ -57,6 +58,7 @@ pub fn steady_contacts(
 }
 
 /// These contacts, and those of the column splits that are closed at a point.
+#[inline(always)]
 pub fn with_splits(mut contacts: Contacts, point: Point) -> Contacts
     ensures { GainsHubs (split_closes point) contacts result }
 {
@@ -78,6 +80,7 @@ pub fn with_carries(mut contacts: Contacts, point: Point, nines: &[bool; GROUPS]
 
 /// Closes the contacts of the balance positions of the counter groups: the normal ones of the groups whose balance latch is
 /// reset, the transferred ones of those whose latch is set. The latches stand in the order of the units 3 to 34.
+#[inline(always)]
 pub fn close_balances(latches: &[bool; GROUPS], contacts: &mut Contacts)
     ensures { GainsHubs (balance_closes latches.now) contacts.old contacts.new }
 {

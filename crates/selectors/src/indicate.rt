@@ -59,6 +59,7 @@ impl Indicate {
 
     /// Closes, in a card cycle, the contacts of the positions of the levels whose latches are set. They stay so through
     /// all points of the cycle.
+    #[inline(always)]
     pub fn close(&self, cycle: Cycle, contacts: &mut Contacts)
         ensures { (point : Point) → GainsHubs (indicate_closes self.now cycle point) contacts.old contacts.new }
     {

@@ -68,6 +68,7 @@ impl Pilots {
 
     /// Closes the contacts of the pilots' positions: the normal ones of the pilots that are normal, the transferred ones of
     /// those that are transferred. They stay so through all points of a cycle.
+    #[inline(always)]
     pub fn close(&self, contacts: &mut Contacts)
         ensures { (cycle : Cycle) (point : Point) → GainsHubs (pilots_closes self.now cycle point) contacts.old contacts.new }
     {

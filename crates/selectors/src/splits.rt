@@ -28,6 +28,7 @@ impl Splits {
 
     /// Closes the contacts to the digit exits at the rows 9 to 0 and those to the zone exits at the rows 11 and 12, in any
     /// cycle.
+    #[inline(always)]
     pub fn close(&self, point: Point, contacts: &mut Contacts)
         ensures { (cycle : Cycle) → GainsHubs (splits_closes self.now cycle point) contacts.old contacts.new }
     {

@@ -26,7 +26,7 @@ returns c hub =
     ∙ ap (λ (b : Bool). b || program)
     (c.emit-3.ensures hub
     ∙ ap (λ (b : Bool). b || emitters)
-    (c.emit_all.ensures hub
+    (c.emit_storage.ensures hub
     ∙ ap (λ (b : Bool). b || storage)
     (c.emit_groups.ensures hub
     ∙ ap (λ (b : Bool). b || groups)

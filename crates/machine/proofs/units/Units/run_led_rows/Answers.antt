@@ -5,13 +5,13 @@ use Rattle.net.specs.declared.cycle.Point.TheVariants.{Row}
 use Rattle.machine.specs.Keeps.{Keeps}
 use Rattle.machine.specs.Machine.{MachineState, emits}
 use Rattle.machine.specs.Steady.{AreSteady}
-use Rattle.machine.proofs.AllRows.{commons-silent, rows-run, rows-steady}
+use Rattle.machine.proofs.AllRows.{contacts-silent, rows-run, rows-steady}
 use Rattle.machine.proofs.Keeps.{rows-keep}
 use Rattle.machine.proofs.units.Units.run_led_rows.Goals as goal
 
 pub spread_through-requires : goal.spread_through-requires
 spread_through-requires c =
-    commons-silent c.args.self.now c.args.cycle c.emit_rows.new.sets
+    contacts-silent c.args.self.now c.args.cycle c.emit_rows.new.sets
     (λ row hub. c.emit_rows.ensures.rows row hub
     ∙ ap (λ b. b || emits c.args.self.now c.args.cycle (Row row) hub) (c.new-sets.ensures (passing_place row) hub))
 
