@@ -1,10 +1,10 @@
 -- How many digits are punched in a column, by the rows 0 to 9 alone.
-use Rattle.std.proofs.Common.{◌≡◌, ◌≢◌, ◌∙◌, ℕ, ◌+◌, ◌-◌, ◌^◌, ◌%◌, ◌<◌, ◌==◌, ◌||◌, not, arith, refl, sym, ap, Bool, true, nat_lt, List, [], ◌∷◌, bit_and, min, if◌then◌else◌}
+use Rattle.std.proofs.Common.{◌≡◌, ◌≢◌, ◌∙◌, ℕ, ◌+◌, ◌-◌, ◌^◌, ◌%◌, ◌<◌, ◌≤◌, ◌==◌, inl, inr, ◌||◌, not, arith, refl, sym, ap, Bool, true, false, nat_lt, List, [], ◌∷◌, bit_and, min, if◌then◌else◌}
 use Rattle.std.specs.Int.{bit_at}
 use Rattle.std.specs.List.{fold, list_all}
-use Rattle.std.proofs.lemmas.Bool.{and_parts}
+use Rattle.std.proofs.lemmas.Bool.{and_parts, cases_eq}
 use Rattle.std.proofs.lemmas.Bool.Decides.{nat_tests}
-use Rattle.std.proofs.lemmas.Nat.{and_mask}
+use Rattle.std.proofs.lemmas.Nat.{and_le_r, and_mask}
 use Rattle.std.proofs.lemmas.Nat.Bits.{bit_at-lt, bit_at_and, bit_at_ones}
 use Rattle.card_code.specs.CardCode.{has_row}
 use Rattle.card_code.specs.Rows.{row_number}
@@ -59,3 +59,42 @@ one_digit n digits is some left =
   where
     by : (count : ℕ) → ((digits == 0) || (not (bit_and digits (digits - 1) == 0) || (count == 1))) ≡ true → 1 ≡ count
     by count all = grind (arith, nat_tests, all, some, left)
+
+-- where nothing is left without the lowest
+pub few_digits : (n : ℕ) → bit_and (bit_and n 1023) ((bit_and n 1023 + 65535) % 65536) ≡ 0 → digit_count n ≤ 1
+few_digits n none = elim (cases_eq (bit_and n 1023) 0) [
+  | inl zero ↦ let e = no_digit n (bit_and n 1023) refl zero in omega (arith, e)
+  | inr some ↦
+      let digits = bit_and n 1023 in
+      let most : digits ≤ 1023 = and_le_r n 1023 in
+      let less : (digits + 65535) % 65536 ≡ digits - 1 = omega (arith, most, some) in
+      let e = one_digit n digits refl some (ap (bit_and digits) (sym less) ∙ none) in
+      omega (arith, e)
+]
+
+-- a row that is not punched, since none of some rows is that it is one of
+pub unpunched : (n some row : ℕ) → bit_and n some ≡ 0 → bit_at some row ≡ 1 → bit_at 0 row ≡ 0 → has_row n row ≡ false
+unpunched n some row none among blank =
+    by (bit_at n row)
+    (ap (λ (x : ℕ). min (bit_at n row) x) (sym among) ∙ sym (bit_at_and n some row) ∙ ap (λ (x : ℕ). bit_at x row) none ∙ blank)
+  where
+    by : (x : ℕ) → min x 1 ≡ 0 → (x == 1) ≡ false
+    by x e = grind (arith, nat_tests, e)
+
+-- where a digit is punched
+is_some : ℕ → Bool
+is_some digits = (digits == 0) || not (digit_count digits == 0)
+
+somes : passes_all 10 is_some ≡ true
+unfolding is_some passes_all digit_count digit_rows
+somes = refl
+
+pub some_digit : (n digits : ℕ) → digits ≡ bit_and n 1023 → digits ≢ 0 → digit_count n ≢ 0
+unfolding is_some
+some_digit n digits is some none =
+    let whole : bit_and n 1023 ≡ n % 2 ^ 10 = and_mask n 10 in
+    let small : digits < 2 ^ 10 = omega (arith, is, whole) in
+    by (digit_count digits) (passes-at 10 is_some digits somes small) (digits-masked n digits is ∙ none)
+  where
+    by : (count : ℕ) → ((digits == 0) || not (count == 0)) ≡ true → count ≡ 0 → ⊥
+    by count all zero = grind (arith, nat_tests, all, some, zero)

@@ -19,6 +19,7 @@ use Rattle.field_rules.specs.Fields.{field_of, fields_of, field_named}
 use Rattle.field_rules.specs.Repeats.{repeats}
 use Rattle.chart_rules.specs.declared.rule.Rule.{Rule}
 use Rattle.chart_rules.specs.declared.rule.Rule.TheVariants as rule
+use Rattle.chart_rules.specs.HelperAmounts.{AreSized}
 use Rattle.chart_rules.specs.HelperOnCard.{IsOnCard, AreOnCard}
 use Rattle.chart_rules.specs.Rules.{breaks, breaks_at, lacks, by_line, by_end, IsKept, IsLawful}
 use Rattle.chart_rules.specs.ValidCard.{IsText, IsValidAmount, IsValidCard, IsValidField, IsValidKind, column_of, digit_count}
@@ -112,6 +113,9 @@ good-listed chart lawful field there =
 
 pub AreOnCard-lawful : (chart : Chart) → IsLawful chart → AreOnCard (fields_of chart.lines)
 AreOnCard-lawful chart lawful place field at = (good-listed chart lawful field (listed-at (fields_of chart.lines) place field at)).card
+
+pub AreSized-lawful : (chart : Chart) → IsLawful chart → AreSized (fields_of chart.lines)
+AreSized-lawful chart lawful place field at = (good-listed chart lawful field (listed-at (fields_of chart.lines) place field at)).decimals
 
 -- What a name stands for is a field of the chart, has that name, and has a FIELD line.
 pub record FieldLine (lines : List Line) (name : List ℕ) (field : Field) : Type 0 where

@@ -9,4 +9,5 @@ pub mod DigitCounts
 pub mod TextMarks
 pub mod PrintedRows
 pub mod PlainAmounts
+pub mod AmountMarks
 pub mod ControlFields

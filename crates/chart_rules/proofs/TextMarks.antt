@@ -86,11 +86,11 @@ texts-to fields count masks last end further are place field before there text =
     record { columns = is.columns; within = let w = is.within in omega (arith, w, further) }
 
 -- where nothing is left of two numbers joined, nothing is left of each
-nothing : (a b : ℕ) → bit_or a b ≡ 0 → (a ≡ 0) × (b ≡ 0)
+pub nothing : (a b : ℕ) → bit_or a b ≡ 0 → (a ≡ 0) × (b ≡ 0)
 nothing a b none = (let l = le_or_l a b in omega (arith, l, none), let r = le_or_r a b in omega (arith, r, none))
 
 -- all bits of a number of 16
-all_bits : (found : ℕ) → found < 2 ^ 16 → bit_and 65535 found ≡ 0 → found ≡ 0
+pub all_bits : (found : ℕ) → found < 2 ^ 16 → bit_and 65535 found ≡ 0 → found ≡ 0
 all_bits found small none =
     let whole : bit_and found 65535 ≡ found % 2 ^ 16 = and_mask found 16 in
     let turned = and_comm 65535 found in

@@ -4,14 +4,17 @@ use Rattle.charts.specs.Chart.{Chart}
 use Rattle.charts.specs.declared.statement.Field.{Field}
 use Rattle.field_rules.specs.Fields.{fields_of}
 use Rattle.chart_rules.specs.Controls.{AreControlsOf}
+use Rattle.chart_rules.specs.HelperAmounts.{AreAmountsMarked}
 use Rattle.chart_rules.specs.HelperTexts.{AreMarked}
 use Rattle.chart_rules.specs.Rules.{IsLawful}
+use Rattle.chart_rules.specs.declared.amounts.AmountColumns.{AmountColumns}
 use Rattle.chart_rules.specs.declared.controls.Controls.{Controls}
 use Rattle.chart_rules.specs.declared.texts.TextColumns.{TextColumns}
 
--- a chart breaks no rule, and these are its fields, its control fields and the columns of its texts
-pub record IsChecked (chart : Chart) (fields : List Field) (controls : Controls) (texts : TextColumns) : Type 0 where
+-- a chart breaks no rule, and these are its fields, its control fields and the columns of its texts and of its amounts
+pub record IsChecked (chart : Chart) (fields : List Field) (controls : Controls) (texts : TextColumns) (amounts : AmountColumns) : Type 0 where
   pub fields_are : fields ≡ fields_of chart.lines
   pub lawful : IsLawful chart
   pub controls_are : AreControlsOf chart.lines controls
   pub texts_are : AreMarked (fields_of chart.lines) (length (fields_of chart.lines)) texts.masks texts.end
+  pub amounts_are : AreAmountsMarked (fields_of chart.lines) (length (fields_of chart.lines)) amounts

@@ -6,6 +6,7 @@ pub mod Outcomes
 pub mod Versions
 pub mod Controls
 pub mod HelperTexts
+pub mod HelperAmounts
 pub mod HelperChecked
 pub mod HelperOnCard
 pub mod HelperOrder

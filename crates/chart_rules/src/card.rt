@@ -4,9 +4,8 @@ ghost use Rattle.std.specs.List.{list_any};
 ghost use Rattle.std.specs.Prelude.{◌≡◌, ◌==◌, ◌+◌, ◌<◌, ◌≤◌, ◌↔◌, ℕ, IsTrue, IsOk, IfErr, length, true};
 ghost use Rattle.card_code.specs.CardCode.{deck_character};
 ghost use Rattle.field_rules.specs.Fields.{fields_of};
-ghost use Rattle.charts.specs.Field.{decimals_of, is_amount, sign_column};
+ghost use Rattle.charts.specs.Field.{decimals_of, sign_column};
 ghost use Rattle.chart_rules.specs.HelperOnCard.{IsOnCard, AreOnCard};
-ghost use Rattle.chart_rules.specs.HelperTexts.{AreAmountsValid};
 ghost use Rattle.chart_rules.specs.ValidCard as valid;
 
 use crate::chart::Chart;
@@ -61,44 +60,11 @@ pub fn valid_card(chart: &Chart, card: &Card) -> Result<(), CardFault>
     ensures valid { IsOk result ↔ valid.IsValidCard chart.now card.now }
     ensures first { IfErr result (valid.IsFirstInvalid (fields_of chart.now.lines) card.now) }
 {
-    // Nearly all cards are valid, and that they are is seen soonest where texts are tested all at once.
-    if chart.texts().are_printed(card) && are_amounts_valid(chart.fields(), card) {
+    // Nearly all cards are valid, and that they are is seen soonest where texts and amounts are tested all at once.
+    if chart.texts().are_printed(card) && chart.amounts().are_plain(card) {
         return Ok(());
     }
     valid_fields(chart.fields(), card)
-}
-
-/// Whether each of the amounts among some fields is valid on a card.
-fn are_amounts_valid(fields: &[Field], card: &Card) -> bool
-    requires { AreOnCard fields.now }
-    ensures { IsTrue result → AreAmountsValid fields.now (length fields.now) card.now }
-{
-    for field in fields {
-        if field.kind.is_amount() && !is_plain_amount(*field, card) {
-            return false;
-        }
-    }
-    true
-}
-
-/// Whether one pass over the columns of an amount shows that it is valid on a card: blanks alone, or blanks and then single digits, at
-/// least as many as there are decimals; and zones that are right.
-fn is_plain_amount(field: Field, card: &Card) -> bool
-    requires on_card { IsOnCard field }
-    requires amount { is_amount field.kind ≡ true }
-    ensures { IsTrue result → valid.IsValidField field card.now }
-{
-    let sign = field.kind.sign_column();
-    let mut digits = 0;
-    for column in field.first..field.last + 1 {
-        let rows = column_of(card, column);
-        let count = digit_count(rows);
-        if !has_good_zone(sign, column, rows) || count > 1 || (count == 0 && digits > 0) {
-            return false;
-        }
-        digits += count as u16;
-    }
-    digits == 0 || field.kind.decimals().max(1) <= digits
 }
 
 /// Whether each of some fields is valid on a card, and else what to tell of the first that is not.

@@ -1,5 +1,6 @@
 //! Charts that break no rule.
 
+use crate::amounts::AmountColumns;
 use crate::controls::Controls;
 use crate::texts::TextColumns;
 use charts::{ControlLevel, Field, Line, Name, RawChart, Statement};
@@ -17,6 +18,7 @@ pub struct Chart {
     fields: Fields,
     controls: Controls,
     texts: TextColumns,
+    amounts: AmountColumns,
 }
 
 impl Model for Chart {
@@ -27,7 +29,7 @@ impl Model for Chart {
 
     ghost view = { λ chart. chart.raw };
 
-    ghost invariant = { λ chart. IsChecked chart.raw chart.fields chart.controls chart.texts };
+    ghost invariant = { λ chart. IsChecked chart.raw chart.fields chart.controls chart.texts chart.amounts };
 }
 
 impl Chart {
@@ -37,6 +39,7 @@ impl Chart {
     ghost use Rattle.field_rules.specs.Fields.{fields_of, field_named};
     ghost use Rattle.print_rules.specs.Items.{item_of};
     ghost use Rattle.chart_rules.specs.Controls.{AreControlsOf, controls_of};
+    ghost use Rattle.chart_rules.specs.HelperAmounts.{AreAmountsMarked};
     ghost use Rattle.chart_rules.specs.HelperTexts.{AreMarked};
     ghost use Rattle.chart_rules.specs.Rules.{IsLawful};
 
@@ -48,11 +51,13 @@ impl Chart {
         ensures { result ≡ raw }
     {
         let texts = TextColumns::of(fields.as_slice());
+        let amounts = AmountColumns::of(fields.as_slice());
         Chart {
             raw,
             fields,
             controls,
             texts,
+            amounts,
         }
     }
 
@@ -100,6 +105,14 @@ impl Chart {
         ensures { AreMarked (fields_of self.now.lines) (length (fields_of self.now.lines)) result.now.masks result.now.end }
     {
         &self.texts
+    }
+
+    /// The columns of its amounts.
+    pub(crate) fn amounts(&self) -> &AmountColumns
+        ensures marked { AreAmountsMarked (fields_of self.now.lines) (length (fields_of self.now.lines)) result.now }
+        ensures lawful { IsLawful self.now }
+    {
+        &self.amounts
     }
 
     /// What a line of the chart puts on a line of the report, if it is an item.

@@ -10,6 +10,7 @@
 //! what a checked chart keeps, and `HelperOnCard`, which proofs of the crates above speak of.
 #![tactic(auto)]
 
+mod amounts;
 mod card;
 mod chart;
 mod checking;

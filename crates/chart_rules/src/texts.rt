@@ -59,7 +59,7 @@ impl TextColumns {
 }
 
 // Marks the columns of a text.
-fn mark(masks: &mut [u16; CARD_COLUMNS], first: u16, last: u16)
+pub(crate) fn mark(masks: &mut [u16; CARD_COLUMNS], first: u16, last: u16)
     requires from { 1 ≤ first }
     requires to { last ≤ 80 }
     ensures marked { (k : ℕ) → first ≤ k + 1 → k < last → slice_index masks.new k ≡ 65535 }

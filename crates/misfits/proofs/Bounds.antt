@@ -48,7 +48,7 @@ value_within field card good =
     (let few = good.few in omega (arith, few, long)) in
     signed_within (is_negated field.kind card) (number_in (digits_on field card)) above_amounts small
 
-sum_within : (cards : ℕ) (sum value : ℤ) → IsWithin (cards * above_amounts) sum → IsWithin above_amounts value
+pub sum_within : (cards : ℕ) (sum value : ℤ) → IsWithin (cards * above_amounts) sum → IsWithin above_amounts value
     → IsWithin ((cards + 1) * above_amounts) (sum +ℤ value)
 sum_within cards sum value some more = (omega (arith, ints, some, more), omega (arith, ints, some, more))
 
@@ -60,7 +60,7 @@ kept_with_card cards card total kept = record {
   small = sum_within cards total.sum (value_of total.field card) kept.small (value_within total.field card kept.amount);
 }
 
-none_within : (most : ℕ) → IsWithin most (pos 0)
+pub none_within : (most : ℕ) → IsWithin most (pos 0)
 none_within most = (omega (arith, ints), omega (arith, ints))
 
 -- groups that end
@@ -72,7 +72,7 @@ kept_closed cards ended total kept = by (nat_le (level_number total.level) ended
     by false = kept
 
 -- after fewer cards the bounds are narrower
-wider : (few most : ℕ) (sum : ℤ) → few ≤ most → IsWithin (few * above_amounts) sum → IsWithin (most * above_amounts) sum
+pub wider : (few most : ℕ) (sum : ℤ) → few ≤ most → IsWithin (few * above_amounts) sum → IsWithin (most * above_amounts) sum
 wider few most sum less within = (omega (arith, ints, within, less), omega (arith, ints, within, less))
 
 kept_wider : (few most : ℕ) (total : OpenTotal) → few ≤ most → IsKept few total → IsKept most total

@@ -11,4 +11,5 @@ pub mod Following
 pub mod Fields
 pub mod Digits
 pub mod Numbering
+pub mod Pending
 pub mod OpenTotals

@@ -1,21 +1,19 @@
 -- The amounts that are totalled, and the totals' places among them.
-use Rattle.std.proofs.Common.{◌≡◌, ◌∙◌, refl, sym, ap, ap₂, subst, ℕ, zero, suc, ◌+◌, ◌<◌, ◌≤◌, inl, inr, nat_le, Bool, true, false, List, [], ◌∷◌, ◌++◌, Option, Some, None, length, length-append, map, take, drop, get_or, slice_get, option_map, pos, position, if◌then◌else◌, arith}
+use Rattle.std.proofs.Common.{◌≡◌, ◌∙◌, refl, sym, ap, ap₂, subst, ℕ, zero, suc, ◌+◌, ◌≤◌, inl, inr, nat_le, Bool, true, false, List, [], ◌∷◌, ◌++◌, Option, Some, None, length, length-append, map, slice_get, option_map, pos, position, if◌then◌else◌, arith}
 use Rattle.std.specs.List.{All}
 use Rattle.std.proofs.lemmas.List.{length-map, map-append}
-use Rattle.std.proofs.lemmas.List.Elements.{All-map, All-push, All-weaker}
+use Rattle.std.proofs.lemmas.List.Elements.{All-push, All-weaker}
 use Rattle.std.proofs.lemmas.List.Quantifiers.{position-Some}
-use Rattle.std.proofs.lemmas.Option.{get_or_from_slice_get, same_Some, slice_get-get_or, slice_get-map, slice_get_read}
+use Rattle.std.proofs.lemmas.Option.{same_Some, slice_get-get_or, slice_get-map}
 use Rattle.charts.specs.Levels.{level_number}
 use Rattle.charts.specs.Name.{is_same_name}
 use Rattle.charts.specs.declared.chart.Line.{Line}
 use Rattle.charts.specs.declared.statement.Field.{Field}
 use Rattle.field_rules.proofs.Places.{is_same_name-equal}
 use Rattle.field_rules.specs.Fields.{field_named}
-use Rattle.report.specs.Amounts.{value_of}
 use Rattle.misfits.specs.HelperAmounts.{IsGoodAmount}
-use Rattle.misfits.specs.HelperNumbers.{AreNumbered, AreWith, IsNamedAmount, fields_of_amounts, new_amount, on_card}
-use Rattle.misfits.specs.OpenTotals.{closed_to, with_card}
-use Rattle.misfits.proofs.InPlace.{here}
+use Rattle.misfits.specs.HelperNumbers.{AreNumbered, AreWith, IsNamedAmount, fields_of_amounts, new_amount}
+use Rattle.misfits.specs.OpenTotals.{closed_to}
 use Rattle.misfits.specs.declared.open_total.Amount.{Amount}
 use Rattle.misfits.specs.declared.open_total.OpenTotal.{OpenTotal}
 
@@ -61,39 +59,20 @@ numbered-at totals places amounts k place total numbered there at =
         ∙ slice_get-map (λ (t : OpenTotal). Some t.field) totals k
         ∙ ap (option_map (λ (t : OpenTotal). Some t.field)) at
 
--- What the loop over the totals meets at a total: it is as it was, and its amount stands at its place.
-pub record IsMet (totals : List OpenTotal) (amounts : List Amount) (k place : ℕ) (total : OpenTotal) : Type 0 where
-  pub stands : slice_get totals k ≡ Some total
-  pub at : IsAmountAt amounts place total.field
+-- what is done to amounts changes no amount's field
+fields-kept : (change : Amount → Amount) → ((amount : Amount) → (change amount).field ≡ amount.field) → (amounts : List Amount)
+    → fields_of_amounts (map change amounts) ≡ fields_of_amounts amounts
+fields-kept change keeps [] = refl
+fields-kept change keeps (amount ∷ amounts) = ap₂ (λ field fields. field ∷ fields) (keeps amount) (fields-kept change keeps amounts)
 
-pub met : (totals changed : List OpenTotal) (places : List ℕ) (amounts : List Amount) (card : List ℕ) (k place : ℕ) (total : OpenTotal)
-    → AreNumbered totals places amounts → k < length totals → changed ≡ map (with_card card) (take k totals) ++ drop k totals
-    → total ≡ get_or changed k total → place ≡ get_or places k 0 → IsMet totals amounts k place total
-met totals changed places amounts card k place total numbered inside so_far read is =
-    let long = numbered-long totals places amounts numbered in
-    let stands = slice_get_read totals (length totals) k total refl inside (here (with_card card) totals changed k total inside so_far read) in
-    let there : slice_get places k ≡ Some place = slice_get-get_or places k 0 (omega (arith, long, inside)) ∙ ap Some (sym is) in
-    record { stands = stands; at = numbered-at totals places amounts k place total numbered there stands }
+-- so the totals' amounts stay at their places
+pub numbered-kept : (totals : List OpenTotal) (places : List ℕ) (amounts : List Amount) (change : Amount → Amount)
+    → ((amount : Amount) → (change amount).field ≡ amount.field) → AreNumbered totals places amounts
+    → AreNumbered totals places (map change amounts)
+numbered-kept totals places amounts change keeps numbered =
+    ap (λ fields. map (λ place. slice_get fields place) places) (fields-kept change keeps amounts) ∙ numbered
 
--- what is read there once the values were worked out on a card
-pub value-at : (amounts : List Amount) (place : ℕ) (field : Field) (card : List ℕ) (read : Amount) → IsAmountAt amounts place field
-    → read ≡ get_or (map (on_card card) amounts) place read → read.value ≡ value_of field card
-value-at amounts place field card read at is =
-    ap (λ amount. amount.value) (is ∙ get_or_from_slice_get (map (on_card card) amounts) place (on_card card at.amount) read
-    (slice_get-map (on_card card) amounts place ∙ ap (option_map (on_card card)) at.there))
-    ∙ ap (λ f. value_of f card) at.same
-
--- values change no amount's field
-on_card-fields : (card : List ℕ) (amounts : List Amount) → fields_of_amounts (map (on_card card) amounts) ≡ fields_of_amounts amounts
-on_card-fields card [] = refl
-on_card-fields card (amount ∷ amounts) = ap (λ fields. amount.field ∷ fields) (on_card-fields card amounts)
-
--- and neither cards nor ended groups change a total's
-changed-fields : (change : OpenTotal → OpenTotal) → ((total : OpenTotal) → (change total).field ≡ total.field) → (totals : List OpenTotal)
-    → map (λ total. Some total.field) (map change totals) ≡ map (λ total. Some total.field) totals
-changed-fields change keeps [] = refl
-changed-fields change keeps (total ∷ totals) = ap₂ (λ field fields. Some field ∷ fields) (keeps total) (changed-fields change keeps totals)
-
+-- and groups that end change no total's
 closed-field : (ended : ℕ) (total : OpenTotal) → (closed_to ended total).field ≡ total.field
 closed-field ended total = by (nat_le (level_number total.level) ended)
   where
@@ -101,19 +80,10 @@ closed-field ended total = by (nat_le (level_number total.level) ended)
     by true = refl
     by false = refl
 
--- so the amounts stay those of the totals
-pub numbered-after : (totals : List OpenTotal) (places : List ℕ) (amounts : List Amount) (card : List ℕ) (ended : ℕ)
-    → AreNumbered totals places amounts
-    → AreNumbered (map (closed_to ended) (map (with_card card) totals)) places (map (on_card card) amounts)
-numbered-after totals places amounts card ended numbered =
-    ap (λ fields. map (λ place. slice_get fields place) places) (on_card-fields card amounts)
-    ∙ numbered
-    ∙ sym (changed-fields (closed_to ended) (closed-field ended) (map (with_card card) totals)
-    ∙ changed-fields (with_card card) (λ total. refl) totals)
-
-pub good-after : (amounts : List Amount) (card : List ℕ) → All (λ amount. IsGoodAmount amount.field) amounts
-    → All (λ amount. IsGoodAmount amount.field) (map (on_card card) amounts)
-good-after amounts card good = All-map (λ amount. IsGoodAmount amount.field) (on_card card) amounts good
+pub closed-fields : (ended : ℕ) (totals : List OpenTotal)
+    → map (λ total. Some total.field) (map (closed_to ended) totals) ≡ map (λ total. Some total.field) totals
+closed-fields ended [] = refl
+closed-fields ended (total ∷ totals) = ap₂ (λ field fields. Some field ∷ fields) (closed-field ended total) (closed-fields ended totals)
 
 -- an amount that stands at a place still does where one was put after all
 still : (fields more : List Field) (place : ℕ) (field : Field) → slice_get fields place ≡ Some field → slice_get (fields ++ more) place ≡ Some field
@@ -157,7 +127,7 @@ pub named-more : (lines : List Line) (old new : List Amount) (field : Field) →
 named-more lines old new field named (inl same) good own = subst (All (IsNamedAmount lines)) (sym same) named
 named-more lines old new field named (inr more) good own =
     subst (All (IsNamedAmount lines)) (sym more)
-    (All-push (IsNamedAmount lines) old (new_amount field) named (record { good = good; named = own }))
+    (All-push (IsNamedAmount lines) old (new_amount field) named (record { good = good; named = own; none = refl }))
 
 -- and there are at most as many as totals
 pub few-more : (old new : List Amount) (field : Field) (totals : ℕ) → AreWith field old new → length old ≤ totals → length new ≤ totals + 1

@@ -1,17 +1,25 @@
 -- What the open totals are after a card, and what they tell.
-use Rattle.std.proofs.Common.{◌≡◌, ◌∙◌, ap, ap₂, ℕ, ◌+◌, ◌<◌, ◌≤◌, List, [], ◌++◌, Option, length, map, drop, append-nil, arith}
-use Rattle.std.specs.List.{refill}
+use Rattle.std.proofs.Common.{◌≡◌, ◌∙◌, refl, sym, ap, ap₂, subst, ℕ, ◌+◌, ◌*◌, ◌<◌, ◌≤◌, List, [], ◌++◌, Option, length, map, drop, append-nil, arith}
+use Rattle.std.specs.List.{All, refill}
 use Rattle.std.proofs.lemmas.List.{length-map, take_all, drop_all}
+use Rattle.std.proofs.lemmas.List.Elements.{All-map}
 use Rattle.card_code.specs.MostCards.{most_cards}
 use Rattle.charts.specs.declared.chart.Line.{Line}
 use Rattle.decks.specs.CardMisfits.{misfits_to}
 use Rattle.report.specs.Breaks.{cleared, taking}
 use Rattle.report.specs.Misfits.{Misfit, first_of}
-use Rattle.misfits.specs.HelperTotals.{misfits_among}
+use Rattle.misfits.specs.HelperAmounts.{IsGoodAmount}
+use Rattle.misfits.specs.HelperPending.{emptied, settled, taking_card}
+use Rattle.misfits.specs.HelperSums.{AreKeptSums}
+use Rattle.misfits.specs.HelperTotals.{IsKept, IsWithin, above_amounts, misfits_among}
 use Rattle.misfits.specs.OpenSums.{AreSumsOf, Sums}
 use Rattle.misfits.specs.OpenTotals.{closed_to, open_totals, with_card}
+use Rattle.misfits.specs.declared.open_total.Amount.{Amount}
 use Rattle.misfits.specs.declared.open_total.OpenTotal.{OpenTotal}
+use Rattle.misfits.proofs.Bounds.{all_closed, all_with_card, none_within}
+use Rattle.misfits.proofs.Numbering.{closed-fields, numbered-kept}
 use Rattle.misfits.proofs.OpenTotals.{among, cards_add, groups_close}
+use Rattle.misfits.proofs.Pending.{little-taken, none-emptied, settled-fields, settled-none, settled-taken}
 
 -- what stands in the places of a list where each element was changed
 pub refilled : {X : Type 0} (change : X → X) (items lent left : List X) → lent ≡ items → left ≡ map change lent
@@ -30,6 +38,55 @@ refilled change items lent left same is =
 
     whole : length (left ++ drop (length left) items) ≡ length items
     whole = ap (λ l. length (left ++ l)) none ∙ ap length (append-nil left) ∙ long
+
+-- what stands in the places of a list that was changed whole
+pub refilled_whole : {X : Type 0} (items left whole : List X) → left ≡ whole → length whole ≡ length items
+    → refill (length items) items left ≡ whole
+refilled_whole items left whole is many =
+    take_all (length items) (left ++ drop (length left) items) (omega (arith, all)) ∙ ap (λ l. left ++ l) none ∙ append-nil left ∙ is
+  where
+    long : length left ≡ length items
+    long = ap length is ∙ many
+
+    none : drop (length left) items ≡ []
+    none = ap (λ n. drop n items) long ∙ drop_all (length items) items (omega arith)
+
+    all : length (left ++ drop (length left) items) ≡ length items
+    all = ap (λ l. length (left ++ l)) none ∙ ap length (append-nil left) ∙ long
+
+-- what the sums keep, with a card more
+pub sums_taken : (cards : ℕ) (card : List ℕ) (totals : List OpenTotal) (places : List ℕ) (amounts : List Amount)
+    → AreKeptSums totals places amounts cards → cards + 1 ≤ most_cards
+    → AreKeptSums totals places (map (taking_card card) amounts) (cards + 1)
+sums_taken cards card totals places amounts kept few = record {
+  few = few;
+  kept =
+      subst (All (IsKept (cards + 1))) (sym (settled-taken card totals places amounts kept.numbered))
+      (all_with_card cards card (settled totals places amounts) kept.kept);
+  numbered = numbered-kept totals places amounts (taking_card card) (λ amount. refl) kept.numbered;
+  good = All-map (λ amount. IsGoodAmount amount.field) (taking_card card) amounts kept.good;
+  little = little-taken cards card amounts kept.good kept.little;
+}
+
+-- and where groups end
+pub sums_closed : (cards ended : ℕ) (totals : List OpenTotal) (places : List ℕ) (amounts : List Amount)
+    → AreKeptSums totals places amounts cards
+    → AreKeptSums (map (closed_to ended) (settled totals places amounts)) places (map emptied amounts) cards
+sums_closed cards ended totals places amounts kept =
+    let closed = map (closed_to ended) (settled totals places amounts) in
+    record {
+      few = kept.few;
+      kept =
+          subst (All (IsKept cards)) (sym (settled-none closed places (map emptied amounts) (none-emptied amounts)))
+          (all_closed cards ended (settled totals places amounts) kept.kept);
+      numbered =
+          numbered-kept closed places amounts emptied (λ amount. refl)
+          (kept.numbered ∙ sym (closed-fields ended (settled totals places amounts) ∙ settled-fields totals places amounts));
+      good = All-map (λ amount. IsGoodAmount amount.field) emptied amounts kept.good;
+      little =
+          All-map (λ amount. IsWithin (cards * above_amounts) amount.pending) emptied amounts
+          (λ k default within. none_within (cards * above_amounts));
+    }
 
 -- with the card the totals are those of the groups with the card
 added : (lines : List Line) (so_far : ℕ → List (List ℕ)) (card : List ℕ) (sums : Sums) (items shown : List OpenTotal)

@@ -3,7 +3,6 @@ use Rattle.std.specs.Prelude.{◌≡◌, ◌⊎◌, ℕ, pos, List, [], ◌∷�
 use Rattle.charts.specs.declared.chart.Line.{Line}
 use Rattle.charts.specs.declared.statement.Field.{Field}
 use Rattle.field_rules.specs.Fields.{field_named}
-use Rattle.report.specs.Amounts.{value_of}
 use Rattle.misfits.specs.HelperAmounts.{IsGoodAmount}
 use Rattle.misfits.specs.declared.open_total.Amount.{Amount}
 use Rattle.misfits.specs.declared.open_total.OpenTotal.{OpenTotal}
@@ -17,19 +16,16 @@ abbrev pub AreNumbered : List OpenTotal → List ℕ → List Amount → Type 0
 AreNumbered totals places amounts =
     map (λ place. slice_get (fields_of_amounts amounts) place) places ≡ map (λ total. Some total.field) totals
 
--- an amount with its value on a card
-abbrev pub on_card : List ℕ → Amount → Amount
-on_card card amount = record amount { value = value_of amount.field card }
-
 -- an amount before the first card
 abbrev pub new_amount : Field → Amount
-new_amount field = record { field = field; value = pos 0 }
+new_amount field = record { field = field; pending = pos 0 }
 
 -- amounts as they were, or with an amount put after them
 abbrev pub AreWith : Field → (old new : List Amount) → Type 0
 AreWith field old new = (new ≡ old) ⊎ (new ≡ old ++ new_amount field ∷ [])
 
--- An amount is good, and is what its name stands for.
+-- An amount is good, it is what its name stands for, and nothing of it is pending.
 pub record IsNamedAmount (lines : List Line) (amount : Amount) : Type 0 where
   pub good : IsGoodAmount amount.field
   pub named : field_named lines amount.field.name ≡ Some amount.field
+  pub none : amount.pending ≡ pos 0

@@ -1,6 +1,7 @@
 pub mod Below
 pub mod HelperAmounts
 pub mod HelperNumbers
+pub mod HelperPending
 pub mod HelperSums
 pub mod HelperTotals
 pub mod Laws

@@ -15,7 +15,7 @@ ghost use Rattle.misfits.specs.Told.{told};
 
 use crate::groups::ended_after;
 use crate::misfit::Misfit;
-use crate::open_total::{Amount, OpenTotal, add_card, end_groups, first_misfit_to};
+use crate::open_total::{Amount, OpenTotal, end_groups, first_misfit_to, settle, take_card};
 use arrayvec::ArrayVec;
 use card_code::Card;
 use chart_rules::Chart;
@@ -33,8 +33,9 @@ const MOST_TOTALS: usize = 480;
 /// Contracts see the open totals in the order of the chart's lines, and the number of cards.
 #[derive(Drop)]
 pub struct OpenSums {
+    // The totals over the cards up to the last one that ended a group.
     totals: ArrayVec<OpenTotal, MOST_TOTALS>,
-    // The amounts that are totalled, each once.
+    // The amounts that are totalled, each once, with their sums over the cards since.
     amounts: ArrayVec<Amount, MOST_TOTALS>,
     // For each total the place of its amount among them.
     places: ArrayVec<u16, MOST_TOTALS>,
@@ -43,11 +44,15 @@ pub struct OpenSums {
 
 impl Model for OpenSums {
     ghost use Rattle.misfits.specs.OpenSums.{Sums};
+    ghost use Rattle.misfits.specs.HelperPending.{settled};
     ghost use Rattle.misfits.specs.HelperSums.{AreKeptSums};
 
     ghost Value = { Sums };
 
-    ghost view = { λ sums. record { totals = sums.totals.items; cards = sums.cards } };
+    ghost view = { λ sums. record {
+      totals = settled sums.totals.items sums.places.items sums.amounts.items;
+      cards = sums.cards;
+    } };
 
     ghost invariant = { λ sums. AreKeptSums sums.totals.items sums.places.items sums.amounts.items sums.cards };
 }
@@ -86,7 +91,7 @@ fn place_for(amounts: &mut ArrayVec<Amount, MOST_TOTALS>, field: Field) -> u16
         return place as u16;
     }
     let place = amounts.len();
-    amounts.push(Amount { field, value: 0 });
+    amounts.push(Amount { field, pending: 0 });
     place as u16
 }
 
@@ -135,14 +140,18 @@ impl OpenSums {
             (cleared (ended_after chart.now.lines card.now next.now) (taking card.now so_far)) self.new }
         ensures counted { self.new.cards ≡ self.old.cards + 1 }
     {
-        add_card(
+        take_card(self.amounts.as_mut_slice(), card);
+        self.cards += 1;
+        let ended = ended_after(chart, card, next);
+        // Nearly all cards end no group. The totals are brought up to the card only where one ends.
+        if ended == 0 {
+            return None;
+        }
+        settle(
             self.totals.as_mut_slice(),
             self.places.as_slice(),
             self.amounts.as_mut_slice(),
-            card,
         );
-        self.cards += 1;
-        let ended = ended_after(chart, card, next);
         let misfit = first_misfit_to(self.totals.as_slice(), ended, self.cards);
         end_groups(self.totals.as_mut_slice(), ended);
         misfit

@@ -1,14 +1,15 @@
 //! Open totals: what is kept of a total between two cards.
 
-ghost use Rattle.std.specs.Prelude.{◌≡◌, ◌+◌, ◌*◌, ◌<◌, ◌≤◌, ◌^◌, ℕ, List, length, map, option_map, unsigned_abs};
+ghost use Rattle.std.specs.Prelude.{◌≡◌, ◌+◌, ◌+ℤ◌, ◌*◌, ◌<◌, ◌≤◌, ◌^◌, ℕ, List, length, map, option_map, unsigned_abs};
 ghost use Rattle.std.specs.List.{All, filter_map};
 ghost use Rattle.card_code.specs.MostCards.{most_cards};
 ghost use Rattle.charts.specs.Levels.{level_number};
 ghost use Rattle.report.specs.Misfits.{first_of, fits_in};
 ghost use Rattle.misfits.specs.HelperAmounts.{IsGoodAmount};
-ghost use Rattle.misfits.specs.HelperNumbers.{AreNumbered, on_card};
+ghost use Rattle.misfits.specs.HelperNumbers.{AreNumbered};
+ghost use Rattle.misfits.specs.HelperPending.{emptied, settled, taking_card};
 ghost use Rattle.misfits.specs.HelperTotals.{IsKept, IsWithin, most_digits, misfits_among};
-ghost use Rattle.misfits.specs.OpenTotals.{closed_to, misfit_at, with_card, with_value};
+ghost use Rattle.misfits.specs.OpenTotals.{closed_to, misfit_at, with_value};
 ghost use Rattle.misfits.specs.Told.{told};
 
 use crate::misfit::Misfit;
@@ -48,13 +49,12 @@ impl Default for OpenTotal {
 }
 
 impl OpenTotal {
-    // Adds the value of its amount on a card. After fewer than 999,999 cards no sum is too large.
+    // Adds what is pending of its amount. After at most 999,999 cards no sum is too large.
     fn add(&mut self, amount: &Amount)
-        requires value { IsWithin 100000000 amount.now.value }
-        requires small { IsWithin (most_cards * 100000000) self.old.sum }
-        ensures { self.new ≡ with_value amount.now.value self.old }
+        requires { IsWithin (most_cards * 100000000) (self.old.sum +ℤ amount.now.pending) }
+        ensures { self.new ≡ with_value amount.now.pending self.old }
     {
-        self.sum += amount.value;
+        self.sum += amount.pending;
     }
 
     // Whether the total line has room for the sum.
@@ -90,13 +90,13 @@ impl OpenTotal {
     }
 }
 
-// An amount that is totalled, and its value on the card that was taken last.
+// An amount that is totalled, and what is still to be added to its totals.
 #[derive(Clone, Copy, Debug)]
 pub(crate) struct Amount {
     // Its columns and its sign.
     pub field: Field,
-    // Its value on the card.
-    pub value: i64,
+    // Its sum over the cards that were not added to its totals.
+    pub pending: i64,
 }
 
 impl Default for Amount {
@@ -104,49 +104,70 @@ impl Default for Amount {
     fn default() -> Amount {
         Amount {
             field: OpenTotal::default().field,
-            value: 0,
+            pending: 0,
         }
     }
 }
 
 impl Amount {
-    // Works out its value on a card.
-    fn work_out(&mut self, card: &Card)
-        requires { IsGoodAmount self.old.field }
-        ensures { self.new ≡ on_card card.now self.old }
+    // Takes its value on a card. After fewer than 999,999 cards no sum is too large.
+    fn take(&mut self, card: &Card)
+        requires good { IsGoodAmount self.old.field }
+        requires little { IsWithin (most_cards * 100000000) self.old.pending }
+        ensures { self.new ≡ taking_card card.now self.old }
     {
-        self.value = value_of(&self.field, card);
+        self.pending += value_of(&self.field, card);
+    }
+
+    // Begins anew once its sum was added to its totals.
+    fn clear(&mut self)
+        ensures { self.new ≡ emptied self.old }
+    {
+        self.pending = 0;
     }
 }
 
-// Works out the values of amounts on a card.
-fn work_out(amounts: &mut [Amount], card: &Card)
-    requires { All (λ amount. IsGoodAmount amount.field) amounts.old }
-    ensures { amounts.new ≡ map (on_card card.now) amounts.old }
+// Takes the values of amounts on a card. They come to the totals where a group ends.
+pub(crate) fn take_card(amounts: &mut [Amount], card: &Card)
+    requires good { All (λ amount. IsGoodAmount amount.field) amounts.old }
+    requires little { All (λ amount. IsWithin (most_cards * 100000000) amount.pending) amounts.old }
+    ensures { amounts.new ≡ map (taking_card card.now) amounts.old }
 {
     for amount in amounts.iter_mut() {
-        amount.work_out(card);
+        amount.take(card);
     }
 }
 
-// Adds the amounts of a card to their totals. Each is worked out once, however many totals it has.
-pub(crate) fn add_card(
-    totals: &mut [OpenTotal],
-    places: &[u16],
-    amounts: &mut [Amount],
-    card: &Card,
-)
-    requires kept { All (IsKept most_cards) totals.old }
-    requires numbered { AreNumbered totals.old places.now amounts.old }
-    requires good { All (λ amount. IsGoodAmount amount.field) amounts.old }
-    ensures totals { totals.new ≡ map (with_card card.now) totals.old }
-    ensures amounts { amounts.new ≡ map (on_card card.now) amounts.old }
+// Adds to totals what is pending of their amounts.
+fn add_pending(totals: &mut [OpenTotal], places: &[u16], amounts: &[Amount])
+    requires kept { All (IsKept most_cards) (settled totals.old places.now amounts.now) }
+    requires numbered { AreNumbered totals.old places.now amounts.now }
+    ensures { totals.new ≡ settled totals.old places.now amounts.now }
 {
-    work_out(amounts, card);
     for k in 0..totals.len() {
         let place = usize::from(places[k]);
         totals[k].add(&amounts[place]);
     }
+}
+
+// Begins all amounts anew.
+fn clear_all(amounts: &mut [Amount])
+    ensures { amounts.new ≡ map emptied amounts.old }
+{
+    for amount in amounts.iter_mut() {
+        amount.clear();
+    }
+}
+
+// Brings totals up to the last card: nothing is pending then.
+pub(crate) fn settle(totals: &mut [OpenTotal], places: &[u16], amounts: &mut [Amount])
+    requires kept { All (IsKept most_cards) (settled totals.old places.now amounts.old) }
+    requires numbered { AreNumbered totals.old places.now amounts.old }
+    ensures totals { totals.new ≡ settled totals.old places.now amounts.old }
+    ensures amounts { amounts.new ≡ map emptied amounts.old }
+{
+    add_pending(totals, places, amounts);
+    clear_all(amounts);
 }
 
 // The first misfit where the groups of a level end with the card of a number.

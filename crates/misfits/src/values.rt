@@ -17,7 +17,7 @@ fn column_of(card: &Card, column: u16) -> Column
     requires to { column ≤ 80 }
     ensures { result ≡ column_of card.now column }
 {
-    card.column(column as u8)
+    card.columns()[usize::from(column) - 1]
 }
 
 /// The digit of a column, if it has one: the lowest of its rows 0 to 9.

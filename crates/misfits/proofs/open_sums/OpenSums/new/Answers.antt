@@ -1,10 +1,14 @@
-use Rattle.std.proofs.Common.{◌∙◌, sym, ap, arith}
+use Rattle.std.proofs.Common.{◌≡◌, ◌∙◌, ◌*◌, sym, ap, arith, pos, subst}
+use Rattle.std.specs.List.{All}
 use Rattle.std.proofs.lemmas.List.Elements.{All-weaker}
 use Rattle.misfits.proofs.LawfulTotals.{named_line}
 use Rattle.misfits.proofs.Numbering.{by_name, numbered-long}
 use Rattle.misfits.proofs.Opening.{has_room, opened-one, opened-none, all_open, all_kept}
 use Rattle.misfits.specs.HelperAmounts.{IsGoodAmount}
 use Rattle.misfits.specs.HelperNumbers.{IsNamedAmount}
+use Rattle.misfits.specs.HelperTotals.{IsKept, IsWithin, above_amounts}
+use Rattle.misfits.proofs.Bounds.{none_within}
+use Rattle.misfits.proofs.Pending.{none-pending, settled-none}
 use Rattle.misfits.proofs.open_sums.OpenSums.new.Goals as goal
 use Rattle.misfits.proofs.open_sums.OpenSums.new.Goals.{in-Some, in_default}
 
@@ -67,18 +71,31 @@ loop-line-preserved c =
 pub invariant_of-result : goal.invariant_of-result
 invariant_of-result c =
     let opened = c.loop-line.invariant in
+    let totals = c.loop-line.totals.items in
+    let places = c.loop-line.places.items in
+    let amounts = c.loop-line.amounts.items in
+    let none = All-weaker (IsNamedAmount c.args.chart.now.lines) (λ amount. amount.pending ≡ pos 0) (λ amount is. is.none) amounts opened.named in
     record {
       few = omega arith;
-      kept = all_kept c.args.chart.now c.lines-line-items.result.now c.loop-line.line-index c.loop-line.totals.items
-          c.lines-line-items.ensures.lawful c.lines-line-items.ensures.value c.loop-line-test.false opened.opened;
+      kept =
+          subst (All (IsKept 0)) (sym (settled-none totals places amounts (none-pending amounts none)))
+          (all_kept c.args.chart.now c.lines-line-items.result.now c.loop-line.line-index totals
+          c.lines-line-items.ensures.lawful c.lines-line-items.ensures.value c.loop-line-test.false opened.opened);
       numbered = opened.numbered;
-      good = All-weaker (IsNamedAmount c.args.chart.now.lines) (λ amount. IsGoodAmount amount.field) (λ amount is. is.good)
-          c.loop-line.amounts.items opened.named;
+      good = All-weaker (IsNamedAmount c.args.chart.now.lines) (λ amount. IsGoodAmount amount.field) (λ amount is. is.good) amounts opened.named;
+      little =
+          All-weaker (λ amount. amount.pending ≡ pos 0) (λ amount. IsWithin (0 * above_amounts) amount.pending)
+          (λ amount is. subst (IsWithin (0 * above_amounts)) (sym is) (none_within (0 * above_amounts))) amounts none;
     }
 
 pub returns-clause-begun : goal.returns-clause-begun
 returns-clause-begun c =
-    all_open c.args.chart.now.lines c.lines-line-items.result.now c.loop-line.line-index c.loop-line.totals.items
+    let opened = c.loop-line.invariant in
+    let amounts = c.loop-line.amounts.items in
+    settled-none c.loop-line.totals.items c.loop-line.places.items amounts
+    (none-pending amounts
+    (All-weaker (IsNamedAmount c.args.chart.now.lines) (λ amount. amount.pending ≡ pos 0) (λ amount is. is.none) amounts opened.named))
+    ∙ all_open c.args.chart.now.lines c.lines-line-items.result.now c.loop-line.line-index c.loop-line.totals.items
     c.lines-line-items.ensures.value
     c.loop-line-test.false
-    c.loop-line.invariant.opened
+    opened.opened
