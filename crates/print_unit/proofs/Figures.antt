@@ -1,5 +1,5 @@
 -- A wheel that received a figure prints one of the characters 1 to 9, one that received a zero prints 0, and no other wheel does.
-use Rattle.std.proofs.Common.{◌≡◌, ◌≢◌, ◌∙◌, ◌⊎◌, refl, sym, ap, ℕ, zero, suc, ◌+◌, ◌<◌, ◌==◌, ◌&&◌, ◌||◌, not, inl, inr, Bool, true, false, List, [], ◌∷◌, ◌++◌, length, length-drop, map, replicate, take, drop, slice_index_or, arith, if◌then◌else◌, is_some, Option, Some, None, nat_le, get_or}
+use Rattle.std.proofs.Common.{◌≡◌, ◌≢◌, ◌∙◌, ◌⊎◌, refl, sym, ap, ℕ, zero, suc, ◌+◌, ◌<◌, ◌==◌, ◌&&◌, ◌||◌, not, inl, inr, Bool, true, false, List, [], ◌∷◌, ◌++◌, length, length-drop, map, replicate, take, drop, slice_index_or, arith, if◌then◌else◌, is_some, Option, Some, None, get_or}
 use Rattle.std.specs.List.{list_all, range_with_len}
 use Rattle.std.proofs.Math.Bool.{or-false}
 use Rattle.std.proofs.lemmas.Bool.{and_parts, false≢true}
@@ -14,6 +14,7 @@ use Rattle.card_code.specs.declared.row.Row.{Row as CardRow}
 use Rattle.card_code.specs.declared.row.Row.TheVariants.{Zero}
 use Rattle.card_code.proofs.Rows.{or-shifted}
 use Rattle.net.specs.HubSets.{is_bit}
+use Rattle.print_unit.specs.WheelWords.{is_between}
 use Rattle.print_unit.specs.ZeroControl.{character_of, count_of, is_figure, is_zero, received_set, set_from}
 use Rattle.print_unit.proofs.Bits.{is_bit-joined, is_bit-zero}
 
@@ -27,10 +28,6 @@ unfolding same_answer
 answers-same true other e = sym e
 answers-same false true e = cc
 answers-same false false e = refl
-
--- whether a character is one of those from the first one on that come before another
-abbrev pub is_between : ℕ → ℕ → ℕ → Bool
-is_between first last character = nat_le first character && not (nat_le last character)
 
 -- the rows of a set, in the order in which a wheel receives them
 abbrev decoded : ℕ → List Bool
@@ -243,8 +240,3 @@ zero-tells received long =
     (and_parts (same_answer (is_figure (decoded (received_set received))) (is_between 49 58 (printed_for (Some character)))) _
     (found-tells code (received_set received) character all_tell found)).1)
     (zero-coded received long)
-
--- a wheel by the masks of the characters from one on and from another on
-pub between-masked : (low high k character : ℕ) (first last : ℕ) → is_bit low k ≡ nat_le first character → is_bit high k ≡ nat_le last character
-    → (is_bit low k && not (is_bit high k)) ≡ is_between first last character
-between-masked low high k character first last one other = λ i. one i && not (other i)

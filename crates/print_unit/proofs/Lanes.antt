@@ -1,13 +1,16 @@
 -- Wheels in lanes: masks of characters and of sets.
-use Rattle.std.proofs.Common.{◌≡◌, ◌∙◌, ℕ, ◌+◌, ◌-◌, ◌*◌, ◌%◌, ◌^◌, ◌<◌, ◌≤◌, arith, refl, sym, ap, Bool, true, false, not, ◌&&◌, ◌||◌, ◌==◌, nat_eq, nat_lt, List, length, map, replicate, slice_index_or, bit_or, cond, eqb, leb}
+use Rattle.std.proofs.Common.{◌≡◌, ◌∙◌, ℕ, ◌+◌, ◌-◌, ◌*◌, ◌%◌, ◌^◌, ◌<◌, ◌≤◌, arith, refl, sym, ap, Bool, true, false, not, ◌&&◌, ◌||◌, ◌==◌, nat_eq, nat_lt, List, length, get_or, map, replicate, slice_index_or, bit_and, bit_or, cond, eqb, leb, ltb}
 use Rattle.std.specs.Prelude.{nat_le}
 use Rattle.std.proofs.lemmas.Bool.Decides.{nat_tests}
 use Rattle.std.proofs.lemmas.List.{get_or_past, get_or-map, length-map}
-use Rattle.std.proofs.lemmas.Simd.{bitmask_splat, bit_mask_l, get_or-chunk, length-chunk, mask_l-mod, none_from_empty_mask, tops_compared, zip2_splat_left}
+use Rattle.std.proofs.lemmas.Simd.{bitmask_splat, bit_mask_l, get_or-chunk, get_or-replicate, get_or-zip2, length-chunk, length-replicate, map-map, mask_l-mod, none_from_empty_mask, zip2_of_maps, zip2_splat, zip2_splat_left}
 use Rattle.net.proofs.Below.bit_sets.BitLemmas.{is_bit-low, is_bit-or, is_bit-shl}
 use Rattle.net.specs.HubSets.{is_bit}
+use Rattle.print_unit.proofs.Sets.{rows_in-low}
+use Rattle.print_unit.specs.RowSets.{rows_in}
+use Rattle.print_unit.specs.WheelWords.{is_between, received_at}
 use lib.Lanes.{chunk, mask_l, top, zip2}
-use mir.Syntax.{w8, w16}
+use mir.Syntax.{w16}
 
 -- a bit of a mask is its lane
 is_bit-mask : (lanes : List Bool) (k : ℕ) → is_bit (mask_l lanes) k ≡ slice_index_or lanes k false
@@ -18,15 +21,16 @@ is_bit-mask lanes k = ap (λ (n : ℕ). n == 1) (bit_mask_l lanes k) ∙ by (sli
     by true = refl
     by false = refl
 
--- the characters from one on, of sixty-four, as a mask
-pub characters-masked : (line : List ℕ) (from first k : ℕ) → from + 64 ≤ length line
-    → is_bit (mask_l (map (top 7) (zip2 (λ a b. cond (leb a b) 255 0) (replicate 64 first) (chunk from 64 line))) % 2 ^ 64) k
-    ≡ (nat_lt k 64 && nat_le first (slice_index_or line (from + k) 0))
-characters-masked line from first k within =
-    ap (λ (lanes : List Bool). is_bit (mask_l lanes % 2 ^ 64) k)
-    (tops_compared w8 leb (replicate 64 first) read ∙ zip2_splat_left leb first 64 read long)
-    ∙ ap (λ (word : ℕ). is_bit word k) (mask_l-mod (map (leb first) read) 64 (omega (arith, many, long)))
-    ∙ is_bit-mask (map (leb first) read) k
+-- the characters from one on that come before another, of sixty-four, as a mask
+pub characters-masked : (line : List ℕ) (from first last k : ℕ) → from + 64 ≤ length line
+    → is_bit (mask_l (map (top 7) (zip2 bit_and
+    (zip2 (λ a b. cond (leb a b) 255 0) (replicate 64 first) (chunk from 64 line))
+    (zip2 (λ a b. cond (ltb a b) 255 0) (chunk from 64 line) (replicate 64 last)))) % 2 ^ 64) k
+    ≡ (nat_lt k 64 && is_between first last (slice_index_or line (from + k) 0))
+characters-masked line from first last k within =
+    ap (λ (lanes : List Bool). is_bit (mask_l lanes % 2 ^ 64) k) tops
+    ∙ ap (λ (word : ℕ). is_bit word k) (mask_l-mod (map (is_between first last) read) 64 (omega (arith, many, long)))
+    ∙ is_bit-mask (map (is_between first last) read) k
     ∙ by (nat_lt k 64) refl
   where
     read : List ℕ
@@ -35,16 +39,41 @@ characters-masked line from first k within =
     long : length read ≡ 64
     long = length-chunk from 64 line within
 
-    many : length (map (leb first) read) ≡ length read
-    many = length-map read (leb first)
+    many : length (map (is_between first last) read) ≡ length read
+    many = length-map read (is_between first last)
+
+    both : (one other : Bool) → top 7 (bit_and (cond one 255 0) (cond other 255 0)) ≡ (one && other)
+    both true true = refl
+    both true false = refl
+    both false true = refl
+    both false false = refl
+
+    past : (character : ℕ) → ltb character last ≡ not (nat_le last character)
+    past character = grind (arith, nat_tests)
+
+    tells : (character : ℕ)
+        → top 7 (bit_and (cond (leb first character) 255 0) (cond (ltb character last) 255 0)) ≡ is_between first last character
+    tells character = both (leb first character) (ltb character last) ∙ ap (λ (before : Bool). leb first character && before) (past character)
+
+    tops : map (top 7) (zip2 bit_and
+        (zip2 (λ a b. cond (leb a b) 255 0) (replicate 64 first) read)
+        (zip2 (λ a b. cond (ltb a b) 255 0) read (replicate 64 last)))
+        ≡ map (is_between first last) read
+    tops =
+        ap (map (top 7))
+        (zip2_of_maps bit_and (λ character. cond (leb first character) 255 0) (λ character. cond (ltb character last) 255 0) read
+        (zip2_splat_left (λ a b. cond (leb a b) 255 0) first 64 read long)
+        (zip2_splat (λ a b. cond (ltb a b) 255 0) read 64 last long))
+        ∙ map-map (top 7) (λ character. bit_and (cond (leb first character) 255 0) (cond (ltb character last) 255 0)) read
+        ∙ (λ i. map (λ character. tells character i) read)
 
     by : (below : Bool) → nat_lt k 64 ≡ below
-        → slice_index_or (map (leb first) read) k false ≡ (below && nat_le first (slice_index_or line (from + k) 0))
+        → slice_index_or (map (is_between first last) read) k false ≡ (below && is_between first last (slice_index_or line (from + k) 0))
     by true is =
         let inside : k < 64 = grind (arith, nat_tests, is) in
-        get_or-map (leb first) read k 0 false (omega (arith, inside, long))
-        ∙ ap (leb first) (get_or-chunk from 64 line k 0 inside)
-    by false is = get_or_past (map (leb first) read) k false (grind (arith, nat_tests, is, long, many))
+        get_or-map (is_between first last) read k 0 false (omega (arith, inside, long))
+        ∙ ap (is_between first last) (get_or-chunk from 64 line k 0 inside)
+    by false is = get_or_past (map (is_between first last) read) k false (grind (arith, nat_tests, is, long, many))
 
 -- the wheels, of which sixty-four are looked at from the first one on and from the fifty-seventh on
 pub wheels-masked : (left right k : ℕ) (test : ℕ → Bool) → k < 120
@@ -99,3 +128,14 @@ none-received sets from k within empty low high =
 
     zero-is : (n : ℕ) → nat_eq n 0 ≡ true → n ≡ 0
     zero-is n e = grind (arith, nat_tests, e)
+
+-- a lane of eight sets that were cut to the twelve rows has the rows of its wheel
+pub lane-received : (sets : List ℕ) (from k d : ℕ) → from + 8 ≤ length sets → k < 8
+    → rows_in (get_or (zip2 bit_and (chunk from 8 sets) (replicate 8 4095)) k d) ≡ received_at sets (from + k)
+lane-received sets from k d within below =
+    let long = length-chunk from 8 sets within in
+    let many = length-replicate {A = ℕ} 8 4095 in
+    ap rows_in
+    (get_or-zip2 bit_and (chunk from 8 sets) (replicate 8 4095) k 0 0 d (omega (arith, below, long)) (omega (arith, below, many))
+    ∙ (λ i. bit_and (get_or-chunk from 8 sets k 0 below i) (get_or-replicate 8 k 4095 0 below i)))
+    ∙ rows_in-low (slice_index_or sets (from + k) 0)

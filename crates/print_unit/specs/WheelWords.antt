@@ -1,6 +1,6 @@
 -- The words of the wheels: bit k of a word stands for wheel k + 1, and each wheel has the set of the rows that it received. There is a
 -- word for each kind of jack. What is said here is for proofs: the wheels' rules stand in Wheels and ZeroControl.
-use Rattle.std.specs.Prelude.{◌≡◌, ℕ, zero, suc, ◌+◌, ◌<◌, ◌&&◌, ◌||◌, not, Bool, false, List, length, map, slice_index_or, if◌then◌else◌}
+use Rattle.std.specs.Prelude.{◌≡◌, ℕ, zero, suc, ◌+◌, ◌<◌, ◌&&◌, ◌||◌, not, nat_le, Bool, false, List, length, map, slice_index_or, if◌then◌else◌}
 use Rattle.std.specs.List.{range_with_len}
 use Rattle.setups.specs.Wiring.{Wiring, is_plugged}
 use Rattle.hubs.specs.declared.jack.Jack.{Jack}
@@ -64,3 +64,7 @@ pub record IsGiven (link figures given : ℕ) : Type 0 where
 -- what the wheel of a bit prints
 abbrev pub printed_at : List ℕ → ℕ → ℕ → ℕ
 printed_at sets hidden k = if is_bit hidden k then 32 else character_of (received_at sets k)
+
+-- whether a character is one of those from the first one on that come before another
+abbrev pub is_between : ℕ → ℕ → ℕ → Bool
+is_between first last character = nat_le first character && not (nat_le last character)

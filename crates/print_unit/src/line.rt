@@ -4,7 +4,7 @@ ghost use Rattle.std.specs.Prelude.{◌≡◌, ℕ, ◌+◌, ◌-◌, ◌<◌, �
 ghost use Rattle.net.specs.HubSets.{is_bit};
 ghost use Rattle.print_unit.specs.RowSets.{rows_in, Receives, TakesRow};
 ghost use Rattle.print_unit.specs.ZeroControl.{character_of};
-ghost use Rattle.print_unit.specs.WheelWords.{HasPrinted};
+ghost use Rattle.print_unit.specs.WheelWords.{received_at, HasPrinted};
 
 use crate::characters::Characters;
 use crate::wheel_words::WHEELS;
@@ -58,9 +58,18 @@ fn print_wheels(characters: &Characters, sets: &[u16; BITS], from: usize, line: 
     requires before { HasPrinted sets.now from line.old }
     ensures { HasPrinted sets.now (from + 8) line.new }
 {
-    for k in from..from + 8 {
-        line[k] = characters.of(sets[k]);
+    let eight = eight_sets(sets, from);
+    for k in 0..8 {
+        line[from + k] = characters.of(eight[k]);
     }
+}
+
+// The sets of eight wheels, with nothing in them but the twelve rows.
+fn eight_sets(sets: &[u16], from: usize) -> [u16; 8]
+    requires { from + 8 ≤ length sets.now }
+    ensures { (k : ℕ) → k < 8 → rows_in (slice_index_or result k 0) ≡ received_at sets.now (from + k) }
+{
+    (u16x8::from_slice(&sets[from..]) & u16x8::splat(0xfff)).to_array()
 }
 
 /// Makes the wheels of a word blank. Those that are not hidden are not looked at.
