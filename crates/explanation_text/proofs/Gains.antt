@@ -1,5 +1,5 @@
 -- What a text gains, piece by piece.
-use Rattle.std.proofs.Common.{◌≡◌, ◌∙◌, sym, ap, subst, refl, ℕ, ◌+◌, ◌<◌, List, [], ◌∷◌, ◌++◌, Option, Some, None, append_assoc, append-nil, codes, length, slice_index_or, flat_map, take, get_or}
+use Rattle.std.proofs.Common.{◌≡◌, ◌∙◌, sym, ap, subst, ℕ, ◌+◌, ◌<◌, List, [], ◌∷◌, ◌++◌, Option, Some, None, append_assoc, append-nil, codes, length, slice_index_or, flat_map, take, get_or}
 use Rattle.std.specs.Prelude.{OnOk, Result, Ok, Err, String, Vec}
 use Rattle.std.specs.String.{string_bytes}
 use Rattle.std.specs.declared.alloc.Global.{Global}
@@ -8,7 +8,7 @@ use Rattle.hubs.specs.declared.hub.Hub.{Hub}
 use Rattle.setups.specs.Wiring.{Wiring}
 use Rattle.explanations.specs.declared.explanation.Explanation.{Explanation}
 use Rattle.explanation_text.specs.Asked.{asked_by, asked_line, asked_lines}
-use Rattle.explanation_text.specs.Text.{AreNotes, IsTextOf, cycle_line, led_text, page_line, row_line}
+use Rattle.explanation_text.specs.Text.{AreNotes, IsPlain, IsTextOf, hub_text, cycle_line, led_text, page_line, row_line}
 use Rattle.explanation_text.specs.Text.AreNotes.{none as no-notes, more as more-notes}
 use Rattle.explanation_text.specs.Text.AreRowTexts.{begun, more as more-rows}
 use Rattle.explanation_text.specs.Text.IsRowText.{silent, told as told-row}
@@ -36,13 +36,19 @@ notes_then old mid new first second = record {
       second.gained ∙ ap (λ (l : List ℕ). l ++ second.notes) first.gained ∙ append_assoc old first.notes second.notes;
 }
 
-pub note_one : (old words new : List ℕ) → ((place : ℕ) → place < length words → slice_index_or words place 0 ≡ 10 → ⊥)
-    → new ≡ ((old ++ codes "  ") ++ words) ++ codes "\n" → GainsNotes old new
-note_one old words new plain is = record {
-  notes = codes "  " ++ words ++ codes "\n";
-  are = more-notes [] _ no-notes (record { words = words; plain = plain; spelled = refl });
+pub note_one : (old : List ℕ) (hub : Hub) (words line new : List ℕ)
+    → ((place : ℕ) → place < length line → slice_index_or line place 0 ≡ 10 → ⊥) → line ≡ hub_text hub ++ words
+    → new ≡ ((old ++ codes "  ") ++ line) ++ codes "\n" → GainsNotes old new
+note_one old hub words line new plain named is = record {
+  notes = codes "  " ++ line ++ codes "\n";
+  are = more-notes [] _ no-notes (record {
+    hub = hub;
+    words = words;
+    plain = subst (λ (l : List ℕ). IsPlain l) named plain;
+    spelled = ap (λ (l : List ℕ). codes "  " ++ l ++ codes "\n") named;
+  });
   gained =
-      is ∙ append_assoc (old ++ codes "  ") words (codes "\n") ∙ append_assoc old (codes "  ") (words ++ codes "\n");
+      is ∙ append_assoc (old ++ codes "  ") line (codes "\n") ∙ append_assoc old (codes "  ") (line ++ codes "\n");
 }
 
 pub row_none : (asked : List (String Global × Wiring)) (place : ℕ) (old : List ℕ) → GainsRow asked place None old old

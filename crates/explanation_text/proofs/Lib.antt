@@ -1,5 +1,6 @@
 mod Asking
 mod Closing
 mod Gains
+mod NoNotes
 mod OnlyWays
 mod Places

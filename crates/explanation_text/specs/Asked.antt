@@ -16,9 +16,13 @@ abbrev pub has_wire_of : Wiring → List Hub → Bool
 has_wire_of wiring [] = false
 has_wire_of wiring (hub ∷ others) = leads_on wiring hub others || has_wire_of wiring others
 
--- what is written of one who asks: a line where it asks for a wire of the way
+-- a line that names one who asks for wires
+abbrev pub asking_line : (words : List ℕ) → List ℕ
+asking_line words = codes "  wires: " ++ words ++ codes "\n"
+
+-- what is written of one who asks: such a line where it asks for a wire of the way
 abbrev pub asked_line : (words : List ℕ) → Wiring → List Hub → List ℕ
-asked_line words wiring way = if has_wire_of wiring way then codes "  wires: " ++ words ++ codes "\n" else []
+asked_line words wiring way = if has_wire_of wiring way then asking_line words else []
 
 abbrev pub asked_by : List Hub → String Global × Wiring → List ℕ
 asked_by way one = asked_line (string_bytes one.0) one.1 way

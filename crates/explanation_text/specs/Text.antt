@@ -95,11 +95,13 @@ cycle_line (Head heading) cards = heading_line (ordinal_number heading) cards
 abbrev pub IsPlain : List ℕ → Type 0
 IsPlain words = (place : ℕ) → place < length words → slice_index_or words place 0 ≡ 10 → ⊥
 
--- A note is one line, which two spaces set off: so no line of it is taken for another's.
+-- A note is one line, which two spaces set off, and begins with the name of the hub of which it tells: so no line of it is taken for
+-- another's.
 pub record IsNote (line : List ℕ) : Type 0 where
+  pub hub : Hub
   pub words : List ℕ
-  pub plain : IsPlain words
-  pub spelled : line ≡ codes "  " ++ words ++ codes "\n"
+  pub plain : IsPlain (hub_text hub ++ words)
+  pub spelled : line ≡ codes "  " ++ (hub_text hub ++ words) ++ codes "\n"
 
 pub data AreNotes : List ℕ → Type 0 where
   none : AreNotes []

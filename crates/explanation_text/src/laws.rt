@@ -1,8 +1,13 @@
-//! A law of the text of an explanation.
+//! Laws of the text of an explanation.
 
-ghost use Rattle.explanation_text.specs.Laws.{OnlyRowsTellWays};
+ghost use Rattle.explanation_text.specs.Laws.{NoNoteAsksForWires, OnlyRowsTellWays};
 
 /// No line of a text but those of the rows reads as the way of a row. The function does nothing: its contract is the law.
 pub fn only_rows_tell_ways()
     ensures { OnlyRowsTellWays }
+{}
+
+/// No note of a text reads as a line that names who asks for wires. The function does nothing: its contract is the law.
+pub fn no_note_asks_for_wires()
+    ensures { NoNoteAsksForWires }
 {}

@@ -23,21 +23,32 @@ pub(crate) fn is_plain(words: &[u8]) -> bool
     true
 }
 
+// What is told of a hub of a way: its name, and words behind it.
+#[derive(Drop)]
+struct Note {
+    hub: Hub,
+    words: String,
+}
+
 #[tactic(auto, using(crate::proofs::Gains::notes_none, crate::proofs::Gains::note_one))]
-// A note: words on a line of their own. Words that have an end of a line, as none have, are left out.
-fn write_note(text: &mut String, words: &str) -> Result<(), AllocError>
+// A note, on a line of its own. One that has an end of a line, as none has, is left out.
+fn write_note(alloc: Global, text: &mut String, note: &Note) -> Result<(), AllocError>
     ensures { OnOk result (GainsNotes (string_bytes text.old) (string_bytes text.new)) }
 {
-    if !is_plain(words.as_bytes()) {
+    let mut line = String::new(alloc);
+    write_hub(&mut line, note.hub)?;
+    line.push_str(&note.words)?;
+    if !is_plain(line.as_bytes()) {
         return Ok(());
     }
     text.push_str("  ")?;
-    text.push_str(words)?;
+    text.push_str(&line)?;
     text.push_str("\n")
 }
 
 #[tactic(auto, using(crate::proofs::Gains::notes_none, crate::proofs::Gains::notes_then))]
-// The notes of a row: what the exit stands for, and each contact of the way. What they say is not told by contracts.
+// The notes of a row: what the exit stands for, and each contact of the way. What they say is not told by contracts, but that each begins
+// with the name of a hub.
 pub(crate) fn write_notes(
     alloc: Global,
     text: &mut String,
@@ -49,31 +60,25 @@ pub(crate) fn write_notes(
     ensures { OnOk result (GainsNotes (string_bytes text.old) (string_bytes text.new)) }
 {
     for step in 0..way.len() {
-        let words = if step == 0 {
-            exit_words(alloc, found, place, way[0])?
+        let note = if step == 0 {
+            Some(exit_note(alloc, found, place, way[0])?)
         } else {
-            contact_words(alloc, way[step - 1], way[step])?
+            contact_note(alloc, way[step - 1], way[step])?
         };
-        if !words.is_empty() {
-            write_note(text, &words)?;
+        if let Some(note) = note {
+            write_note(alloc, text, &note)?;
         }
     }
     Ok(())
 }
 
 // What an exit that emitted at a row stands for.
-fn exit_words(
-    alloc: Global,
-    found: &FoundLine,
-    place: usize,
-    exit: Hub,
-) -> Result<String, AllocError>
+fn exit_note(alloc: Global, found: &FoundLine, place: usize, exit: Hub) -> Result<Note, AllocError>
     requires { place < 12 }
 {
     let mut words = String::new(alloc);
-    write_hub(&mut words, exit)?;
     write_meaning(&mut words, found, row_at(place), exit)?;
-    Ok(words)
+    Ok(Note { hub: exit, words })
 }
 
 // What an exit that emitted at a row stands for, behind its name.
@@ -193,18 +198,18 @@ fn write_digit(words: &mut String, found: &FoundLine, exit: Hub) -> Result<(), A
     Ok(())
 }
 
-// Why the contact between two hubs of a way was closed. No words where a wire leads from the one to the other.
-fn contact_words(alloc: Global, common: Hub, exit: Hub) -> Result<String, AllocError> {
-    let mut words = String::new(alloc);
-    if is_contact_exit(exit) {
-        write_contact(&mut words, common, exit)?;
+// Why the contact between two hubs of a way was closed, or `None` where a wire leads from the one to the other.
+fn contact_note(alloc: Global, common: Hub, exit: Hub) -> Result<Option<Note>, AllocError> {
+    if !is_contact_exit(exit) {
+        return Ok(None);
     }
-    Ok(words)
+    let mut words = String::new(alloc);
+    write_contact(&mut words, exit)?;
+    Ok(Some(Note { hub: common, words }))
 }
 
-// A contact, and why it was closed.
-fn write_contact(words: &mut String, common: Hub, exit: Hub) -> Result<(), AllocError> {
-    write_hub(words, common)?;
+// The exit of a contact, and why it was closed.
+fn write_contact(words: &mut String, exit: Hub) -> Result<(), AllocError> {
     words.push_str(" => ")?;
     write_hub(words, exit)?;
     write_reason(words, exit)

@@ -1,0 +1,59 @@
+-- No note reads as a line that names who asks for wires: no hub's name begins with a w.
+use Rattle.std.proofs.Common.{◌≡◌, ◌∙◌, sym, ap, arith, append_assoc, ℕ, List, ◌++◌, codes, get_or}
+use Rattle.hub_table.specs.HubTable.{row_of}
+use Rattle.hub_table.specs.declared.letters.Letters.{Letters}
+use Rattle.hub_table.specs.declared.letters.Letters.TheVariants.{FR, SR, CX, GX, CO, BAN, BAT, PIN, PIT, SX, IX, CSD, CSZ, EM, CC, PX, HX, CA, CB, GE, PL, MI, RO, BT, CI, BAC, PIC, PIX, SE, SI, SO, IE, CSE, W, ST, SP, SK, RS}
+use Rattle.hubs.specs.Hubs.{letters_of, numbers_of}
+use Rattle.explanation_text.specs.Laws.{NoNoteAsksForWires}
+use Rattle.explanation_text.specs.Text.{numbers_text}
+
+first : (letters : Letters) (rest : List ℕ) → get_or ((row_of letters).spelled ++ rest) 0 0 ≡ 119 → ⊥
+first FR rest is = omega (arith, is)
+first SR rest is = omega (arith, is)
+first CX rest is = omega (arith, is)
+first GX rest is = omega (arith, is)
+first CO rest is = omega (arith, is)
+first BAN rest is = omega (arith, is)
+first BAT rest is = omega (arith, is)
+first PIN rest is = omega (arith, is)
+first PIT rest is = omega (arith, is)
+first SX rest is = omega (arith, is)
+first IX rest is = omega (arith, is)
+first CSD rest is = omega (arith, is)
+first CSZ rest is = omega (arith, is)
+first EM rest is = omega (arith, is)
+first CC rest is = omega (arith, is)
+first PX rest is = omega (arith, is)
+first HX rest is = omega (arith, is)
+first CA rest is = omega (arith, is)
+first CB rest is = omega (arith, is)
+first GE rest is = omega (arith, is)
+first PL rest is = omega (arith, is)
+first MI rest is = omega (arith, is)
+first RO rest is = omega (arith, is)
+first BT rest is = omega (arith, is)
+first CI rest is = omega (arith, is)
+first BAC rest is = omega (arith, is)
+first PIC rest is = omega (arith, is)
+first PIX rest is = omega (arith, is)
+first SE rest is = omega (arith, is)
+first SI rest is = omega (arith, is)
+first SO rest is = omega (arith, is)
+first IE rest is = omega (arith, is)
+first CSE rest is = omega (arith, is)
+first W rest is = omega (arith, is)
+first ST rest is = omega (arith, is)
+first SP rest is = omega (arith, is)
+first SK rest is = omega (arith, is)
+first RS rest is = omega (arith, is)
+
+in_turn : (a b c d : List ℕ) → ((a ++ b) ++ c) ++ d ≡ a ++ (b ++ (c ++ d))
+in_turn a b c d = append_assoc (a ++ b) c d ∙ append_assoc a b (c ++ d)
+
+pub no_note : NoNoteAsksForWires
+no_note words is =
+    let letters = letters_of is.hub in
+    let numbers = numbers_text (numbers_of is.hub) in
+    first letters (numbers ++ (is.words ++ codes "\n"))
+    (ap (λ (l : List ℕ). get_or l 0 0) (sym (in_turn (row_of letters).spelled numbers is.words (codes "\n")))
+    ∙ sym (ap (λ (l : List ℕ). get_or l 2 0) is.spelled))
