@@ -1,1 +1,6 @@
+mod BadLines
 mod Checked
+mod EarlierGroups
+mod FirstFaults
+mod Fronts
+mod Pairings

@@ -1,6 +1,8 @@
 //! The command that checks a chart and then all cards of a deck, from the bytes of the chart and a reader of the deck.
 #![tactic(auto)]
 
+mod laws;
 mod serving;
 
+pub use laws::checks_tell_first_what_stops_runs;
 pub use serving::{check_deck_to_end, print_check};

@@ -15,11 +15,10 @@ use Rattle.commands.specs.Streamed.{EndsRun, HasFailed, HasRefused, HasRunWhole,
 use Rattle.program_io.specs.declared.command.Command.{Command}
 use Rattle.program_io.specs.declared.command.Command.TheVariants as command
 use Rattle.compile407.specs.Compilation.{Compilation}
-use Rattle.compile407.specs.RunFaults.{of_card}
 use Rattle.faults.proofs.Statuses.{deck_status, memory_or_not, run_status}
 use Rattle.faults.specs.Lines.{IsTold}
 use Rattle.faults.specs.Status.{status_of}
-use Rattle.faults.specs.Told.{deck_told, run_told}
+use Rattle.faults.specs.Told.{deck_told, of_card, run_told}
 use Rattle.faults.specs.declared.deck.RunFault.{RunFault}
 use Rattle.faults.specs.declared.deck.RunFault.TheVariants as deck
 use Rattle.faults.specs.declared.fault.Fault.{Fault}

@@ -11,8 +11,7 @@ use Rattle.program_io.specs.Stops.{Stops}
 use Rattle.program_io.specs.declared.command.Command.{Command}
 use Rattle.program_io.specs.declared.command.Command.TheVariants as command
 use Rattle.compile407.specs.Compilation.{Compilation}
-use Rattle.compile407.specs.RunFaults.{of_card}
-use Rattle.faults.specs.Told.{deck_told, run_told}
+use Rattle.faults.specs.Told.{deck_told, of_card, run_told}
 use Rattle.faults.specs.declared.deck.RunFault.TheVariants as deck
 use Rattle.faults.specs.declared.fault.Fault.{Fault}
 use Rattle.faults.specs.declared.fault.Fault.TheVariants as fault

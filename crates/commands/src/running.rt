@@ -3,12 +3,9 @@
 ghost use Rattle.std.specs.Prelude.{◌≡◌, ◌⊎◌, ℕ, List, IfErr, OnOk};
 ghost use Rattle.commands.specs.Answers.{CompilesAs};
 ghost use Rattle.commands.specs.Streamed.{EndsRun, HasRunWhole, IsToldOf, StopsInRun, read_told};
-ghost use Rattle.compile407.specs.RunFaults.{of_card};
-ghost use Rattle.faults.specs.Told.{run_told};
 
 use crate::answers::compilation;
 use card_lines::ReadFault;
-use chart_rules::CardFault;
 use compile407::{Compiled, RunFault, StreamCause, Streamed, stream_deck};
 use devices::{FromRead, Sink};
 use faults::Fault;
@@ -27,16 +24,6 @@ fn told_of_reading<'a>(fault: ReadFault) -> Fault<'a>
     }
 }
 
-// What is told of a card that is not valid.
-fn told_of_card<'a>(fault: CardFault, card: u32) -> Fault<'a>
-    ensures { result ≡ run_told (of_card fault card) }
-{
-    match fault {
-        CardFault::NotText { column } => RunFault::NotText { card, column }.into(),
-        CardFault::NotAmount { column } => RunFault::NotAmount { card, column }.into(),
-    }
-}
-
 // What is told of the cause of a run that stops.
 fn told_of<'a>(cause: StreamCause, unwritten: Fault<'a>) -> Fault<'a>
     requires { (unwritten ≡ Fault.Memory) ⊎ (unwritten ≡ Fault.Write) }
@@ -44,7 +31,7 @@ fn told_of<'a>(cause: StreamCause, unwritten: Fault<'a>) -> Fault<'a>
 {
     match cause {
         StreamCause::Card { fault } => told_of_reading(fault),
-        StreamCause::Invalid { fault, card } => told_of_card(fault, card),
+        StreamCause::Invalid { fault, card } => RunFault::of_card(fault, card).into(),
         StreamCause::Misfit { misfit } => RunFault::DoesNotFit {
             level: misfit.level,
             name: misfit.name,

@@ -5,16 +5,11 @@ use Rattle.chart_text.specs.Below.charts.Chart.{Chart}
 use Rattle.chart_rules.specs.Below.field_rules.Fields.{fields_of}
 use Rattle.chart_rules.specs.ValidCard.{IsValidCard, IsFirstInvalid}
 use Rattle.chart_rules.specs.declared.card.CardFault.{CardFault}
-use Rattle.chart_rules.specs.declared.card.CardFault.TheVariants as card
 use Rattle.misfits.specs.Below.report.Misfits.{Misfit, first_of, misfits}
+use Rattle.faults.specs.Told.{of_card}
 use Rattle.faults.specs.declared.deck.RunFault.{RunFault}
 use Rattle.faults.specs.declared.deck.RunFault.TheVariants as deck
 use Rattle.streamed_runs.specs.Below.promises.Promises.{IsDeck}
-
--- the fault of a card with a number, as one of a deck
-abbrev pub of_card : CardFault → ℕ → RunFault
-of_card (card.NotText column) number = deck.NotText number column
-of_card (card.NotAmount column) number = deck.NotAmount number column
 
 -- the fault tells of the first card of the deck that is not valid, by its number from 1
 pub record IsInvalidDeck (chart : Chart) (cards : List (List ℕ)) (fault : RunFault) : Type 0 where

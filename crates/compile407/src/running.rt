@@ -5,7 +5,7 @@ ghost use Rattle.card_code.specs.MostCards.{most_cards};
 ghost use Rattle.misfits.specs.Told.{told};
 ghost use Rattle.misfits.specs.Below.report.Misfits.{first_of, misfits};
 ghost use Rattle.misfits.specs.Below.report.Totals.{Fits};
-ghost use Rattle.compile407.specs.RunFaults.{HasRunFault, IsInvalidDeck, IsMisfit, of_card};
+ghost use Rattle.compile407.specs.RunFaults.{HasRunFault, IsInvalidDeck, IsMisfit};
 ghost use Rattle.faults.specs.declared.deck.RunFault.TheVariants as deck;
 ghost use Rattle.streamed_runs.specs.Below.promises.Promises.{IsDeck};
 ghost use Rattle.misfits.specs.Below.report.Report.{Report};
@@ -14,22 +14,12 @@ ghost use Rattle.chart_rules.specs.ValidCard.{IsValidCard};
 
 use crate::compiled::Compiled;
 use card_code::{Card, MOST_CARDS};
-use chart_rules::{CardFault, Chart, valid_card};
+use chart_rules::{Chart, valid_card};
 use faults::RunFault;
 use machine::simulate;
 use misfits::Misfit;
 use page_text::page_bytes;
 use std::alloc::Global;
-
-// What is told of an invalid card with a number.
-fn fault_of(fault: CardFault, card: u32) -> RunFault
-    ensures { result ≡ of_card fault card }
-{
-    match fault {
-        CardFault::NotText { column } => RunFault::NotText { card, column },
-        CardFault::NotAmount { column } => RunFault::NotAmount { card, column },
-    }
-}
 
 // Refuses a deck with an invalid card, by the first such card.
 fn check_cards(chart: &Chart, cards: &[Card]) -> Result<(), RunFault>
@@ -39,7 +29,7 @@ fn check_cards(chart: &Chart, cards: &[Card]) -> Result<(), RunFault>
 {
     for (place, card) in cards.iter().enumerate() {
         if let Err(fault) = valid_card(chart, card) {
-            return Err(fault_of(fault, place as u32 + 1));
+            return Err(RunFault::of_card(fault, place as u32 + 1));
         }
     }
     Ok(())

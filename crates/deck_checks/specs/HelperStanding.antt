@@ -3,8 +3,6 @@ use Rattle.std.specs.Prelude.{◌≡◌, ◌⊎◌, ℕ, ◌≤◌, Bool, true, 
 use Rattle.std.specs.Io.KnownBytes.{Appends}
 use Rattle.card_code.specs.Lines.{lines_of}
 use Rattle.card_code.specs.MostCards.{most_cards}
-use Rattle.chart_rules.specs.declared.card.CardFault.{CardFault}
-use Rattle.chart_rules.specs.declared.card.CardFault.TheVariants as invalid
 use Rattle.charts.specs.Chart.{Chart}
 use Rattle.charts.specs.declared.chart.Line.{Line}
 use Rattle.deck_checks.specs.BadLines.{IsBadLine, IsGoodLine}
@@ -12,17 +10,10 @@ use Rattle.deck_checks.specs.Listings.{IsListing, Lists, lines_told, totals_told
 use Rattle.deck_checks.specs.declared.standing.Standing.{Standing}
 use Rattle.decks.specs.FitSoFar.{groups_before}
 use Rattle.decks.specs.Stands.{last_of}
-use Rattle.faults.specs.Told.{run_told}
-use Rattle.faults.specs.declared.deck.RunFault.TheVariants as deck
 use Rattle.faults.specs.declared.fault.Fault.{Fault}
 use Rattle.faults.specs.declared.fault.Fault.TheVariants as fault
 use Rattle.misfits.specs.OpenSums.{AreSumsOf, Sums}
 use Rattle.report.specs.Breaks.{no_cards}
-
--- what is told of a card that is not valid
-abbrev pub card_told : CardFault → ℕ → Fault
-card_told (invalid.NotText column) card = run_told (deck.NotText card column)
-card_told (invalid.NotAmount column) card = run_told (deck.NotAmount card column)
 
 -- these are the sums of all of some cards but the last, which is kept
 abbrev pub AreBeforeLast : List Line → (cards : List (List ℕ)) → (last : Option (List ℕ)) → Sums → Type 0

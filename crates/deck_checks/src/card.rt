@@ -1,22 +1,11 @@
 //! A line of a deck by itself.
 
-ghost use Rattle.std.specs.Prelude.{◌≡◌, IfErr, IfOk};
+ghost use Rattle.std.specs.Prelude.{IfErr, IfOk};
 ghost use Rattle.deck_checks.specs.BadLines.{IsBadLine, IsGoodLine};
-ghost use Rattle.deck_checks.specs.HelperStanding.{card_told};
 
 use card_code::{Card, read_card};
-use chart_rules::{CardFault, Chart, valid_card};
+use chart_rules::{Chart, valid_card};
 use faults::{Fault, RunFault};
-
-// What is told of a card that is not valid.
-fn told_of<'a>(fault: CardFault, card: u32) -> Fault<'a>
-    ensures { result ≡ card_told fault card }
-{
-    match fault {
-        CardFault::NotText { column } => RunFault::NotText { card, column }.into(),
-        CardFault::NotAmount { column } => RunFault::NotAmount { card, column }.into(),
-    }
-}
 
 // The card of a line, the one with a number, or what is told of it where it is none, or none that is valid for the chart.
 pub(crate) fn judge<'a>(chart: &Chart, number: u32, line: &[u8]) -> Result<Card, Fault<'a>>
@@ -26,6 +15,6 @@ pub(crate) fn judge<'a>(chart: &Chart, number: u32, line: &[u8]) -> Result<Card,
     let card = read_card(number, line)?;
     match valid_card(chart, &card) {
         Ok(()) => Ok(card),
-        Err(fault) => Err(told_of(fault, number)),
+        Err(fault) => Err(RunFault::of_card(fault, number).into()),
     }
 }

@@ -7,11 +7,12 @@ use Rattle.std.proofs.lemmas.List.Sums.{AllPass-from_list_all}
 use Rattle.card_code.specs.CardCode.{print_character}
 use Rattle.charts.specs.declared.chart.Line.{Line}
 use Rattle.charts.specs.declared.statement.Field.{Field}
+use Rattle.chart_rules.specs.Controls.{controls_of}
 use Rattle.chart_rules.specs.ValidCard.{column_of}
 use Rattle.report.specs.Amounts.{columns_in}
 use Rattle.report.specs.BodyLines.{text_on, a_card_of}
 use Rattle.report.specs.Breaks.{break_up_to, highest, taking, cleared}
-use Rattle.report.specs.Groups.{control_fields, is_same_on, is_same_at}
+use Rattle.report.specs.Groups.{is_same_on, is_same_at}
 use Rattle.decks.specs.Alike.{AlikeWith}
 use Rattle.decks.specs.Laws.{GroupsAreAlike, TotalTextsAreTheLastCards}
 use Rattle.decks.specs.Stands.{Stand, at_first, stand_after, stand_before, last_of}
@@ -39,7 +40,7 @@ same-trans : (lines : List Line) (level : ℕ) (one card next : List ℕ) → is
     → is_same_at lines level card next ≡ true → is_same_at lines level one next ≡ true
 same-trans lines level one card next same more =
     all-both (λ field. is_same_on field one card) (λ field. is_same_on field card next) (λ field. is_same_on field one next)
-    (control_fields lines level)
+    (controls_of lines level)
     (λ field here there.
     all-both (λ column. column_of one column == column_of card column) (λ column. column_of card column == column_of next column)
     (λ column. column_of one column == column_of next column) (columns_in field)
@@ -132,6 +133,6 @@ total_texts lines so_far card level above field alike low high controls =
     by [] same = refl
     by (one ∷ others) same =
         text-same field one card
-        (All-contains (λ some. is_same_on some one card ≡ true) (control_fields lines above) field
-        (AllPass-from_list_all (λ some. is_same_on some one card) (control_fields lines above)
+        (All-contains (λ some. is_same_on some one card ≡ true) (controls_of lines above) field
+        (AllPass-from_list_all (λ some. is_same_on some one card) (controls_of lines above)
         (All-head (λ some. is_same_at lines above some card ≡ true) one others same)) controls)

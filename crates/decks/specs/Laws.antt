@@ -3,12 +3,12 @@ use Rattle.std.specs.Prelude.{◌≡◌, ◌↔◌, ℕ, ◌+◌, ◌*◌, ◌^�
 use Rattle.std.specs.List.{Contains}
 use Rattle.card_code.specs.MostCards.{most_cards}
 use Rattle.placed_lines.specs.declared.placed_line.PlacedLine.{PlacedLine}
+use Rattle.chart_rules.specs.Controls.{controls_of}
 use Rattle.charts.specs.Chart.{Chart}
 use Rattle.charts.specs.declared.chart.Line.{Line}
 use Rattle.charts.specs.declared.statement.Field.{Field}
 use Rattle.report.specs.BodyLines.{text_on, a_card_of}
 use Rattle.report.specs.Breaks.{taking}
-use Rattle.report.specs.Groups.{control_fields}
 use Rattle.report.specs.Places.{BodyText, Left, before_all, placed}
 use Rattle.report.specs.Report.{body_lines, report_lines}
 use Rattle.report.specs.Misfits.{Misfit, misfits, first_of}
@@ -79,7 +79,7 @@ GroupsAreAlike =
 abbrev pub TotalTextsAreTheLastCards : Type 0
 TotalTextsAreTheLastCards =
     (lines : List Line) (so_far : ℕ → List (List ℕ)) (card : List ℕ) (level above : ℕ) (field : Field)
-    → AlikeWith lines so_far card → level ≤ above → above ≤ 3 → Contains (control_fields lines above) field
+    → AlikeWith lines so_far card → level ≤ above → above ≤ 3 → Contains (controls_of lines above) field
     → text_on (a_card_of (taking card so_far level)) field ≡ text_on card field
 
 -- Of a first card no group has ended; and where the groups that end with the last card have no misfit, one card more can come.

@@ -6,9 +6,9 @@ use Rattle.hubs.specs.Jacks.{is_jack_in_range, jack_place}
 use Rattle.hubs.specs.declared.hub.Hub.{Hub}
 use Rattle.hubs.specs.declared.jack.Jack.{Jack}
 use Rattle.hubs.proofs.HubLemmas.{number_of-range}
-use Rattle.setups.specs.Tapes.{CarriageTape, IsCarriageTape, has_stop}
-use Rattle.setups.specs.Wiring.{HasJack, HasWire, Wiring}
-use Rattle.differences.specs.Differences.{AreMany, IsStop, IsWire}
+use Rattle.setups.specs.Tapes.{CarriageTape, IsCarriageTape, IsStopOf, has_stop}
+use Rattle.setups.specs.Wiring.{HasJack, HasWire, IsWireOf, Wiring}
+use Rattle.differences.specs.Differences.{AreMany}
 use Rattle.differences.specs.HelperSizes.{JackAt, JackBefore, StopAt, StopBefore, StopIn, StopInBefore, WireBefore, WireFrom, WireFromBefore, WireTo}
 use Rattle.differences.proofs.Counts.{many-as, many-both, many-none, many-one}
 use Rattle.differences.proofs.Jacks.{place_within, plugged_in_range}
@@ -99,7 +99,7 @@ module _ (setup : Wiring) where
       apart : (wire : Hub × Hub) (is : WireFromBefore setup number wire) → WireFrom setup number wire → is.there.number ≡ number
       apart wire is also = same_Some is.there.number number (sym is.there.numbered ∙ also.numbered)
 
-  pub exits-all : {bound m : ℕ} → 1937 ≤ bound → AreMany (WireFromBefore setup bound) m → AreMany (IsWire setup) m
+  pub exits-all : {bound m : ℕ} → 1937 ≤ bound → AreMany (WireFromBefore setup bound) m → AreMany (IsWireOf setup) m
   exits-all last many =
       many-as (λ wire is. is.there)
       (λ wire is. record { there = is; before = omega (arith, last, (number_of-range wire.0 is.number is.numbered).1) }) many
@@ -187,7 +187,7 @@ module _ (tape : CarriageTape) where
       ])
       (λ stop is also. omega (arith, is.lower, also.in_channel)) so_far next
 
-  pub channels-all : {channel m : ℕ} → IsCarriageTape tape → 12 ≤ channel → AreMany (StopBefore tape channel) m → AreMany (IsStop tape) m
+  pub channels-all : {channel m : ℕ} → IsCarriageTape tape → 12 ≤ channel → AreMany (StopBefore tape channel) m → AreMany (IsStopOf tape) m
   channels-all form last many =
       many-as (λ stop is. is.there)
       (λ stop is. record { lower = omega (arith, last, (form.stops stop.0 stop.1 is).channel_to); there = is }) many

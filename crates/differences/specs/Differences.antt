@@ -1,7 +1,7 @@
 -- Two setups side by side: what one has and the other has not, and how much a setup has.
 use Rattle.std.specs.Prelude.{◌≡◌, ◌≢◌, ◌↔◌, ℕ, ◌+◌, List, AllPairs, Contains, length, true, false}
-use Rattle.setups.specs.Tapes.{CarriageTape, SameTape, has_stop}
-use Rattle.setups.specs.Wiring.{Wiring, HasWire, HasJack}
+use Rattle.setups.specs.Tapes.{IsStopOf, SameTape, has_stop}
+use Rattle.setups.specs.Wiring.{Wiring, HasWire, HasJack, IsWireOf}
 use Rattle.hubs.specs.declared.hub.Hub.{Hub}
 use Rattle.hubs.specs.declared.jack.Jack.{Jack}
 
@@ -36,21 +36,14 @@ pub record AreMany {X : Type 0} (Is : X → Type 0) (many : ℕ) : Type 0 where
   pub once : AllPairs (λ one other. one ≢ other) things
   pub counted : many ≡ length things
 
--- a wire of a setup, and a stop of a tape
-abbrev pub IsWire : Wiring → Hub × Hub → Type 0
-IsWire wiring wire = HasWire wiring wire.0 wire.1
-
-abbrev pub IsStop : CarriageTape → ℕ × ℕ → Type 0
-IsStop tape stop = has_stop tape stop.0 stop.1 ≡ true
-
 -- how much a setup has: its wires, its jacks and its stops together
 pub record HasSize (wiring : Wiring) (size : ℕ) : Type 0 where
   pub wires : ℕ
   pub jacks : ℕ
   pub stops : ℕ
-  pub are_wires : AreMany (IsWire wiring) wires
+  pub are_wires : AreMany (IsWireOf wiring) wires
   pub are_jacks : AreMany (HasJack wiring) jacks
-  pub are_stops : AreMany (IsStop wiring.tape) stops
+  pub are_stops : AreMany (IsStopOf wiring.tape) stops
   pub together : size ≡ wires + jacks + stops
 
 -- two setups are the same: they have the same wires, jacks and tape

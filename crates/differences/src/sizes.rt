@@ -1,10 +1,10 @@
 //! How much a setup has.
 
 ghost use Rattle.std.specs.Prelude.{◌≡◌, ◌≤◌, ◌*◌, true};
-ghost use Rattle.differences.specs.Differences.{AreMany, HasSize, IsStop, IsWire};
+ghost use Rattle.differences.specs.Differences.{AreMany, HasSize};
 ghost use Rattle.differences.specs.HelperSizes.{JackAt, StopAt, StopIn, WireFrom, WireTo};
-ghost use Rattle.setups.specs.Tapes.{IsCarriageTape};
-ghost use Rattle.setups.specs.Wiring.{HasJack};
+ghost use Rattle.setups.specs.Tapes.{IsCarriageTape, IsStopOf};
+ghost use Rattle.setups.specs.Wiring.{HasJack, IsWireOf};
 
 use hubs::{Hub, JACKS, Jack};
 use setups::{Setup, Tape};
@@ -40,7 +40,7 @@ fn wires_from(setup: &Setup, number: u32) -> u32
 
 // How many wires a setup has.
 fn wires(setup: &Setup) -> u32
-    ensures many { AreMany (IsWire setup.now) result }
+    ensures many { AreMany (IsWireOf setup.now) result }
     ensures few { result ≤ 1937 * 1937 }
 {
     let mut many = 0;
@@ -97,7 +97,7 @@ fn stops_in(tape: &Tape, channel: u8) -> u32
 // How many stops a tape has.
 fn stops(tape: &Tape) -> u32
     requires { IsCarriageTape tape.now }
-    ensures many { AreMany (IsStop tape.now) result }
+    ensures many { AreMany (IsStopOf tape.now) result }
     ensures few { result ≤ 12 * 145 }
 {
     let mut many = 0;

@@ -8,7 +8,8 @@ use Rattle.hubs.specs.declared.hub.Hub.{Hub}
 use Rattle.setups.specs.Wiring.{Wiring}
 use Rattle.explanations.specs.declared.explanation.Explanation.{Explanation}
 use Rattle.explanation_text.specs.Asked.{asked_by, asked_line, asked_lines}
-use Rattle.explanation_text.specs.Text.{AreNotes, IsPlain, IsTextOf, hub_text, cycle_line, led_text, page_line, row_line}
+use Rattle.hubs.specs.HubText.{hub_text}
+use Rattle.explanation_text.specs.Text.{AreNotes, IsPlain, IsTextOf, cycle_line, led_text, page_line, row_line}
 use Rattle.explanation_text.specs.Text.AreNotes.{none as no-notes, more as more-notes}
 use Rattle.explanation_text.specs.Text.AreRowTexts.{begun, more as more-rows}
 use Rattle.explanation_text.specs.Text.IsRowText.{silent, told as told-row}

@@ -5,7 +5,7 @@ use Rattle.hub_table.specs.declared.letters.Letters.{Letters}
 use Rattle.hub_table.specs.declared.letters.Letters.TheVariants.{FR, SR, CX, GX, CO, BAN, BAT, PIN, PIT, SX, IX, CSD, CSZ, EM, CC, PX, HX, CA, CB, GE, PL, MI, RO, BT, CI, BAC, PIC, PIX, SE, SI, SO, IE, CSE, W, ST, SP, SK, RS}
 use Rattle.hubs.specs.Hubs.{letters_of, numbers_of}
 use Rattle.explanation_text.specs.Laws.{NoNoteAsksForWires}
-use Rattle.explanation_text.specs.Text.{numbers_text}
+use Rattle.hubs.specs.HubText.{numbers_text}
 
 first : (letters : Letters) (rest : List ℕ) → get_or ((row_of letters).spelled ++ rest) 0 0 ≡ 119 → ⊥
 first FR rest is = omega (arith, is)

@@ -4,10 +4,7 @@
 use Rattle.std.specs.Prelude.{◌≡◌, ℕ, ◌+◌, ◌-◌, ◌<◌, ◌==◌, Bool, true, false, List, [], ◌∷◌, ◌++◌, Option, Some, None, Vec, codes, decimal, length, String, slice_index_or, if◌then◌else◌, nat_lt}
 use Rattle.std.specs.List.{flat_map}
 use Rattle.std.specs.declared.alloc.Global.{Global}
-use Rattle.hub_table.specs.HubTable.{row_of}
-use Rattle.hub_table.specs.declared.shape.Numbers.{Numbers}
-use Rattle.hub_table.specs.declared.shape.Numbers.TheVariants.{Bare, One, Two, Three}
-use Rattle.hubs.specs.Hubs.{letters_of, numbers_of}
+use Rattle.hubs.specs.HubText.{hub_text}
 use Rattle.hubs.specs.declared.hub.Hub.{Hub}
 use Rattle.hubs.specs.declared.hub.Hub.TheVariants.{CO, BAN, BAT, PIN, PIT, IX, CSD, CSZ}
 use Rattle.net.specs.Cycles.{level_number, ordinal_number}
@@ -16,17 +13,6 @@ use Rattle.net.specs.declared.cycle.Cycle.TheVariants.{RunIn, Card, Prog, Head}
 use Rattle.setups.specs.Wiring.{Wiring}
 use Rattle.explanations.specs.declared.explanation.Explanation.{Explanation}
 use Rattle.explanation_text.specs.Asked.{asked_lines}
-
--- the numbers of a hub, a point before each
-abbrev pub numbers_text : Numbers → List ℕ
-numbers_text Bare = []
-numbers_text (One n) = codes "." ++ decimal n
-numbers_text (Two m n) = codes "." ++ decimal m ++ codes "." ++ decimal n
-numbers_text (Three l m n) = codes "." ++ decimal l ++ codes "." ++ decimal m ++ codes "." ++ decimal n
-
--- a hub, as in a wiring chart
-abbrev pub hub_text : Hub → List ℕ
-hub_text hub = (row_of (letters_of hub)).spelled ++ numbers_text (numbers_of hub)
 
 -- whether a hub is the exit of a contact: then the contact leads to it, and no wire
 abbrev pub is_contact_exit : Hub → Bool

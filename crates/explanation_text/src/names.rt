@@ -1,33 +1,12 @@
-//! Hubs and ways as they are written.
+//! Ways as they are written.
 
 ghost use Rattle.std.specs.Prelude.{◌≡◌, ◌+◌, ◌<◌, ◌++◌, codes, decimal, OnOk};
 ghost use Rattle.std.specs.List.{flat_map};
 ghost use Rattle.std.specs.String.{string_bytes};
-ghost use Rattle.explanation_text.specs.Text.{hub_text, is_contact_exit, led_text, numbers_text, row_at, way_text};
+ghost use Rattle.explanation_text.specs.Text.{is_contact_exit, led_text, row_at, way_text};
 
-use hub_table::Numbers;
-use hubs::Hub;
+use hubs::{Hub, write_hub};
 use std::alloc::AllocError;
-
-// A hub.
-pub(crate) fn write_hub(text: &mut String, hub: Hub) -> Result<(), AllocError>
-    ensures { OnOk result (string_bytes text.new ≡ string_bytes text.old ++ hub_text hub) }
-{
-    text.push_str(hub.letters().spelled())?;
-    write_numbers(text, hub.numbers())
-}
-
-// The numbers of a hub, a point before each.
-fn write_numbers(text: &mut String, numbers: Numbers) -> Result<(), AllocError>
-    ensures { OnOk result (string_bytes text.new ≡ string_bytes text.old ++ numbers_text numbers) }
-{
-    match numbers {
-        Numbers::Bare => Ok(()),
-        Numbers::One(first) => write!(text, ".{first}"),
-        Numbers::Two(first, second) => write!(text, ".{first}.{second}"),
-        Numbers::Three(first, second, third) => write!(text, ".{first}.{second}.{third}"),
-    }
-}
 
 // Whether the hub is the exit of a contact.
 pub(crate) fn is_contact_exit(hub: Hub) -> bool

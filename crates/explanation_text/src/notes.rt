@@ -5,9 +5,9 @@ ghost use Rattle.std.specs.String.{string_bytes};
 ghost use Rattle.explanation_text.specs.Text.{IsPlain};
 ghost use Rattle.explanation_text.specs.Writing.{GainsNotes};
 
-use crate::names::{is_contact_exit, row_at, write_hub};
+use crate::names::{is_contact_exit, row_at};
 use explanations::FoundLine;
-use hubs::{Group, Hub};
+use hubs::{Group, Hub, write_hub};
 use net::Cycle;
 use std::alloc::{AllocError, Global};
 

@@ -6,6 +6,8 @@ use Rattle.allocate.specs.declared.fault.CapacityFault.TheVariants as capacity
 use Rattle.card_code.specs.declared.deck.DeckFault.{DeckFault}
 use Rattle.card_code.specs.declared.deck.DeckFault.TheVariants as deck
 use Rattle.chart_rules.specs.Rules.{rule_number}
+use Rattle.chart_rules.specs.declared.card.CardFault.{CardFault}
+use Rattle.chart_rules.specs.declared.card.CardFault.TheVariants as card
 use Rattle.charts.specs.Levels.{level_number, control_number}
 use Rattle.faults.specs.declared.chart.ChartFault.{ChartFault}
 use Rattle.faults.specs.declared.chart.ChartFault.TheVariants as chart
@@ -16,6 +18,11 @@ use Rattle.wiring_text.specs.declared.fault.WiringFault.{WiringFault}
 use Rattle.wiring_text.specs.declared.fault.WiringFault.TheVariants as wiring
 use Rattle.faults.specs.declared.fault.Fault.{Fault}
 use Rattle.faults.specs.declared.fault.Fault.TheVariants.{Whole, Line, Cause, Card, Column, Counters, Capacity, Indicate, Total, Memory}
+
+-- the fault of a card with a number, as one of a deck
+abbrev pub of_card : CardFault → ℕ → RunFault
+of_card (card.NotText column) number = run.NotText number column
+of_card (card.NotAmount column) number = run.NotAmount number column
 
 -- of the text of a deck: the card, and its column
 abbrev pub deck_told : DeckFault → Fault

@@ -3,6 +3,7 @@
 ghost use Rattle.std.specs.Prelude.{◌≡◌};
 ghost use Rattle.faults.specs.declared.deck.RunFault.TheVariants as deck;
 
+use chart_rules::CardFault;
 use charts::{Level, Name};
 use std::alloc::AllocError;
 use thiserror::Error;
@@ -48,6 +49,17 @@ pub enum RunFault {
 impl RunFault {
     ghost use Rattle.std.specs.Prelude.{◌≡◌};
     ghost use Rattle.faults.specs.FaultNumbers.{run_fault_number};
+    ghost use Rattle.faults.specs.Told.{of_card};
+
+    /// The fault of the card with a number, from 1, that is not valid.
+    pub fn of_card(fault: CardFault, card: u32) -> RunFault
+        ensures { result ≡ of_card fault card }
+    {
+        match fault {
+            CardFault::NotText { column } => RunFault::NotText { card, column },
+            CardFault::NotAmount { column } => RunFault::NotAmount { card, column },
+        }
+    }
 
     /// The number by which the fault is told, 3 or 41 to 43; none where memory was refused.
     pub fn number(self) -> Option<u8>

@@ -1,5 +1,6 @@
 pub mod Below
 pub mod Carries
 pub mod HelperKeys
+pub mod HubText
 pub mod Hubs
 pub mod Jacks

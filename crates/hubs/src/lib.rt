@@ -5,10 +5,14 @@
 //! between the hubs.
 #![tactic(auto)]
 
+mod carries;
 mod hub;
 mod jack;
 mod laws;
+mod text;
 
+pub use carries::{carry_into, carry_out_of, is_one_group};
 pub use hub::{Group, Hub};
 pub use jack::{JACKS, Jack};
 pub use laws::hubs_and_numbers_are_one_to_one;
+pub use text::write_hub;

@@ -1,8 +1,8 @@
 -- The legend of a chart with its plan: a group for each line that says something. A group is the line itself with its number, the
 -- sentence of its row, the form under the FORM line, and the stops, the jacks and the wires that the line asks for, as a wiring chart
 -- spells them; an empty line ends it.
-use Rattle.std.specs.Prelude.{◌≡◌, ℕ, ◌+◌, ◌-◌, List, [], ◌++◌, Some, codes, decimal, length, slice_get, slice_index_or}
-use Rattle.card_code.specs.Lines.{lines_of}
+use Rattle.std.specs.Prelude.{◌≡◌, ℕ, ◌+◌, List, [], ◌++◌, Some, codes, decimal, length, slice_get}
+use Rattle.card_code.specs.Deck.{line_at}
 use Rattle.charts.specs.declared.chart.Line.{Line}
 use Rattle.charts.specs.declared.statement.Statement.{Statement}
 use Rattle.charts.specs.declared.statement.Statement.TheVariants as says
@@ -15,13 +15,9 @@ use Rattle.wire_gen.specs.OfLine.{IsSetupOfLine}
 use Rattle.wiring_text.specs.declared.statement.Version.{Version}
 use Rattle.legend.specs.Rows.{row_of, sentence}
 
--- the line of a text with a number, from 1; an empty one past its end
-abbrev pub line_numbered : List ℕ → ℕ → List ℕ
-line_numbered text number = slice_index_or (lines_of text) (number - 1) []
-
 -- the number and the text of a line of a chart
 abbrev pub heading : List ℕ → ℕ → List ℕ
-heading source number = codes "line " ++ decimal number ++ codes ": " ++ line_numbered source number
+heading source number = codes "line " ++ decimal number ++ codes ": " ++ line_at source number
 
 -- under the FORM line the form of the tape
 abbrev pub form_part : Statement → CarriageTape → List ℕ

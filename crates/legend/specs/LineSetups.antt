@@ -2,11 +2,11 @@
 use Rattle.std.specs.Prelude.{◌≡◌, ℕ, ◌+◌, List, [], ◌∷◌, ◌++◌, Some, String, codes, decimal, if◌then◌else◌, map, nat_lt, slice_get}
 use Rattle.std.specs.String.{string_bytes}
 use Rattle.std.specs.declared.alloc.Global.{Global}
+use Rattle.card_code.specs.Deck.{line_at}
 use Rattle.charts.specs.declared.chart.Line.{Line}
 use Rattle.plans.specs.Plans.{Lists}
 use Rattle.setups.specs.Wiring.{Wiring}
 use Rattle.wire_gen.specs.OfLine.{IsSetupOfLine}
-use Rattle.legend.specs.Legend.{line_numbered}
 
 -- a byte as a character, a question mark for one that is none
 abbrev pub plain : ℕ → ℕ
@@ -18,7 +18,7 @@ place_words number = codes " (line " ++ decimal number ++ codes " of the chart)"
 
 -- the words for the line of a chart with a number
 abbrev pub line_words : List ℕ → ℕ → List ℕ
-line_words source number = map plain (line_numbered source number) ++ place_words number
+line_words source number = map plain (line_at source number) ++ place_words number
 
 -- A line of a chart has these words, and asks for what is in this setup.
 pub record IsLineSetup (lines : List Line) (plan : Lists) (source : List ℕ) (line : Line) (said : String Global × Wiring) : Type 0 where

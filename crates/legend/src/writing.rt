@@ -2,8 +2,9 @@
 
 ghost use Rattle.std.specs.Prelude.{◌≡◌, ◌++◌, ℕ, Contains, IfOk, OnOk, length, map};
 ghost use Rattle.std.specs.String.{string_bytes};
+ghost use Rattle.card_code.specs.Deck.{line_at};
 ghost use Rattle.legend.specs.Helper.{GainsGroup, IsUnder};
-ghost use Rattle.legend.specs.Legend.{IsLegend, form_part, heading, line_numbered};
+ghost use Rattle.legend.specs.Legend.{IsLegend, form_part, heading};
 ghost use Rattle.legend.specs.LineSetups.{AreLineSetups, line_words, plain};
 ghost use Rattle.plans.specs.Plans.{IsFor};
 ghost use Rattle.wire_chart.specs.WrittenText.{ended};
@@ -20,7 +21,7 @@ use wire_gen::line_setup;
 
 // The line of a text with a number, from 1; an empty one past its end.
 fn line_numbered(source: &[u8], number: u16) -> &[u8]
-    ensures { result.now ≡ line_numbered source.now number }
+    ensures { result.now ≡ line_at source.now number }
 {
     let mut rest = source;
     for passed in 0..number.saturating_sub(1) {

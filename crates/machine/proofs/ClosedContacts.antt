@@ -283,18 +283,24 @@ counter-steady group cycle (Row row) point picture (BAT name position) before = 
 counter-steady group cycle K point picture (BAT name position) before = refl
 counter-steady group cycle at point picture hub before = refl
 
+-- what keeps each latch keeps them all
+pub latches-same : (change : Counter → Counter) → ((group : Counter) → (change group).latch ≡ group.latch)
+    → (groups : List Counter) → balance_latches (map change groups) ≡ balance_latches groups
+latches-same change keeps [] = refl
+latches-same change keeps (group ∷ groups) =
+    ap (λ b. b ∷ balance_latches (map change groups)) (keeps group)
+    ∙ ap (λ bs. group.latch ∷ bs) (latches-same change keeps groups)
+
 latch-steady : (group : Counter) (cycle : Cycle) (at : Point) (picture : Hub → Bool)
     → (counter_sensed group cycle at picture).latch ≡ group.latch
 latch-steady group cycle C picture = refl
 latch-steady group cycle (Row row) picture = refl
 latch-steady group cycle K picture = refl
 
-latches-steady : (groups : List Counter) (cycle : Cycle) (at : Point) (picture : Hub → Bool)
+pub latches-steady : (groups : List Counter) (cycle : Cycle) (at : Point) (picture : Hub → Bool)
     → balance_latches (map (λ group. counter_sensed group cycle at picture) groups) ≡ balance_latches groups
-latches-steady [] cycle at picture = refl
-latches-steady (group ∷ groups) cycle at picture =
-    ap (λ b. b ∷ balance_latches (map (λ g. counter_sensed g cycle at picture) groups)) (latch-steady group cycle at picture)
-    ∙ ap (λ bs. group.latch ∷ bs) (latches-steady groups cycle at picture)
+latches-steady groups cycle at picture =
+    latches-same (λ group. counter_sensed group cycle at picture) (λ group. latch-steady group cycle at picture) groups
 
 pilots-steady : (pilots : PilotStates) (cycle : Cycle) (at point : Point) (picture : Hub → Bool) (hub : Hub)
     → pilots_closes (pilots_sensed pilots cycle at picture) cycle point hub ≡ pilots_closes pilots cycle point hub

@@ -17,6 +17,7 @@ mod Moving
 mod Parts
 mod Going
 mod KeptFeeds
+mod KeptLatches
 mod KeptPages
 mod KeptPoints
 pub mod Pictures

@@ -30,7 +30,7 @@ use Rattle.machine.specs.Fields.{AreInUnitOrder}
 use Rattle.selectors.specs.Contacts.{is_nines}
 use Rattle.machine.specs.Machine.{group_units}
 use Rattle.machine.specs.Marked.{any_marked, marked_changed}
-use Rattle.machine.specs.Rest.{AreApart, AreBusy, AreCarriesMarked, AreReadOutsMarked, AreSilent, AreToldMarked, ComeToNoNines, HaveNoMore, IsAtRest}
+use Rattle.machine.specs.Rest.{AreApart, AreBusy, AreCarriesMarked, AreReadOutsMarked, AreSilent, AreTestsMarked, AreToldMarked, ComeToNoNines, HaveNoMore, IsAtRest}
 use Rattle.machine.specs.declared.groups.Busy.{Busy}
 use Rattle.machine.proofs.ClosedContacts.{AreFrom, are_from, group_units-up, unit_of-last}
 use Rattle.machine.proofs.Marks.{IsTaken}
@@ -119,6 +119,8 @@ pub record BusyAfter (point : Point) (picture : Hub → Bool) (before after : Bu
   pub told : point ≡ C → AreToldMarked after.controlled picture
   pub unread : (k : ℕ) → is_bit after.reading_out k ≡ false → is_bit before.reading_out k ≡ false
   pub read_out : point ≡ C → AreReadOutsMarked after.reading_out picture
+  pub untested : (k : ℕ) → is_bit after.tested k ≡ false → is_bit before.tested k ≡ false
+  pub tests : point ≡ C → AreTestsMarked after.tested picture
   pub empty : (k : ℕ) → is_bit after.carried k ≡ false → is_bit before.carried k ≡ false
   pub carries : point ≡ K → AreCarriesMarked after.carried picture
 
@@ -197,6 +199,13 @@ silent-after group cycle C picture silent none = none refl
 silent-after group cycle (Row row) picture silent none = silent
 silent-after group cycle K picture silent none = silent
 
+-- one that is under no balance test is under none where it isn't told to be
+untested-after : (group : Counter) (cycle : Cycle) (point : Point) (picture : Hub → Bool) → group.controls.test ≡ false
+    → (point ≡ C → picture (BT group.name) ≡ false) → (counter_sensed group cycle point picture).controls.test ≡ false
+untested-after group cycle C picture untested none = none refl
+untested-after group cycle (Row row) picture untested none = untested
+untested-after group cycle K picture untested none = untested
+
 -- and one without a carry has none where none comes in
 empty-after : (group : Counter) (cycle : Cycle) (point : Point) (picture : Hub → Bool) → group.carry ≡ false
     → (point ≡ K → picture (CI group.name) ≡ false) → (counter_sensed group cycle point picture).carry ≡ false
@@ -218,6 +227,9 @@ after-from n k (group ∷ groups) cycle point picture before after up (is, from)
         silent = λ off.
             silent-after group cycle point picture (here.silent (goes.unread k off))
             (λ at. goes.read_out at group.name third (group_bit after.reading_out k group (is ∙ up) off));
+        untested = λ off.
+            untested-after group cycle point picture (here.untested (goes.untested k off))
+            (λ at. goes.tests at group.name third (group_bit after.tested k group (is ∙ up) off));
         empty = λ off.
             empty-after group cycle point picture (here.empty (goes.empty k off))
             (λ at. goes.carries at group.name third (group_bit after.carried k group (is ∙ up) off));
@@ -279,6 +291,7 @@ ended-from k (group ∷ groups) cycle before busy (here, others) = (
     lawful = counters-stay.ended group cycle here.lawful;
     rest = λ off. record { controls = refl; entered = refl };
     silent = λ off. refl;
+    untested = λ off. refl;
     empty = λ off. refl;
   },
   ended-from (suc k) groups cycle before busy others,
@@ -300,6 +313,7 @@ start-from k (unit ∷ units) busy (from, to, all) = (
     lawful = counters-stay.start unit (grind (arith, nat_tests, from)) (grind (arith, nat_tests, to));
     rest = λ off. record { controls = refl; entered = refl };
     silent = λ off. refl;
+    untested = λ off. refl;
     empty = λ off. refl;
   },
   start-from (suc k) units busy all,
@@ -421,6 +435,13 @@ pub read-outs-marked : (set : HubSet) (bits marks : ℕ) → ((k : ℕ) → k < 
     → AreReadOutsMarked marks (has_hub set)
 read-outs-marked set bits marks are row name from off =
     unmarked set bits marks 1332 (RO first_group) (RO name) name refl refl are row from off
+
+-- the groups that are told to be under balance test are the bits of the row from the first balance test on
+pub tests-marked : (set : HubSet) (bits marks : ℕ) → ((k : ℕ) → k < 32 → is_bit marks k ≡ is_bit bits k)
+    → ((hub : Hub) → is_in_reach (BT first_group) hub ≡ true → is_in_row (BT first_group) bits hub ≡ has_hub set hub)
+    → AreTestsMarked marks (has_hub set)
+tests-marked set bits marks are row name from off =
+    unmarked set bits marks 1364 (BT first_group) (BT name) name refl refl are row from off
 
 -- the carries that come in are the bits of the row from the first carry entry on
 pub carries-marked : (set : HubSet) (bits marks : ℕ) → ((k : ℕ) → k < 32 → is_bit marks k ≡ is_bit bits k)

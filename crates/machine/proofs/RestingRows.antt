@@ -54,6 +54,7 @@ busy-stay busy k (group ∷ groups) cycle pictures held = (
     lawful = points-stay cycle pictures (map Row rows) group held.0.lawful;
     rest = λ is. subst IsAtRest (sym (rests cycle pictures group (held.0.rest is))) (held.0.rest is);
     silent = λ is. ap (λ (g : Counter). g.controls.read_out) (rows-sensed cycle pictures rows group) ∙ held.0.silent is;
+    untested = λ is. ap (λ (g : Counter). g.controls.test) (rows-sensed cycle pictures rows group) ∙ held.0.untested is;
     empty = λ is. ap (λ (g : Counter). g.carry) (rows-sensed cycle pictures rows group) ∙ held.0.empty is;
   },
   busy-stay busy (suc k) groups cycle pictures held.1,

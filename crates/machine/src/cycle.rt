@@ -1,10 +1,9 @@
 //! A cycle of the machine: its fourteen points, and its end.
 
 ghost use Rattle.std.specs.Prelude.{◌≡◌, map};
-ghost use Rattle.machine.specs.Steady.{balance_latches};
 
 use crate::closed::Closed;
-use crate::groups::{comes_to_nines, latches, nines};
+use crate::groups::{comes_to_nines, nines};
 use crate::units::Units;
 use card_code::Row;
 use net::{Cycle, Net, POINTS, Picture, Point, RowSets};
@@ -213,7 +212,7 @@ impl Units {
     pub(crate) fn closed(&self, cycle: Cycle) -> Closed
         ensures { AreSteady cycle result self.now }
     {
-        let steady = steady_contacts(cycle, &self.pilots, &self.indicate, &latches(&self.groups));
+        let steady = steady_contacts(cycle, &self.pilots, &self.indicate, &self.latches);
         Closed {
             steady,
             digits: with_splits(steady, Point::Row(Row::Nine)),

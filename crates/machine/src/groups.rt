@@ -12,14 +12,14 @@ ghost use Rattle.net.specs.declared.cycle.Point.TheVariants.{C, K};
 ghost use Rattle.machine.specs.Fields.{AreInUnitOrder};
 ghost use Rattle.machine.specs.Machine.{group_units};
 ghost use Rattle.machine.specs.Marked.{any_marked, marked_changed};
-ghost use Rattle.machine.specs.Rest.{AreApart, AreBusy, AreCarriesMarked, AreReadOutsMarked, AreToldMarked, ComeToNoNines};
+ghost use Rattle.machine.specs.Rest.{AreApart, AreBusy, AreCarriesMarked, AreKeptBut, AreReadOutsMarked, AreTestsMarked, AreToldMarked, ComeToNoNines};
 ghost use Rattle.machine.specs.Steady.{balance_latches, carries_of, nines_of};
 
 use crate::marked::{emit_marked, end_marked, sense_marked};
 use counters::Group;
 use hubs::Hub;
 use net::{Cycle, Picture, Point};
-use selectors::GROUPS;
+use selectors::{BalanceLatches, GROUPS};
 
 // The first of the groups.
 const FIRST: hubs::Group = hubs::Group {
@@ -74,6 +74,8 @@ pub(crate) struct Busy {
     pub(crate) controlled: u64,
     // The groups that may be told to read out.
     pub(crate) reading_out: u64,
+    // The groups that may be under balance test.
+    pub(crate) tested: u64,
     // The groups into which a carry may have come.
     pub(crate) carried: u64,
 }
@@ -83,17 +85,19 @@ impl Busy {
     ghost use Rattle.net.specs.Cycles.{is_closing};
     ghost use Rattle.net.specs.HubSets.{has_hub, is_bit};
     ghost use Rattle.net.specs.declared.cycle.Point.TheVariants.{C, K};
-    ghost use Rattle.machine.specs.Rest.{AreCarriesMarked, AreReadOutsMarked, AreToldMarked};
+    ghost use Rattle.machine.specs.Rest.{AreCarriesMarked, AreReadOutsMarked, AreTestsMarked, AreToldMarked};
 
     // No group is told anything, and no carry came in.
     pub(crate) fn none() -> Self
         ensures controlled { result.controlled ≡ 0 }
         ensures reading_out { result.reading_out ≡ 0 }
+        ensures tested { result.tested ≡ 0 }
         ensures carried { result.carried ≡ 0 }
     {
         Busy {
             controlled: 0,
             reading_out: 0,
+            tested: 0,
             carried: 0,
         }
     }
@@ -104,6 +108,8 @@ impl Busy {
         ensures told { point ≡ C → AreToldMarked result.controlled (has_hub picture.now) }
         ensures unread { (k : ℕ) → is_bit result.reading_out k ≡ false → is_bit self.reading_out k ≡ false }
         ensures read_out { point ≡ C → AreReadOutsMarked result.reading_out (has_hub picture.now) }
+        ensures untested { (k : ℕ) → is_bit result.tested k ≡ false → is_bit self.tested k ≡ false }
+        ensures tests { point ≡ C → AreTestsMarked result.tested (has_hub picture.now) }
         ensures empty { (k : ℕ) → is_bit result.carried k ≡ false → is_bit self.carried k ≡ false }
         ensures carries { point ≡ K → AreCarriesMarked result.carried (has_hub picture.now) }
     {
@@ -111,12 +117,14 @@ impl Busy {
             Point::C => Busy {
                 controlled: self.controlled | told(picture),
                 reading_out: self.reading_out | read_outs(picture),
+                tested: self.tested | tests(picture),
                 carried: self.carried,
             },
             Point::Row(_) => self,
             Point::K => Busy {
                 controlled: self.controlled,
                 reading_out: self.reading_out,
+                tested: self.tested,
                 carried: self.carried | carries(picture),
             },
         }
@@ -270,6 +278,13 @@ fn read_outs(picture: &Picture) -> u64
     low_bits(picture.row(Hub::RO(FIRST)))
 }
 
+// The groups of which the balance test is impulsed.
+fn tests(picture: &Picture) -> u64
+    ensures { AreTestsMarked result (has_hub picture.now) }
+{
+    low_bits(picture.row(Hub::BT(FIRST)))
+}
+
 // The groups of which the carry entry is impulsed.
 fn carries(picture: &Picture) -> u64
     ensures { AreCarriesMarked result (has_hub picture.now) }
@@ -306,15 +321,19 @@ fn meets_nines(groups: &[Group; GROUPS], bits: u64) -> bool
     false
 }
 
-// The balance latches of the counter groups.
-pub(crate) fn latches(groups: &[Group; GROUPS]) -> [bool; GROUPS]
-    ensures { result ≡ balance_latches groups.now }
+// Keeps the balance latches of the marked groups, where those of the others are kept.
+pub(crate) fn keep_latches(groups: &[Group; GROUPS], marks: u64, latches: &mut BalanceLatches)
+    requires { AreKeptBut marks latches.old groups.now }
+    ensures { latches.new ≡ balance_latches groups.now }
 {
-    let mut latches = [false; GROUPS];
-    for place in 0..GROUPS {
-        latches[place] = groups[place].latch();
+    let mut left = marks;
+    while left != 0 {
+        let place = left.trailing_zeros() as usize;
+        left &= !(1 << place);
+        if place < GROUPS {
+            latches.set(place, groups[place].latch());
+        }
     }
-    latches
 }
 
 // Which counter groups stand at nines.

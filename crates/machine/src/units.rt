@@ -1,7 +1,7 @@
 //! The units of a machine.
 
 use crate::group_rows::{emit_group_rows, sense_group_rows};
-use crate::groups::{Busy, emit_groups, end_groups, groups, sense_groups};
+use crate::groups::{Busy, emit_groups, end_groups, groups, keep_latches, sense_groups};
 use crate::rows::end_all;
 use crate::storage_rows::{emit_storage, emit_storage_rows, sense_storage, sense_storage_rows};
 use carriage::Carriage;
@@ -9,7 +9,7 @@ use counters::Group;
 use net::{Cycle, Picture, Point, RowSets, Unit};
 use print_unit::{Emitters, Wheels};
 use program_unit::Program;
-use selectors::{GROUPS, Indicate, Pilots, Splits};
+use selectors::{BalanceLatches, GROUPS, Indicate, Pilots, Splits};
 use setups::Setup;
 use stations::{Comparing, Stations};
 use std::marker::Model;
@@ -36,6 +36,8 @@ pub(crate) struct Units {
     pub(crate) program: Program,
     // What the counter groups may have to do in the cycle that runs.
     busy: Busy,
+    // Their balance latches once more, as the contacts that they close.
+    pub(crate) latches: BalanceLatches,
 }
 
 impl Model for Units {
@@ -79,6 +81,7 @@ impl Units {
             carriage: Carriage::new(setup),
             program: Program::new(setup),
             busy: Busy::none(),
+            latches: BalanceLatches::of(&[false; GROUPS]),
         }
     }
 
@@ -136,6 +139,7 @@ impl Units {
     {
         self.comparing.end_cycle(cycle);
         end_groups(&mut self.groups, self.busy, cycle);
+        keep_latches(&self.groups, self.busy.tested, &mut self.latches);
         self.busy = Busy::none();
         end_all(&mut self.storage, cycle);
         self.pilots.end_cycle(cycle);

@@ -8,7 +8,6 @@ pub mod Taking
 pub mod Opening
 pub mod Deck
 pub mod Following
-pub mod Fields
 pub mod Digits
 pub mod Numbering
 pub mod Pending

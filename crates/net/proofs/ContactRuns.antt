@@ -1,5 +1,5 @@
 -- Runs of contacts: which of them are closed, what eight of them pass on at once, and a run eight by eight.
-use Rattle.std.proofs.Common.{⊎_elim, ◌≡◌, ◌∙◌, ◌⊎◌, inl, inr, ℕ, zero, suc, ◌+◌, ◌-◌, ◌*◌, ◌/◌, ◌%◌, ◌^◌, ◌<◌, ◌≤◌, ◌&&◌, ◌||◌, not, Bool, true, false, cond, eqb, List, [], ◌∷◌, ◌++◌, All, sym, ap, refl, subst, arith, length, take, drop, slice_index_or, bit_and, bit_or, min}
+use Rattle.std.proofs.Common.{⊎_elim, ◌≡◌, ◌∙◌, ◌⊎◌, inl, inr, ℕ, zero, suc, ◌+◌, ◌-◌, ◌*◌, ◌/◌, ◌%◌, ◌^◌, ◌<◌, ◌≤◌, ◌&&◌, ◌||◌, not, Bool, true, false, cond, eqb, List, [], ◌∷◌, ◌++◌, All, sym, ap, refl, subst, arith, length, take, drop, slice_index_or, bit_and, bit_or}
 use Rattle.std.specs.Prelude.{◌==◌, nat_le, nat_lt}
 use Rattle.std.specs.List.{list_any}
 use Rattle.std.proofs.Math.Bool.{or-false}
@@ -14,26 +14,27 @@ use Rattle.std.proofs.lemmas.Grind.{take_at_read}
 use Rattle.std.proofs.lemmas.List.Folds.{list_any-append}
 use Rattle.std.proofs.lemmas.List.{take_all, get_or_append_left, get_or-append-add, get_or-drop, get_or_past, get_or-take, length-drop, length-take-le}
 use Rattle.std.proofs.lemmas.Simd.{get_or-put_chunk_above, get_or-put_chunk_at, get_or-zip2, length-put_chunk, length-zip2}
-use Rattle.net.specs.Links.{HasEntriesOf, has_at}
+use Rattle.net.specs.Links.{HasEntriesOf, HasRoom, IsEight, has_at}
 use Rattle.std.proofs.lemmas.List.Elements.{All-head, All-tail}
 use Rattle.bit_sets.specs.Contacts.{is_any_contact, is_contact}
 use Rattle.bit_sets.specs.declared.contacts.Run.{Run}
-use Rattle.net.specs.Passing.{HasRoom, IsRunPassed, RunsPass, SameSets, first_eight, is_closed_at, is_passed_in, rest_of}
+use Rattle.net.specs.Passing.{IsRunPassed, RunsPass, SameSets, is_closed_at, is_passed_in}
 use Rattle.net.proofs.PassLemmas.{closed-by}
 use Rattle.bit_sets.proofs.BitLemmas.{is_bit-above, is_bit-and, is_bit-low, is_bit-ones, is_bit-or, is_bit-shl, is_bit-shr, is_bit-zero}
 use Rattle.bit_sets.specs.Bits.{has_place, is_bit}
 
 -- a row of ones, as it is made of a power
-pub ones : (count k : ℕ) → count < 8 → is_bit (1 * 2 ^ count % 2 ^ 128 - 1) k ≡ nat_lt k count
-ones zero k low = is_bit-ones 0 k
-ones (suc zero) k low = is_bit-ones 1 k
-ones (suc (suc zero)) k low = is_bit-ones 2 k
-ones (suc (suc (suc zero))) k low = is_bit-ones 3 k
-ones (suc (suc (suc (suc zero)))) k low = is_bit-ones 4 k
-ones (suc (suc (suc (suc (suc zero))))) k low = is_bit-ones 5 k
-ones (suc (suc (suc (suc (suc (suc zero)))))) k low = is_bit-ones 6 k
-ones (suc (suc (suc (suc (suc (suc (suc zero))))))) k low = is_bit-ones 7 k
-ones (suc (suc (suc (suc (suc (suc (suc (suc count)))))))) k low = absurd (omega (arith, low))
+pub ones : (count k : ℕ) → count ≤ 8 → is_bit (1 * 2 ^ count % 2 ^ 128 - 1) k ≡ nat_lt k count
+ones zero k few = is_bit-ones 0 k
+ones (suc zero) k few = is_bit-ones 1 k
+ones (suc (suc zero)) k few = is_bit-ones 2 k
+ones (suc (suc (suc zero))) k few = is_bit-ones 3 k
+ones (suc (suc (suc (suc zero)))) k few = is_bit-ones 4 k
+ones (suc (suc (suc (suc (suc zero))))) k few = is_bit-ones 5 k
+ones (suc (suc (suc (suc (suc (suc zero)))))) k few = is_bit-ones 6 k
+ones (suc (suc (suc (suc (suc (suc (suc zero))))))) k few = is_bit-ones 7 k
+ones (suc (suc (suc (suc (suc (suc (suc (suc zero)))))))) k few = is_bit-ones 8 k
+ones (suc (suc (suc (suc (suc (suc (suc (suc (suc count))))))))) k few = absurd (omega (arith, few))
 
 -- two words, the second one behind the first
 pub words-joined : (low high k : ℕ) → k < 128 → is_bit (bit_or low (high * 2 ^ 64 % 2 ^ 128)) k ≡ (is_bit low k || (nat_le 64 k && is_bit high (k - 64)))
@@ -258,15 +259,15 @@ module _ (sets rows : List ℕ) (first place row : ℕ) (long : length sets ≡ 
   pub eight-gained : is_bit (at place) row ≡ (has_at sets place row || gains)
   eight-gained = ⊎_elim before (λ from. ⊎_elim (there from) (behind from) (cases_lt (place - first) 8)) (cases_lt place first)
 
--- what eight contacts pass on at once is what the first eight of their run pass on
-module _ (digits zones sets near closed : List ℕ) (run : Run) (room : HasRoom run) (long : length sets ≡ 1936)
+-- what is passed on at once is what the contacts of an eight pass on
+module _ (digits zones sets near closed : List ℕ) (run : Run) (eight : IsEight run) (long : length sets ≡ 1936)
     (read : near ≡ take 8 (drop run.common sets)) (is_closed : length closed ≡ 8)
     (rows : (k row : ℕ) → k < 8 → is_bit (slice_index_or closed k 0) row ≡ (nat_lt k run.count && is_closed_at digits zones row (run.exits + k))) where
   pub near-eight : length near ≡ 8
   near-eight =
       ap (λ (l : List ℕ). length l) read
       ∙ length-take-le 8 (drop run.common sets)
-      (let l = length-drop run.common sets in let high = room.high in omega (arith, l, long, high))
+      (let l = length-drop run.common sets in let high = eight.room.high in omega (arith, l, long, high))
 
   near-read : (k row : ℕ) → k < 8 → is_bit (slice_index_or near k 0) row ≡ has_at sets (run.common + k) row
   near-read k row low =
@@ -277,13 +278,13 @@ module _ (digits zones sets near closed : List ℕ) (run : Run) (room : HasRoom 
   passed-lane : (place row : ℕ)
       → (nat_le run.exits place
       && (nat_lt (place - run.exits) 8 && is_bit (slice_index_or (zip2 bit_and near closed) (place - run.exits) 0) row))
-      ≡ is_passed_in digits zones sets place row (first_eight run)
+      ≡ is_passed_in digits zones sets place row run
   passed-lane place row = by (cases_lt place run.exits)
     where
       by : (place < run.exits) ⊎ (run.exits ≤ place)
           → (nat_le run.exits place
           && (nat_lt (place - run.exits) 8 && is_bit (slice_index_or (zip2 bit_and near closed) (place - run.exits) 0) row))
-          ≡ is_passed_in digits zones sets place row (first_eight run)
+          ≡ is_passed_in digits zones sets place row run
       by (inl before) = let no : nat_le run.exits place ≡ false = grind (arith, nat_tests, before) in rw no refl
       by (inr from) = inside (cases_lt (place - run.exits) 8)
         where
@@ -293,7 +294,7 @@ module _ (digits zones sets near closed : List ℕ) (run : Run) (room : HasRoom 
           inside : (place - run.exits < 8) ⊎ (8 ≤ place - run.exits)
               → (nat_le run.exits place
               && (nat_lt (place - run.exits) 8 && is_bit (slice_index_or (zip2 bit_and near closed) (place - run.exits) 0) row))
-              ≡ is_passed_in digits zones sets place row (first_eight run)
+              ≡ is_passed_in digits zones sets place row run
           inside (inl low) =
               let lane =
               lane-common near closed (place - run.exits) row near-eight is_closed low
@@ -305,11 +306,11 @@ module _ (digits zones sets near closed : List ℕ) (run : Run) (room : HasRoom 
               (is_closed_at digits zones row place) low)
             where
               least : (a : Bool) (k count : ℕ) (b c : Bool) → k < 8
-                  → (a && (nat_lt k 8 && (b && (nat_lt k count && c)))) ≡ (a && (nat_lt k (min 8 count) && (b && c)))
+                  → (a && (nat_lt k 8 && (b && (nat_lt k count && c)))) ≡ (a && (nat_lt k count && (b && c)))
               least a k count b c less = grind (arith, nat_tests, less)
           inside (inr high) =
               let no : nat_lt (place - run.exits) 8 ≡ false = grind (arith, nat_tests, high) in
-              let none : nat_lt (place - run.exits) (min 8 run.count) ≡ false = grind (arith, nat_tests, high) in
+              let none : nat_lt (place - run.exits) run.count ≡ false = let few = eight.few in grind (arith, nat_tests, high, few) in
               rw (no, none) refl
 
   -- the sets that gain it
@@ -318,7 +319,7 @@ module _ (digits zones sets near closed : List ℕ) (run : Run) (room : HasRoom 
       ≡ (has_at sets place row
       || (nat_le run.exits place
       && (nat_lt (place - run.exits) 8 && is_bit (slice_index_or (zip2 bit_and near closed) (place - run.exits) 0) row))))
-      → IsRunPassed digits zones (first_eight run) sets new
+      → IsRunPassed digits zones run sets new
   eight-passed new gains place row = gains place row ∙ ap (λ b. has_at sets place row || b) (passed-lane place row)
 
   -- where no contact passes any on nothing is gained
@@ -356,24 +357,24 @@ module _ (digits zones sets near closed : List ℕ) (run : Run) (room : HasRoom 
           no-and a b = grind (arith, nat_tests)
 
 -- where none of the near ends has a row nothing is passed on
-pub idle-passed : (digits zones sets near : List ℕ) (run : Run) → HasRoom run → length sets ≡ 1936 → near ≡ take 8 (drop run.common sets)
-    → ((k row : ℕ) → k < 8 → is_bit (slice_index_or near k 0) row ≡ false) → IsRunPassed digits zones (first_eight run) sets sets
-idle-passed digits zones sets near run room long read none place row =
+pub idle-passed : (digits zones sets near : List ℕ) (run : Run) → IsEight run → length sets ≡ 1936 → near ≡ take 8 (drop run.common sets)
+    → ((k row : ℕ) → k < 8 → is_bit (slice_index_or near k 0) row ≡ false) → IsRunPassed digits zones run sets sets
+idle-passed digits zones sets near run eight long read none place row =
     sym (ap (λ b. has_at sets place row || b) (by (cases_lt (place - run.exits) 8)) ∙ or-false (has_at sets place row))
   where
-    by : (place - run.exits < 8) ⊎ (8 ≤ place - run.exits) → is_passed_in digits zones sets place row (first_eight run) ≡ false
+    by : (place - run.exits < 8) ⊎ (8 ≤ place - run.exits) → is_passed_in digits zones sets place row run ≡ false
     by (inl low) =
         let silent : has_at sets (run.common + (place - run.exits)) row ≡ false =
         sym (ap (λ (l : List ℕ). is_bit (slice_index_or l (place - run.exits) 0) row) read
         ∙ ap (λ (w : ℕ). is_bit w row) (get_or-take 8 (drop run.common sets) (place - run.exits) 0 low ∙ get_or-drop run.common sets (place - run.exits) 0))
         ∙ none (place - run.exits) row low in
-        ap (λ b. nat_le run.exits place && (nat_lt (place - run.exits) (min 8 run.count) && (b && is_closed_at digits zones row place))) silent
-        ∙ nothing (nat_le run.exits place) (nat_lt (place - run.exits) (min 8 run.count))
+        ap (λ b. nat_le run.exits place && (nat_lt (place - run.exits) run.count && (b && is_closed_at digits zones row place))) silent
+        ∙ nothing (nat_le run.exits place) (nat_lt (place - run.exits) run.count)
       where
         nothing : (a b : Bool) → (a && (b && false)) ≡ false
         nothing a b = grind (arith, nat_tests)
     by (inr high) =
-        let no : nat_lt (place - run.exits) (min 8 run.count) ≡ false = grind (arith, nat_tests, high) in
+        let no : nat_lt (place - run.exits) run.count ≡ false = let few = eight.few in grind (arith, nat_tests, high, few) in
         ap (λ b. nat_le run.exits place && (b && (has_at sets (run.common + (place - run.exits)) row && is_closed_at digits zones row place))) no
         ∙ nothing (nat_le run.exits place)
       where
@@ -384,15 +385,6 @@ idle-passed digits zones sets near run room long read none place row =
 pub shut : (test : Bool) → not test ≡ false → test ≡ true
 shut true is = refl
 shut false is = cc
-
--- before any contact of a run nothing is passed on
-pub run-none : (digits zones sets : List ℕ) (run : Run) → IsRunPassed digits zones (record run { count = min 0 run.count }) sets sets
-run-none digits zones sets run place row =
-    by (has_at sets place row) (nat_le run.exits place) (place - run.exits) run.count
-    (has_at sets (run.common + (place - run.exits)) row && is_closed_at digits zones row place)
-  where
-    by : (a b : Bool) (k count : ℕ) (c : Bool) → a ≡ (a || (b && (nat_lt k (min 0 count) && c)))
-    by a b k count c = grind (arith, nat_tests)
 
 -- entries gain nothing from contacts
 pub run-entries : (digits zones old new : List ℕ) (run : Run) → run.exits + run.count ≤ 1040 → IsRunPassed digits zones run old new
@@ -405,53 +397,6 @@ run-entries digits zones old new run low passed place row high =
     by : (a b : Bool) (exits count place : ℕ) (c : Bool) → exits + count ≤ 1040 → 1040 ≤ place
         → (a || (b && (nat_lt (place - exits) count && c))) ≡ a
     by a b exits count place c low high = grind (arith, nat_tests, low, high)
-
--- eight contacts more have passed on their rows
-pub run-more : (digits zones first old new : List ℕ) (run : Run) (from : ℕ) → HasRoom run → from < run.count → HasEntriesOf first old
-    → IsRunPassed digits zones (record run { count = min from run.count }) first old
-    → IsRunPassed digits zones (first_eight (rest_of run from)) old new
-    → IsRunPassed digits zones (record run { count = min (from + 8) run.count }) first new
-run-more digits zones first old new run from room low entries before passed place row =
-    passed place row
-    ∙ ap (λ b. b || is_passed_in digits zones old place row (first_eight (rest_of run from))) (before place row)
-    ∙ by (cases_lt place (run.exits + from))
-  where
-    by : (place < run.exits + from) ⊎ (run.exits + from ≤ place)
-        → ((has_at first place row || is_passed_in digits zones first place row (record run { count = min from run.count }))
-        || is_passed_in digits zones old place row (first_eight (rest_of run from)))
-        ≡ (has_at first place row || is_passed_in digits zones first place row (record run { count = min (from + 8) run.count }))
-    by (inl less) =
-        sooner (has_at first place row) run.exits from run.count place (has_at first (run.common + (place - run.exits)) row && is_closed_at digits zones row place)
-        (has_at old (run.common + from + (place - (run.exits + from))) row && is_closed_at digits zones row place) less
-      where
-        sooner : (a : Bool) (exits from count place : ℕ) (b c : Bool) → place < exits + from
-            → ((a || (nat_le exits place && (nat_lt (place - exits) (min from count) && b)))
-            || (nat_le (exits + from) place && (nat_lt (place - (exits + from)) (min 8 (count - from)) && c)))
-            ≡ (a || (nat_le exits place && (nat_lt (place - exits) (min (from + 8) count) && b)))
-        sooner a exits from count place b c less = grind (arith, nat_tests, less)
-    by (inr more) =
-        let index : run.common + from + (place - (run.exits + from)) ≡ run.common + (place - run.exits) = omega (arith, more) in
-        let high : 1040 ≤ run.common + (place - run.exits) = let r = room.from in omega (arith, r) in
-        ap (λ b. (has_at first place row || is_passed_in digits zones first place row (record run { count = min from run.count }))
-        || (nat_le (run.exits + from) place && (nat_lt (place - (run.exits + from)) (min 8 (run.count - from)) && (b && is_closed_at digits zones row place))))
-        (ap (λ (p : ℕ). has_at old p row) index ∙ entries (run.common + (place - run.exits)) row high)
-        ∙ later (has_at first place row) run.exits from run.count place (has_at first (run.common + (place - run.exits)) row)
-        (is_closed_at digits zones row place) more low
-      where
-        later : (a : Bool) (exits from count place : ℕ) (b c : Bool) → exits + from ≤ place → from < count
-            → ((a || (nat_le exits place && (nat_lt (place - exits) (min from count) && (b && c))))
-            || (nat_le (exits + from) place && (nat_lt (place - (exits + from)) (min 8 (count - from)) && (b && c))))
-            ≡ (a || (nat_le exits place && (nat_lt (place - exits) (min (from + 8) count) && (b && c))))
-        later a exits from count place b c more low = grind (arith, nat_tests, more, low)
-
--- all contacts of a run
-pub run-all : (digits zones old new : List ℕ) (run : Run) (from : ℕ) → run.count ≤ from
-    → IsRunPassed digits zones (record run { count = min from run.count }) old new → IsRunPassed digits zones run old new
-run-all digits zones old new run from end passed place row =
-    passed place row
-    ∙ ap (λ (n : ℕ). has_at old place row
-    || (nat_le run.exits place && (nat_lt (place - run.exits) n && (has_at old (run.common + (place - run.exits)) row && is_closed_at digits zones row place))))
-    (let least : min from run.count ≡ run.count = omega (arith, end) in least)
 
 -- before any run nothing is passed on
 pub runs-none : (digits zones sets : List ℕ) → RunsPass digits zones [] sets sets
@@ -487,12 +432,6 @@ pub runs-all : (digits zones old new : List ℕ) (runs : List Run) (i : ℕ) →
     → RunsPass digits zones runs old new
 runs-all digits zones old new runs i end passed =
     subst (λ (rs : List Run). RunsPass digits zones rs old new) (take_all i runs end) passed
-
--- entries gain nothing from the first eight contacts of what is left of a run
-pub rest-entries : (digits zones old new : List ℕ) (run : Run) (from : ℕ) → HasRoom run → from < run.count
-    → IsRunPassed digits zones (first_eight (rest_of run from)) old new → HasEntriesOf old new
-rest-entries digits zones old new run from room low passed =
-    run-entries digits zones old new (first_eight (rest_of run from)) (let to = room.to in omega (arith, to, low)) passed
 
 -- a contact of the runs that passes a row on to a place leads there, from one that has the row
 pub run-found : (digits zones sets : List ℕ) (runs : List Run) (place row : ℕ) → All HasRoom runs

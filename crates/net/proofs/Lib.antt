@@ -13,7 +13,13 @@ pub mod SetLemmas
 pub mod DirectWires
 pub mod PassLemmas
 pub mod ContactRuns
+pub mod Eights
 pub mod PassedRows
 pub mod PassedHubs
 pub mod WiredPictures
 pub mod BlockLemmas
+pub mod RibbonLemmas
+pub mod Touched
+pub mod BundleLemmas
+pub mod BankLemmas
+pub mod AlikeWires

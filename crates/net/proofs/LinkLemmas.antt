@@ -1,5 +1,5 @@
 -- Sets of rows spread along links: one link after another, and what comes of all of them by the wires of a setup.
-use Rattle.std.proofs.Common.{⊎_elim, ◌≡◌, ◌≢◌, ℕ, zero, suc, ◌+◌, ◌-◌, ◌/◌, ◌<◌, ◌≤◌, ◌&&◌, ◌||◌, Bool, true, false, List, [], ◌∷◌, ◌++◌, Option, Some, None, All, ◌↔◌, inl, inr, sym, ap, ◌∙◌, refl, subst, arith, length, take, slice_index_or, slice_set}
+use Rattle.std.proofs.Common.{⊎_elim, ◌≡◌, ◌≢◌, ℕ, ◌+◌, ◌-◌, ◌<◌, ◌≤◌, ◌&&◌, ◌||◌, Bool, true, false, List, [], ◌∷◌, ◌++◌, Option, Some, None, All, ◌↔◌, inl, inr, sym, ap, ◌∙◌, refl, subst, arith, length, take, slice_index_or, slice_set}
 use Rattle.std.specs.Prelude.{◌==◌, is_some}
 use Rattle.std.specs.Int.Bits.{bit_or}
 use Rattle.std.proofs.Math.Bool.{or-false}
@@ -17,7 +17,7 @@ use Rattle.bit_sets.proofs.BitLemmas.{is_bit-or}
 use Rattle.bit_sets.specs.Bits.{is_bit}
 use Rattle.bit_sets.specs.Rows.{leads}
 use Rattle.net.specs.Laws.{EmitsOrIsFed}
-use Rattle.net.specs.Links.{IsFollowed, IsInRange, IsSkip, Spreads, has_at, has_at_number, has_row_at, is_fed_at, is_linked}
+use Rattle.net.specs.Links.{IsFollowed, IsInRange, Spreads, has_at, has_at_number, has_row_at, is_fed_at, is_linked}
 use Rattle.net.specs.Nets.{IsNetOf, NetRows, leads_by}
 use Rattle.net.specs.declared.links.Link.{Link}
 
@@ -198,33 +198,3 @@ pub spread-fed : (wiring : Wiring) (net : NetRows) (links : List Link) (old new 
     → (row : ℕ) (hub : Hub) → (has_row_at new row hub ≡ true) ↔ EmitsOrIsFed wiring (has_row_at old row) hub
 spread-fed wiring net links old new is_net range agree spreads row hub =
     row-fed wiring net links old new row is_net range agree (λ place. spreads place row) hub
-
--- a link whose near end has no row is followed by nothing
-not-followed : (link : Link) (sets : List ℕ) → ((row : ℕ) → has_at sets link.from row ≡ false) → IsFollowed link sets sets
-not-followed link sets none place row =
-    sym
-    (ap (λ b. has_at sets place row || ((link.to == place) && b)) (none row)
-    ∙ nothing (has_at sets place row) (link.to == place))
-  where
-    nothing : (a b : Bool) → (a || (b && false)) ≡ a
-    nothing a b = grind (arith, nat_tests)
-
--- links from a block of places that have no row are passed over
-pub Spreads-past : (links : List Link) (place end : ℕ) (d : Link) (first now : List ℕ) → All IsInRange links → IsSkip links place end
-    → ((other row : ℕ) → other / 16 ≡ (slice_index_or links place d).from / 16 → has_at now other row ≡ false)
-    → ((p row : ℕ) → p < 1040 → has_at now p row ≡ has_at first p row)
-    → Spreads (take place links) first now → Spreads (take end links) first now
-Spreads-past links place end d first now range skip none exits before =
-    subst (λ (e : ℕ). Spreads (take e links) first now) (let less = skip.on in omega (arith, less)) (by (end - place) (omega arith))
-  where
-    by : (count : ℕ) → place + count ≤ end → Spreads (take (place + count) links) first now
-    by zero low = subst (λ (e : ℕ). Spreads (take e links) first now) (let sum : place ≡ place + 0 = omega arith in sum) before
-    by (suc count) low =
-        let inside : place + count < length links = let within = skip.within in omega (arith, low, within) in
-        let link = slice_index_or links (place + count) d in
-        let silent : (row : ℕ) → has_at now link.from row ≡ false =
-        λ row. none link.from row (skip.alike (place + count) d (omega arith) (omega (arith, low))) in
-        let sum : place + count + 1 ≡ place + suc count = omega arith in
-        subst (λ (e : ℕ). Spreads (take e links) first now) sum
-        (Spreads-more links (place + count) d link first now now inside refl (range (place + count) d inside) exits
-        (by count (omega (arith, low))) (not-followed link now silent))

@@ -175,6 +175,17 @@ neither true b none = cc
 pub not-other : (one other : ℕ) → not (one == other) ≡ false → one ≡ other
 not-other one other none = grind (arith, nat_tests, none)
 
+-- the contacts of one run more
+pub any-appended : (runs : List Run) (run : Run) (from to : ℕ)
+    → is_any_contact (runs ++ run ∷ []) from to ≡ (is_any_contact runs from to || is_contact run from to)
+any-appended [] run from to = or-false (is_contact run from to)
+any-appended (first ∷ runs) run from to =
+    ap (λ b. is_contact first from to || b) (any-appended runs run from to)
+    ∙ along (is_contact first from to) (is_any_contact runs from to) (is_contact run from to)
+  where
+    along : (a b c : Bool) → (a || (b || c)) ≡ ((a || b) || c)
+    along a b c = grind (arith, nat_tests)
+
 -- one run of contacts more is added
 pub contacts-more : (runs : List Run) (i : ℕ) (d run : Run) (links first old new : List Link) → i < length runs
     → slice_index_or runs i d ≡ run → AddsContacts (is_any_contact (take i runs)) links first old
@@ -184,7 +195,7 @@ contacts-more runs i d run links first old new inside is before added from to =
     ∙ ap (λ b. b || (is_contact run from to && is_led_to links from)) (before from to)
     ∙ shift (is_linked first from to) (is_any_contact (take i runs) from to) (is_contact run from to) (is_led_to links from)
     ∙ ap (λ b. is_linked first from to || (b && is_led_to links from))
-    (sym (ap (λ (rs : List Run). is_any_contact rs from to) more ∙ any-append (take i runs)))
+    (sym (ap (λ (rs : List Run). is_any_contact rs from to) more ∙ any-appended (take i runs) run from to))
   where
     shift : (a b c d : Bool) → ((a || (b && d)) || (c && d)) ≡ (a || ((b || c) && d))
     shift a b c d = grind (arith, nat_tests)
@@ -192,51 +203,7 @@ contacts-more runs i d run links first old new inside is before added from to =
     more : take (i + 1) runs ≡ take i runs ++ run ∷ []
     more = (take_at_read runs i d inside).1 ∙ ap (λ (r : Run). take i runs ++ r ∷ []) is
 
-    any-append : (rs : List Run) → is_any_contact (rs ++ run ∷ []) from to ≡ (is_any_contact rs from to || is_contact run from to)
-    any-append [] = or-false (is_contact run from to)
-    any-append (r ∷ rs) = ap (λ b. is_contact r from to || b) (any-append rs) ∙ along (is_contact r from to) (is_any_contact rs from to) (is_contact run from to)
-      where
-        along : (a b c : Bool) → (a || (b || c)) ≡ ((a || b) || c)
-        along a b c = grind (arith, nat_tests)
-
--- a contact that passes a row on to a place leads there, from one that has the row
-pub passed-found : (digits zones sets : List ℕ) (contacts : List Link) (place row : ℕ) → All IsPassing contacts
-    → list_any (is_passed_by digits zones sets place row) contacts ≡ true
-    → (from : ℕ) × (from < 1936) × (place < 1040) × (is_linked contacts from place ≡ true) × (has_at sets from row ≡ true)
-    × (is_closed_at digits zones row place ≡ true)
-passed-found digits zones sets [] place row range passed = absurd (false≢true passed)
-passed-found digits zones sets (contact ∷ contacts) place row range passed =
-    ⊎_elim here (λ at. there (passed-found digits zones sets contacts place row (All-tail IsPassing contact contacts range) at))
-    (or_cases (is_passed_by digits zones sets place row contact) (list_any (is_passed_by digits zones sets place row) contacts) passed) where
-      here : is_passed_by digits zones sets place row contact ≡ true
-          → (from : ℕ) × (from < 1936) × (place < 1040) × (is_linked (contact ∷ contacts) from place ≡ true) × (has_at sets from row ≡ true)
-          × (is_closed_at digits zones row place ≡ true)
-      here at =
-          let both = and_parts (contact.to == place) (has_at sets contact.from row && is_closed_at digits zones row contact.to) at in
-          let on = and_parts (has_at sets contact.from row) (is_closed_at digits zones row contact.to) both.1 in
-          let is = All-head IsPassing contact contacts range in
-          let same : contact.to ≡ place = equal contact.to place both.0 in (
-            contact.from,
-            is.high,
-            subst (λ (p : ℕ). p < 1040) same is.to,
-            or_left _ _ (linked contact.from contact.to place both.0),
-            on.0,
-            ap (λ (p : ℕ). is_closed_at digits zones row p) (sym same) ∙ on.1,
-          ) where
-            equal : (m n : ℕ) → (m == n) ≡ true → m ≡ n
-            equal m n e = grind (arith, nat_tests, e)
-
-            linked : (from to place : ℕ) → (to == place) ≡ true → ((from == from) && (place == to)) ≡ true
-            linked from to place e = grind (arith, nat_tests, e)
-
-      there : (from : ℕ) × (from < 1936) × (place < 1040) × (is_linked contacts from place ≡ true) × (has_at sets from row ≡ true)
-          × (is_closed_at digits zones row place ≡ true)
-          → (from : ℕ) × (from < 1936) × (place < 1040) × (is_linked (contact ∷ contacts) from place ≡ true) × (has_at sets from row ≡ true)
-          × (is_closed_at digits zones row place ≡ true)
-      there found =
-          (found.0, found.1, found.2, or_right ((found.0 == contact.from) && (place == contact.to)) _ found.3, found.4, found.5)
-
--- and each such contact passes it on
+-- a contact that is closed at a row passes it on from a place that has it
 pub passed-from : (digits zones sets : List ℕ) (contacts : List Link) (from place row : ℕ) → is_linked contacts from place ≡ true
     → has_at sets from row ≡ true → is_closed_at digits zones row place ≡ true
     → list_any (is_passed_by digits zones sets place row) contacts ≡ true

@@ -11,14 +11,15 @@ use Rattle.hubs.specs.Hubs.{number_of}
 use Rattle.hubs.specs.declared.hub.Hub.{Hub}
 use Rattle.setups.specs.Wiring.{HasWire, Wiring}
 use Rattle.bit_sets.specs.Contacts.{is_any_contact}
+use Rattle.bit_sets.specs.declared.contacts.Run.{Run}
 use Rattle.bit_sets.specs.Rows.{leads}
 use Rattle.net.specs.HubSets.{HubSet, has_number}
 use Rattle.net.specs.Laws.{EmitsOrIsFed}
 use Rattle.net.proofs.LinkLemmas.{fed-found, fed-from, row-fed}
-use Rattle.net.specs.Links.{IsInRange, IsPassing, Spreads, is_fed_at, has_at, has_at_number, has_row_at, is_led_to, is_linked}
+use Rattle.net.specs.Links.{AreEights, HasRoom, IsEight, IsInRange, IsPassing, Spreads, is_fed_at, has_at, has_at_number, has_row_at, is_led_to, is_linked}
 use Rattle.net.specs.Nets.{IsNetOf, NetRows, leads_by}
 use Rattle.net.specs.Panel.{contact_of}
-use Rattle.net.specs.Passing.{AreContactsSilent, HasRoom, IsPassedOn, Passes, PassesBehind, PassesOn, RunsPass, SpreadsOn, SpreadsRows, closes_at_row, is_closed_at, is_passed_in}
+use Rattle.net.specs.Passing.{AreContactsSilent, IsPassedOn, Passes, PassesBehind, PassesOn, RunsPass, SpreadsOn, SpreadsRows, closes_at_row, is_closed_at, is_passed_in}
 use Rattle.net.specs.declared.contacts.TheConstants.{CONTACTS}
 use Rattle.net.specs.declared.links.Link.{Link}
 use Rattle.net.proofs.DirectWires.{exit_numbered}
@@ -64,7 +65,35 @@ rooms (suc (suc (suc (suc (suc zero))))) d low = record { from = omega arith; hi
 rooms (suc (suc (suc (suc (suc (suc zero)))))) d low = record { from = omega arith; high = omega arith; to = omega arith }
 rooms (suc (suc (suc (suc (suc (suc (suc k))))))) d low = absurd (omega (arith, low))
 
-module _ (digits zones : HubSet) (old new : List ℕ) (passes : RunsPass digits.words zones.words CONTACTS old new) where
+-- a wire leads to a place from which contacts lead: each of them is listed
+wired-contact : (wiring : Wiring) (net : NetRows) (links contacts : List Link) (exit common : Hub) (g h : ℕ) → IsNetOf wiring net
+    → ((from to : ℕ) → is_linked links from to ≡ leads net.rows from to)
+    → ((from to : ℕ) → is_linked contacts from to ≡ (is_any_contact CONTACTS from to && is_led_to links from))
+    → HasWire wiring exit common → number_of common ≡ Some (g + 1) → IsInRuns CONTACTS g h → is_linked contacts g h ≡ true
+wired-contact wiring net links contacts exit common g h is_net agree wired wire is inside =
+    wired g h
+    ∙ and_from (is_any_contact CONTACTS g h) (is_led_to links g) (of_runs CONTACTS g h inside)
+    (ap (λ (p : ℕ). is_led_to links p) (sym place) ∙ linked-led links (wire.number - 1) (wire.to - 1) linked)
+  where
+    place : wire.to - 1 ≡ g
+    place = one_less wire.to (same_Some _ _ (sym wire.entry_numbered ∙ is)) where
+      one_less : (n : ℕ) → n ≡ g + 1 → n - 1 ≡ g
+      one_less n e = omega (arith, e)
+
+    linked : is_linked links (wire.number - 1) (wire.to - 1) ≡ true
+    linked =
+        agree (wire.number - 1) (wire.to - 1)
+        ∙ sym (ap (λ n. leads_by net.rows n (number_of common)) wire.numbered ∙ ap (leads_by net.rows (Some wire.number)) wire.entry_numbered)
+        ∙ (is_net exit common).1 wire
+
+module _ (wiring : Wiring) (digits zones : HubSet) (eights : List Run) (old new : List ℕ) (each : All IsEight eights)
+    (only_of : (from to : ℕ) → is_any_contact eights from to ≡ true → is_any_contact CONTACTS from to ≡ true)
+    (in_eights : (exit common : Hub) (g h : ℕ) → HasWire wiring exit common → number_of common ≡ Some (g + 1) → IsInRuns CONTACTS g h
+    → is_any_contact eights g h ≡ true)
+    (passes : RunsPass digits.words zones.words eights old new) where
+  rooms-of-eights : All HasRoom eights
+  rooms-of-eights place d low = (each place d low).room
+
   -- by the number of a hub
   at-number : (sets : List ℕ) (row : ℕ) (hub : Hub) (n : ℕ) → number_of hub ≡ Some n → has_row_at sets row hub ≡ has_at sets (n - 1) row
   at-number sets row hub n is = ap (has_at_number sets row) is
@@ -83,12 +112,12 @@ module _ (digits zones : HubSet) (old new : List ℕ) (passes : RunsPass digits.
       let r = passing_place row in
       ⊎_elim
       (λ at. inl (at-number old r hub n number.1 ∙ at))
-      (λ passed. inr (by n number.1 (run-found digits.words zones.words old CONTACTS (n - 1) r rooms passed)))
-      (or_cases (has_at old (n - 1) r) (list_any (is_passed_in digits.words zones.words old (n - 1) r) CONTACTS)
+      (λ passed. inr (by n number.1 (run-found digits.words zones.words old eights (n - 1) r rooms-of-eights passed)))
+      (or_cases (has_at old (n - 1) r) (list_any (is_passed_in digits.words zones.words old (n - 1) r) eights)
       (sym (passes (n - 1) r) ∙ sym (at-number new r hub n number.1) ∙ on))
     where
       by : (n : ℕ) → number_of hub ≡ Some n
-          → (from : ℕ) × (from < 1936) × (n - 1 < 1040) × (is_any_contact CONTACTS from (n - 1) ≡ true)
+          → (from : ℕ) × (from < 1936) × (n - 1 < 1040) × (is_any_contact eights from (n - 1) ≡ true)
           × (has_at old from (passing_place row) ≡ true)
           × (is_closed_at digits.words zones.words (passing_place row) (n - 1) ≡ true)
           → IsPassedOn digits zones old row hub
@@ -100,13 +129,14 @@ module _ (digits zones : HubSet) (old new : List ℕ) (passes : RunsPass digits.
           let place : n ≡ n - 1 + 1 = omega (arith, first) in
           record {
             common = common.0;
-            contact = contact_by_place common.0 hub from (n - 1) common.1 (is ∙ ap Some place) (in_runs CONTACTS from (n - 1) found.3);
+            contact = contact_by_place common.0 hub from (n - 1) common.1 (is ∙ ap Some place) (in_runs CONTACTS from (n - 1) (only_of from (n - 1) found.3));
             closed = closes-number digits zones row hub n is ∙ found.5;
             on = at-number old (passing_place row) common.0 (from + 1) common.1 ∙ ap (λ (p : ℕ). has_at old p (passing_place row)) index ∙ found.4;
           }
 
-  passed : (row : CardRow) (hub : Hub) → IsPassedOn digits zones old row hub → has_row_at new (passing_place row) hub ≡ true
-  passed row hub on =
+  passed : (row : CardRow) (before hub : Hub) (on : IsPassedOn digits zones old row hub) → HasWire wiring before on.common
+      → has_row_at new (passing_place row) hub ≡ true
+  passed row before hub on wire =
       let r = passing_place row in
       let number = numbered old r on.common on.on in
       let at = exit_numbered hub on.common number.0 on.contact number.1 in
@@ -120,7 +150,7 @@ module _ (digits zones : HubSet) (old new : List ℕ) (passes : RunsPass digits.
       let shut : is_closed_at digits.words zones.words r h ≡ true =
       ap (λ (p : ℕ). is_closed_at digits.words zones.words r p) (sym index) ∙ sym (closes-number digits zones row hub (h + 1) at.1) ∙ on.closed in
       at-number new r hub (h + 1) at.1 ∙ ap (λ (p : ℕ). has_at new p r) index ∙ passes h r
-      ∙ or_right (has_at old h r) _ (run-from digits.words zones.words old CONTACTS g h r (of_runs CONTACTS g h found.2) there shut)
+      ∙ or_right (has_at old h r) _ (run-from digits.words zones.words old eights g h r (in_eights before on.common g h wire found.1 found.2) there shut)
 
   commons : (row : CardRow) (common hub : Hub) → contact_of hub ≡ Some common → has_row_at new (passing_place row) common ≡ true
       → has_row_at old (passing_place row) common ≡ true
@@ -134,22 +164,31 @@ module _ (digits zones : HubSet) (old new : List ℕ) (passes : RunsPass digits.
       let there : has_at new g r ≡ true = ap (λ (p : ℕ). has_at new p r) (sym index) ∙ sym (at-number new r common (g + 1) found.1) ∙ on in
       at-number old r common (g + 1) found.1 ∙ ap (λ (p : ℕ). has_at old p r) index
       ∙ by g r (low-common g at.0 found.2)
-      (or_cases (has_at old g r) (list_any (is_passed_in digits.words zones.words old g r) CONTACTS) (sym (passes g r) ∙ there))
+      (or_cases (has_at old g r) (list_any (is_passed_in digits.words zones.words old g r) eights) (sym (passes g r) ∙ there))
     where
-      by : (g r : ℕ) → 1040 ≤ g → (has_at old g r ≡ true) ⊎ (list_any (is_passed_in digits.words zones.words old g r) CONTACTS ≡ true)
+      by : (g r : ℕ) → 1040 ≤ g → (has_at old g r ≡ true) ⊎ (list_any (is_passed_in digits.words zones.words old g r) eights ≡ true)
           → has_at old g r ≡ true
       by g r high (inl at) = at
       by g r high (inr passed) =
-          let low = (run-found digits.words zones.words old CONTACTS g r rooms passed).2 in absurd (omega (arith, high, low))
+          let low = (run-found digits.words zones.words old eights g r rooms-of-eights passed).2 in absurd (omega (arith, high, low))
 
-pub passes-on : (digits zones : HubSet) (old new : List ℕ) → RunsPass digits.words zones.words CONTACTS old new
-    → PassesOn digits zones old new
-passes-on digits zones old new passes = record {
-  kept = kept digits zones old new passes;
-  only = only digits zones old new passes;
-  passed = passed digits zones old new passes;
-  commons = commons digits zones old new passes;
+-- what is passed on along the contacts of eights in which all those lie that wires lead to, told of hubs
+pub passes-on : (wiring : Wiring) (net : NetRows) (links contacts : List Link) (eights : List Run) (digits zones : HubSet) (old new : List ℕ)
+    → IsNetOf wiring net → ((from to : ℕ) → is_linked links from to ≡ leads net.rows from to)
+    → ((from to : ℕ) → is_linked contacts from to ≡ (is_any_contact CONTACTS from to && is_led_to links from))
+    → AreEights CONTACTS contacts eights → RunsPass digits.words zones.words eights old new → PassesOn wiring digits zones old new
+passes-on wiring net links contacts eights digits zones old new is_net agree wired eighted passes = record {
+  kept = kept wiring digits zones eights old new eighted.each eighted.only in_eights passes;
+  only = only wiring digits zones eights old new eighted.each eighted.only in_eights passes;
+  passed = passed wiring digits zones eights old new eighted.each eighted.only in_eights passes;
+  commons = commons wiring digits zones eights old new eighted.each eighted.only in_eights passes;
 }
+  where
+    in_eights : (exit common : Hub) (g h : ℕ) → HasWire wiring exit common → number_of common ≡ Some (g + 1) → IsInRuns CONTACTS g h
+        → is_any_contact eights g h ≡ true
+    in_eights exit common g h wire is inside =
+        eighted.lie g h (of_runs CONTACTS g h inside)
+        (wired-contact wiring net links contacts exit common g h is_net agree wired wire is inside)
 
 -- two tests of which each follows from the other
 either-way : (a b : Bool) → (a ≡ true → b ≡ true) → (b ≡ true → a ≡ true) → a ≡ b
@@ -294,16 +333,6 @@ passes-behind wiring net links contacts further behind digits zones old new is_n
     one_less : (n g : ℕ) → n ≡ g + 1 → n - 1 ≡ g
     one_less n g e = omega (arith, e)
 
-    -- the contact to a hub at a place, by a wire that leads to it
-    contact-at : (exit common hub : Hub) (g h : ℕ) (wire : HasWire wiring exit common) → number_of common ≡ Some (g + 1)
-        → IsInRuns CONTACTS g h → is_linked contacts g h ≡ true
-    contact-at exit common hub g h wire is inside =
-        let place : wire.to - 1 ≡ g = one_less wire.to g (same_Some _ _ (sym wire.entry_numbered ∙ is)) in
-        wired g h
-        ∙ and_from (is_any_contact CONTACTS g h) (is_led_to links g) (of_runs CONTACTS g h inside)
-        (ap (λ (p : ℕ). is_led_to links p) (sym place)
-        ∙ linked-led links (wire.number - 1) (wire.to - 1) (linked-wire exit common wire))
-
     passed : (row : CardRow) (before first exit hub : Hub) (on : IsPassedOn digits zones old row hub) → HasWire wiring before first
         → contact_of exit ≡ Some first → HasWire wiring exit on.common → has_row_at new (passing_place row) hub ≡ true
     passed row before first exit hub on into contact wire =
@@ -320,7 +349,7 @@ passes-behind wiring net links contacts further behind digits zones old new is_n
         let place : wire.to - 1 ≡ g = one_less wire.to g (same_Some _ _ (sym wire.entry_numbered ∙ found.1)) in
         let exit_place : wire.number - 1 ≡ e = one_less wire.number e (same_Some _ _ (sym wire.numbered ∙ out.1)) in
         let leads_there : is_led_to contacts e ≡ true =
-        linked-led contacts from.0 e (contact-at before first exit from.0 e into from.1 from.2) in
+        linked-led contacts from.0 e (wired-contact wiring net links contacts before first from.0 e is_net agree wired into from.1 from.2) in
         let further_linked : is_linked further (wire.number - 1) (wire.to - 1) ≡ true =
         follows (wire.number - 1) (wire.to - 1)
         ∙ and_from (is_linked links (wire.number - 1) (wire.to - 1)) (is_led_to contacts (wire.number - 1))
@@ -329,7 +358,8 @@ passes-behind wiring net links contacts further behind digits zones old new is_n
         ap (λ (p : ℕ). is_led_to further p) (sym place) ∙ linked-led further (wire.number - 1) (wire.to - 1) further_linked in
         let linked : is_linked behind g h ≡ true =
         are g h
-        ∙ and_from (is_linked contacts g h) (is_led_to further g) (contact-at exit on.common hub g h wire found.1 found.2) led in
+        ∙ and_from (is_linked contacts g h) (is_led_to further g)
+        (wired-contact wiring net links contacts exit on.common g h is_net agree wired wire found.1 found.2) led in
         let there : has_at old g r ≡ true =
         ap (λ (p : ℕ). has_at old p r) (sym common_index) ∙ sym (ap (has_at_number old r) found.1) ∙ on.on in
         let shut : is_closed_at digits.words zones.words r h ≡ true =

@@ -1,5 +1,5 @@
 -- Sets of rows that are spread along wires and passed on by closed contacts, in turns: at each row they become the picture.
-use Rattle.std.proofs.Common.{◌≡◌, ◌∙◌, ◌↔◌, ◌⊎◌, inl, inr, sym, ap, refl, ℕ, ◌-◌, Bool, true, Option, Some, None, List}
+use Rattle.std.proofs.Common.{◌≡◌, ◌∙◌, ◌↔◌, ◌⊎◌, inl, inr, sym, ap, refl, ℕ, ◌-◌, Bool, true, false, Option, Some, None, List}
 use Rattle.std.proofs.lemmas.Bool.{false≢true}
 use Rattle.card_code.specs.Rows.{passing_place}
 use Rattle.card_code.specs.declared.row.Row.{Row as CardRow}
@@ -12,7 +12,7 @@ use Rattle.net.specs.HubSets.{HubSet}
 use Rattle.net.specs.Impulsed.{IsImpulsed, IsPicture}
 use Rattle.net.specs.Impulsed.IsImpulsed.{emitting, led_on}
 use Rattle.net.specs.Laws.{EmitsOrIsFed, FollowsLeads}
-use Rattle.net.specs.Links.{has_at_number, has_row_at}
+use Rattle.net.specs.Links.{has_at, has_at_number, has_row_at}
 use Rattle.net.specs.Panel.{contact_of}
 use Rattle.net.specs.Passing.{AreContactsSilent, IsPassedOn, PassesBehind, PassesOn, SameSets, SpreadsOn, SpreadsRows, closes_at_row}
 use Rattle.net.specs.RowSets.{pictures_of}
@@ -61,7 +61,7 @@ module _ (wiring : Wiring) (digits zones : HubSet) (row : CardRow) (first : List
     by (inl emits) = before hub emits.1
     by (inr fed) = led_on fed.exit hub (before fed.exit fed.emits) (inl fed.wire)
 
-  passed-impulsed : (old new : List ℕ) → PassesOn digits zones old new → AreImpulsed old → AreImpulsed new
+  passed-impulsed : (old new : List ℕ) → PassesOn wiring digits zones old new → AreImpulsed old → AreImpulsed new
   passed-impulsed old new passes before hub on = by (passes.only row hub on) where
     by : (has_row_at old (passing_place row) hub ≡ true) ⊎ IsPassedOn digits zones old row hub → IsImpulsed wiring exits closed hub
     by (inl at) = before hub at
@@ -93,7 +93,7 @@ module _ (wiring : Wiring) (digits zones : HubSet) (row : CardRow) (first : List
 
   -- where nothing is passed on
   once : (spread passed : List ℕ) → AreContactsSilent first → SpreadsRows wiring first spread
-      → PassesOn digits zones spread passed → SameSets spread passed
+      → PassesOn wiring digits zones spread passed → SameSets spread passed
       → IsPicture wiring exits closed (has_row_at spread (passing_place row))
   once spread passed silent spreads passes same =
       picture-of spread (first-impulsed spread spreads)
@@ -108,11 +108,11 @@ module _ (wiring : Wiring) (digits zones : HubSet) (row : CardRow) (first : List
       by common hub contact shut on (inl emits) =
           absurd (false≢true (sym (silent common hub contact row).0 ∙ emits.1))
       by common hub contact shut on (inr fed) =
-          passes.passed row hub (record { common = common; contact = contact; closed = shut; on = on })
+          passes.passed row fed.exit hub (record { common = common; contact = contact; closed = shut; on = on }) fed.wire
 
   -- what is passed on once is spread on by the wires from the exits of contacts alone
   spread-on : (spread passed spread_on : List ℕ) → AreContactsSilent first → SpreadsRows wiring first spread
-      → PassesOn digits zones spread passed → SpreadsOn wiring passed spread_on → SpreadsRow passed spread_on
+      → PassesOn wiring digits zones spread passed → SpreadsOn wiring passed spread_on → SpreadsRow passed spread_on
   spread-on spread passed spread_on silent spreads passes on hub = (on.only (passing_place row) hub, by) where
     from-spread : (exit : Hub) → has_row_at spread (passing_place row) exit ≡ true → HasWire wiring exit hub
         → has_row_at spread_on (passing_place row) hub ≡ true
@@ -135,7 +135,7 @@ module _ (wiring : Wiring) (digits zones : HubSet) (row : CardRow) (first : List
 
   -- where what is passed on once passes no further contact
   twice : (spread passed spread_on passed_on : List ℕ) → AreContactsSilent first → SpreadsRows wiring first spread
-      → PassesOn digits zones spread passed → SpreadsRow passed spread_on
+      → PassesOn wiring digits zones spread passed → SpreadsRow passed spread_on
       → PassesBehind wiring digits zones spread_on passed_on → SameSets spread_on passed_on
       → IsPicture wiring exits closed (has_row_at spread_on (passing_place row))
   twice spread passed spread_on passed_on silent spreads passes spreads_on passes_on same =
@@ -161,7 +161,7 @@ module _ (wiring : Wiring) (digits zones : HubSet) (row : CardRow) (first : List
           arrived (inl emits) = absurd (false≢true (sym (silent common hub contact row).0 ∙ emits.1))
           arrived (inr fed) =
               stays hub
-              (passes.passed row hub (record { common = common; contact = contact; closed = shut; on = at }))
+              (passes.passed row fed.exit hub (record { common = common; contact = contact; closed = shut; on = at }) fed.wire)
 
       by : (common hub : Hub) → contact_of hub ≡ Some common → closed hub ≡ true
           → has_row_at spread_on (passing_place row) common ≡ true → EmitsOrIsFed wiring (has_row_at passed (passing_place row)) common
@@ -191,13 +191,39 @@ picture-same wiring exits closed old new row same is hub = (
 )
 
 pub passed_once : (wiring : Wiring) (digits zones : HubSet) (row : CardRow) (first spread passed : List ℕ) → LeadsToEntries wiring → AreContactsSilent first
-    → SpreadsRows wiring first spread → PassesOn digits zones spread passed → SameSets spread passed
+    → SpreadsRows wiring first spread → PassesOn wiring digits zones spread passed → SameSets spread passed
     → IsPicture wiring (pictures_of first (Row row)) (closes_at_row digits zones row) (pictures_of passed (Row row))
 passed_once wiring digits zones row first spread passed leads silent spreads passes same =
     picture-same wiring _ _ spread passed (passing_place row) same (once wiring digits zones row first leads spread passed silent spreads passes same)
 
+-- where no place has a row nothing is impulsed
+pub passed_none : (wiring : Wiring) (digits zones : HubSet) (row : CardRow) (sets : List ℕ) → LeadsToEntries wiring → AreContactsSilent sets
+    → ((place r : ℕ) → has_at sets place r ≡ false)
+    → IsPicture wiring (pictures_of sets (Row row)) (closes_at_row digits zones row) (pictures_of sets (Row row))
+passed_none wiring digits zones row sets leads silent none =
+    passed_once wiring digits zones row sets sets sets leads silent
+    (λ r hub. (λ at. absurd (nowhere (passing_place r) hub at), λ way. no_way r hub way))
+    (record {
+      kept = λ r hub at. at;
+      only = λ r hub at. inl at;
+      passed = λ r before hub passed wire. absurd (nowhere (passing_place r) passed.common passed.on);
+      commons = λ r common hub contact at. at;
+    })
+    (λ place r. refl)
+  where
+    by : (r : ℕ) (number : Option ℕ) → has_at_number sets r number ≡ false
+    by r (Some number) = none (number - 1) r
+    by r None = refl
+
+    nowhere : (r : ℕ) (hub : Hub) → has_row_at sets r hub ≡ true → ⊥
+    nowhere r hub at = false≢true (sym (by r (number_of hub)) ∙ at)
+
+    no_way : (r : CardRow) (hub : Hub) → EmitsOrIsFed wiring (has_row_at sets (passing_place r)) hub → has_row_at sets (passing_place r) hub ≡ true
+    no_way r hub (inl emits) = emits.1
+    no_way r hub (inr fed) = absurd (nowhere (passing_place r) fed.exit fed.emits)
+
 pub passed_twice : (wiring : Wiring) (digits zones : HubSet) (row : CardRow) (first spread passed spread_on passed_on : List ℕ)
-    → LeadsToEntries wiring → AreContactsSilent first → SpreadsRows wiring first spread → PassesOn digits zones spread passed
+    → LeadsToEntries wiring → AreContactsSilent first → SpreadsRows wiring first spread → PassesOn wiring digits zones spread passed
     → SpreadsOn wiring passed spread_on → PassesBehind wiring digits zones spread_on passed_on → SameSets spread_on passed_on
     → IsPicture wiring (pictures_of first (Row row)) (closes_at_row digits zones row) (pictures_of passed_on (Row row))
 passed_twice wiring digits zones row first spread passed spread_on passed_on leads silent spreads passes spreads_on passes_on same =

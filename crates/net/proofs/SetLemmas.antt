@@ -25,7 +25,7 @@ empty-sets n row (Some number) =
 empty-sets n row None = refl
 
 -- the set at a place with another word joined
-set-joined : (sets : List ℕ) (at word place row : ℕ) → at < length sets
+pub set-joined : (sets : List ℕ) (at word place row : ℕ) → at < length sets
     → has_at (slice_set sets at (bit_or (slice_index_or sets at 0) word)) place row
     ≡ (has_at sets place row || ((place == at) && is_bit word row))
 set-joined sets at word place row inside = ⊎_elim here other (cases_eq place at) where

@@ -1,3 +1,6 @@
+pub mod Banks
+pub mod Blocks
+pub mod Bundles
 pub mod Cycles
 pub mod HubSets
 pub mod Impulsed
@@ -8,6 +11,7 @@ pub mod Nets
 pub mod Panel
 pub mod Passing
 pub mod Printing
+pub mod Ribbons
 pub mod RowSets
 pub mod WholeCycles
 pub mod Nothing

@@ -1,6 +1,6 @@
 -- Links: wires one by one, from place to place. A set of rows for each place is a number: bit r tells of the row at place r among the
 -- points. Sets are spread along links.
-use Rattle.std.specs.Prelude.{◌≡◌, ℕ, ◌-◌, ◌/◌, ◌<◌, ◌≤◌, ◌==◌, ◌&&◌, ◌||◌, not, All, Bool, true, false, List, Option, Some, None, drop, length, slice_index_or}
+use Rattle.std.specs.Prelude.{◌≡◌, ℕ, ◌+◌, ◌-◌, ◌/◌, ◌<◌, ◌≤◌, ◌==◌, ◌&&◌, ◌||◌, not, All, Bool, true, false, List, Option, Some, None, drop, length, slice_index_or}
 use Rattle.std.specs.List.{list_any}
 use Rattle.hubs.specs.Hubs.{number_of}
 use Rattle.hubs.specs.declared.hub.Hub.{Hub}
@@ -47,6 +47,24 @@ pub record IsPassing (contact : Link) : Type 0 where
   pub high : contact.from < 1936
   pub to : contact.to < 1040
 
+-- A run of contacts leads from entries of the panel to exits, and behind its last entry there are eight more.
+pub record HasRoom (run : Run) : Type 0 where
+  pub from : 1040 ≤ run.common
+  pub high : run.common + run.count + 8 ≤ 1936
+  pub to : run.exits + run.count ≤ 1040
+
+-- an eight is a run of at most eight contacts, that are looked at at once
+pub record IsEight (run : Run) : Type 0 where
+  pub room : HasRoom run
+  pub few : run.count ≤ 8
+
+-- eights of contacts of the runs, in which all those lie that are listed
+pub record AreEights (runs : List Run) (listed : List Link) (eights : List Run) : Type 0 where
+  pub each : All IsEight eights
+  pub lie :
+      (from to : ℕ) → is_any_contact runs from to ≡ true → is_linked listed from to ≡ true → is_any_contact eights from to ≡ true
+  pub only : (from to : ℕ) → is_any_contact eights from to ≡ true → is_any_contact runs from to ≡ true
+
 -- whether one of the links leads to a place
 abbrev pub is_led_to : List Link → ℕ → Bool
 is_led_to links place = list_any (λ link. link.to == place) links
@@ -86,22 +104,21 @@ abbrev pub has_row_at : List ℕ → ℕ → Hub → Bool
 has_row_at sets row hub = has_at_number sets row (number_of hub)
 
 -- The links lead on where the rows do, each in range, and the common places of the contacts are known, as it is where no link leads
--- to any of them. The contacts that a link leads to stand one by one.
+-- to any of them. The contacts that a link leads to stand one by one, and lie in eights of contacts. The links from their exits stand
+-- apart from those from all other exits, and so do those of the contacts to which links from such exits lead.
 pub record IsNetInside (contacts : List Run) (common_places other_places : List ℕ) (links wired_contacts outer further behind : List Link)
-    (skips outer_skips further_skips behind_skips : List ℕ) (is_direct : Bool) (rows : List (List ℕ)) : Type 0 where
+    (eights : List Run) (behind_skips : List ℕ) (is_direct : Bool) (rows : List (List ℕ)) : Type 0 where
   pub commons : AreCommons contacts common_places
   pub others : AreCommons (drop 1 contacts) other_places
   pub in_range : All IsInRange links
   pub agree : (from to : ℕ) → is_linked links from to ≡ leads rows from to
   pub passing : All IsPassing wired_contacts
   pub wired : (from to : ℕ) → is_linked wired_contacts from to ≡ (is_any_contact contacts from to && is_led_to links from)
-  pub skipped : AreSkips links skips
+  pub eighted : AreEights contacts wired_contacts eights
   pub outer_range : All IsInRange outer
   pub others_outer : (from to : ℕ) → is_linked outer from to ≡ (is_linked links from to && not (is_led_to wired_contacts from))
-  pub outer_skipped : AreSkips outer outer_skips
   pub further_range : All IsInRange further
   pub follows : (from to : ℕ) → is_linked further from to ≡ (is_linked links from to && is_led_to wired_contacts from)
-  pub further_skipped : AreSkips further further_skips
   pub behind_passing : All IsPassing behind
   pub are_behind : (from to : ℕ) → is_linked behind from to ≡ (is_linked wired_contacts from to && is_led_to further from)
   pub behind_skipped : AreSkips behind behind_skips

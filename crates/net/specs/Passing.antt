@@ -9,6 +9,7 @@ use Rattle.hubs.specs.declared.hub.Hub.{Hub}
 use Rattle.hubs.specs.declared.hub.Hub.TheVariants.{CI, CO}
 use Rattle.setups.specs.Wiring.{HasWire, Wiring}
 use Rattle.bit_sets.specs.Bits.{has_place}
+use Rattle.bit_sets.specs.Contacts.{is_any_contact}
 use Rattle.bit_sets.specs.declared.contacts.Run.{Run}
 use Rattle.net.specs.HubSets.{HubSet, has_hub}
 use Rattle.net.specs.Laws.{EmitsOrIsFed}
@@ -40,19 +41,9 @@ abbrev pub Passes : List ℕ → List ℕ → List Link → List ℕ → List �
 Passes digits zones contacts old new =
     (place row : ℕ) → has_at new place row ≡ (has_at old place row || list_any (is_passed_by digits zones old place row) contacts)
 
--- A run of contacts leads from entries of the panel to exits, and behind its last entry there are eight more.
-pub record HasRoom (run : Run) : Type 0 where
-  pub from : 1040 ≤ run.common
-  pub high : run.common + run.count + 8 ≤ 1936
-  pub to : run.exits + run.count ≤ 1040
-
--- a run from one of its contacts on
-abbrev pub rest_of : Run → ℕ → Run
-rest_of run from = record { common = run.common + from; exits = run.exits + from; count = run.count - from }
-
--- the first eight contacts of a run, or all where it has fewer
-abbrev pub first_eight : Run → Run
-first_eight run = record run { count = min 8 run.count }
+-- the contacts of a run from one of them on, eight at most
+abbrev pub eight_of : Run → ℕ → Run
+eight_of run from = record { common = run.common + from; exits = run.exits + from; count = min (run.count - from) 8 }
 
 -- whether the contact of the run to a place leads from one whose set has the row, and is closed at the row
 abbrev pub is_passed_in : List ℕ → List ℕ → List ℕ → ℕ → ℕ → Run → Bool
@@ -79,6 +70,12 @@ SameSets old new = (place row : ℕ) → has_at new place row ≡ has_at old pla
 abbrev pub AddsContacts : (ℕ → ℕ → Bool) → List Link → List Link → List Link → Type 0
 AddsContacts test links old new =
     (from to : ℕ) → is_linked new from to ≡ (is_linked old from to || (test from to && is_led_to links from))
+
+-- New has the contacts that old has, of those of the test all that are listed, and no others but such of the test.
+pub record AddsEights (test : ℕ → ℕ → Bool) (listed : List Link) (old new : List Run) : Type 0 where
+  pub kept : (from to : ℕ) → is_any_contact old from to ≡ true → is_any_contact new from to ≡ true
+  pub added : (from to : ℕ) → test from to ≡ true → is_linked listed from to ≡ true → is_any_contact new from to ≡ true
+  pub only : (from to : ℕ) → is_any_contact new from to ≡ true → (is_any_contact old from to ≡ true) ⊎ (test from to ≡ true)
 
 -- new has what old has, and the links from where contacts lead
 abbrev pub AddsFurther : List Link → List Link → List Link → List Link → Type 0
@@ -118,14 +115,17 @@ pub record IsPassedOn (digits zones : HubSet) (sets : List ℕ) (row : CardRow) 
   pub closed : closes_at_row digits zones row hub ≡ true
   pub on : has_row_at sets (passing_place row) common ≡ true
 
--- Hubs have the rows that they had, and those that closed contacts pass on to them, and no others. Hubs from which contacts lead gain none.
-pub record PassesOn (digits zones : HubSet) (old new : List ℕ) : Type 0 where
+-- Hubs have the rows that they had, and no others but those that closed contacts pass on to them: all those of contacts to which a wire
+-- leads. Hubs from which contacts lead gain none.
+pub record PassesOn (wiring : Wiring) (digits zones : HubSet) (old new : List ℕ) : Type 0 where
   pub kept :
       (row : CardRow) (hub : Hub) → has_row_at old (passing_place row) hub ≡ true → has_row_at new (passing_place row) hub ≡ true
   pub only :
       (row : CardRow) (hub : Hub) → has_row_at new (passing_place row) hub ≡ true
       → (has_row_at old (passing_place row) hub ≡ true) ⊎ IsPassedOn digits zones old row hub
-  pub passed : (row : CardRow) (hub : Hub) → IsPassedOn digits zones old row hub → has_row_at new (passing_place row) hub ≡ true
+  pub passed :
+      (row : CardRow) (before hub : Hub) (passed : IsPassedOn digits zones old row hub) → HasWire wiring before passed.common
+      → has_row_at new (passing_place row) hub ≡ true
   pub commons :
       (row : CardRow) (common hub : Hub) → contact_of hub ≡ Some common → has_row_at new (passing_place row) common ≡ true
       → has_row_at old (passing_place row) common ≡ true

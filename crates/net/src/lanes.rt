@@ -14,6 +14,7 @@ pub(crate) const LANES: usize = 8;
 const BITS: [u16; LANES] = [1, 2, 4, 8, 16, 32, 64, 128];
 
 // Eight sets from a place on, all taken at once.
+#[inline(always)]
 pub(crate) fn eight_from(sets: &[u16; HUBS], first: usize) -> u16x8
     requires { first + 8 ≤ HUBS }
     ensures { result ≡ take 8 (drop first sets.now) }
@@ -22,6 +23,7 @@ pub(crate) fn eight_from(sets: &[u16; HUBS], first: usize) -> u16x8
 }
 
 // The rows in each of the eight lanes whose bit is set, and none in the others.
+#[inline(always)]
 pub(crate) fn rows_in_lanes(bits: u16, rows: u16) -> u16x8
     ensures eight { length result ≡ 8 }
     ensures rows { (k row : ℕ) → k < 8 → is_bit (slice_index_or result k 0) row ≡ (is_bit bits k && is_bit rows row) }
@@ -31,14 +33,16 @@ pub(crate) fn rows_in_lanes(bits: u16, rows: u16) -> u16x8
 }
 
 // Whether no lane has a row.
+#[inline(always)]
 pub(crate) fn are_empty(rows: u16x8) -> bool
     requires { length rows ≡ 8 }
     ensures { result ≡ true → (k row : ℕ) → k < 8 → is_bit (slice_index_or rows k 0) row ≡ false }
 {
-    rows.reduce_or() == 0
+    rows.simd_ne(u16x8::splat(0)).to_bitmask() == 0
 }
 
 // Eight sets from a place on gain the rows of the lanes.
+#[inline(always)]
 pub(crate) fn join_eight(sets: &mut [u16; HUBS], first: usize, rows: u16x8)
     requires within { first + 8 ≤ HUBS }
     requires eight { length rows ≡ 8 }

@@ -5,7 +5,7 @@ ghost use Rattle.bit_sets.specs.Bits.{has_place};
 ghost use Rattle.setups.specs.Wiring.{IsEntryNumber};
 ghost use Rattle.net.specs.Links.{AddsLinks, AreSkips, HasExitsOf, IsFollowed, IsInRange, IsSkip, Spreads, has_at};
 
-use crate::lanes::{LANES, eight_from};
+use crate::lanes::{LANES, are_empty, eight_from};
 use crate::picture::HUBS;
 use bit_sets::WORDS;
 use std::alloc::{AllocError, Global};
@@ -83,7 +83,7 @@ pub(crate) fn skips_of(alloc: Global, links: &[Link]) -> Result<Vec<usize>, Allo
 }
 
 // Where the links end that lead from the block that the one at `first` leads from, from that one on.
-fn run_end(links: &[Link], first: usize) -> usize
+pub(crate) fn run_end(links: &[Link], first: usize) -> usize
     requires { first < length links.now }
     ensures { IsSkip links.now first result }
 {
@@ -95,35 +95,13 @@ fn run_end(links: &[Link], first: usize) -> usize
 }
 
 // Spreads sets of rows, one for each place, along the links: the far end of each gains the rows of the near end. No link leads from
-// where another one leads to. Links from a block of places that have no row are passed over: most exits emit nothing in a cycle.
-pub(crate) fn follow_all(links: &[Link], skips: &[usize], sets: &mut [u16; HUBS])
-    requires range { All IsInRange links.now }
-    requires skips { AreSkips links.now skips.now }
-    ensures { Spreads links.now sets.old sets.new }
-{
-    let mut place = 0;
-    while place < links.len() {
-        let end = skips[place];
-        if is_block_empty(sets, links[place].from as usize) {
-            place = end;
-        } else {
-            follow_run(links, place, end, sets);
-            place = end;
-        }
-    }
-}
-
-// Spreads sets of rows along the links from one place of their list up to another.
-fn follow_run(links: &[Link], from: usize, to: usize, sets: &mut [u16; HUBS])
-    requires range { All IsInRange links.now }
-    requires order { from ≤ to }
-    requires within { to ≤ length links.now }
-    ensures spread { (first : List ℕ) → HasExitsOf first sets.old → Spreads (take from links.now) first sets.old
-        → Spreads (take to links.now) first sets.new }
-    ensures exits { HasExitsOf sets.old sets.new }
+// where another one leads to.
+pub(crate) fn follow_links(links: &[Link], sets: &mut [u16; HUBS])
+    requires { All IsInRange links.now }
+    ensures spread { Spreads links.now sets.old sets.new }
     ensures long { length sets.new ≡ 1936 }
 {
-    for place in from..to {
+    for place in 0..links.len() {
         follow(links[place], sets);
     }
 }
@@ -134,8 +112,7 @@ pub(crate) fn is_block_empty(sets: &[u16; HUBS], place: usize) -> bool
     ensures { result ≡ true → (other row : ℕ) → other / 16 ≡ place / 16 → has_at sets.now other row ≡ false }
 {
     let first = place / BLOCK * BLOCK;
-    let joined = eight_from(sets, first) | eight_from(sets, first + LANES);
-    joined.reduce_or() == 0
+    are_empty(eight_from(sets, first) | eight_from(sets, first + LANES))
 }
 
 // The far end of a link gains the rows of the near end.

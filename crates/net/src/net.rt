@@ -3,12 +3,13 @@
 ghost use Rattle.std.specs.Prelude.{◌≡◌, ◌<◌, All, false, length};
 ghost use Rattle.setups.specs.Wiring.{IsEntryNumber};
 ghost use Rattle.net.specs.NetRows.{AddsRow};
-ghost use Rattle.net.specs.Passing.{PassesOn, SameSets};
 
-use crate::contact_runs::pass_runs;
+use crate::banks::Banks;
+use crate::blocks::ALL_BLOCKS;
+use crate::bundles::Bundles;
 use crate::contacts::CONTACTS;
 use crate::cycle::Point;
-use crate::links::{Link, add_links, follow_all, leads_on, leads_to_any, skips_of};
+use crate::links::{Link, add_links, leads_on, leads_to_any, skips_of};
 use crate::passing::{add_behind, add_contacts, add_further, add_outer, pass_all};
 use crate::picture::{Contacts, Picture, cut_after_hubs};
 use crate::row_sets::RowSets;
@@ -29,19 +30,19 @@ pub struct Net {
     commons: [u64; WORDS],
     // The same without the carry entries.
     others: [u64; WORDS],
-    // The wires one by one, as the rows have them.
-    links: Vec<Link>,
-    // For each of the links where those after it end that lead from the same block of places.
-    skips: Vec<usize>,
+    // The wires, as the rows have them.
+    wires: Bundles,
+    // Whether they are too many for sets of rows to be spread along them through contacts.
+    has_many: bool,
     // The contacts that a wire leads to, one by one.
     contacts: Vec<Link>,
-    // The wires from all exits but those of these contacts, and for each of them where those after it end that lead from the same block.
-    outer: Vec<Link>,
-    outer_skips: Vec<usize>,
-    // The wires from the exits of these contacts, and the same of each of them.
-    further: Vec<Link>,
-    further_skips: Vec<usize>,
-    // The contacts to which these wires lead, and the same of each of them.
+    // Runs of at most eight contacts of the panel each, in which all these lie, by the blocks of places from which they lead.
+    eights: Banks,
+    // The wires from all exits but those of these contacts.
+    outer: Bundles,
+    // The wires from the exits of these contacts.
+    further: Bundles,
+    // The contacts to which these wires lead, and for each of them where those after it end that lead from the same block of places.
     behind: Vec<Link>,
     behind_skips: Vec<usize>,
     // Whether no wire leads to a common hub.
@@ -55,13 +56,12 @@ impl Drop for Net {
     fn drop(self) {
         let Net {
             rows: _rows,
-            links: _links,
-            skips: _skips,
+            wires: _wires,
+            has_many: _has_many,
             contacts: _contacts,
+            eights: _eights,
             outer: _outer,
-            outer_skips: _outer_skips,
             further: _further,
-            further_skips: _further_skips,
             behind: _behind,
             behind_skips: _behind_skips,
             commons: _commons,
@@ -82,7 +82,7 @@ impl Model for Net {
 
     ghost use Rattle.net.specs.Links.{IsNetInside};
 
-    ghost invariant = { λ net. IsNetInside CONTACTS net.commons net.others net.links.items net.contacts.items net.outer.items net.further.items net.behind.items net.skips.items net.outer_skips.items net.further_skips.items net.behind_skips.items net.is_direct net.rows };
+    ghost invariant = { λ net. IsNetInside CONTACTS net.commons net.others net.wires net.contacts.items net.outer net.further net.behind.items net.eights net.behind_skips.items net.is_direct net.rows };
 }
 
 impl Net {
@@ -98,7 +98,7 @@ impl Net {
     ghost use Rattle.net.specs.Links.{has_row_at};
     ghost use Rattle.std.specs.Prelude.{false};
     ghost use Rattle.card_code.specs.declared.row.Row.{Row as CardRow};
-    ghost use Rattle.net.specs.Passing.{AreContactsSilent, PassesBehind, SameSets, SpreadsOn, SpreadsRows, closes_at_row};
+    ghost use Rattle.net.specs.Passing.{AreContactsSilent, PassesBehind, PassesOn, SameSets, SpreadsOn, SpreadsRows, closes_at_row};
     ghost use Rattle.net.specs.RowSets.{LeadsToNoContact, pictures_of};
     ghost use Rattle.net.specs.declared.cycle.Point.TheVariants.{Row};
 
@@ -116,17 +116,19 @@ impl Net {
             }
         }
         rows.bundle(alloc)?;
-        let skips = skips_of(alloc, links.as_slice())?;
+        let wires = Bundles::of(alloc, links.as_slice())?;
+        let has_many = links.len() > MOST_LINKS;
         let mut contacts = Vec::new(alloc);
         add_contacts(&CONTACTS, links.as_slice(), &mut contacts)?;
-        let mut outer = Vec::new(alloc);
-        add_outer(links.as_slice(), contacts.as_slice(), &mut outer)?;
-        let outer_skips = skips_of(alloc, outer.as_slice())?;
-        let mut further = Vec::new(alloc);
-        add_further(links.as_slice(), contacts.as_slice(), &mut further)?;
-        let further_skips = skips_of(alloc, further.as_slice())?;
+        let eights = Banks::of(alloc, &CONTACTS, contacts.as_slice())?;
+        let mut outer_links = Vec::new(alloc);
+        add_outer(links.as_slice(), contacts.as_slice(), &mut outer_links)?;
+        let outer = Bundles::of(alloc, outer_links.as_slice())?;
+        let mut further_links = Vec::new(alloc);
+        add_further(links.as_slice(), contacts.as_slice(), &mut further_links)?;
+        let further = Bundles::of(alloc, further_links.as_slice())?;
         let mut behind = Vec::new(alloc);
-        add_behind(contacts.as_slice(), further.as_slice(), &mut behind)?;
+        add_behind(contacts.as_slice(), further_links.as_slice(), &mut behind)?;
         let behind_skips = skips_of(alloc, behind.as_slice())?;
         let commons = commons_of(&CONTACTS);
         let others = commons_of(&CONTACTS[1..]);
@@ -136,13 +138,12 @@ impl Net {
             rows,
             commons,
             others,
-            links,
-            skips,
+            wires,
+            has_many,
             contacts,
+            eights,
             outer,
-            outer_skips,
             further,
-            further_skips,
             behind,
             behind_skips,
             is_direct,
@@ -203,7 +204,7 @@ impl Net {
             → (row : ℕ) (hub : Hub)
             → (has_row_at sets.new row hub ≡ true) ↔ EmitsOrIsFed wiring (has_row_at sets.old row) hub }
     {
-        follow_all(self.links.as_slice(), self.skips.as_slice(), &mut sets.sets);
+        self.wires.follow(sets);
     }
 
     /// Spreads rows along the wires and the closed contacts, all rows at once: each hub gains the rows at which it is impulsed. The
@@ -220,11 +221,14 @@ impl Net {
             → (row : CardRow)
             → IsPicture wiring (pictures_of sets.old (Row row)) (closes_at_row digits.now zones.now row) (pictures_of sets.new (Row row)) }
     {
-        if self.links.len() > MOST_LINKS {
+        if self.has_many {
             return false;
         }
+        if sets.are_empty() {
+            return true;
+        }
         self.spread_outer(sets);
-        if !pass(digits, zones, sets) {
+        if !self.pass(digits, zones, sets) {
             return true;
         }
         self.spread_on(sets);
@@ -236,22 +240,24 @@ impl Net {
         requires { AreContactsSilent sets.old }
         ensures { (wiring : Wiring) → IsNetOf wiring self.now → SpreadsRows wiring sets.old sets.new }
     {
-        follow_all(
-            self.outer.as_slice(),
-            self.outer_skips.as_slice(),
-            &mut sets.sets,
-        );
+        self.outer.follow(sets);
+    }
+
+    // Passes rows on along the closed contacts that wires lead to. Answers whether one passed any on.
+    fn pass(&self, digits: &Contacts, zones: &Contacts, sets: &mut RowSets) -> bool
+        ensures passes { (wiring : Wiring)
+            → IsNetOf wiring self.now
+            → PassesOn wiring digits.now zones.now sets.old sets.new }
+        ensures same { result ≡ false → SameSets sets.old sets.new }
+    {
+        self.eights.pass(digits.words(), zones.words(), sets)
     }
 
     // Spreads rows along the wires from the exits of the contacts that wires lead to.
     fn spread_on(&self, sets: &mut RowSets)
         ensures { (wiring : Wiring) → IsNetOf wiring self.now → SpreadsOn wiring sets.old sets.new }
     {
-        follow_all(
-            self.further.as_slice(),
-            self.further_skips.as_slice(),
-            &mut sets.sets,
-        );
+        self.further.follow(sets);
     }
 
     // Passes rows on along the closed contacts to which wires from the exits of contacts lead. Answers whether a hub may have gained any.
@@ -261,22 +267,17 @@ impl Net {
             → PassesBehind wiring digits.now zones.now sets.old sets.new }
         ensures same { result ≡ false → SameSets sets.old sets.new }
     {
-        pass_all(
+        let gained = pass_all(
             self.behind.as_slice(),
             self.behind_skips.as_slice(),
             digits.words(),
             zones.words(),
             &mut sets.sets,
-        )
+        );
+        // Which of the far ends have gained rows is not told.
+        sets.touched = ALL_BLOCKS;
+        gained
     }
-}
-
-// Passes rows on along the closed contacts. Answers whether one passed any on.
-fn pass(digits: &Contacts, zones: &Contacts, sets: &mut RowSets) -> bool
-    ensures passes { PassesOn digits.now zones.now sets.old sets.new }
-    ensures same { result ≡ false → SameSets sets.old sets.new }
-{
-    pass_runs(&CONTACTS, digits.words(), zones.words(), &mut sets.sets)
 }
 
 // Adds to a place's row the places of the entries with these numbers.

@@ -105,7 +105,7 @@ pub(crate) fn add_behind(
 }
 
 // Whether a link leads to a place.
-fn is_led_to(links: &[Link], place: usize) -> bool
+pub(crate) fn is_led_to(links: &[Link], place: usize) -> bool
     ensures { result ≡ is_led_to links.now place }
 {
     for link in links {

@@ -6,5 +6,5 @@
 
 mod pages;
 
-pub use pages::{page_bytes, without_trailing_blanks};
+pub use pages::{last_page, page_bytes, without_trailing_blanks};
 pub use placed_lines::in_order;

@@ -41,8 +41,8 @@ pub fn page_bytes(
     Ok(out)
 }
 
-// The last page that has a line, and 0 without lines.
-fn last_page(lines: &[PlacedLine]) -> u64
+/// The last page that has a line, from page 1, and 0 without lines.
+pub fn last_page(lines: &[PlacedLine]) -> u64
     ensures { result ≡ last_page lines.now }
 {
     let mut last = 0;

@@ -23,10 +23,10 @@ use Rattle.wired_panels.specs.Below.charts.declared.statement.Statement.TheVaria
 use Rattle.totals.proofs.Levels.{lower_less, lower_has}
 use Rattle.totals.specs.Amounts.{lower}
 use Rattle.printed_lines.specs.Below.wiring_table.Figures.{IsAmount, IsSigned, IsUnsigned, rule_of}
-use Rattle.printed_lines.specs.Below.wiring_table.Parts.{HasTotal, IsLowest, counter_for}
+use Rattle.printed_lines.specs.Below.wiring_table.Parts.{HasTotal, IsLowest, counter_for, is_total_at, total_line}
 use Rattle.wired_panels.proofs.CounterAsksTold.{IsUnder}
 use Rattle.wired_panels.proofs.PlanOwners.{level_some}
-use Rattle.panel_cycles.specs.ChartAmounts.{is_total_at, total_line, digits_of, total_digits, total_counter, amount_of}
+use Rattle.panel_cycles.specs.ChartAmounts.{digits_of, total_digits, total_counter, amount_of}
 use Rattle.printed_lines.proofs.Below.wiring_table.Totals.{one-total, one-total_line}
 use Rattle.wired_panels.proofs.Below.charts.Listed.{found-listed, found-passing}
 use Rattle.wired_panels.proofs.Below.chart_rules.Laws.{kept-line}

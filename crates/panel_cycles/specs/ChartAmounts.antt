@@ -1,27 +1,15 @@
 -- The amounts of a chart: at which levels an amount has a total, in how many digits, and in which counter.
-use Rattle.std.specs.Prelude.{ℕ, ◌==◌, ◌+◌, ◌&&◌, Bool, false, List, Option, Some, None, find, is_some, option_and_then}
+use Rattle.std.specs.Prelude.{ℕ, ◌+◌, List, Option, Some, None, is_some, option_and_then}
 use Rattle.wired_panels.specs.Below.field_rules.Coupled.{has_sign}
 use Rattle.wired_panels.specs.Below.plans.Plans.{Lists}
 use Rattle.wired_panels.specs.Below.plans.declared.counter.TotalCounter.{TotalCounter}
 use Rattle.wired_panels.specs.Below.plans.declared.counter.TotalCounter.TheVariants as of
 use Rattle.wired_panels.specs.Below.field_rules.Fields.{field_named}
-use Rattle.wired_panels.specs.Below.charts.Levels.{level_number}
-use Rattle.wired_panels.specs.Below.charts.Name.{is_same_name}
 use Rattle.wired_panels.specs.Below.charts.declared.chart.Line.{Line}
 use Rattle.wired_panels.specs.Below.charts.declared.statement.Statement.{Statement}
 use Rattle.wired_panels.specs.Below.charts.declared.statement.Statement.TheVariants as says
 use Rattle.totals.specs.Amounts.{Amount}
-use Rattle.printed_lines.specs.Below.wiring_table.Parts.{counter_for}
-
--- whether a line has a total of the amount of a name at a level
-abbrev pub is_total_at : List ℕ → ℕ → Statement → Bool
-is_total_at wanted level (says.TotalAmount its_level wheel name digits mark) =
-    (level_number its_level == level) && is_same_name name wanted
-is_total_at wanted level other = false
-
--- the line with the total of the amount of a name at a level, if there is one
-abbrev pub total_line : List Line → List ℕ → ℕ → Option Line
-total_line lines name level = find (λ line. is_total_at name level line.statement) lines
+use Rattle.printed_lines.specs.Below.wiring_table.Parts.{counter_for, total_line}
 
 -- the digits in which a line has its total
 abbrev pub digits_of : Statement → ℕ

@@ -3,11 +3,11 @@
 use Rattle.std.specs.Prelude.{◌≡◌, ℕ, ◌==◌, ◌%◌, ◌||◌, Bool, false, List, [], ◌∷◌, ◌++◌, Option, Some, None, codes, decimal, if◌then◌else◌, map}
 use Rattle.std.specs.List.{flat_map, list_any, range_with_len}
 use Rattle.hub_table.specs.HubTable.{row_of}
+use Rattle.hubs.specs.HubText.{hub_text}
 use Rattle.hubs.specs.Hubs.{letters_of, number_of}
 use Rattle.hubs.specs.declared.hub.Hub.{Hub}
 use Rattle.markup.specs.Pieces.{numbered_words}
 use Rattle.panel_drawing.specs.Blocks.{blocks, place_of}
-use Rattle.panel_drawing.specs.Names.{hub_text}
 use Rattle.panel_drawing.specs.declared.blocks.Block.{Block}
 use Rattle.panel_drawing.specs.declared.blocks.Place.{Place}
 use Rattle.panel_drawing.specs.declared.drawing.PanelWire.{PanelWire}

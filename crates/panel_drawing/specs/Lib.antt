@@ -1,5 +1,4 @@
 pub mod Blocks
 pub mod Drawing
 pub mod Helper
-pub mod Names
 pub mod Wires

@@ -9,8 +9,7 @@ ghost use Rattle.panel_drawing.specs.Drawing.{block_text, box_text, centre_text,
 ghost use Rattle.panel_drawing.specs.Helper.{GainsDrawing, GainsHubs};
 
 use crate::blocks::{BLOCKS, Block, Place, hub_place};
-use crate::names::write_hub;
-use hubs::Hub;
+use hubs::{Hub, write_hub};
 use std::alloc::AllocError;
 
 /// A wire that is drawn.

@@ -9,7 +9,6 @@
 mod blocks;
 mod drawing;
 mod laws;
-mod names;
 mod wires;
 
 pub use blocks::{Block, Place, hub_place};
@@ -20,5 +19,4 @@ pub use laws::{
     blocks_have_all_hubs, exits_stand_above_entries, hubs_have_places_of_their_own,
     places_are_on_the_drawing,
 };
-pub use names::write_hub;
 pub use wires::panel_wires;

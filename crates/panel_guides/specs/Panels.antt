@@ -1,5 +1,5 @@
 -- The run that a text and a deck ask for: on a panel that is wired as a wiring chart says, or for a planning chart.
-use Rattle.std.specs.Prelude.{◌≡◌, ℕ, Bool, true, false, List, take, drop, ◌==◌, codes}
+use Rattle.std.specs.Prelude.{◌≡◌, ℕ, Bool, true, false, List, take, drop, codes}
 use Rattle.std.specs.List.{prefix_len}
 use Rattle.std.specs.Str.{bytes_eq}
 use Rattle.card_code.specs.Deck.{Deck}
@@ -7,11 +7,8 @@ use Rattle.commands.specs.Answers.{Compiles, CompilesAs}
 use Rattle.compile407.specs.Compilation.{Compilation}
 use Rattle.compile407.specs.Runnable.{IsRunnable}
 use Rattle.setups.specs.Wiring.{Wiring}
+use Rattle.tokens.specs.Dividing.{is_space}
 use Rattle.wiring_text.specs.WiringText.{ReadsAs}
-
--- a space
-abbrev pub is_space : ℕ → Bool
-is_space byte = byte == 32
 
 -- A text is taken for a wiring chart where its first line begins with the word WIRING407; spaces may stand before it. Any other text is
 -- taken for a planning chart.

@@ -6,9 +6,10 @@ ghost use Rattle.card_code.specs.Deck.{Deck};
 ghost use Rattle.commands.specs.Answers.{CompilesAs};
 ghost use Rattle.commands.specs.Refusals.{RefusesReplay, RefusesRun};
 ghost use Rattle.compile407.specs.Runnable.{IsRunnable};
+ghost use Rattle.tokens.specs.Dividing.{is_space};
 ghost use Rattle.wiring_text.specs.WiringText.{ReadsAs};
 ghost use Rattle.panel_guides.specs.Explained.{RefusesTexts};
-ghost use Rattle.panel_guides.specs.Panels.{HasPanel, is_space, is_wiring_text};
+ghost use Rattle.panel_guides.specs.Panels.{HasPanel, is_wiring_text};
 
 use card_code::{Card, read_deck};
 use commands::check;

@@ -1,5 +1,5 @@
 -- An amount of which a chart prints a total has a lowest one, and that tells its pilot.
-use Rattle.std.proofs.Common.{◌≡◌, ◌∙◌, refl, sym, ap, subst, ℕ, zero, suc, ◌+◌, ◌<◌, ◌≤◌, ◌==◌, ◌&&◌, ◌⊎◌, inl, inr, Bool, true, false, true≢false, List, [], ◌∷◌, Contains, arith}
+use Rattle.std.proofs.Common.{◌≡◌, ◌∙◌, refl, sym, ap, subst, ℕ, zero, suc, ◌+◌, ◌<◌, ◌≤◌, ◌==◌, ◌⊎◌, inl, inr, Bool, true, false, true≢false, List, [], ◌∷◌, Contains, arith}
 use Rattle.std.proofs.lemmas.Bool.{and_parts, cases_lt}
 use Rattle.std.proofs.lemmas.Bool.Decides.{nat_tests}
 use Rattle.charts.specs.Levels.{level_number}
@@ -10,12 +10,7 @@ use Rattle.charts.specs.declared.statement.Statement.{Statement}
 use Rattle.charts.specs.declared.statement.Statement.TheVariants as says
 use Rattle.charts.proofs.Listed.{listed-after, listed-cases, listed-first, listed-none}
 use Rattle.panel_plans.specs.PilotWires.{IsTold, lowest}
-use Rattle.wiring_table.specs.Parts.{HasTotal, IsLowest}
-
--- whether a line is a total of the amount of a name at a level
-abbrev is_total_at : List ℕ → ℕ → Statement → Bool
-is_total_at name level (says.TotalAmount its wheel its_name digits mark) = (level_number its == level) && is_same_name its_name name
-is_total_at name level other = false
+use Rattle.wiring_table.specs.Parts.{HasTotal, IsLowest, is_total_at}
 
 module _ (lines : List Line) (name : List ℕ) where
   total-here : (level : ℕ) (line : Line) → Contains lines line → is_total_at name level line.statement ≡ true → HasTotal lines name level line.number

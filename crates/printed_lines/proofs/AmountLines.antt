@@ -1,5 +1,6 @@
 -- Amounts on cards and on total lines spell what the report edits.
 use Rattle.std.proofs.Common.{◌≡◌, ◌∙◌, refl, sym, ap, ap₂, ℕ, zero, suc, ℤ, pos, negsuc, ◌/◌, ◌^◌, ◌<◌, ◌==◌, ◌&&◌, not, if◌then◌else◌, Bool, true, false, List, [], ◌∷◌, length, map, drop, Option, Some, None, arith, unsigned_abs}
+use Rattle.std.specs.Int.{is_negative}
 use Rattle.std.proofs.Math.Nat.{mod-lt}
 use Rattle.std.proofs.lemmas.Bool.Decides.{nat_tests}
 use Rattle.wiring_table.specs.Below.charts.Field.{columns_of, decimals_of}
@@ -8,20 +9,20 @@ use Rattle.wiring_table.specs.Below.charts.declared.statement.Mark.{Mark}
 use Rattle.wiring_table.specs.Below.chart_rules.ValidCard.{IsValidAmount}
 use Rattle.wiring_table.specs.Below.report.Amounts.{number_in, digits_on, is_blank_on, is_negated, signed, value_of}
 use Rattle.wiring_table.specs.Below.report.BodyLines.{amount_on}
-use Rattle.wiring_table.specs.Below.report.Edits.{last_digits, free_digits, marked, is_below_zero, edited, edited_blank, edited_digits}
+use Rattle.wiring_table.specs.Below.report.Edits.{last_digits, free_digits, marked, edited, edited_blank, edited_digits}
 use Rattle.print_unit.specs.ZeroControl.{printed_from}
 use Rattle.printed_lines.specs.Held.{HoldsTotal}
 use Rattle.printed_lines.specs.Shown.{Amount, Printed}
-use Rattle.wiring_table.proofs.Below.report.ReadBack.{signed-size}
+use Rattle.wiring_table.proofs.Below.report.ReadBack.{not-negative, signed-size}
 use Rattle.printed_lines.proofs.AmountText.{amount_wheels, amount-edited, amount-blank}
 use Rattle.printed_lines.proofs.CardDigits.{OnCard, blank, numeral, OnCard-valid, digits-length}
 use Rattle.printed_lines.proofs.ItemText.{Spells}
 use Rattle.wiring_table.proofs.Below.chart_rules.Laws.{IsGoodField}
 use Rattle.printed_lines.proofs.Numbers.{value, any_above_zero, AreDigits, AreSmall-numeral, IsNumeral-digits, number_in-small, last_digits-columns, any_above_zero-number}
 
-below-signed : (negated : Bool) (number : ℕ) → is_below_zero (signed negated number) ≡ (not (number == 0) && negated)
+below-signed : (negated : Bool) (number : ℕ) → is_negative (signed negated number) ≡ (not (number == 0) && negated)
 below-signed false zero = refl
-below-signed false (suc number) = grind (arith, nat_tests)
+below-signed false (suc number) = not-negative (suc number) ∙ grind (arith, nat_tests)
 below-signed true zero = refl
 below-signed true (suc number) = grind (arith, nat_tests)
 
@@ -64,8 +65,8 @@ card-amount field card wheel mark good valid = by (OnCard-valid field card good 
         ∙ sym (choose true is)
     by (numeral is low there) =
         ap wheels (sym (digits-length field card))
-        ∙ amount-edited digits decimals mark negated (is_below_zero (value_of field card)) is low (ap (marked mark) sign)
-        ∙ ap (λ ds. edited_digits ds decimals mark (is_below_zero (value_of field card))) spelled
+        ∙ amount-edited digits decimals mark negated (is_negative (value_of field card)) is low (ap (marked mark) sign)
+        ∙ ap (λ ds. edited_digits ds decimals mark (is_negative (value_of field card))) spelled
         ∙ sym (choose false there)
       where
         own : map value digits ≡ last_digits (length digits) number
@@ -74,7 +75,7 @@ card-amount field card wheel mark good valid = by (OnCard-valid field card good 
         spelled : map value digits ≡ last_digits (columns_of field) (unsigned_abs (value_of field card))
         spelled = own ∙ ap₂ last_digits (digits-length field card) (sym (signed-size negated number))
 
-        sign : (any_above_zero (map value digits) && negated) ≡ is_below_zero (value_of field card)
+        sign : (any_above_zero (map value digits) && negated) ≡ is_negative (value_of field card)
         sign =
             ap (λ b. b && negated)
             (ap any_above_zero own
@@ -102,20 +103,21 @@ AreDigits-drop (suc count) (Some digit ∷ columns) are = AreDigits-drop count c
 
 -- the mark prints exactly where the total is below 0
 total-sign : (digits : ℕ) (mark : Option Mark) (total : ℤ) (held : Printed) → HoldsTotal digits mark total held
-    → marked mark (not (held.figure == 0) && held.latch) ≡ marked mark (is_below_zero total)
+    → marked mark (not (held.figure == 0) && held.latch) ≡ marked mark (is_negative total)
 total-sign digits None total held holds = refl
 total-sign digits (Some mark) total held holds =
     ap (λ n. marked (Some mark) (not (n == 0) && held.latch)) holds.figure
     ∙ ap (marked (Some mark)) (by total (holds.below refl) (holds.above refl))
   where
-    by : (total : ℤ) → (is_below_zero total ≡ true → held.latch ≡ true)
-        → (is_below_zero total ≡ false → 0 < unsigned_abs total → held.latch ≡ false)
-        → (not (unsigned_abs total == 0) && held.latch) ≡ is_below_zero total
+    by : (total : ℤ) → (is_negative total ≡ true → held.latch ≡ true)
+        → (is_negative total ≡ false → 0 < unsigned_abs total → held.latch ≡ false)
+        → (not (unsigned_abs total == 0) && held.latch) ≡ is_negative total
     by (pos zero) below above = refl
     by (pos (suc number)) below above =
-        let latch = above refl (omega arith) in
+        let plain = not-negative (suc number) in
+        let latch = above plain (omega arith) in
         let some : not (suc number == 0) ≡ true = grind (arith, nat_tests) in
-        ap₂ (λ a b. a && b) some latch
+        ap₂ (λ a b. a && b) some latch ∙ sym plain
     by (negsuc number) below above =
         let latch = below refl in
         let some : not (suc number == 0) ≡ true = grind (arith, nat_tests) in
@@ -128,12 +130,12 @@ pub total-amount : (wheel digits decimals : ℕ) (mark : Option Mark) (total : �
     (edited total digits decimals mark)
 total-amount wheel digits decimals mark total held holds =
     ap wheels (sym (last_digits-length digits held.figure))
-    ∙ amount-edited columns decimals mark held.latch (is_below_zero total) (IsNumeral-digits columns are)
+    ∙ amount-edited columns decimals mark held.latch (is_negative total) (IsNumeral-digits columns are)
     (AreDigits-drop (free_digits (length columns) decimals) columns are)
     (ap (λ b. marked mark (b && held.latch))
     (ap any_above_zero (value-some (last_digits digits held.figure)) ∙ any_above_zero-number digits held.figure small)
     ∙ total-sign digits mark total held holds)
-    ∙ ap (λ ds. edited_digits ds decimals mark (is_below_zero total))
+    ∙ ap (λ ds. edited_digits ds decimals mark (is_negative total))
     (value-some (last_digits digits held.figure) ∙ ap (last_digits digits) holds.figure)
   where
     columns : List (Option ℕ)

@@ -1,5 +1,6 @@
 -- What the laws rest on, for those who use them: the totals of unsigned amounts, and the texts on total lines.
 use Rattle.std.proofs.Common.{◌≡◌, ◌∙◌, refl, sym, ap, ap₂, subst, ℕ, pos, ◌+ℤ◌, ◌+◌, false, List, [], ◌∷◌, Some, None}
+use Rattle.std.specs.Int.{is_negative}
 use Rattle.std.proofs.Math.IntN.{pos-+ℤ-pos}
 use Rattle.wiring_table.specs.Below.charts.declared.statement.Field.{Field}
 use Rattle.wiring_table.specs.Below.charts.declared.statement.FieldKind.{FieldKind}
@@ -11,9 +12,9 @@ use Rattle.wiring_table.specs.Below.field_rules.Names.{breaks_wrong_kind, names_
 use Rattle.wiring_table.specs.Below.chart_rules.ValidCard.{IsValidKind}
 use Rattle.wiring_table.proofs.Below.chart_rules.Laws.{kept-line, text-valid}
 use Rattle.wiring_table.specs.Below.report.Amounts.{is_negated, number_in, digits_on, signed}
-use Rattle.wiring_table.specs.Below.report.Edits.{is_below_zero}
 use Rattle.wiring_table.specs.Below.report.Totals.{total_of}
 use Rattle.wiring_table.specs.Figures.{rule_of}
+use Rattle.wiring_table.proofs.Below.report.ReadBack.{not-negative}
 use Rattle.printed_lines.specs.Laws.{UnsignedTotalsHaveNoSign, TotalTextsAreTexts}
 
 -- an amount without a sign rule is not negated
@@ -35,7 +36,8 @@ unsigned-total field (card ∷ cards) none =
     )
 
 pub unsigned_totals : UnsignedTotalsHaveNoSign
-unsigned_totals field group none = ap is_below_zero (unsigned-total field group none).1
+unsigned_totals field group none =
+    let total = unsigned-total field group none in ap is_negative total.1 ∙ not-negative total.0
 
 -- the texts of total lines are texts on every valid card
 pub total_texts : TotalTextsAreTexts

@@ -1,5 +1,6 @@
 -- What a total line rests on: what the totals and the storage units hold when a group ends.
 use Rattle.std.specs.Prelude.{◌≡◌, ℕ, ℤ, ◌<◌, ◌^◌, true, false, List, Contains, Option, Some, is_some, unsigned_abs}
+use Rattle.std.specs.Int.{is_negative}
 use Rattle.wiring_table.specs.Below.charts.Levels.{level_number}
 use Rattle.wiring_table.specs.Below.charts.declared.chart.Line.{Line}
 use Rattle.wiring_table.specs.Below.charts.declared.level.Level.{Level}
@@ -9,7 +10,6 @@ use Rattle.wiring_table.specs.Below.charts.declared.statement.Statement.TheVaria
 use Rattle.wiring_table.specs.Below.field_rules.Fields.{field_named}
 use Rattle.wiring_table.specs.Below.chart_rules.ValidCard.{EachColumn, IsText, column_of}
 use Rattle.wiring_table.specs.Below.report.BodyLines.{a_card_of}
-use Rattle.wiring_table.specs.Below.report.Edits.{is_below_zero}
 use Rattle.wiring_table.specs.Below.report.Totals.{total_of}
 use Rattle.printed_lines.specs.Shown.{Printed}
 
@@ -18,8 +18,8 @@ use Rattle.printed_lines.specs.Shown.{Printed}
 pub record HoldsTotal (digits : ℕ) (mark : Option Mark) (total : ℤ) (held : Printed) : Type 0 where
   pub fits : unsigned_abs total < 10 ^ digits
   pub figure : held.figure ≡ unsigned_abs total
-  pub below : is_some mark ≡ true → is_below_zero total ≡ true → held.latch ≡ true
-  pub above : is_some mark ≡ true → is_below_zero total ≡ false → 0 < unsigned_abs total → held.latch ≡ false
+  pub below : is_some mark ≡ true → is_negative total ≡ true → held.latch ≡ true
+  pub above : is_some mark ≡ true → is_negative total ≡ false → 0 < unsigned_abs total → held.latch ≡ false
 
 -- What is held of a text field are the columns of another card, on which it is a text.
 pub record HoldsText (field : Field) (held original : List ℕ) : Type 0 where

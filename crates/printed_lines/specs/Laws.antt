@@ -1,5 +1,6 @@
 -- The laws of printed lines: what the items of a lawful chart send to their wheels prints as the lines of its reports.
 use Rattle.std.specs.Prelude.{◌≡◌, ℕ, ◌+◌, ◌-◌, ◌<◌, ◌≤◌, Bool, true, false, List, Contains, Option, Some, None, length, slice_index_or}
+use Rattle.std.specs.Int.{is_negative}
 use Rattle.wiring_table.specs.Below.charts.Chart.{Chart}
 use Rattle.wiring_table.specs.Below.charts.Literals.{HaveLiteralTexts}
 use Rattle.wiring_table.specs.Below.charts.declared.chart.Line.{Line}
@@ -12,7 +13,6 @@ use Rattle.wiring_table.specs.Below.chart_rules.Rules.{IsLawful}
 use Rattle.wiring_table.specs.Below.chart_rules.ValidCard.{IsText, IsValidCard}
 use Rattle.print_unit.specs.ZeroControl.{printed_line}
 use Rattle.wiring_table.specs.Below.report.BodyLines.{card_line, total_line, heading_line}
-use Rattle.wiring_table.specs.Below.report.Edits.{is_below_zero}
 use Rattle.wiring_table.specs.Below.report.Totals.{total_of}
 use Rattle.wiring_table.specs.Figures.{rule_of}
 use Rattle.printed_lines.specs.Held.{HoldsLine}
@@ -73,7 +73,7 @@ HeadingLinesPrint =
 -- The total of an amount without a sign rule is never below 0.
 abbrev pub UnsignedTotalsHaveNoSign : Type 0
 UnsignedTotalsHaveNoSign =
-    (field : Field) (group : List (List ℕ)) → rule_of field.kind ≡ None → is_below_zero (total_of field group) ≡ false
+    (field : Field) (group : List (List ℕ)) → rule_of field.kind ≡ None → is_negative (total_of field group) ≡ false
 
 -- A text on a total line of a lawful chart is a text on every valid card.
 abbrev pub TotalTextsAreTexts : Type 0

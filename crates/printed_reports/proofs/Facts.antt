@@ -1,5 +1,6 @@
 -- What is known of the cycles of a machine that is wired for a chart, cycle by cycle.
 use Rattle.std.proofs.Common.{◌≡◌, ℕ, ◌≤◌, ◌<◌, ◌^◌, true, false, List, unsigned_abs}
+use Rattle.std.specs.Int.{is_negative}
 use Rattle.panel_cycles.specs.Below.counter_cycles.Acts.{Held}
 use Rattle.panel_cycles.specs.Below.plans.Plans.{Lists}
 use Rattle.decks.specs.Below.charts.Chart.{Chart}
@@ -11,7 +12,6 @@ use Rattle.panel_cycles.specs.Below.machine.Machine.{MachineState}
 use Rattle.panel_cycles.specs.Below.net.declared.cycle.Cycle.{Cycle}
 use Rattle.panel_cycles.specs.Below.net.declared.cycle.Cycle.TheVariants.{RunIn, Card, Prog, Head}
 use Rattle.panel_cycles.specs.Below.line_places.CarriageCycles.{carriage_after}
-use Rattle.decks.specs.Below.report.Edits.{is_below_zero}
 use Rattle.decks.specs.Below.report.Totals.{total_of}
 use Rattle.panel_cycles.specs.Below.selectors.Indicate.{indicate_ended}
 use Rattle.panel_cycles.specs.Below.whole_cycles.Between.{IsReady}
@@ -36,8 +36,8 @@ IsRead chart plan (Head heading) card old = Unit {0}
 pub record ShowsTotal (chart : Chart) (plan : Lists) (level : ℕ) (group : List (List ℕ)) (name : List ℕ) (field : Field)
     (holds : Held) : Type 0 where
   pub figure : holds.number ≡ unsigned_abs (total_of field group)
-  pub below : is_below_zero (total_of field group) ≡ true → holds.latch ≡ true
-  pub above : (amount_of chart.lines plan name).is_signed ≡ true → is_below_zero (total_of field group) ≡ false
+  pub below : is_negative (total_of field group) ≡ true → holds.latch ≡ true
+  pub above : (amount_of chart.lines plan name).is_signed ≡ true → is_negative (total_of field group) ≡ false
       → 1 ≤ unsigned_abs (total_of field group) → holds.latch ≡ false
   pub fits : unsigned_abs (total_of field group) < 10 ^ (amount_of chart.lines plan name).digits level
-  pub unsigned : (amount_of chart.lines plan name).is_signed ≡ false → is_below_zero (total_of field group) ≡ false
+  pub unsigned : (amount_of chart.lines plan name).is_signed ≡ false → is_negative (total_of field group) ≡ false

@@ -27,7 +27,7 @@ use Rattle.panel_cycles.proofs.WheelRowsUnits.{group-own}
 use Rattle.panel_cycles.proofs.Below.wired_panels.Ways.{leads}
 use Rattle.panel_cycles.proofs.Below.wired_panels.CounterUnits.{at_unit, counter_there, planned_unit}
 use Rattle.panel_cycles.proofs.Below.wired_panels.AfterCycles.{cycle-of}
-use Rattle.panel_cycles.specs.ChartAmounts.{amount_of, positions_of, total_counter, total_line}
+use Rattle.panel_cycles.specs.ChartAmounts.{amount_of, positions_of, total_counter}
 use Rattle.panel_cycles.specs.CounterStates.{AsksCounter, held_in, number_at}
 use Rattle.panel_cycles.proofs.Below.wired_panels.Contacts.{is_set}
 use Rattle.panel_cycles.specs.Below.wired_panels.Groups.{IsCounterOf}
@@ -57,7 +57,7 @@ use Rattle.panel_cycles.specs.Below.whole_cycles.Between.{IsBetween, IsIdle, IsR
 use Rattle.panel_cycles.specs.Below.whole_cycles.Units.{group_at}
 use Rattle.panel_cycles.specs.Below.whole_cycles.WholeCycles.{WholeCycle}
 use Rattle.panel_cycles.specs.Below.wiring_table.Figures.{IsAmount}
-use Rattle.panel_cycles.specs.Below.wiring_table.Parts.{counter_for, panel_group}
+use Rattle.panel_cycles.specs.Below.wiring_table.Parts.{counter_for, panel_group, total_line}
 use Rattle.printed_reports.specs.Content.{held, kind_for}
 use Rattle.printed_reports.proofs.Facts.{IsRead}
 use Rattle.printed_reports.proofs.FromCycles.{whole}

@@ -8,6 +8,7 @@ use Rattle.std.specs.List.{list_all, range_with_len}
 use Rattle.panel_cycles.proofs.Below.field_rules.Places.{is_same_name-equal}
 use Rattle.panel_cycles.specs.Below.field_rules.Control.{breaks_total_text_not_control, controls_by, is_controlled_by}
 use Rattle.panel_cycles.specs.Below.field_rules.Fields.{field_named}
+use Rattle.decks.specs.Below.chart_rules.Controls.{control_on, controls_of}
 use Rattle.decks.specs.Below.chart_rules.Rules.{IsLawful}
 use Rattle.decks.specs.Below.chart_rules.ValidCard.{column_of}
 use Rattle.decks.specs.Below.chart_rules.declared.rule.Rule.TheVariants as rule
@@ -27,7 +28,7 @@ use Rattle.decks.proofs.Below.charts.Listed.{any-passing, listed-given}
 use Rattle.decks.proofs.Below.chart_rules.Laws.{kept-line}
 use Rattle.decks.specs.Below.report.BodyLines.{a_card_of}
 use Rattle.decks.specs.Below.report.Breaks.{taking}
-use Rattle.decks.specs.Below.report.Groups.{control_fields, control_field, is_same_at, is_same_on}
+use Rattle.decks.specs.Below.report.Groups.{is_same_at, is_same_on}
 
 -- cards that are the same on a field have the same columns in it
 columns_same : (field : Field) (one card : List ℕ) → is_same_on field one card ≡ true → (column : ℕ) → field.first ≤ column
@@ -56,7 +57,7 @@ columns_same field one card same column low high =
 
 -- the first card of a group is the same as its last on the control fields of the group's level and of those above
 pub first_same : (lines : List Line) (so_far : ℕ → List (List ℕ)) (card : List ℕ) (level above : ℕ) (field : Field)
-    → AlikeWith lines so_far card → level ≤ above → above ≤ 3 → Contains (control_fields lines above) field
+    → AlikeWith lines so_far card → level ≤ above → above ≤ 3 → Contains (controls_of lines above) field
     → (column : ℕ) → field.first ≤ column → column ≤ field.last
     → column_of card column ≡ column_of (a_card_of (taking card so_far level)) column
 first_same lines so_far card level above field alike low high controls column from to =
@@ -67,8 +68,8 @@ first_same lines so_far card level above field alike low high controls column fr
     by [] same = refl
     by (one ∷ others) same =
         sym (columns_same field one card
-        (All-contains (λ some. is_same_on some one card ≡ true) (control_fields lines above) field
-        (AllPass-from_list_all (λ some. is_same_on some one card) (control_fields lines above)
+        (All-contains (λ some. is_same_on some one card ≡ true) (controls_of lines above) field
+        (AllPass-from_list_all (λ some. is_same_on some one card) (controls_of lines above)
         (All-head (λ some. is_same_at lines above some card ≡ true) one others same)) controls) column from to)
 
 -- a text on a total line is a control field of the line's level or of one above
@@ -76,7 +77,7 @@ pub record IsControlled (lines : List Line) (level : ChartLevel) (field : Field)
   pub above : ℕ
   pub low : level_number level ≤ above
   pub high : above ≤ 3
-  pub controls : Contains (control_fields lines above) field
+  pub controls : Contains (controls_of lines above) field
 
 pub controlled : (chart : Chart) (line : Line) (level : ChartLevel) (wheel : ℕ) (name : List ℕ) (field : Field) → IsLawful chart
     → Contains chart.lines line → line.statement ≡ says.TotalText level wheel name → field_named chart.lines name ≡ Some field
@@ -108,8 +109,8 @@ controlled chart line level wheel name field lawful listed is named =
           above = control_number its;
           low = grind (arith, nat_tests, both.0);
           high = three its;
-          controls = listed-given (λ (each : Line). control_field chart.lines (control_number its) each.statement) chart.lines l field there
-              (ap (control_field chart.lines (control_number its)) says_it
+          controls = listed-given (λ (each : Line). control_on chart.lines (control_number its) each.statement) chart.lines l field there
+              (ap (control_on chart.lines (control_number its)) says_it
               ∙ ap (λ (b : Bool). if b then field_named chart.lines its_name else None) here
               ∙ ap (field_named chart.lines) same ∙ named);
         }

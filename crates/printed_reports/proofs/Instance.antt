@@ -1,6 +1,7 @@
 -- The cycles of a machine that is wired for a chart, put together: what it holds between cycles is kept, and each line is printed as the
 -- report has it.
 use Rattle.std.proofs.Common.{◌≡◌, ◌∙◌, refl, sym, ap, subst, ℕ, suc, ◌+◌, nat_le, ◌≤◌, ◌<◌, ◌^◌, ℤ, Bool, true, false, List, [], Option, Some, None, if◌then◌else◌, arith, unsigned_abs}
+use Rattle.std.specs.Int.{is_negative}
 use Rattle.std.proofs.lemmas.Bool.Decides.{nat_tests}
 use Rattle.panel_cycles.specs.Below.counter_cycles.Acts.{Held}
 use Rattle.panel_cycles.specs.Below.plans.Plans.{Lists}
@@ -30,7 +31,6 @@ use Rattle.panel_cycles.specs.Below.net.declared.cycle.ProgramLevel.{ProgramLeve
 use Rattle.panel_cycles.specs.Below.net.declared.cycle.Ordinal.{Ordinal}
 use Rattle.panel_cycles.specs.Below.net.declared.cycle.Ordinal.TheVariants.{First, Second, Third}
 use Rattle.decks.specs.Below.report.Breaks.{cleared, ended_after, taking}
-use Rattle.decks.specs.Below.report.Edits as edit
 use Rattle.decks.specs.Below.report.Totals.{total_of}
 use Rattle.panel_cycles.specs.Below.selectors.Indicate.{Latches, indicate_ended}
 use Rattle.panel_cycles.specs.Below.selectors.Pilots.{moves_pilots}
@@ -308,7 +308,7 @@ module _ (chart : Chart) (plan : Lists) (wiring : Wiring) (panel : IsPanel chart
       same_size n = unsigned_abs n
 
       same_sign : ℤ → Bool
-      same_sign n = edit.is_below_zero n
+      same_sign n = is_negative n
 
   -- what goes up from a level with a total has room
   room_of :

@@ -1,6 +1,7 @@
 -- The totals of an amount and the sums of the report: a card is added to the sum of each level's unfinished group, and the end of a group
 -- clears its own sum and those of the groups within it.
-use Rattle.std.proofs.Common.{◌≡◌, ◌∙◌, refl, sym, ap, subst, ℕ, zero, suc, ◌≤◌, ◌<◌, ◌^◌, nat_le, ℤ, pos, negsuc, neg_ℤ, ◌+ℤ◌, Bool, true, false, List, [], ◌∷◌, ◌++◌, if◌then◌else◌, arith, unsigned_abs}
+use Rattle.std.proofs.Common.{◌≡◌, ◌∙◌, refl, sym, ap, subst, ℕ, zero, suc, ◌+◌, ◌≤◌, ◌<◌, ◌^◌, nat_le, ℤ, pos, negsuc, neg_ℤ, ◌+ℤ◌, Bool, true, false, List, [], ◌∷◌, ◌++◌, if◌then◌else◌, arith, unsigned_abs}
+use Rattle.std.specs.Int.{is_negative}
 use Rattle.std.proofs.lemmas.Bool.Decides.{nat_tests}
 use Rattle.std.proofs.lemmas.Int.{ints}
 use Rattle.panel_cycles.specs.Below.counter_cycles.Acts.{Held}
@@ -10,6 +11,7 @@ use Rattle.decks.specs.Below.report.Amounts.{digits_on, is_negated, number_in, v
 use Rattle.decks.specs.Below.report.Breaks.{cleared, taking}
 use Rattle.decks.specs.Below.report.Totals.{total_of}
 use Rattle.panel_cycles.proofs.Below.totals.Cards.{equal_sums, card_goes}
+use Rattle.panel_cycles.proofs.Below.totals.Figures.{not-negative}
 use Rattle.panel_cycles.proofs.Below.totals.GroupEnds.{total_shows, empty_ends}
 use Rattle.panel_cycles.proofs.Below.totals.Passing.{empty_passes}
 use Rattle.panel_cycles.specs.Below.totals.Amounts.{Amount, HasGroups, IsOnCard, state_after}
@@ -51,7 +53,7 @@ card_sums amount field card so_far state lawful on_card stands =
 pub group_end :
     (amount : Amount) (field : Field) (groups : ℕ → List (List ℕ)) (k : ℕ)
     → unsigned_abs (total_of field (groups (suc k))) < 10 ^ amount.digits (suc k)
-    → (amount.is_signed ≡ false → sums.is_below_zero (total_of field (groups (suc k))) ≡ false)
+    → (amount.is_signed ≡ false → is_negative (total_of field (groups (suc k))) ≡ false)
     → IsGroupEnd amount (suc k) (sums_of field (cleared k groups))
 group_end amount field groups k fits unsigned =
     let here : cleared k groups (suc k) ≡ groups (suc k) = not_yet in
@@ -59,7 +61,7 @@ group_end amount field groups k fits unsigned =
       is_level = omega arith;
       lower_ended = λ level from below. ended level below;
       fits = subst (λ cards. unsigned_abs (total_of field cards) < 10 ^ amount.digits (suc k)) (sym here) (same_size (total_of field (groups (suc k))) fits);
-      unsigned = λ none. ap (λ cards. sums.is_below_zero (total_of field cards)) here ∙ unsigned none;
+      unsigned = λ none. ap (λ cards. is_negative (total_of field cards)) here ∙ unsigned none;
     }
   where
     not_yet : cleared k groups (suc k) ≡ groups (suc k)
@@ -132,15 +134,16 @@ level_sums amount field groups k state lawful end stands = by (amount.has (suc k
 -- an amount without a sign rule is never below 0
 pub unsigned_total :
     (field : Field) (cards : List (List ℕ)) → ((card : List ℕ) → is_negated field.kind card ≡ false)
-    → sums.is_below_zero (total_of field cards) ≡ false
+    → is_negative (total_of field cards) ≡ false
 unsigned_total field [] never = refl
 unsigned_total field (card ∷ cards) never =
     both (value_of field card) (total_of field cards) plain (unsigned_total field cards never)
   where
-    plain : sums.is_below_zero (value_of field card) ≡ false
-    plain = ap (λ (b : Bool). sums.is_below_zero (if b then neg_ℤ (pos (number_in (digits_on field card))) else pos (number_in (digits_on field card)))) (never card)
+    plain : is_negative (value_of field card) ≡ false
+    plain = ap (λ (b : Bool). is_negative (if b then neg_ℤ (pos (number_in (digits_on field card))) else pos (number_in (digits_on field card)))) (never card)
+        ∙ not-negative (number_in (digits_on field card))
 
-    both : (a b : ℤ) → sums.is_below_zero a ≡ false → sums.is_below_zero b ≡ false → sums.is_below_zero (a +ℤ b) ≡ false
-    both (pos m) (pos n) one other = refl
+    both : (a b : ℤ) → is_negative a ≡ false → is_negative b ≡ false → is_negative (a +ℤ b) ≡ false
+    both (pos m) (pos n) one other = not-negative (m + n)
     both (pos m) (negsuc n) one other = cc
     both (negsuc m) b one other = cc

@@ -1,9 +1,9 @@
 //! Reading what the program is given.
 
 ghost use Rattle.std.specs.Prelude.{◌≡◌, ◌≢◌, ◌<◌, ◌↔◌, ◌⊎◌, ℕ, length, slice_index, IfOk, IfErr, IfSome, IfNone, IsTrue};
-ghost use Rattle.card_code.specs.Lines.{without_cr};
 ghost use Rattle.program_io.specs.Input.{IsDivided, HasNoLineFeed, IsEndPiece};
 
+use card_code::without_cr;
 use faults::Fault;
 use std::alloc::Global;
 use std::io::{ErrorKind, Read};
@@ -57,14 +57,4 @@ fn ends_chart(piece: &[u8]) -> bool
     ensures { IsTrue result ↔ IsEndPiece piece.now }
 {
     is_end_line(without_cr(piece))
-}
-
-// A piece without the one CR at its end.
-fn without_cr(piece: &[u8]) -> &[u8]
-    ensures line { result.now ≡ without_cr piece.now }
-{
-    match piece.split_last() {
-        Some((last, line)) if *last == b'\r' => line,
-        _ => piece,
-    }
 }

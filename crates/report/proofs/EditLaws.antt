@@ -1,11 +1,12 @@
 -- Edited amounts: how many wheels they take.
 use Rattle.std.proofs.Common.{◌≡◌, ◌∙◌, refl, ap, ℕ, zero, suc, ◌+◌, ◌-◌, ◌≤◌, ◌==◌, Bool, true, false, nat_lt, min, List, [], ◌∷◌, ◌++◌, Option, Some, None, length, map, take, drop, replicate, if◌then◌else◌, arith, unsigned_abs}
+use Rattle.std.specs.Int.{is_negative}
 use Rattle.std.proofs.lemmas.Bool.Decides.{nat_tests}
 use Rattle.std.proofs.lemmas.List.{length-map, length-append, length-drop, length-replicate, length-take}
 use Rattle.chart_rules.specs.Below.charts.declared.statement.Mark.{Mark}
 use Rattle.chart_rules.specs.Below.charts.declared.statement.Mark.TheVariants as mark
 use Rattle.chart_rules.specs.Below.print_rules.Items.{figure_width, mark_width}
-use Rattle.report.specs.Edits.{last_digits, figure, without_leading_zeros, free_digits, point, marked, is_below_zero, edited_digits, edited_blank}
+use Rattle.report.specs.Edits.{last_digits, figure, without_leading_zeros, free_digits, point, marked, edited_digits, edited_blank}
 use Rattle.report.specs.Laws.{EditsFillTheirItems}
 
 -- so many digits are so many
@@ -89,7 +90,7 @@ blank_fill width decimals mark =
 
 pub edits_fill : EditsFillTheirItems
 edits_fill number figure some few = (
-  digits_fill (last_digits figure.digits (unsigned_abs number)) figure.digits figure.decimals figure.mark (is_below_zero number)
+  digits_fill (last_digits figure.digits (unsigned_abs number)) figure.digits figure.decimals figure.mark (is_negative number)
       (last_digits-length figure.digits (unsigned_abs number)) some few,
   blank_fill figure.digits figure.decimals figure.mark,
 )

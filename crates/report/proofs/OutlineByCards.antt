@@ -6,20 +6,21 @@ use Rattle.chart_rules.specs.Below.charts.declared.chart.Line.{Line}
 use Rattle.chart_rules.specs.Below.charts.declared.level.ControlLevel.TheVariants as control
 use Rattle.chart_rules.specs.Below.charts.declared.statement.Statement.{Statement}
 use Rattle.chart_rules.specs.Below.charts.declared.statement.Statement.TheVariants as says
+use Rattle.chart_rules.specs.Controls.{control_on}
 use Rattle.report.specs.Breaks.{break_up_to, ended_after, no_cards, taking, cleared, totals_to, chunk_of, flat}
-use Rattle.report.specs.Groups.{control_field, is_same_at, rest_of_run, later_runs}
+use Rattle.report.specs.Groups.{is_same_at, rest_of_run, later_runs}
 use Rattle.report.specs.Outline.{OutlineLine, Detail, Total, details, by_parts, outline}
 use Rattle.report.specs.OutlineLaws.{OutlineIsByCards}
 
 -- no line names a control field of level 0
-none_at_0 : (lines : List Line) (statement : Statement) → control_field lines 0 statement ≡ None
+none_at_0 : (lines : List Line) (statement : Statement) → control_on lines 0 statement ≡ None
 none_at_0 lines (says.Control control.Minor name) = refl
 none_at_0 lines other = refl
 
-no_fields_at_0 : (lines some : List Line) → filter_map (λ line. control_field lines 0 line.statement) some ≡ []
+no_fields_at_0 : (lines some : List Line) → filter_map (λ line. control_on lines 0 line.statement) some ≡ []
 no_fields_at_0 lines [] = refl
 no_fields_at_0 lines (line ∷ some) =
-    ap (λ o. cons_option o (filter_map (λ each. control_field lines 0 each.statement) some)) (none_at_0 lines line.statement)
+    ap (λ o. cons_option o (filter_map (λ each. control_on lines 0 each.statement) some)) (none_at_0 lines line.statement)
     ∙ no_fields_at_0 lines some
 
 -- so all cards are the same at level 0

@@ -1,5 +1,6 @@
 -- The characters on the lines of a report: print characters and blanks alone.
 use Rattle.std.proofs.Common.{◌≡◌, ◌∙◌, refl, subst, ℕ, zero, suc, ◌+◌, ◌-◌, ◌<◌, ◌%◌, ◌^◌, ◌/◌, ◌==◌, ◌&&◌, nat_le, nat_lt, Bool, true, false, List, [], ◌∷◌, ◌++◌, Option, Some, None, Contains, get_or, length, map, take, drop, replicate, option_map, if◌then◌else◌, arith, unsigned_abs}
+use Rattle.std.specs.Int.{is_negative}
 use Rattle.std.specs.List.{All, AllPass, list_all, filter_map, cons_option, flat_map, range_with_len}
 use Rattle.std.proofs.lemmas.List.Elements.{All-nil, All-cons, All-head, All-tail, All-append, All-map, All-take, All-drop, All-replicate, All-weaker, All-contains_itself}
 use Rattle.std.proofs.lemmas.List.FromFn.{get_or-range_with_len, length-range_with_len}
@@ -26,7 +27,7 @@ use Rattle.chart_rules.specs.ValidCard.{column_of}
 use Rattle.report.specs.Amounts.{columns_in, is_blank_on, value_of}
 use Rattle.report.specs.BodyLines.{Piece, piece_at, char_at, line_of, text_on, amount_on, field_on, is_shown, card_piece, card_line, a_card_of, total_piece, total_line, heading_piece, heading_line}
 use Rattle.report.specs.ChartForm.{heading_count, prints_details, prints_totals}
-use Rattle.report.specs.Edits.{last_digits, figure, without_leading_zeros, free_digits, point, mark_text, marked, is_below_zero, edited, edited_digits, edited_blank}
+use Rattle.report.specs.Edits.{last_digits, figure, without_leading_zeros, free_digits, point, mark_text, marked, edited, edited_digits, edited_blank}
 use Rattle.report.specs.Outline.{OutlineLine, Detail, Total, outline_of}
 use Rattle.report.specs.PageLaws.{HasPrintCharacters, ReportLinesPrint}
 use Rattle.report.specs.Places.{BodyText, Left, before_all, heading_on, headed, left_by, page_of, line_below, placed}
@@ -156,7 +157,7 @@ amount-prints card mark field = by (is_blank_on field card)
     by true = blanks-print (columns_of field) (decimals_of field.kind) mark
     by false =
         digits-print (last_digits (columns_of field) (unsigned_abs (value_of field card))) (decimals_of field.kind) mark
-        (is_below_zero (value_of field card)) (last_digits-small (columns_of field) (unsigned_abs (value_of field card)))
+        (is_negative (value_of field card)) (last_digits-small (columns_of field) (unsigned_abs (value_of field card)))
 
 field-prints : (card : List ℕ) (mark : Option Mark) (field : Field) (kind : FieldKind) → Prints (field_on card mark field kind)
 field-prints card mark field holds.Text = text-prints card field
@@ -203,7 +204,7 @@ total-piece lines level group (says.TotalAmount its_level wheel name digits mark
     (option_map (λ field. piece_at wheel (edited (total_of field group) digits (decimals_of field.kind) mark)) (field_named lines name))
     (named-prints wheel (λ field. edited (total_of field group) digits (decimals_of field.kind) mark)
     (λ field.
-    digits-print (last_digits digits (unsigned_abs (total_of field group))) (decimals_of field.kind) mark (is_below_zero (total_of field group))
+    digits-print (last_digits digits (unsigned_abs (total_of field group))) (decimals_of field.kind) mark (is_negative (total_of field group))
     (last_digits-small digits (unsigned_abs (total_of field group)))) (field_named lines name))
 total-piece lines level group other prints = tt
 

@@ -1,8 +1,10 @@
 -- Edited amounts read back, and the signs of values.
 use Rattle.std.proofs.Common.{◌≡◌, ◌∙◌, ◌↔◌, refl, sym, ap, subst, ℕ, zero, suc, ℤ, pos, negsuc, ◌+◌, ◌-◌, ◌*◌, ◌/◌, ◌%◌, ◌^◌, ◌<◌, ◌==◌, ◌||◌, Bool, true, false, not, List, [], ◌∷◌, ◌++◌, Option, Some, None, is_some, length, map, take, drop, if◌then◌else◌, arith, unsigned_abs}
+use Rattle.std.specs.Int.{is_negative}
 use Rattle.std.specs.List.{list_any}
 use Rattle.std.proofs.Math.Nat.{pow-suc, div-one, div-eq_of_lt, div-div-eq-div-mul}
 use Rattle.std.proofs.lemmas.Nat.{div-add-mod'}
+use Rattle.std.proofs.lemmas.Bool.{false≢true}
 use Rattle.std.proofs.lemmas.Bool.Decides.{nat_tests}
 use Rattle.std.proofs.lemmas.List.{take-append-drop}
 use Rattle.std.proofs.lemmas.List.Folds.{list_any-append}
@@ -12,7 +14,7 @@ use Rattle.chart_rules.specs.Below.charts.declared.statement.Mark.TheVariants as
 use Rattle.chart_rules.specs.ValidCard.{column_of}
 use Rattle.report.specs.AmountLaws.{is_digit, spelled_after, is_of_mark, EditsReadBack, SignByPunch, SignByAbsence, SizesAreOfDigits}
 use Rattle.report.specs.Amounts.{digits_on, number_in, is_negated, signed}
-use Rattle.report.specs.Edits.{last_digits, figure, without_leading_zeros, free_digits, point, marked, is_below_zero, edited, edited_digits}
+use Rattle.report.specs.Edits.{last_digits, figure, without_leading_zeros, free_digits, point, marked, edited, edited_digits}
 
 -- all digits are below 10
 abbrev AreSmall : List ℕ → Type 0
@@ -183,27 +185,31 @@ edit-marked digits decimals mark negative small some =
     ∙ ap (λ b. b || list_any is_of_mark (marked mark negative)) (figures-unmarked (drop free digits) (drop-small free digits small))
     ∙ mark-marked mark negative some
 
+-- a number from 0 on is not negative
+pub not-negative : (number : ℕ) → is_negative (pos number) ≡ false
+not-negative number = grind (arith, nat_tests)
+
 -- sign and size make the number
-sign_and_size : (number : ℤ) → signed (is_below_zero number) (unsigned_abs number) ≡ number
-sign_and_size (pos number) = refl
+sign_and_size : (number : ℤ) → signed (is_negative number) (unsigned_abs number) ≡ number
+sign_and_size (pos number) = ap (λ b. signed b number) (not-negative number)
 sign_and_size (negsuc number) = refl
 
 pub edits_read : EditsReadBack
 edits_read number digits decimals mark some few room shown =
     let small = last_digits-small digits (unsigned_abs number) in
     ap (λ b. signed b (spelled_after 0 (edited number digits decimals mark)))
-    (edit-marked (last_digits digits (unsigned_abs number)) decimals mark (is_below_zero number) small shown)
-    ∙ ap (signed (is_below_zero number))
-    (spelled-edit (last_digits digits (unsigned_abs number)) decimals mark (is_below_zero number) small
+    (edit-marked (last_digits digits (unsigned_abs number)) decimals mark (is_negative number) small shown)
+    ∙ ap (signed (is_negative number))
+    (spelled-edit (last_digits digits (unsigned_abs number)) decimals mark (is_negative number) small
     ∙ joined-whole digits (unsigned_abs number) room)
     ∙ sign_and_size number
 
 -- a negated number is below 0 where it is not 0
 below : (negated : Bool) (number : ℕ)
-    → (is_below_zero (signed negated number) ≡ true) ↔ ((negated ≡ true) × (0 < number))
+    → (is_negative (signed negated number) ≡ true) ↔ ((negated ≡ true) × (0 < number))
 below true zero = (λ h. cc, λ h. absurd (omega (arith, h.1)))
 below true (suc number) = (λ h. (refl, omega arith), λ h. refl)
-below false number = (λ h. cc, λ h. let no : false ≡ true = h.0 in cc)
+below false number = (λ h. absurd (false≢true (sym (not-negative number) ∙ h)), λ h. let no : false ≡ true = h.0 in cc)
 
 pub signed-size : (negated : Bool) (number : ℕ) → unsigned_abs (signed negated number) ≡ number
 signed-size true zero = refl
@@ -215,7 +221,7 @@ sizes field card = signed-size (is_negated field.kind card) (number_in (digits_o
 
 pub by_punch : SignByPunch
 by_punch field card decimals column kind =
-    subst (λ k. (is_below_zero (signed (is_negated k card) (number_in (digits_on field card))) ≡ true)
+    subst (λ k. (is_negative (signed (is_negated k card) (number_in (digits_on field card))) ≡ true)
     ↔ ((has_row (column_of card column) 11 ≡ true) × (0 < number_in (digits_on field card))))
     (sym kind)
     (below (has_row (column_of card column) 11) (number_in (digits_on field card)))
@@ -223,7 +229,7 @@ by_punch field card decimals column kind =
 pub by_absence : SignByAbsence
 by_absence field card decimals column kind =
     let one = below (not (has_row (column_of card column) 11)) (number_in (digits_on field card)) in
-    subst (λ k. (is_below_zero (signed (is_negated k card) (number_in (digits_on field card))) ≡ true)
+    subst (λ k. (is_negative (signed (is_negated k card) (number_in (digits_on field card))) ≡ true)
     ↔ ((has_row (column_of card column) 11 ≡ false) × (0 < number_in (digits_on field card))))
     (sym kind)
     (turned (has_row (column_of card column) 11) one)

@@ -1,5 +1,6 @@
 -- Laws of amounts: what is printed can be read again, and where a value is below 0.
 use Rattle.std.specs.Prelude.{◌≡◌, ◌↔◌, ℕ, ℤ, ◌+◌, ◌-◌, ◌*◌, ◌^◌, ◌<◌, ◌≤◌, ◌==◌, ◌&&◌, ◌||◌, Bool, true, false, nat_le, List, [], ◌∷◌, Option, Some, is_some, if◌then◌else◌, unsigned_abs}
+use Rattle.std.specs.Int.{is_negative}
 use Rattle.std.specs.List.{list_any}
 use Rattle.chart_rules.specs.Below.card_code.CardCode.{has_row}
 use Rattle.chart_rules.specs.Below.charts.declared.statement.Field.{Field}
@@ -8,7 +9,7 @@ use Rattle.chart_rules.specs.Below.charts.declared.statement.Mark.{Mark}
 use Rattle.chart_rules.specs.Below.charts.declared.statement.SignRule.TheVariants as sign
 use Rattle.chart_rules.specs.ValidCard.{column_of}
 use Rattle.report.specs.Amounts.{digits_on, number_in, signed, value_of}
-use Rattle.report.specs.Edits.{edited, is_below_zero}
+use Rattle.report.specs.Edits.{edited}
 
 -- whether a character is a digit
 abbrev pub is_digit : ℕ → Bool
@@ -35,21 +36,21 @@ read_amount text = signed (list_any is_of_mark text) (spelled_after 0 text)
 abbrev pub EditsReadBack : Type 0
 EditsReadBack =
     (number : ℤ) (digits decimals : ℕ) (mark : Option Mark)
-    → 1 ≤ digits → decimals ≤ digits → unsigned_abs number < 10 ^ digits → (is_below_zero number ≡ true → is_some mark ≡ true)
+    → 1 ≤ digits → decimals ≤ digits → unsigned_abs number < 10 ^ digits → (is_negative number ≡ true → is_some mark ≡ true)
     → read_amount (edited number digits decimals mark) ≡ number
 
 -- The value of an amount by the rule X is below 0 exactly where its sign column has row 11 and its digits are not all zeros.
 abbrev pub SignByPunch : Type 0
 SignByPunch =
     (field : Field) (card : List ℕ) (decimals column : ℕ) → field.kind ≡ holds.Amount decimals (Some (sign.X column))
-    → (is_below_zero (value_of field card) ≡ true)
+    → (is_negative (value_of field card) ≡ true)
     ↔ ((has_row (column_of card column) 11 ≡ true) × (0 < number_in (digits_on field card)))
 
 -- The value of an amount by the rule NX is below 0 exactly where its sign column has no row 11 and its digits are not all zeros.
 abbrev pub SignByAbsence : Type 0
 SignByAbsence =
     (field : Field) (card : List ℕ) (decimals column : ℕ) → field.kind ≡ holds.Amount decimals (Some (sign.NX column))
-    → (is_below_zero (value_of field card) ≡ true)
+    → (is_negative (value_of field card) ≡ true)
     ↔ ((has_row (column_of card column) 11 ≡ false) × (0 < number_in (digits_on field card)))
 
 -- The size of a value is the number of its digits.

@@ -1,15 +1,11 @@
 -- The edited amount. Its digits stand with leading zeros blank, left of the point, or left of the units where there are no
 -- decimals; the point and the decimals always stand; the mark stands after them exactly where the number is below 0.
 use Rattle.std.specs.Prelude.{ℕ, ◌+◌, ◌-◌, ◌^◌, ◌/◌, ◌%◌, ◌==◌, zero, suc, max, Bool, List, [], ◌∷◌, ◌++◌, Option, Some, None, length, map, take, drop, replicate, codes, if◌then◌else◌, unsigned_abs}
-use Rattle.std.specs.Prelude.{ℤ, pos, negsuc, true, false}
+use Rattle.std.specs.Prelude.{ℤ}
+use Rattle.std.specs.Int.{is_negative}
 use Rattle.chart_rules.specs.Below.charts.declared.statement.Mark.{Mark}
 use Rattle.chart_rules.specs.Below.charts.declared.statement.Mark.TheVariants as mark
 use Rattle.chart_rules.specs.Below.print_rules.Items.{mark_width}
-
--- whether a number is below 0
-abbrev pub is_below_zero : ℤ → Bool
-is_below_zero (pos number) = false
-is_below_zero (negsuc number) = true
 
 -- the last so many digits of a number, the first of them first
 abbrev pub last_digits : (count number : ℕ) → List ℕ
@@ -55,7 +51,7 @@ edited_digits digits decimals mark negative =
 -- a number in so many digits
 abbrev pub edited : ℤ → (digits decimals : ℕ) → Option Mark → List ℕ
 edited number digits decimals mark =
-    edited_digits (last_digits digits (unsigned_abs number)) decimals mark (is_below_zero number)
+    edited_digits (last_digits digits (unsigned_abs number)) decimals mark (is_negative number)
 
 -- a blank amount: the point alone
 abbrev pub edited_blank : (digits decimals : ℕ) → Option Mark → List ℕ

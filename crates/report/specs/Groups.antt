@@ -1,25 +1,12 @@
 -- Control groups. The one group of level 4 is the deck. The groups of a level are the longest runs of consecutive cards, within
 -- a group of the level above, that are equal on all control fields of the level. A level without control fields cuts nothing.
-use Rattle.std.specs.Prelude.{ℕ, zero, suc, ◌==◌, Bool, List, [], ◌∷◌, ◌++◌, Option, None, if◌then◌else◌}
-use Rattle.std.specs.List.{filter_map, flat_map, list_all}
-use Rattle.chart_rules.specs.Below.charts.Levels.{control_number}
+use Rattle.std.specs.Prelude.{ℕ, zero, suc, ◌==◌, Bool, List, [], ◌∷◌, ◌++◌, if◌then◌else◌}
+use Rattle.std.specs.List.{flat_map, list_all}
 use Rattle.chart_rules.specs.Below.charts.declared.chart.Line.{Line}
 use Rattle.chart_rules.specs.Below.charts.declared.statement.Field.{Field}
-use Rattle.chart_rules.specs.Below.charts.declared.statement.Statement.{Statement}
-use Rattle.chart_rules.specs.Below.charts.declared.statement.Statement.TheVariants as says
-use Rattle.chart_rules.specs.Below.field_rules.Fields.{field_named}
+use Rattle.chart_rules.specs.Controls.{controls_of}
 use Rattle.chart_rules.specs.ValidCard.{column_of}
 use Rattle.report.specs.Amounts.{columns_in}
-
--- the control field that a line of the chart names for a level, if it does
-abbrev pub control_field : List Line → ℕ → Statement → Option Field
-control_field lines level (says.Control its_level name) =
-    if control_number its_level == level then field_named lines name else None
-control_field lines level other = None
-
--- the control fields of a level
-abbrev pub control_fields : List Line → ℕ → List Field
-control_fields lines level = filter_map (λ line. control_field lines level line.statement) lines
 
 -- whether two cards have the same punches in all columns of a field
 abbrev pub is_same_on : Field → List ℕ → List ℕ → Bool
@@ -27,7 +14,7 @@ is_same_on field one other = list_all (λ column. column_of one column == column
 
 -- whether two cards are equal on all control fields of a level
 abbrev pub is_same_at : List Line → ℕ → List ℕ → List ℕ → Bool
-is_same_at lines level one other = list_all (λ field. is_same_on field one other) (control_fields lines level)
+is_same_at lines level one other = list_all (λ field. is_same_on field one other) (controls_of lines level)
 
 -- the cards after a card that go on with its run
 abbrev pub rest_of_run : (List ℕ → List ℕ → Bool) → List ℕ → List (List ℕ) → List (List ℕ)

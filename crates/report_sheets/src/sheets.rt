@@ -3,10 +3,11 @@
 ghost use Rattle.std.specs.Prelude.{◌≡◌, ◌<◌, ◌≤◌, ◌++◌, codes, decimal, length, OnOk};
 ghost use Rattle.std.specs.List.{flat_map, range_with_len};
 ghost use Rattle.std.specs.String.{string_bytes};
-ghost use Rattle.page_text.specs.Pages.{last_page, text_at};
+ghost use Rattle.page_text.specs.Pages.{text_at};
 ghost use Rattle.report_sheets.specs.Sheets.{characters_text, link_text, printed_text, row_name, row_open, row_text, sheet_open, sheet_text, sheets_text, wheel_name, wheel_text, written_row};
 
 use markup::push_escaped;
+use page_text::last_page;
 use placed_lines::PlacedLine;
 use std::alloc::AllocError;
 
@@ -186,17 +187,6 @@ fn write_sheet(
     write_sheet_open(text, page)?;
     write_rows(text, lines, long, page)?;
     text.push_str("</pre>\n")
-}
-
-// The last page that has a line, and 0 without lines.
-fn last_page(lines: &[PlacedLine]) -> u64
-    ensures { result ≡ last_page lines.now }
-{
-    let mut last = 0;
-    for placed in lines {
-        last = last.max(placed.page);
-    }
-    last
 }
 
 #[tactic(auto, unfolding(crate::specs::Sheets::sheets_text), using(crate::proofs::Written::range_none, crate::proofs::Written::range_more))]

@@ -1,5 +1,7 @@
+pub mod BalanceLemmas
 pub mod ContactLemmas
 pub mod LawLemmas
+pub mod NumberedLemmas
 pub mod PickupLemmas
 pub mod RowLemmas
 pub mod SpreadLemmas

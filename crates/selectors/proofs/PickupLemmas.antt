@@ -1,15 +1,13 @@
 -- The pickups in a row of hubs.
-use Rattle.std.proofs.Common.{◌≡◌, ◌<◌, ◌+◌, ◌-◌, ◌∙◌, inl, inr, ap, sym, arith, ℕ, Bool, true, false, List, length, get_or, slice_index_or, slice_set}
+use Rattle.std.proofs.Common.{◌≡◌, ◌<◌, ◌+◌, ◌-◌, ◌∙◌, inl, inr, ap, sym, arith, ℕ, Bool, true, false, List, length, slice_index_or, slice_set}
 use Rattle.std.proofs.lemmas.Bool.{cases_eq}
 use Rattle.std.proofs.lemmas.Bool.Decides.{nat_tests}
-use Rattle.std.proofs.lemmas.List.{get_or-set_same, get_or-set_other, same_lists, get_or_default}
-use Rattle.std.proofs.lemmas.List.FromFn.{get_or-map-range_with_len}
+use Rattle.std.proofs.lemmas.List.{get_or-set_same, get_or-set_other}
 use Rattle.hubs.specs.declared.hub.Hub.{Hub}
 use Rattle.hubs.specs.declared.hub.Hub.TheVariants.{PIX}
 use Rattle.net.proofs.KindRows.{row_bit, PIX_numbered}
 use Rattle.net.specs.HubSets.{HubSet, has_hub, is_bit, is_in_row, is_in_reach}
 use Rattle.hub_table.specs.Ranges.{is_within}
-use Rattle.selectors.specs.Numbered.{tests_to}
 
 -- a pilot's bit in the row of the pickups
 pub pickup_bit : (bits i : ℕ) (set : HubSet) → i < 16
@@ -29,13 +27,3 @@ pickups-more picked_up index k bit test long within is so_far below = elim (case
       ∙ get_or-set_same picked_up index bit false (omega (arith, long, within)) ∙ is ∙ ap (λ i. test (i + 1)) (sym same)
   | inr other ↦ get_or-set_other picked_up index k bit false other ∙ so_far k (omega (arith, below, other))
 ]
-
--- all pilots
-pub pickups-all : (picked_up : List Bool) (test : ℕ → Bool) → length picked_up ≡ 16
-    → ((k : ℕ) → k < 16 → slice_index_or picked_up k false ≡ test (k + 1)) → picked_up ≡ tests_to 16 test
-unfolding tests_to
-pickups-all picked_up test long is = same_lists picked_up (tests_to 16 test) long at
-  where
-    at : (k : ℕ) (d : Bool) → k < length picked_up → get_or picked_up k d ≡ get_or (tests_to 16 test) k d
-    at k d within = get_or_default picked_up k d false within ∙ is k (omega (arith, within, long))
-        ∙ sym (get_or-map-range_with_len test 1 16 k (k + 1) d (omega (arith, within, long)) (omega arith))

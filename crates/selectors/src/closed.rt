@@ -4,24 +4,16 @@ ghost use Rattle.std.specs.Prelude.{◌≡◌};
 ghost use Rattle.hubs.specs.declared.hub.Hub.{Hub};
 ghost use Rattle.net.specs.HubSets.{has_hub, GainsHubs};
 ghost use Rattle.net.specs.declared.cycle.Point.{Point};
-ghost use Rattle.selectors.specs.Contacts.{balance_closes, carry_closes, steady_closes, closed_contacts};
+ghost use Rattle.selectors.specs.Contacts.{carry_closes, steady_closes, closed_contacts};
 ghost use Rattle.selectors.specs.Splits.{split_closes};
 
+use crate::balance::{BalanceLatches, FIRST, GROUPS};
 use crate::indicate::Indicate;
 use crate::pilots::Pilots;
 use crate::splits::Splits;
 use crate::spread::spread;
-use hubs::{Group, Hub};
+use hubs::Hub;
 use net::{Contacts, Cycle, Point};
-
-/// How many counter groups there are: they are the units 3 to 34.
-pub const GROUPS: usize = 32;
-
-// The first of them.
-const FIRST: Group = Group {
-    width: 3,
-    number: 1,
-};
 
 /// The contacts that are closed at a point of a cycle: those of the carries and of the balance positions of the counter groups, of
 /// the pilots, of group indication and of the column splits. The balance latches stand in the order of the units 3 to 34, and so
@@ -36,7 +28,8 @@ pub fn contacts(
 ) -> Contacts
     ensures { (hub : Hub) → has_hub result hub ≡ closed_contacts cycle point pilots.now indicate.now latches.now nines.now hub }
 {
-    let others = with_splits(steady_contacts(cycle, pilots, indicate, latches), point);
+    let latches = BalanceLatches::of(latches);
+    let others = with_splits(steady_contacts(cycle, pilots, indicate, &latches), point);
     with_carries(others, point, nines)
 }
 
@@ -46,12 +39,12 @@ pub fn steady_contacts(
     cycle: Cycle,
     pilots: &Pilots,
     indicate: &Indicate,
-    latches: &[bool; GROUPS],
+    latches: &BalanceLatches,
 ) -> Contacts
     ensures { (point : Point) (hub : Hub) → has_hub result hub ≡ steady_closes cycle point pilots.now indicate.now latches.now hub }
 {
     let mut contacts = Contacts::new();
-    close_balances(latches, &mut contacts);
+    latches.close(&mut contacts);
     pilots.close(&mut contacts);
     indicate.close(cycle, &mut contacts);
     contacts
@@ -76,15 +69,4 @@ pub fn with_carries(mut contacts: Contacts, point: Point, nines: &[bool; GROUPS]
         Point::K => contacts.insert_row(Hub::CO(FIRST), spread(nines, 1)),
     }
     contacts
-}
-
-/// Closes the contacts of the balance positions of the counter groups: the normal ones of the groups whose balance latch is
-/// reset, the transferred ones of those whose latch is set. The latches stand in the order of the units 3 to 34.
-#[inline(always)]
-pub fn close_balances(latches: &[bool; GROUPS], contacts: &mut Contacts)
-    ensures { GainsHubs (balance_closes latches.now) contacts.old contacts.new }
-{
-    let set = spread(latches, 4);
-    contacts.insert_row(Hub::BAN(FIRST, 1), u128::MAX - set);
-    contacts.insert_row(Hub::BAT(FIRST, 1), set);
 }

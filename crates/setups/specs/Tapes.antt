@@ -14,6 +14,10 @@ pub record CarriageTape : Type 0 where
 abbrev pub has_stop : CarriageTape → ℕ → ℕ → Bool
 has_stop form channel line = slice_index_or (slice_index_or form.stops channel []) line false
 
+-- a stop of a tape: its channel and its line
+abbrev pub IsStopOf : CarriageTape → ℕ × ℕ → Type 0
+IsStopOf form stop = has_stop form stop.0 stop.1 ≡ true
+
 -- a stop of a form of so many lines: channel 2 to 11, and a line of the form
 pub record IsStop (lines channel line : ℕ) : Type 0 where
   pub channel_from : 2 ≤ channel

@@ -22,6 +22,10 @@ pub record HasWire (wiring : Wiring) (exit entry : Hub) : Type 0 where
   pub entry_numbered : number_of entry ≡ Some to
   pub listed : Contains (slice_index_or wiring.wires number []) to
 
+-- a wire of a setup: its exit and its entry
+abbrev pub IsWireOf : Wiring → Hub × Hub → Type 0
+IsWireOf wiring wire = HasWire wiring wire.0 wire.1
+
 -- the numbers of the entries that are listed at an exit's number; none where there is no number
 abbrev pub row_at : Wiring → Option ℕ → List ℕ
 row_at wiring None = []

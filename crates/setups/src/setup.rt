@@ -2,12 +2,11 @@
 
 ghost use Rattle.std.specs.Prelude.{◌≡◌, ◌<◌, OnOk, OnErr, Some, vec_len};
 ghost use Rattle.setups.specs.Rows.{SameRows, RowGains};
-ghost use Rattle.hubs.specs.Carries.{are_alike, do_carries_agree, is_one_group, may_carry};
-ghost use Rattle.hubs.specs.Hubs.{carry_into, carry_out_of};
+ghost use Rattle.hubs.specs.Carries.{are_alike, do_carries_agree, may_carry};
 
 use crate::fault::SetupFault;
 use crate::tape::Tape;
-use hubs::{Group, Hub, JACKS, Jack};
+use hubs::{Group, Hub, JACKS, Jack, carry_into, carry_out_of, is_one_group};
 use smallvec::SmallVec;
 use std::alloc::{AllocError, Global};
 use std::marker::Model;
@@ -260,33 +259,6 @@ fn may_carry(from: Group, to: Group) -> bool
     ensures { result ≡ may_carry (Some from) (Some to) }
 {
     is_one_group(from, to) || (from.width == 8 && to.width == 8)
-}
-
-// Whether two groups are one.
-fn is_one_group(one: Group, other: Group) -> bool
-    ensures { result ≡ is_one_group one other }
-{
-    one.width == other.width && one.number == other.number
-}
-
-// The counter group whose carry leaves here.
-fn carry_out_of(hub: Hub) -> Option<Group>
-    ensures { result ≡ carry_out_of hub }
-{
-    match hub {
-        Hub::CO(group) => Some(group),
-        _ => None,
-    }
-}
-
-// The counter group whose carry enters here.
-fn carry_into(hub: Hub) -> Option<Group>
-    ensures { result ≡ carry_into hub }
-{
-    match hub {
-        Hub::CI(group) => Some(group),
-        _ => None,
-    }
 }
 
 // Makes places up to the given one, those that are new without an entry. Where memory runs out, some of them are made.

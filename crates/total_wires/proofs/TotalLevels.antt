@@ -15,15 +15,15 @@ use Rattle.hubs.specs.declared.hub.Hub.{Hub}
 use Rattle.line_wires.proofs.Steps.{adds-as, adds-none}
 use Rattle.charts.proofs.Listed.{found-listed, none-found}
 use Rattle.line_wires.specs.HelperAdds.{Adds}
-use Rattle.total_wires.specs.HelperLevels.{OfNext, next, is_total_of, total_at}
-use Rattle.line_wires.specs.Below.wiring_table.Parts.{HasTotal, IsLowest, IsNextHigher}
+use Rattle.total_wires.specs.HelperLevels.{OfNext, next, total_at}
+use Rattle.line_wires.specs.Below.wiring_table.Parts.{HasTotal, IsLowest, IsNextHigher, is_total_at}
 
 -- a line that passes the test is such a total
 pub total-passes : (lines : List Line) (name : List ℕ) (level : ℕ) (line : Line) → Contains lines line
-    → is_total_of name level line.statement ≡ true → HasTotal lines name level line.number
+    → is_total_at name level line.statement ≡ true → HasTotal lines name level line.number
 total-passes lines name level line listed passes = by line.statement refl passes
   where
-    by : (statement : Statement) → line.statement ≡ statement → is_total_of name level statement ≡ true
+    by : (statement : Statement) → line.statement ≡ statement → is_total_at name level statement ≡ true
         → HasTotal lines name level line.number
     by (says.TotalAmount its_level wheel its_name digits mark) is test =
         let parts = and_parts (level_number its_level == level) (is_same_name its_name name) test in
@@ -44,9 +44,9 @@ total-passes lines name level line listed passes = by line.statement refl passes
 
 -- such a total passes the test
 pub passes-total : (lines : List Line) (name : List ℕ) (level number : ℕ) (total : HasTotal lines name level number)
-    → is_total_of name level total.line.statement ≡ true
+    → is_total_at name level total.line.statement ≡ true
 passes-total lines name level number total =
-    ap (is_total_of name level) total.says_total
+    ap (is_total_at name level) total.says_total
     ∙ by (is_same_name total.its_name name) total.same_name
   where
     by : (b : Bool) → b ≡ true → ((level_number total.its_level == level) && b) ≡ true
@@ -54,13 +54,13 @@ passes-total lines name level number total =
 
 found : (lines : List Line) (name : List ℕ) (level number : ℕ) → total_at lines name level ≡ Some number
     → HasTotal lines name level number
-found lines name level number is = by (find (λ line. is_total_of name level line.statement) lines) refl is
+found lines name level number is = by (find (λ line. is_total_at name level line.statement) lines) refl is
   where
-    by : (found_line : Option Line) → find (λ line. is_total_of name level line.statement) lines ≡ found_line
+    by : (found_line : Option Line) → find (λ line. is_total_at name level line.statement) lines ≡ found_line
         → option_map (λ line. line.number) found_line ≡ Some number → HasTotal lines name level number
     by None at e = cc
     by (Some line) at e =
-        let there = found-listed (λ l. is_total_of name level l.statement) lines line at in
+        let there = found-listed (λ l. is_total_at name level l.statement) lines line at in
         let same : line.number ≡ number = cc in
         let P : ℕ → Type 0 = λ n. HasTotal lines name level n in
         subst P same (total-passes lines name level line there.0 there.1)
@@ -73,12 +73,12 @@ total-found lines name level number is = found lines name level number (sym is)
 -- where none is found, there is none
 pub total-missing : (lines : List Line) (name : List ℕ) (level number : ℕ) → total_at lines name level ≡ None
     → ¬ HasTotal lines name level number
-total-missing lines name level number is total = by (find (λ line. is_total_of name level line.statement) lines) refl is
+total-missing lines name level number is total = by (find (λ line. is_total_at name level line.statement) lines) refl is
   where
-    by : (found_line : Option Line) → find (λ line. is_total_of name level line.statement) lines ≡ found_line
+    by : (found_line : Option Line) → find (λ line. is_total_at name level line.statement) lines ≡ found_line
         → option_map (λ line. line.number) found_line ≡ None → ⊥
     by None at e =
-        let fails = none-found (λ l. is_total_of name level l.statement) lines total.line at total.listed in
+        let fails = none-found (λ l. is_total_at name level l.statement) lines total.line at total.listed in
         let passes = passes-total lines name level number total in
         cc
     by (Some line) at e = cc

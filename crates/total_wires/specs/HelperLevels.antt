@@ -1,31 +1,21 @@
 -- A helper of the code: the totals of an amount by their levels, and their counters.
-use Rattle.std.specs.Prelude.{◌≡◌, ℕ, ◌==◌, ◌&&◌, ◌≤◌, Bool, false, List, Option, Some, option_map, find}
+use Rattle.std.specs.Prelude.{◌≡◌, ℕ, ◌≤◌, List, Option, Some, option_map}
 use Rattle.plans.specs.Plans.{Lists}
 use Rattle.plans.specs.declared.counter.TotalCounter.{TotalCounter}
 use Rattle.charts.specs.Levels.{level_number}
-use Rattle.charts.specs.Name.{is_same_name}
 use Rattle.charts.specs.declared.chart.Line.{Line}
 use Rattle.charts.specs.declared.level.Level.{Level}
 use Rattle.charts.specs.declared.statement.SignRule.{SignRule}
-use Rattle.charts.specs.declared.statement.Statement.{Statement}
-use Rattle.charts.specs.declared.statement.Statement.TheVariants as says
 use Rattle.hubs.specs.declared.hub.Hub.{Hub}
 use Rattle.line_wires.specs.HelperAdds.{OfSome}
 use Rattle.total_wires.specs.HelperCounters.{IsCounterOnPanel, positions_of}
 use Rattle.total_wires.specs.HelperTotalRows.{TransferWires}
 use Rattle.line_wires.specs.HelperRows.{Wires}
-use Rattle.line_wires.specs.Below.wiring_table.Parts.{IsNextHigher, counter_for}
+use Rattle.line_wires.specs.Below.wiring_table.Parts.{IsNextHigher, counter_for, total_line}
 
--- whether a line is a total of the amount of a name, at a level
-abbrev pub is_total_of : List ℕ → ℕ → Statement → Bool
-is_total_of wanted level (says.TotalAmount its_level wheel name digits mark) =
-    (level_number its_level == level) && is_same_name name wanted
-is_total_of wanted level other = false
-
--- the first line with a total of the amount of a name, at a level
+-- the number of the first line with a total of the amount of a name, at a level
 abbrev pub total_at : List Line → List ℕ → ℕ → Option ℕ
-total_at lines name level =
-    option_map (λ line. line.number) (find (λ line. is_total_of name level line.statement) lines)
+total_at lines name level = option_map (λ line. line.number) (total_line lines name level)
 
 -- the total on a line of the chart has a counter of groups of the panel with so many positions
 pub record HasCounterFor (lines : List Line) (plan : Lists) (number positions : ℕ) : Type 0 where

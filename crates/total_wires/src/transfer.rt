@@ -5,9 +5,9 @@ ghost use Rattle.plans.specs.Below.wanted.ChartTotals.{totals_of};
 ghost use Rattle.charts.specs.Levels.{level_number};
 ghost use Rattle.line_wires.specs.HelperAdds.{Adds};
 ghost use Rattle.total_wires.specs.HelperCounters.{IsCounterOnPanel, positions_of};
-ghost use Rattle.total_wires.specs.HelperLevels.{HasCounterFor, NextWires, is_total_of, total_at};
+ghost use Rattle.total_wires.specs.HelperLevels.{HasCounterFor, NextWires, total_at};
 ghost use Rattle.total_wires.specs.HelperTotalRows.{SignedTransfer, TransferDigits, TransferSense, TransferWires};
-ghost use Rattle.line_wires.specs.Below.wiring_table.Parts.{IsLowest, IsNextHigher};
+ghost use Rattle.line_wires.specs.Below.wiring_table.Parts.{IsLowest, IsNextHigher, is_total_at};
 
 use crate::counter::{Control, place_of, top_group, wire_controls};
 use chart_rules::Chart;
@@ -19,8 +19,8 @@ use setups::Setup;
 use std::alloc::AllocError;
 
 // Whether a line is a total of the amount of a name, at a level.
-fn is_total_of(wanted: Name, wanted_level: u8, statement: &Statement) -> bool
-    ensures { result ≡ is_total_of wanted wanted_level statement.now }
+fn is_total_at(wanted: Name, wanted_level: u8, statement: &Statement) -> bool
+    ensures { result ≡ is_total_at wanted wanted_level statement.now }
 {
     match statement {
         Statement::TotalAmount { level, name, .. } => {
@@ -37,7 +37,7 @@ fn total_at(chart: &Chart, name: Name, level: u8) -> Option<u16>
     let line = chart
         .lines()
         .iter()
-        .find(|line| is_total_of(name, level, &line.statement))?;
+        .find(|line| is_total_at(name, level, &line.statement))?;
     Some(line.number)
 }
 

@@ -1,5 +1,6 @@
 -- What a test and a turn make of a total whose sum fits, and what its sign and size are worth.
 use Rattle.std.proofs.Common.{◌≡◌, ◌∙◌, refl, sym, ap, ℕ, zero, suc, ◌+◌, ◌-◌, ◌*◌, ◌≤◌, ◌<◌, ◌==◌, nat_le, ◌⊎◌, inl, inr, Bool, true, false, ◌&&◌, ℤ, ◌+ℤ◌, pos, negsuc, if◌then◌else◌, arith, unsigned_abs}
+use Rattle.std.specs.Int.{is_negative}
 use Rattle.std.proofs.lemmas.Bool.{false≢true}
 use Rattle.std.proofs.lemmas.Bool.Decides.{nat_tests}
 use Rattle.std.proofs.lemmas.Int.{ints}
@@ -7,15 +8,19 @@ use Rattle.counter_cycles.specs.Acts.{number_after}
 use Rattle.counters.specs.Numbers.{left_number}
 use Rattle.totals.specs.Amounts.{posted}
 use Rattle.totals.specs.Standing.{Stands}
-use Rattle.totals.specs.Sums.{is_below_zero, signed}
+use Rattle.totals.specs.Sums.{signed}
 use Rattle.totals.proofs.Counting.{near, stands_plus, stands_minus}
 
+-- a number from 0 on is not negative
+pub not-negative : (number : ℕ) → is_negative (pos number) ≡ false
+not-negative number = grind (arith, nat_tests)
+
 -- The sign and the figure of a number that stands for a sum.
-pub record IsFigured (power number : ℕ) (sum : ℤ) (is_negative : Bool) : Type 0 where
-  pub figure : (if is_negative then left_number true power (power - 1 - number) else number) ≡ unsigned_abs sum
-  pub below : is_below_zero sum ≡ true → is_negative ≡ true
-  pub above : is_below_zero sum ≡ false → 1 ≤ unsigned_abs sum → is_negative ≡ false
-  pub zero : unsigned_abs sum ≡ 0 → is_negative ≡ (number + 1 == power)
+pub record IsFigured (power number : ℕ) (sum : ℤ) (negative : Bool) : Type 0 where
+  pub figure : (if negative then left_number true power (power - 1 - number) else number) ≡ unsigned_abs sum
+  pub below : is_negative sum ≡ true → negative ≡ true
+  pub above : is_negative sum ≡ false → 1 ≤ unsigned_abs sum → negative ≡ false
+  pub zero : unsigned_abs sum ≡ 0 → negative ≡ (number + 1 == power)
 
 -- nothing is carried where a number is turned
 turned : (power number : ℕ) → number < power → left_number true power (power - 1 - number) ≡ power - 1 - number
@@ -30,7 +35,7 @@ figured_by true tenth power number (pos n) is ten few small (inl same) =
     let high : 9 * power ≤ 10 * number = grind (arith, nat_tests, is) in absurd (omega (arith, ints, same, few, ten, high))
 figured_by false tenth power number (pos n) is ten few small (inl same) = record {
   figure = omega (arith, ints, same);
-  below = λ negative. absurd (false≢true negative);
+  below = λ negative. absurd (false≢true (sym (not-negative n) ∙ negative));
   above = λ positive some. refl;
   zero = λ none.
       let apart : (number + 1 == power) ≡ false = by_size none in
@@ -72,7 +77,7 @@ figured tenth power number sum ten few stands =
     (near (power - 1) number stands.up stands.down sum (omega (arith, small)) (omega (arith, ten, few)) stands.same)
 
 -- without a ring the number is the sum
-pub plain_figure : (power number : ℕ) (sum : ℤ) → is_below_zero sum ≡ false → unsigned_abs sum < power → Stands false power sum number
+pub plain_figure : (power number : ℕ) (sum : ℤ) → is_negative sum ≡ false → unsigned_abs sum < power → Stands false power sum number
     → number ≡ unsigned_abs sum
 plain_figure power number (negsuc n) positive few stands = absurd (false≢true (sym positive))
 plain_figure power number (pos n) positive few stands =
@@ -84,22 +89,22 @@ plain_figure power number (pos n) positive few stands =
     by (inr same) small = absurd (omega (arith, ints, same, small))
 
 -- a sum is its size with its sign; a sum of 0 is 0 with either
-pub signed-size : (is_negative : Bool) (sum : ℤ) → (is_below_zero sum ≡ true → is_negative ≡ true)
-    → (is_below_zero sum ≡ false → 1 ≤ unsigned_abs sum → is_negative ≡ false) → signed is_negative (unsigned_abs sum) ≡ sum
+pub signed-size : (negative : Bool) (sum : ℤ) → (is_negative sum ≡ true → negative ≡ true)
+    → (is_negative sum ≡ false → 1 ≤ unsigned_abs sum → negative ≡ false) → signed negative (unsigned_abs sum) ≡ sum
 signed-size true (pos zero) below above = refl
 signed-size false (pos zero) below above = refl
-signed-size is_negative (pos (suc n)) below above = ap (λ b. signed b (suc n)) (above refl (omega arith))
-signed-size is_negative (negsuc n) below above = ap (λ b. signed b (suc n)) (below refl)
+signed-size negative (pos (suc n)) below above = ap (λ b. signed b (suc n)) (above (not-negative (suc n)) (omega arith))
+signed-size negative (negsuc n) below above = ap (λ b. signed b (suc n)) (below refl)
 
 -- only an amount with a sign, whose groups have a ring, is subtracted
-pub signed_ring : (is_signed is_negative : Bool) → (is_signed && is_negative) ≡ true → is_signed ≡ true
-signed_ring true is_negative is = refl
-signed_ring false is_negative is = is
+pub signed_ring : (is_signed negative : Bool) → (is_signed && negative) ≡ true → is_signed ≡ true
+signed_ring true negative is = refl
+signed_ring false negative is = is
 
 -- what is posted with its sign is added to the sum
-pub stands_posted : (is_ring is_negative : Bool) (power number amount : ℕ) (sum : ℤ) → (is_negative ≡ true → is_ring ≡ true)
+pub stands_posted : (is_ring negative : Bool) (power number amount : ℕ) (sum : ℤ) → (negative ≡ true → is_ring ≡ true)
     → amount < power → Stands is_ring power sum number
-    → Stands is_ring power (sum +ℤ signed is_negative amount) (number_after is_ring power (posted is_negative amount) number)
+    → Stands is_ring power (sum +ℤ signed negative amount) (number_after is_ring power (posted negative amount) number)
 stands_posted is_ring false power number amount sum ring few stands = stands_plus is_ring power number amount sum few stands
 stands_posted true true power number amount sum ring few stands = stands_minus power number amount sum few stands
 stands_posted false true power number amount sum ring few stands = absurd (false≢true (ring refl))

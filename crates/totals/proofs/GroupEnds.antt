@@ -1,5 +1,6 @@
 -- The end of a group: its total shows and clears, and the next higher total takes what it showed.
 use Rattle.std.proofs.Common.{◌≡◌, ◌∙◌, refl, sym, ap, ℕ, zero, suc, ◌^◌, ◌≤◌, ◌<◌, ◌==◌, Bool, true, false, ◌&&◌, ℤ, ◌+ℤ◌, ◌-ℤ◌, pos, if◌then◌else◌, arith, unsigned_abs}
+use Rattle.std.specs.Int.{is_negative}
 use Rattle.std.proofs.lemmas.Bool.Decides.{nat_tests}
 use Rattle.std.proofs.lemmas.Int.{ints}
 use Rattle.counter_cycles.specs.Acts.{Held, number_after}
@@ -10,7 +11,7 @@ use Rattle.totals.specs.Amounts.{Amount, HasGroups, lower, posted, act_of, total
 use Rattle.totals.specs.Amounts.Kind.{Prog}
 use Rattle.totals.specs.Laws.{ready, IsGroupEnd, TotalIsShown, EmptyLevelEnds}
 use Rattle.totals.specs.Standing.{Stands, StandsAll}
-use Rattle.totals.specs.Sums.{is_below_zero, signed, sum_at, open_sum, cleared}
+use Rattle.totals.specs.Sums.{signed, sum_at, open_sum, cleared}
 use Rattle.totals.proofs.Counting.{along, zero_stands}
 use Rattle.totals.proofs.Figures.{signed_ring, stands_posted, signed-size}
 use Rattle.totals.proofs.Levels.{lower_le, lower_less, lower_has, cleared_low, sum_at-cleared, cleared_other, sum_at-other}
@@ -61,8 +62,8 @@ sum_at-level sum zero some = absurd (omega (arith, some))
 sum_at-level sum (suc level) some = refl
 
 -- what goes up is the sum
-value_up : (is_signed latch : Bool) (sum : ℤ) → (is_signed ≡ false → is_below_zero sum ≡ false)
-    → (is_below_zero sum ≡ true → latch ≡ true) → (is_signed ≡ true → is_below_zero sum ≡ false → 1 ≤ unsigned_abs sum → latch ≡ false)
+value_up : (is_signed latch : Bool) (sum : ℤ) → (is_signed ≡ false → is_negative sum ≡ false)
+    → (is_negative sum ≡ true → latch ≡ true) → (is_signed ≡ true → is_negative sum ≡ false → 1 ≤ unsigned_abs sum → latch ≡ false)
     → signed (is_signed && latch) (unsigned_abs sum) ≡ sum
 value_up true latch sum plain below above = signed-size latch sum below (above refl)
 value_up false latch sum plain below above =

@@ -1,5 +1,6 @@
 -- The first two program cycles of a level: its own total is made ready, and the others stand still.
 use Rattle.std.proofs.Common.{◌≡◌, ◌∙◌, refl, sym, ap, ℕ, ◌+◌, ◌-◌, ◌*◌, ◌^◌, ◌≤◌, ◌<◌, ◌==◌, nat_le, Bool, true, false, ◌&&◌, ℤ, if◌then◌else◌, arith, unsigned_abs}
+use Rattle.std.specs.Int.{is_negative}
 use Rattle.std.proofs.lemmas.Bool.{false≢true}
 use Rattle.std.proofs.lemmas.Bool.Decides.{nat_tests}
 use Rattle.counter_cycles.specs.Acts.{Held, held_after}
@@ -8,7 +9,6 @@ use Rattle.counters.specs.Numbers.{left_number}
 use Rattle.totals.specs.Amounts.{Amount, sign_positions}
 use Rattle.totals.specs.Laws.{ready}
 use Rattle.totals.specs.Standing.{Stands}
-use Rattle.totals.specs.Sums.{is_below_zero}
 use Rattle.totals.proofs.Figures.{figured, plain_figure}
 use Rattle.totals.proofs.Rooms.{tenth_room, more_room}
 
@@ -48,8 +48,8 @@ ready_own amount ended state here =
 -- a total that is ready to be shown
 pub record IsReady (is_signed : Bool) (power : ℕ) (sum : ℤ) (before held : Held) : Type 0 where
   pub number : held.number ≡ unsigned_abs sum
-  pub below : is_below_zero sum ≡ true → held.latch ≡ true
-  pub above : is_signed ≡ true → is_below_zero sum ≡ false → 1 ≤ unsigned_abs sum → held.latch ≡ false
+  pub below : is_negative sum ≡ true → held.latch ≡ true
+  pub above : is_signed ≡ true → is_negative sum ≡ false → 1 ≤ unsigned_abs sum → held.latch ≡ false
   pub zero : is_signed ≡ true → unsigned_abs sum ≡ 0 → held.latch ≡ (before.number + 1 == power)
 
 -- a second cycle keeps the latch, and turns what has it set
@@ -65,7 +65,7 @@ second-number width true number = refl
 second-number width false number = refl
 
 own_ready : (is_signed : Bool) (digits width : ℕ) (sum : ℤ) (held : Held) → digits + sign_positions is_signed ≤ width
-    → unsigned_abs sum < 10 ^ digits → (is_signed ≡ false → is_below_zero sum ≡ false) → Stands is_signed (10 ^ width) sum held.number
+    → unsigned_abs sum < 10 ^ digits → (is_signed ≡ false → is_negative sum ≡ false) → Stands is_signed (10 ^ width) sum held.number
     → IsReady is_signed (10 ^ width) sum held (ready_of true true is_signed width held)
 own_ready true digits width sum held more few plain stands =
     let room = tenth_room digits width (unsigned_abs sum) more few in
@@ -87,7 +87,7 @@ own_ready false digits width sum held more few plain stands = record {
 
 pub is_ready : (amount : Amount) (ended : ℕ) (sum : ℤ) (state : ℕ → Held) → amount.has ended ≡ true
     → amount.digits ended + sign_positions amount.is_signed ≤ amount.width ended → unsigned_abs sum < 10 ^ amount.digits ended
-    → (amount.is_signed ≡ false → is_below_zero sum ≡ false)
+    → (amount.is_signed ≡ false → is_negative sum ≡ false)
     → Stands amount.is_signed (10 ^ amount.width ended) sum (state ended).number
     → IsReady amount.is_signed (10 ^ amount.width ended) sum (state ended) (ready amount ended state ended)
 is_ready amount ended sum state here more few plain stands =

@@ -1,5 +1,6 @@
 -- Laws of the totals of an amount.
 use Rattle.std.specs.Prelude.{◌≡◌, ℕ, ◌+◌, ◌^◌, ◌≤◌, ◌<◌, ◌==◌, ℤ, pos, Bool, true, false, unsigned_abs}
+use Rattle.std.specs.Int.{is_negative}
 use Rattle.counter_cycles.specs.Acts.{Held, IsWithinGroup}
 use Rattle.counter_cycles.specs.Acts.Act.{Show}
 use Rattle.net.specs.declared.cycle.Ordinal.{Ordinal}
@@ -7,7 +8,7 @@ use Rattle.net.specs.declared.cycle.Ordinal.TheVariants.{First, Second, Third}
 use Rattle.totals.specs.Amounts.{Amount, Kind, HasGroups, IsOnCard, IsSmall, act_of, state_after}
 use Rattle.totals.specs.Amounts.Kind.{Entry, Prog}
 use Rattle.totals.specs.Standing.{StandsAll}
-use Rattle.totals.specs.Sums.{is_below_zero, signed, with_card, cleared}
+use Rattle.totals.specs.Sums.{signed, with_card, cleared}
 
 -- Before the first card, where all numbers are 0, each total stands for a sum of 0.
 abbrev pub ZerosStand : Type 0
@@ -31,15 +32,15 @@ pub record IsGroupEnd (amount : Amount) (ended : ℕ) (sum : ℕ → ℤ) : Type
   pub is_level : 1 ≤ ended
   pub lower_ended : (level : ℕ) → 1 ≤ level → level < ended → sum level ≡ pos 0
   pub fits : unsigned_abs (sum ended) < 10 ^ amount.digits ended
-  pub unsigned : amount.is_signed ≡ false → is_below_zero (sum ended) ≡ false
+  pub unsigned : amount.is_signed ≡ false → is_negative (sum ended) ≡ false
 
 -- What the three program cycles of a level make of its total. After the second it holds the size of its group's sum, and its latch is
 -- set for a sum below 0 and reset for a sum above 0; for a sum of 0 it is set where that stood as all nines. In the third the total shows that
 -- number, and after it the sums of the group and of those within it are cleared. The higher total has room for what goes up.
 pub record IsShown (amount : Amount) (ended : ℕ) (sum : ℕ → ℤ) (state : ℕ → Held) : Type 0 where
   pub number : (ready amount ended state ended).number ≡ unsigned_abs (sum ended)
-  pub below_zero : is_below_zero (sum ended) ≡ true → (ready amount ended state ended).latch ≡ true
-  pub above_zero : amount.is_signed ≡ true → is_below_zero (sum ended) ≡ false → 1 ≤ unsigned_abs (sum ended)
+  pub below_zero : is_negative (sum ended) ≡ true → (ready amount ended state ended).latch ≡ true
+  pub above_zero : amount.is_signed ≡ true → is_negative (sum ended) ≡ false → 1 ≤ unsigned_abs (sum ended)
       → (ready amount ended state ended).latch ≡ false
   pub at_zero : amount.is_signed ≡ true → unsigned_abs (sum ended) ≡ 0
       → (ready amount ended state ended).latch ≡ ((state ended).number + 1 == 10 ^ amount.width ended)

@@ -1,11 +1,6 @@
 -- Sums of an amount by levels: for each level the sum over the cards of its group that has not ended yet.
-use Rattle.std.specs.Prelude.{ℕ, zero, suc, nat_le, ℤ, pos, negsuc, neg_ℤ, ◌+ℤ◌, ◌-ℤ◌, Bool, true, false, if◌then◌else◌}
+use Rattle.std.specs.Prelude.{ℕ, zero, suc, nat_le, ℤ, pos, neg_ℤ, ◌+ℤ◌, ◌-ℤ◌, Bool, if◌then◌else◌}
 use Rattle.totals.specs.Amounts.{lower}
-
--- whether a number is below 0
-abbrev pub is_below_zero : ℤ → Bool
-is_below_zero (pos number) = false
-is_below_zero (negsuc number) = true
 
 -- the number of a size, below 0 if it is negated
 abbrev pub signed : (is_negated : Bool) (size : ℕ) → ℤ

@@ -1,11 +1,11 @@
 -- The lines of stops, jacks and wires, one kind after the other.
 use Rattle.std.proofs.Common.{◌≡◌, ℕ, List, ◌++◌, refl, ap, ◌∙◌, subst, append_assoc}
 use Rattle.std.specs.List.{flat_map}
-use Rattle.setups.specs.Tapes.{CarriageTape}
-use Rattle.setups.specs.Wiring.{Wiring, HasJack}
+use Rattle.setups.specs.Tapes.{CarriageTape, IsStopOf}
+use Rattle.setups.specs.Wiring.{Wiring, HasJack, IsWireOf}
 use Rattle.wire_chart.specs.Parts.{GainsParts, parts_text}
 use Rattle.wire_chart.specs.WrittenText.{ended, jack_line, stop_line, wire_line}
-use Rattle.wire_chart.specs.Writing.{GainsStops, GainsJacks, GainsAllWires, IsStopOf, IsWireOf}
+use Rattle.wire_chart.specs.Writing.{GainsStops, GainsJacks, GainsAllWires}
 use Rattle.wiring_text.specs.declared.statement.Version.{Version}
 
 joined : (a b c d one two three : List ℕ) → one ≡ a ++ b → two ≡ one ++ c → three ≡ two ++ d → three ≡ a ++ (b ++ c ++ d)

@@ -15,8 +15,14 @@ use Rattle.hub_table.specs.declared.shape.Numbers.{Numbers}
 use Rattle.hub_table.specs.declared.shape.Numbers.TheVariants.{Bare, One, Two, Three}
 use Rattle.hub_table.specs.declared.shape.Shape.{Shape}
 use Rattle.hub_table.specs.declared.shape.Shape.TheVariants.{Alone, To, TwoOrThree, Each, Rows, Groups, GroupsEach, Positions}
-use Rattle.wire_chart.specs.Writing.{AreSmall}
 use Rattle.wire_chart.proofs.WrittenBytes.{is_high}
+
+-- each number is below 1,000
+abbrev pub AreSmall : Numbers → Type 0
+AreSmall Bare = Unit {0}
+AreSmall (One n) = n < 1000
+AreSmall (Two m n) = (m < 1000) × (n < 1000)
+AreSmall (Three l m n) = (l < 1000) × (m < 1000) × (n < 1000)
 
 -- a shape whose numbers are below 1,000
 abbrev is_small_shape : Shape → Bool

@@ -1,5 +1,5 @@
 -- The lines of a text that is written, and what they say.
-use Rattle.std.proofs.Common.{◌≡◌, ℕ, ◌≤◌, List, [], ◌∷◌, ◌++◌, refl, sym, ap, ◌∙◌, subst, arith, append_assoc, codes}
+use Rattle.std.proofs.Common.{◌≡◌, ℕ, ◌≤◌, List, [], ◌∷◌, ◌++◌, refl, sym, ap, ◌∙◌, subst, arith, append_assoc, codes, decimal}
 use Rattle.std.specs.Prelude.{map}
 use Rattle.std.specs.List.{flat_map}
 use Rattle.card_code.specs.Lines.{lines_of}
@@ -9,7 +9,7 @@ use Rattle.hubs.specs.declared.hub.Hub.{Hub}
 use Rattle.hubs.specs.declared.jack.Jack.{Jack}
 use Rattle.wiring_text.specs.WiringText.{IsFormLine, SaysLines, end_line, version_text}
 use Rattle.wiring_text.specs.declared.statement.FormNumbers.{FormNumbers}
-use Rattle.wire_chart.specs.WrittenText.{IsWrittenIn, title_line, ended, number_text, form_line, stop_line, jack_line, wire_line}
+use Rattle.wire_chart.specs.WrittenText.{IsWrittenIn, title_line, ended, form_line, stop_line, jack_line, wire_line}
 use Rattle.wiring_text.specs.declared.statement.Statement.{Statement}
 use Rattle.wiring_text.specs.declared.statement.Statement.TheVariants.{Plug}
 use Rattle.wire_chart.proofs.WrittenBytes.{IsWord, IsWrittenLine, words_line, line_of_words, ended_line, ended_lines, no_lines}
@@ -29,12 +29,12 @@ three_words : (word a b c : List ℕ)
 three_words word a b c = simp (append_assoc, append-nil)
 
 pub form_written : (form : CarriageTape) → IsFormed form.lines form.first form.overflow
-    → IsWrittenLine (form_line form) (codes "FORM" ∷ number_text form.lines ∷ number_text form.first ∷ number_text form.overflow ∷ [])
+    → IsWrittenLine (form_line form) (codes "FORM" ∷ decimal form.lines ∷ decimal form.first ∷ decimal form.overflow ∷ [])
 form_written form formed =
-    let tokens : List (List ℕ) = number_text form.lines ∷ number_text form.first ∷ number_text form.overflow ∷ [] in
+    let tokens : List (List ℕ) = decimal form.lines ∷ decimal form.first ∷ decimal form.overflow ∷ [] in
     let to : form.lines ≤ 144 = formed.lines_to in
     subst (λ (l : List ℕ). IsWrittenLine l (codes "FORM" ∷ tokens))
-    (sym (three_words (codes "FORM") (number_text form.lines) (number_text form.first) (number_text form.overflow)))
+    (sym (three_words (codes "FORM") (decimal form.lines) (decimal form.first) (decimal form.overflow)))
     (line_of_words (codes "FORM") tokens (record { some = omega arith; few = omega arith; high = refl }) (omega arith) (
       number_word form.lines (omega arith),
       (
@@ -48,9 +48,9 @@ pub form_is : (form : CarriageTape) → IsFormed form.lines form.first form.over
 form_is form formed =
     let to : form.lines ≤ 144 = formed.lines_to in
     record {
-      size = number_text form.lines;
-      top = number_text form.first;
-      bottom = number_text form.overflow;
+      size = decimal form.lines;
+      top = decimal form.first;
+      bottom = decimal form.overflow;
       divided = (form_written form formed).divided;
       lines = number_written form.lines (omega arith);
       first = number_written form.first (omega (arith, formed.first_to));

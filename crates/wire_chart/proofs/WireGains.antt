@@ -4,12 +4,12 @@ use Rattle.std.specs.List.{All, Contains}
 use Rattle.std.proofs.lemmas.Option.{same_Some}
 use Rattle.std.proofs.lemmas.List.Elements.{All-contains}
 use Rattle.hubs.specs.Hubs.{carry_into, carry_out_of, number_of}
-use Rattle.setups.specs.Wiring.{Wiring, HasWire}
+use Rattle.setups.specs.Wiring.{Wiring, HasWire, IsWireOf}
 use Rattle.hubs.specs.declared.hub.Group.{Group}
 use Rattle.hubs.specs.declared.hub.Hub.{Hub}
 use Rattle.hubs.proofs.HubLemmas.{number_of-range}
 use Rattle.wire_chart.specs.WrittenText.{carry_form, ended, form_place, wire_form, wire_line, IsHubBefore, IsLineBefore, IsWireBefore}
-use Rattle.wire_chart.specs.Writing.{GainsAllWires, GainsLines, GainsWires, IsOfForm, IsListedAt, IsWireTo, IsWireToBelow, IsWireToAny, IsWireOf, IsWireFrom, IsWireFromBelow}
+use Rattle.wire_chart.specs.Writing.{GainsAllWires, GainsLines, GainsWires, IsOfForm, IsListedAt, IsWireTo, IsWireToBelow, IsWireToAny, IsWireFrom, IsWireFromBelow}
 use Rattle.wire_chart.proofs.Gains.{gains_none, gains_one, gains_more, gains_same, below_or_at}
 use Rattle.wiring_text.specs.declared.statement.Version.{Version}
 use Rattle.wiring_text.specs.declared.statement.Version.TheVariants.{First, Second}

@@ -1,10 +1,10 @@
 -- The parts of a text make the whole.
 use Rattle.std.proofs.Common.{◌≡◌, ℕ, List, ◌++◌, ap, ◌∙◌, subst, append_assoc, codes}
 use Rattle.std.specs.List.{flat_map}
-use Rattle.setups.specs.Tapes.{CarriageTape}
-use Rattle.setups.specs.Wiring.{Wiring, HasJack}
+use Rattle.setups.specs.Tapes.{CarriageTape, IsStopOf}
+use Rattle.setups.specs.Wiring.{Wiring, HasJack, IsWireOf}
 use Rattle.wire_chart.specs.WrittenText.{IsWrittenIn, title_line, ended, form_line, stop_line, jack_line, wire_line}
-use Rattle.wire_chart.specs.Writing.{GainsStops, GainsJacks, GainsAllWires, IsStopOf, IsWireOf}
+use Rattle.wire_chart.specs.Writing.{GainsStops, GainsJacks, GainsAllWires}
 use Rattle.wiring_text.specs.declared.statement.Version.{Version}
 
 parts : (a b c d e f : List ℕ) → ((((a ++ b) ++ c) ++ d) ++ e) ++ f ≡ a ++ b ++ c ++ d ++ e ++ f

@@ -1,5 +1,5 @@
 -- What written lines say.
-use Rattle.std.proofs.Common.{◌≡◌, ◌≢◌, ◌==◌, ◌&&◌, ◌||◌, not, cond, Bool, false, ℕ, ◌<◌, ◌≤◌, List, [], ◌∷◌, ◌++◌, length, true, Option, Some, None, refl, sym, ap, ◌∙◌, subst, arith, leb, append-nil, append_assoc, codes}
+use Rattle.std.proofs.Common.{◌≡◌, ◌≢◌, ◌==◌, ◌&&◌, ◌||◌, not, cond, Bool, false, ℕ, ◌<◌, ◌≤◌, List, [], ◌∷◌, ◌++◌, length, true, Option, Some, None, refl, sym, ap, ◌∙◌, subst, arith, leb, append-nil, append_assoc, codes, decimal}
 use Rattle.std.specs.List.{list_all, AllByRecursion}
 use Rattle.std.proofs.lemmas.Bool.{and_parts, both_ways, eq-eqb, eqb-true, false≢true, leb-true, le-leb, and_from}
 use Rattle.std.proofs.lemmas.Option.{none-some, same_Some}
@@ -11,8 +11,7 @@ use Rattle.hubs.specs.declared.hub.Group.{Group}
 use Rattle.hubs.specs.declared.hub.Hub.{Hub}
 use Rattle.hubs.specs.declared.hub.Hub.TheVariants.{CI, CO}
 use Rattle.setups.proofs.CarryWires.{one-same}
-use Rattle.wire_chart.specs.Writing.{AreSmall}
-use Rattle.wire_chart.proofs.RowLemmas.{numbered_small}
+use Rattle.wire_chart.proofs.RowLemmas.{AreSmall, numbered_small}
 use Rattle.hubs.specs.declared.jack.Jack.{Jack}
 use Rattle.hubs.specs.declared.jack.Jack.TheVariants as jacks
 use Rattle.hubs.proofs.HubLemmas.{hub_named-own}
@@ -20,7 +19,8 @@ use Rattle.tokens.specs.Number.{IsNumberTo}
 use Rattle.wiring_text.specs.HubNames.{carry_entry, carry_exit, name_of, hub_of, is_carry}
 use Rattle.wiring_text.specs.Statements.{SaysJack, list, total, head, link, suppress, symbol, Says, stop, plug, wire, ring, couple, may_be_wired, wire_fault, statement_fault}
 use Rattle.wiring_text.specs.WiringText.{SaysLine}
-use Rattle.wire_chart.specs.WrittenText.{number_text, spaced, hub_text, stop_line, jack_line, carry_line, couple_line, group_text, plain_line, ring_line, wire_line}
+use Rattle.hubs.specs.HubText.{hub_text}
+use Rattle.wire_chart.specs.WrittenText.{spaced, stop_line, jack_line, carry_line, couple_line, group_text, plain_line, ring_line, wire_line}
 use Rattle.wiring_text.specs.declared.statement.Statement.{Statement}
 use Rattle.wiring_text.specs.declared.statement.Statement.TheVariants.{Stop, Plug, Wire}
 use Rattle.wire_chart.proofs.WrittenBytes.{IsWord, IsWrittenLine, words_line, line_of_words, is_inner}
@@ -56,15 +56,15 @@ said_line version line word words statement e is few are three says =
 pub stop_said : (version : Version) (channel line : ℕ) → 2 ≤ channel → channel ≤ 11 → line < 1000
     → IsSaidLine version (stop_line (channel, line)) (Stop channel line)
 stop_said version channel line from to small =
-    said_line version (stop_line (channel, line)) (codes "STOP") (number_text channel ∷ number_text line ∷ []) (Stop channel line)
-    (two_words (codes "STOP") (number_text channel) (number_text line))
+    said_line version (stop_line (channel, line)) (codes "STOP") (decimal channel ∷ decimal line ∷ []) (Stop channel line)
+    (two_words (codes "STOP") (decimal channel) (decimal line))
     (record { some = omega arith; few = omega arith; high = refl }) (omega arith)
     (number_word channel (omega arith), (number_word line small, tt)) (omega arith)
     (stop (record { spelled = number_written channel (omega arith); least = omega arith; most = to }) from
     (number_written line small))
 
 -- a number that is tested to be in a range
-in_range : (n last : ℕ) → last < 1000 → is_within n last ≡ true → IsNumberTo last (number_text n) n
+in_range : (n last : ℕ) → last < 1000 → is_within n last ≡ true → IsNumberTo last (decimal n) n
 in_range n last small h =
     let parts = and_parts (leb 1 n) (leb n last) h in
     let least : 1 ≤ n = leb-true 1 n parts.0 in
@@ -73,12 +73,12 @@ in_range n last small h =
 
 -- a jack that bears a number
 numbered_said : (version : Version) (word : List ℕ) (n last : ℕ) (jack : Jack) → last < 1000 → IsWord word → is_within n last ≡ true
-    → SaysJack (word ∷ number_text n ∷ []) jack
-    → IsSaidLine version (codes "JACK" ++ spaced (word ++ spaced (number_text n))) (Plug jack)
+    → SaysJack (word ∷ decimal n ∷ []) jack
+    → IsSaidLine version (codes "JACK" ++ spaced (word ++ spaced (decimal n))) (Plug jack)
 numbered_said version word n last jack small is h says_it =
-    let number : IsNumberTo last (number_text n) n = in_range n last small h in
-    said_line version (codes "JACK" ++ spaced (word ++ spaced (number_text n))) (codes "JACK") (word ∷ number_text n ∷ []) (Plug jack)
-    (two_words (codes "JACK") word (number_text n))
+    let number : IsNumberTo last (decimal n) n = in_range n last small h in
+    said_line version (codes "JACK" ++ spaced (word ++ spaced (decimal n))) (codes "JACK") (word ∷ decimal n ∷ []) (Plug jack)
+    (two_words (codes "JACK") word (decimal n))
     (record { some = omega arith; few = omega arith; high = refl }) (omega arith)
     (is, (number_word n (omega (arith, number.most)), tt)) (omega arith)
     (plug says_it)
@@ -140,9 +140,9 @@ ring_said group wide numbered =
 couple_said : (from to : Group) → from.width ≡ 8 → to.width ≡ 8 → from.number < 1000 → to.number < 1000 → from.number ≢ to.number
     → IsSaidLine Second (couple_line from to) (Wire (name_of (CO from)) (name_of (CI to)))
 couple_said from to wide also small few other =
-    said_line Second (couple_line from to) (codes "COUPLE") (number_text from.number ∷ number_text to.number ∷ [])
+    said_line Second (couple_line from to) (codes "COUPLE") (decimal from.number ∷ decimal to.number ∷ [])
     (Wire (name_of (CO from)) (name_of (CI to)))
-    (two_words (codes "COUPLE") (number_text from.number) (number_text to.number))
+    (two_words (codes "COUPLE") (decimal from.number) (decimal to.number))
     (record { some = omega arith; few = omega arith; high = refl }) (omega arith)
     (number_word from.number small, (number_word to.number few, tt)) (omega arith)
     (subst (λ (w : ℕ). Says Second words (Wire (carry_exit w from.number) (carry_entry to.width to.number))) (sym wide)
@@ -150,7 +150,7 @@ couple_said from to wide also small few other =
     (couple refl (number_written from.number small) (number_written to.number few) other)))
   where
     words : List (List ℕ)
-    words = codes "COUPLE" ∷ number_text from.number ∷ number_text to.number ∷ []
+    words = codes "COUPLE" ∷ decimal from.number ∷ decimal to.number ∷ []
 
 -- a carry wire
 carry_said : (from to : Group) → from.width < 1000 → from.number < 1000 → to.number < 1000 → may_carry (Some from) (Some to) ≡ true

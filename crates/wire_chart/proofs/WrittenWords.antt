@@ -1,8 +1,9 @@
 -- Numbers and hubs as they are written are numbers and hubs' names.
-use Rattle.std.proofs.Common.{◌≡◌, ℕ, ◌+◌, ◌*◌, ◌/◌, ◌%◌, ◌<◌, ◌≤◌, List, ◌++◌, length, Bool, true, false, ◌&&◌, cond, Some, refl, arith, leb, length-append}
+use Rattle.std.proofs.Common.{◌≡◌, ◌∙◌, ℕ, ◌+◌, ◌*◌, ◌/◌, ◌%◌, ◌<◌, ◌≤◌, inl, inr, List, [], ◌∷◌, ◌++◌, length, true, ◌&&◌, Some, refl, sym, ap, subst, arith, leb, length-append, decimal}
 use Rattle.std.specs.List.{list_all}
-use Rattle.std.specs.Prelude.{nat_lt, nat_le}
-use Rattle.std.proofs.lemmas.Bool.{and_parts, ltb-true, lt-ltb, leb-true, and_from, ltb-false}
+use Rattle.std.specs.Prelude.{nat_le}
+use Rattle.std.proofs.lemmas.Bool.{and_parts, cases_lt, lt-ltb, leb-true, and_from}
+use Rattle.std.proofs.lemmas.Fmt.{decimal_digit, decimal_step}
 use Rattle.std.proofs.lemmas.Bool.Decides.{nat_tests}
 use Rattle.hub_table.specs.HubTable.{row_of}
 use Rattle.hubs.specs.Hubs.{letters_of, numbers_of, number_of}
@@ -12,10 +13,14 @@ use Rattle.hub_table.specs.declared.shape.Numbers.{Numbers}
 use Rattle.hub_table.specs.declared.shape.Numbers.TheVariants.{Bare, One, Two, Three}
 use Rattle.tokens.specs.Number.{IsNumber, is_digit}
 use Rattle.wiring_text.specs.HubNames.{IsGroup, IsPointed, IsDotted, bare, one, two, three, IsHubName, name_of}
-use Rattle.wire_chart.specs.Writing.{AreSmall}
-use Rattle.wire_chart.specs.WrittenText.{group_text, digit_text, number_text, pointed, numbers_text, hub_text}
-use Rattle.wire_chart.proofs.RowLemmas.{good_letters, numbered_small}
+use Rattle.hubs.specs.HubText.{pointed, numbers_text, hub_text}
+use Rattle.wire_chart.specs.WrittenText.{group_text}
+use Rattle.wire_chart.proofs.RowLemmas.{AreSmall, good_letters, numbered_small}
 use Rattle.wire_chart.proofs.WrittenBytes.{is_high, IsWord, all_weaker, append_true}
+
+-- the byte of a digit
+abbrev digit_text : ℕ → List ℕ
+digit_text digit = (48 + digit) ∷ []
 
 digit_is : (d : ℕ) → d < 10 → is_digit (48 + d) ≡ true
 digit_is d h = grind (arith, nat_tests)
@@ -51,44 +56,50 @@ number_three a b c n some h k l e = record {
   value = omega arith;
 }
 
+-- a number below 1,000 by its digits
+two_digits : (n : ℕ) → 10 ≤ n → n < 100 → decimal n ≡ digit_text (n / 10) ++ digit_text (n % 10)
+two_digits n from to = decimal_step n from (omega arith) ∙ ap (λ front. front ++ digit_text (n % 10)) (decimal_digit (n / 10) (omega arith))
+
+three_digits : (n : ℕ) → 100 ≤ n → n < 1000
+    → decimal n ≡ (digit_text (n / 10 / 10) ++ digit_text (n / 10 % 10)) ++ digit_text (n % 10)
+three_digits n from to =
+    decimal_step n (omega arith) (omega arith)
+    ∙ ap (λ front. front ++ digit_text (n % 10)) (two_digits (n / 10) (omega arith) (omega arith))
+
 -- a number as it is written is that number
-pub number_written : (n : ℕ) → n < 1000 → IsNumber (number_text n) n
-number_written n small = at (nat_lt n 10) (nat_lt n 100) refl refl
-  where
-    at : (b c : Bool) → nat_lt n 10 ≡ b → nat_lt n 100 ≡ c
-        → IsNumber (cond b (digit_text n) (cond c (digit_text (n / 10) ++ digit_text (n % 10))
-        (digit_text (n / 100) ++ digit_text (n / 10 % 10) ++ digit_text (n % 10)))) n
-    at true c e f = number_one n (ltb-true n 10 e)
-    at false true e f =
-        let below : n < 100 = ltb-true n 100 f in
-        let from : 10 ≤ n = ltb-false n 10 e in
-        number_two (n / 10) (n % 10) n (omega arith) (omega arith) (omega arith) (omega arith)
-    at false false e f =
-        let from : 100 ≤ n = ltb-false n 100 f in
-        number_three (n / 100) (n / 10 % 10) (n % 10) n (omega arith) (omega arith) (omega arith) (omega arith) (omega arith)
+pub number_written : (n : ℕ) → n < 1000 → IsNumber (decimal n) n
+number_written n small = elim (cases_lt n 10) [
+  | inl below ↦ subst (λ ds. IsNumber ds n) (sym (decimal_digit n below)) (number_one n below)
+  | inr from ↦ elim (cases_lt n 100) [
+    | inl below ↦ subst (λ ds. IsNumber ds n) (sym (two_digits n from below))
+        (number_two (n / 10) (n % 10) n (omega arith) (omega arith) (omega arith) (omega arith))
+    | inr from ↦ subst (λ ds. IsNumber ds n) (sym (three_digits n from small))
+        (number_three (n / 10 / 10) (n / 10 % 10) (n % 10) n (omega arith) (omega arith) (omega arith) (omega arith) (omega arith))
+  ]
+]
 
 digit_high : (b : ℕ) → is_digit b ≡ true → is_high b ≡ true
 digit_high b h =
     let from : 48 ≤ b = leb-true 48 b (and_parts (leb 48 b) (leb b 57) h).0 in
     lt-ltb 39 b (omega arith)
 
-number_high : (n : ℕ) → n < 1000 → list_all is_high (number_text n) ≡ true
-number_high n small = all_weaker is_digit is_high digit_high (number_text n) (number_written n small).digits
+number_high : (n : ℕ) → n < 1000 → list_all is_high (decimal n) ≡ true
+number_high n small = all_weaker is_digit is_high digit_high (decimal n) (number_written n small).digits
 
-pub number_word : (n : ℕ) → n < 1000 → IsWord (number_text n)
+pub number_word : (n : ℕ) → n < 1000 → IsWord (decimal n)
 number_word n small =
-    let is : IsNumber (number_text n) n = number_written n small in
+    let is : IsNumber (decimal n) n = number_written n small in
     record { some = is.some; few = omega (arith, is.few); high = number_high n small }
 
 -- a point and a number
 pointed_written : (n : ℕ) → n < 1000 → IsPointed (pointed n) n
-pointed_written n small = record { digits = number_text n; spelled = refl; value = number_written n small }
+pointed_written n small = record { digits = decimal n; spelled = refl; value = number_written n small }
 
 pointed_high : (n : ℕ) → n < 1000 → list_all is_high (pointed n) ≡ true
-pointed_high n small = and_from true (list_all is_high (number_text n)) refl (number_high n small)
+pointed_high n small = and_from true (list_all is_high (decimal n)) refl (number_high n small)
 
 pointed_length : (n : ℕ) → n < 1000 → length (pointed n) ≤ 4
-pointed_length n small = let is : IsNumber (number_text n) n = number_written n small in omega (arith, is.few)
+pointed_length n small = let is : IsNumber (decimal n) n = number_written n small in omega (arith, is.few)
 
 -- the numbers of a hub
 numbers_written : (numbers : Numbers) → AreSmall numbers → IsDotted (numbers_text numbers) numbers
@@ -151,7 +162,7 @@ hub_word hub number e =
 -- a counter group as it is written is its width and its number
 pub group_written : (group : Group) → group.width < 1000 → group.number < 1000 → IsGroup (group_text group) group.width group.number
 group_written group wide numbered = record {
-  digits = number_text group.width;
+  digits = decimal group.width;
   after = pointed group.number;
   spelled = refl;
   wide = number_written group.width wide;
@@ -160,15 +171,15 @@ group_written group wide numbered = record {
 
 pub group_word : (group : Group) → group.width < 1000 → group.number < 1000 → IsWord (group_text group)
 group_word group wide numbered =
-    let is : IsWord (number_text group.width) = number_word group.width wide in
-    let few : IsNumber (number_text group.width) group.width = number_written group.width wide in
+    let is : IsWord (decimal group.width) = number_word group.width wide in
+    let few : IsNumber (decimal group.width) group.width = number_written group.width wide in
     record {
-      some = omega (arith, length-append (number_text group.width) (pointed group.number), is.some);
+      some = omega (arith, length-append (decimal group.width) (pointed group.number), is.some);
       few = omega (
         arith,
-        length-append (number_text group.width) (pointed group.number),
+        length-append (decimal group.width) (pointed group.number),
         few.few,
         pointed_length group.number numbered,
       );
-      high = append_true is_high (number_text group.width) (pointed group.number) is.high (pointed_high group.number numbered);
+      high = append_true is_high (decimal group.width) (pointed group.number) is.high (pointed_high group.number numbered);
     }

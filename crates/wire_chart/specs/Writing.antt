@@ -1,25 +1,16 @@
 -- Writing a setup part by part: what a text gains by lines, one for each thing that is so. These are steps between the code
 -- and WrittenText, which says what a whole text is.
-use Rattle.std.specs.Prelude.{◌≡◌, ◌↔◌, ℕ, ◌<◌, true, List, ◌++◌, AllPairs, Contains, Some}
+use Rattle.std.specs.Prelude.{◌≡◌, ◌↔◌, ℕ, ◌<◌, List, ◌++◌, AllPairs, Contains, Some}
 use Rattle.std.specs.List.{flat_map}
 use Rattle.hubs.specs.Hubs.{number_of}
 use Rattle.hubs.specs.Jacks.{jack_place}
-use Rattle.setups.specs.Tapes.{CarriageTape, has_stop}
-use Rattle.setups.specs.Wiring.{Wiring, HasWire, HasJack}
+use Rattle.setups.specs.Tapes.{CarriageTape, IsStopOf}
+use Rattle.setups.specs.Wiring.{Wiring, HasJack, IsWireOf}
 use Rattle.hubs.specs.declared.hub.Hub.{Hub}
 use Rattle.hubs.specs.declared.jack.Jack.{Jack}
-use Rattle.hub_table.specs.declared.shape.Numbers.{Numbers}
-use Rattle.hub_table.specs.declared.shape.Numbers.TheVariants.{Bare, One, Two, Three}
 use Rattle.wire_chart.specs.declared.form.WireForm.{WireForm}
 use Rattle.wiring_text.specs.declared.statement.Version.{Version}
 use Rattle.wire_chart.specs.WrittenText.{ended, stop_line, jack_line, wire_form, wire_line, IsStopBefore, IsJackBefore, IsLineBefore}
-
--- each number is below 1,000
-abbrev pub AreSmall : Numbers → Type 0
-AreSmall Bare = Unit {0}
-AreSmall (One n) = n < 1000
-AreSmall (Two m n) = (m < 1000) × (n < 1000)
-AreSmall (Three l m n) = (l < 1000) × (m < 1000) × (n < 1000)
 
 -- new is old with a line after for each thing that is so, in order
 pub record GainsLines {A : Type 0} (Is : A → Type 0) (Before : A → A → Type 0) (line_of : A → List ℕ) (old new : List ℕ)
@@ -45,10 +36,6 @@ GainsWires version form Is old new = GainsLines (IsOfForm version form Is) (IsLi
 
 abbrev pub GainsAllWires : Version → (Hub × Hub → Type 0) → List ℕ → List ℕ → Type 0
 GainsAllWires version Is old new = GainsLines Is (IsLineBefore version) (wire_line version) old new
-
--- a stop of the form
-abbrev pub IsStopOf : CarriageTape → ℕ × ℕ → Type 0
-IsStopOf form stop = has_stop form stop.0 stop.1 ≡ true
 
 -- a stop of the form at this channel and line
 pub record IsStopAt (form : CarriageTape) (channel line : ℕ) (stop : ℕ × ℕ) : Type 0 where
@@ -104,10 +91,6 @@ pub record IsWireToAny (exit : Hub) (entries : List ℕ) (wire : Hub × Hub) : T
   pub exit_is : wire.0 ≡ exit
   pub to : ℕ
   pub entry : IsListedAt entries to wire.1
-
--- a wire of the setup
-abbrev pub IsWireOf : Wiring → Hub × Hub → Type 0
-IsWireOf wiring wire = HasWire wiring wire.0 wire.1
 
 -- a wire of the setup from the exit of this number
 pub record IsWireFrom (wiring : Wiring) (number : ℕ) (wire : Hub × Hub) : Type 0 where

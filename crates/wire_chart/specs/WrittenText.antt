@@ -1,11 +1,11 @@
 -- How a setup is written: the first line, the form, its stops by channel and line, its jacks in the order of the panel, its
 -- wires by the number of the exit and then that of the entry, and END. In version 2 the rings stand before the wires that couple
 -- groups, and these before all others. Single spaces stand between tokens, and each line ends with LF.
-use Rattle.std.specs.Prelude.{◌≡◌, ◌↔◌, ◌⊎◌, ℕ, ◌+◌, ◌<◌, true, List, [], ◌∷◌, ◌++◌, AllPairs, Contains, Some, Option, codes, if◌then◌else◌, nat_lt, ◌/◌, ◌%◌}
+use Rattle.std.specs.Prelude.{◌≡◌, ◌↔◌, ◌⊎◌, ℕ, ◌<◌, true, List, [], ◌∷◌, ◌++◌, AllPairs, Contains, Some, Option, codes, decimal, if◌then◌else◌}
 use Rattle.std.specs.List.{flat_map}
-use Rattle.hub_table.specs.HubTable.{row_of}
 use Rattle.hubs.specs.Carries.{is_one_group}
-use Rattle.hubs.specs.Hubs.{carry_into, carry_out_of, letters_of, numbers_of, number_of}
+use Rattle.hubs.specs.HubText.{hub_text, pointed}
+use Rattle.hubs.specs.Hubs.{carry_into, carry_out_of, number_of}
 use Rattle.hubs.specs.Jacks.{jack_place}
 use Rattle.setups.specs.Tapes.{CarriageTape, has_stop}
 use Rattle.setups.specs.Wiring.{Wiring, HasWire, HasJack}
@@ -13,39 +13,11 @@ use Rattle.hubs.specs.declared.hub.Group.{Group}
 use Rattle.hubs.specs.declared.hub.Hub.{Hub}
 use Rattle.hubs.specs.declared.jack.Jack.{Jack}
 use Rattle.hubs.specs.declared.jack.Jack.TheVariants as jacks
-use Rattle.hub_table.specs.declared.shape.Numbers.{Numbers}
-use Rattle.hub_table.specs.declared.shape.Numbers.TheVariants.{Bare, One, Two, Three}
 use Rattle.wire_chart.specs.declared.form.WireForm.{WireForm}
 use Rattle.wire_chart.specs.declared.form.WireForm.TheVariants.{Ring, Couple, Plain}
 use Rattle.wiring_text.specs.WiringText.{version_text}
 use Rattle.wiring_text.specs.declared.statement.Version.{Version}
 use Rattle.wiring_text.specs.declared.statement.Version.TheVariants.{First, Second}
-
--- a digit as it is written
-abbrev pub digit_text : ℕ → List ℕ
-digit_text digit = (48 + digit) ∷ []
-
--- a number below 1,000 as it is written, without leading zeros
-abbrev pub number_text : ℕ → List ℕ
-number_text n =
-    if nat_lt n 10 then digit_text n
-    else if nat_lt n 100 then digit_text (n / 10) ++ digit_text (n % 10)
-    else digit_text (n / 100) ++ digit_text (n / 10 % 10) ++ digit_text (n % 10)
-
--- a point and a number
-abbrev pub pointed : ℕ → List ℕ
-pointed n = 46 ∷ number_text n
-
--- the numbers of a hub as they are written
-abbrev pub numbers_text : Numbers → List ℕ
-numbers_text Bare = []
-numbers_text (One n) = pointed n
-numbers_text (Two m n) = pointed m ++ pointed n
-numbers_text (Three l m n) = pointed l ++ pointed m ++ pointed n
-
--- a hub as it is written
-abbrev pub hub_text : Hub → List ℕ
-hub_text hub = (row_of (letters_of hub)).spelled ++ numbers_text (numbers_of hub)
 
 -- a word after a space
 abbrev pub spaced : List ℕ → List ℕ
@@ -54,18 +26,18 @@ spaced word = 32 ∷ word
 -- the words after JACK
 abbrev pub jack_text : Jack → List ℕ
 jack_text jacks.List = codes "LIST"
-jack_text (jacks.Total level) = codes "TOTAL" ++ spaced (number_text level)
-jack_text (jacks.Head heading) = codes "HEAD" ++ spaced (number_text heading)
-jack_text (jacks.Link wheel) = codes "LINK" ++ spaced (number_text wheel)
-jack_text (jacks.Suppress wheel) = codes "SUPPRESS" ++ spaced (number_text wheel)
-jack_text (jacks.Symbol wheel) = codes "SYMBOL" ++ spaced (number_text wheel)
+jack_text (jacks.Total level) = codes "TOTAL" ++ spaced (decimal level)
+jack_text (jacks.Head heading) = codes "HEAD" ++ spaced (decimal heading)
+jack_text (jacks.Link wheel) = codes "LINK" ++ spaced (decimal wheel)
+jack_text (jacks.Suppress wheel) = codes "SUPPRESS" ++ spaced (decimal wheel)
+jack_text (jacks.Symbol wheel) = codes "SYMBOL" ++ spaced (decimal wheel)
 
 -- the lines, without their LF
 abbrev pub form_line : CarriageTape → List ℕ
-form_line form = codes "FORM" ++ spaced (number_text form.lines) ++ spaced (number_text form.first) ++ spaced (number_text form.overflow)
+form_line form = codes "FORM" ++ spaced (decimal form.lines) ++ spaced (decimal form.first) ++ spaced (decimal form.overflow)
 
 abbrev pub stop_line : ℕ × ℕ → List ℕ
-stop_line stop = codes "STOP" ++ spaced (number_text stop.0) ++ spaced (number_text stop.1)
+stop_line stop = codes "STOP" ++ spaced (decimal stop.0) ++ spaced (decimal stop.1)
 
 abbrev pub jack_line : Jack → List ℕ
 jack_line jack = codes "JACK" ++ spaced (jack_text jack)
@@ -75,14 +47,14 @@ plain_line wire = codes "WIRE" ++ spaced (hub_text wire.0) ++ spaced (hub_text w
 
 -- a counter group as it is written: its width, a point and its number
 abbrev pub group_text : Group → List ℕ
-group_text group = number_text group.width ++ pointed group.number
+group_text group = decimal group.width ++ pointed group.number
 
 -- the wire that makes a ring of a counter group, and the wire that couples two
 abbrev pub ring_line : Group → List ℕ
 ring_line group = codes "RING" ++ spaced (group_text group)
 
 abbrev pub couple_line : Group → Group → List ℕ
-couple_line from to = codes "COUPLE" ++ spaced (number_text from.number) ++ spaced (number_text to.number)
+couple_line from to = codes "COUPLE" ++ spaced (decimal from.number) ++ spaced (decimal to.number)
 
 -- the form of a wire's line: in version 2 a carry wire is a ring, or couples two groups
 abbrev pub carry_form : Option Group → Option Group → WireForm

@@ -1,11 +1,9 @@
 //! The forms of the lines of wires.
 
 ghost use Rattle.std.specs.Prelude.{◌≡◌, ◌↔◌, IsTrue};
-ghost use Rattle.hubs.specs.Carries.{is_one_group};
-ghost use Rattle.hubs.specs.Hubs.{carry_into, carry_out_of};
 ghost use Rattle.wire_chart.specs.WrittenText.{carry_form, wire_form};
 
-use hubs::{Group, Hub};
+use hubs::{Group, Hub, carry_into, carry_out_of, is_one_group};
 use wiring_text::Version;
 
 /// The form of the line of a wire.
@@ -45,31 +43,4 @@ pub(crate) fn is_same_form(one: WireForm, other: WireForm) -> bool
     ensures { IsTrue result ↔ (one ≡ other) }
 {
     one == other
-}
-
-// Whether two groups are one.
-pub(crate) fn is_one_group(one: Group, other: Group) -> bool
-    ensures { result ≡ is_one_group one other }
-{
-    one.width == other.width && one.number == other.number
-}
-
-// The counter group whose carry leaves here.
-pub(crate) fn carry_out_of(hub: Hub) -> Option<Group>
-    ensures { result ≡ carry_out_of hub }
-{
-    match hub {
-        Hub::CO(group) => Some(group),
-        _ => None,
-    }
-}
-
-// The counter group whose carry enters here.
-pub(crate) fn carry_into(hub: Hub) -> Option<Group>
-    ensures { result ≡ carry_into hub }
-{
-    match hub {
-        Hub::CI(group) => Some(group),
-        _ => None,
-    }
 }

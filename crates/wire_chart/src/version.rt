@@ -9,9 +9,9 @@ ghost use Rattle.wire_chart.specs.declared.form.WireForm.TheVariants.{Couple};
 ghost use Rattle.wiring_text.specs.WiringText.{ReadsAs};
 ghost use Rattle.wiring_text.specs.declared.statement.Version.TheVariants.{Second};
 
-use crate::form::{WireForm, carry_out_of, is_same_form, wire_form};
+use crate::form::{WireForm, is_same_form, wire_form};
 use card_code::next_line;
-use hubs::Hub;
+use hubs::{Hub, carry_out_of};
 use setups::Setup;
 use tokens::is_title_line;
 use wiring_text::Version;

@@ -2,22 +2,21 @@
 
 ghost use Rattle.std.specs.Prelude.{◌≡◌, ◌≢◌, ◌↔◌, ◌++◌, ◌<◌, ◌≤◌, true, false, All, Contains, Some, None, IfOk, IsTrue, OnOk, codes};
 ghost use Rattle.std.specs.String.{string_bytes};
-ghost use Rattle.hubs.specs.Hubs.{carry_out_of, is_hub_in_range};
+ghost use Rattle.hubs.specs.Hubs.{carry_out_of};
 ghost use Rattle.hubs.specs.declared.hub.Hub.{Hub};
 ghost use Rattle.hubs.specs.declared.hub.Hub.TheVariants.{CI, CO};
-ghost use Rattle.hubs.specs.Jacks.{is_jack_in_range};
-ghost use Rattle.setups.specs.Tapes.{IsCarriageTape};
-ghost use Rattle.setups.specs.Wiring.{HasJack};
+ghost use Rattle.setups.specs.Tapes.{IsCarriageTape, IsStopOf};
+ghost use Rattle.setups.specs.Wiring.{HasJack, IsWireOf};
 ghost use Rattle.wire_chart.specs.declared.form.WireForm.TheVariants.{Plain};
 ghost use Rattle.wiring_text.specs.declared.statement.Version.TheVariants.{Second};
 ghost use Rattle.wiring_text.specs.WiringText.{ReadsAs};
 ghost use Rattle.wire_chart.specs.WrittenText.{IsWritten, IsWrittenIn, carry_line, ended, form_line, stop_line, jack_line, plain_line, title_line, wire_line};
-ghost use Rattle.wire_chart.specs.Writing.{GainsAllWires, GainsStops, GainsJacks, GainsWires, IsStopOf, IsStopAt, IsStopIn, IsJackAt, IsWireTo, IsWireToAny, IsWireFrom, IsWireOf};
+ghost use Rattle.wire_chart.specs.Writing.{GainsAllWires, GainsStops, GainsJacks, GainsWires, IsStopAt, IsStopIn, IsJackAt, IsWireTo, IsWireToAny, IsWireFrom};
 
-use crate::form::{WireForm, carry_into, carry_out_of, is_one_group, is_same_form, wire_form};
+use crate::form::{WireForm, is_same_form, wire_form};
 use crate::version::version_of;
 use crate::words::{write_jack_words, write_spaced_group, write_spaced_hub, write_spaced_number};
-use hubs::{Group, Hub, JACKS, Jack};
+use hubs::{Group, Hub, JACKS, Jack, carry_into, carry_out_of, is_one_group};
 use setups::{Setup, Tape};
 use std::alloc::{AllocError, Global};
 use wiring_text::Version;
@@ -78,9 +77,9 @@ pub fn write_form(text: &mut String, tape: &Tape) -> Result<(), AllocError>
     ensures { OnOk result (string_bytes text.new ≡ string_bytes text.old ++ ended (form_line tape.now)) }
 {
     text.push_str("FORM")?;
-    write_spaced_number(text, u16::from(tape.lines()))?;
-    write_spaced_number(text, u16::from(tape.first()))?;
-    write_spaced_number(text, u16::from(tape.overflow()))?;
+    write_spaced_number(text, tape.lines())?;
+    write_spaced_number(text, tape.first())?;
+    write_spaced_number(text, tape.overflow())?;
     text.push_str("\n")
 }
 
@@ -122,8 +121,8 @@ fn write_stop_line(text: &mut String, channel: u8, line: u8) -> Result<(), Alloc
     ensures { OnOk result (string_bytes text.new ≡ string_bytes text.old ++ ended (stop_line (channel, line))) }
 {
     text.push_str("STOP")?;
-    write_spaced_number(text, u16::from(channel))?;
-    write_spaced_number(text, u16::from(line))?;
+    write_spaced_number(text, channel)?;
+    write_spaced_number(text, line)?;
     text.push_str("\n")
 }
 
@@ -149,7 +148,6 @@ fn write_jack_at(text: &mut String, setup: &Setup, place: usize) -> Result<(), A
 
 // The line of a jack.
 fn write_jack_line(text: &mut String, jack: Jack) -> Result<(), AllocError>
-    requires given { is_jack_in_range jack ≡ true }
     ensures { OnOk result (string_bytes text.new ≡ string_bytes text.old ++ ended (jack_line jack)) }
 {
     text.push_str("JACK ")?;
@@ -223,7 +221,6 @@ fn write_wires_to(
     exit: Hub,
     entries: &[u16],
 ) -> Result<(), AllocError>
-    requires exit { is_hub_in_range exit ≡ true }
     requires entries { All (λ number. (1041 ≤ number) × (number ≤ 1936)) entries.now }
     ensures { OnOk result (GainsWires version form (IsWireToAny exit entries.now) (string_bytes text.old) (string_bytes text.new)) }
 {
@@ -242,7 +239,6 @@ fn write_wire_to(
     entries: &[u16],
     number: u16,
 ) -> Result<(), AllocError>
-    requires exit { is_hub_in_range exit ≡ true }
     ensures { OnOk result
         (GainsWires version form (IsWireTo exit entries.now number) (string_bytes text.old) (string_bytes text.new)) }
 {
@@ -271,8 +267,6 @@ fn write_wire_line(
     exit: Hub,
     entry: Hub,
 ) -> Result<(), AllocError>
-    requires exit { is_hub_in_range exit ≡ true }
-    requires entry { is_hub_in_range entry ≡ true }
     ensures { OnOk result (string_bytes text.new ≡ string_bytes text.old ++ ended (wire_line version (exit, entry))) }
 {
     match (version, carry_out_of(exit), carry_into(entry)) {
@@ -291,16 +285,14 @@ fn write_carry_line(text: &mut String, from: Group, to: Group) -> Result<(), All
         write_spaced_group(text, from)?;
     } else {
         text.push_str("COUPLE")?;
-        write_spaced_number(text, u16::from(from.number))?;
-        write_spaced_number(text, u16::from(to.number))?;
+        write_spaced_number(text, from.number)?;
+        write_spaced_number(text, to.number)?;
     }
     text.push_str("\n")
 }
 
 // The line of a wire that is no carry's.
 fn write_plain_line(text: &mut String, exit: Hub, entry: Hub) -> Result<(), AllocError>
-    requires exit { is_hub_in_range exit ≡ true }
-    requires entry { is_hub_in_range entry ≡ true }
     ensures { OnOk result (string_bytes text.new ≡ string_bytes text.old ++ ended (plain_line (exit, entry))) }
 {
     text.push_str("WIRE")?;

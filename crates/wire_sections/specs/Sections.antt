@@ -7,7 +7,7 @@ use Rattle.hubs.specs.declared.hub.Hub.{Hub}
 use Rattle.markup.specs.Escapes.{escaped}
 use Rattle.markup.specs.Pieces.{numbered_words}
 use Rattle.panel_drawing.specs.Drawing.{AreHubs, ends_at, has_wire_at, way_curve, wire_name}
-use Rattle.panel_drawing.specs.Names.{hub_text}
+use Rattle.hubs.specs.HubText.{hub_text}
 use Rattle.panel_drawing.specs.declared.drawing.PanelWire.{PanelWire}
 use Rattle.report_sheets.specs.Sheets.{link_text}
 use Rattle.wheel_sections.specs.declared.told.ToldWheel.{ToldWheel}

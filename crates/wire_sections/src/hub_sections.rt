@@ -11,8 +11,8 @@ ghost use Rattle.wire_sections.specs.Sections.{hub_element, hub_head, hub_open, 
 use crate::passing::Part;
 use crate::through::write_through;
 use crate::wire_sections::{write_all, write_asking, write_close, write_path, write_picture_open};
-use hubs::Hub;
-use panel_drawing::{PanelWire, ends_at, has_wire_at, write_hub, write_wire_name};
+use hubs::{Hub, write_hub};
+use panel_drawing::{PanelWire, ends_at, has_wire_at, write_wire_name};
 use std::alloc::{AllocError, Global};
 use wheel_sections::ToldWheel;
 

@@ -6,6 +6,7 @@ use Rattle.std.proofs.lemmas.List.FromFn.{length-range_with_len, get_or-range_wi
 use Rattle.std.specs.List.{cons_option, filter_map, list_all, range_with_len}
 use Rattle.std.proofs.lemmas.Bool.{and_right}
 use Rattle.wiring_table.specs.Below.field_rules.Fields.{field_named}
+use Rattle.wiring_table.specs.Below.chart_rules.Controls.{control_on}
 use Rattle.wiring_table.specs.Below.chart_rules.ValidCard.{column_of}
 use Rattle.wiring_table.specs.Below.charts.Field.{columns_of}
 use Rattle.wiring_table.specs.Below.charts.Levels.{control_number}
@@ -14,7 +15,7 @@ use Rattle.wiring_table.specs.Below.charts.declared.level.ControlLevel.{ControlL
 use Rattle.wiring_table.specs.Below.charts.declared.statement.Field.{Field}
 use Rattle.wiring_table.specs.Below.charts.declared.statement.Statement.{Statement}
 use Rattle.wiring_table.specs.Below.charts.declared.statement.Statement.TheVariants as says
-use Rattle.wiring_table.specs.Below.report.Groups.{control_field, is_same_on, is_same_at}
+use Rattle.wiring_table.specs.Below.report.Groups.{is_same_on, is_same_at}
 use Rattle.wired_panels.specs.PanelCycles.{Differs}
 use Rattle.wiring_table.proofs.Below.charts.Listed.{listed-after}
 
@@ -59,7 +60,7 @@ record FailsOn (whole lines : List Line) (level : ℕ) (card next : List ℕ) : 
 
 abbrev are_same : List Line → List Line → ℕ → List ℕ → List ℕ → Bool
 are_same whole lines level card next =
-    list_all (λ field. is_same_on field card next) (filter_map (λ line. control_field whole level line.statement) lines)
+    list_all (λ field. is_same_on field card next) (filter_map (λ line. control_on whole level line.statement) lines)
 
 fields-fail : (whole lines : List Line) (level : ℕ) (card next : List ℕ) → are_same whole lines level card next ≡ false
     → FailsOn whole lines level card next
@@ -100,7 +101,7 @@ fields-fail whole (line ∷ lines) level card next is =
     either : (its : ControlLevel) (name : List ℕ) → line.statement ≡ says.Control its name → control_number its ≡ level → (found : Option Field)
         → field_named whole name ≡ found
         → list_all (λ field. is_same_on field card next)
-        (cons_option found (filter_map (λ line. control_field whole level line.statement) lines)) ≡ false
+        (cons_option found (filter_map (λ line. control_on whole level line.statement) lines)) ≡ false
         → (are_same whole lines level card next ≡ false → FailsOn whole (line ∷ lines) level card next)
         → FailsOn whole (line ∷ lines) level card next
     either its name says_it same None named left below = below left
@@ -109,7 +110,7 @@ fields-fail whole (line ∷ lines) level card next is =
 
     of_level : (its : ControlLevel) (name : List ℕ) → line.statement ≡ says.Control its name → (b : Bool) → (control_number its == level) ≡ b
         → list_all (λ field. is_same_on field card next)
-        (cons_option (if b then field_named whole name else None) (filter_map (λ line. control_field whole level line.statement) lines)) ≡ false
+        (cons_option (if b then field_named whole name else None) (filter_map (λ line. control_on whole level line.statement) lines)) ≡ false
         → (are_same whole lines level card next ≡ false → FailsOn whole (line ∷ lines) level card next)
         → FailsOn whole (line ∷ lines) level card next
     of_level its name says_it true same left below =
@@ -118,7 +119,7 @@ fields-fail whole (line ∷ lines) level card next is =
 
     by : (statement : Statement) → line.statement ≡ statement
         → list_all (λ field. is_same_on field card next)
-        (cons_option (control_field whole level statement) (filter_map (λ line. control_field whole level line.statement) lines)) ≡ false
+        (cons_option (control_on whole level statement) (filter_map (λ line. control_on whole level line.statement) lines)) ≡ false
         → (are_same whole lines level card next ≡ false → FailsOn whole (line ∷ lines) level card next)
         → FailsOn whole (line ∷ lines) level card next
     by (says.Control its name) says_it left below = of_level its name says_it (control_number its == level) refl left below
@@ -133,15 +134,15 @@ fails-fields whole (first ∷ lines) level card next line its name field (zero, 
     let here : first.statement ≡ says.Control its name = ap (λ (l : Line). l.statement) is ∙ says_it in
     let own : (control_number its == level) ≡ true = grind (arith, nat_tests, same) in
     ap (λ statement. list_all (λ f. is_same_on f card next)
-    (cons_option (control_field whole level statement) (filter_map (λ l. control_field whole level l.statement) lines))) here
+    (cons_option (control_on whole level statement) (filter_map (λ l. control_on whole level l.statement) lines))) here
     ∙ rw (own, named, fails) refl
 fails-fields whole (first ∷ lines) level card next line its name field (suc k, within, is) says_it same named fails =
-    by (control_field whole level first.statement)
+    by (control_on whole level first.statement)
     (fails-fields whole lines level card next line its name field (k, omega (arith, within), is) says_it same named fails)
   where
     by : (found : Option Field) → are_same whole lines level card next ≡ false
         → list_all (λ f. is_same_on f card next)
-        (cons_option found (filter_map (λ l. control_field whole level l.statement) lines)) ≡ false
+        (cons_option found (filter_map (λ l. control_on whole level l.statement) lines)) ≡ false
     by None below = below
     by (Some its_field) below = and_right (is_same_on its_field card next) (are_same whole lines level card next) below
 

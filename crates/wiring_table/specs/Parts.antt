@@ -1,5 +1,5 @@
 -- Which parts of the machine serve what of a chart, by its plan, and which totals of an amount come one above the other.
-use Rattle.std.specs.Prelude.{◌≡◌, ℕ, ◌+◌, ◌<◌, ◌≤◌, ◌==◌, List, Contains, Option, Some, option_and_then, option_map, true, ◌⊎◌}
+use Rattle.std.specs.Prelude.{◌≡◌, ℕ, ◌+◌, ◌<◌, ◌≤◌, ◌==◌, ◌&&◌, Bool, List, Contains, Option, Some, find, option_and_then, option_map, true, false, ◌⊎◌}
 use Rattle.plans.specs.Below.wanted.ChartTotals.{totals_of}
 use Rattle.plans.specs.Counters.{single_group}
 use Rattle.plans.specs.PartNumbers.{number_for, numbers_at}
@@ -19,6 +19,7 @@ use Rattle.plans.specs.Below.charts.declared.statement.BodyLine.{BodyLine}
 use Rattle.plans.specs.Below.charts.declared.statement.BodyLine.TheVariants as body
 use Rattle.plans.specs.Below.charts.declared.statement.SignRule.{SignRule}
 use Rattle.plans.specs.Below.charts.declared.statement.SignRule.TheVariants as sign
+use Rattle.plans.specs.Below.charts.declared.statement.Statement.{Statement}
 use Rattle.plans.specs.Below.charts.declared.statement.Statement.TheVariants as says
 use Rattle.setups.specs.Below.hubs.declared.hub.Group.{Group}
 use Rattle.setups.specs.Below.hubs.declared.hub.Hub.{Hub}
@@ -115,6 +116,16 @@ positive_side (sign.NX column) pilot position = PIT pilot position
 abbrev pub source_of : BodyLine → Hub
 source_of body.Detail = CC
 source_of (body.Total level) = PX (level_number level) 3
+
+-- whether a line is a total of the amount of a name, at a level
+abbrev pub is_total_at : List ℕ → ℕ → Statement → Bool
+is_total_at wanted level (says.TotalAmount its_level wheel name digits mark) =
+    (level_number its_level == level) && is_same_name name wanted
+is_total_at wanted level other = false
+
+-- the first line with a total of the amount of a name, at a level, if there is one
+abbrev pub total_line : List Line → List ℕ → ℕ → Option Line
+total_line lines name level = find (λ line. is_total_at name level line.statement) lines
 
 -- A line of the chart, by its number, has a total of the amount of a name, at a level, in so many digits.
 pub record HasTotal (lines : List Line) (name : List ℕ) (level number : ℕ) : Type 0 where

@@ -11,5 +11,5 @@ returns-in_err-card-clause-bad c =
 
 pub returns-in-Err-clause-bad : goal.returns-in-Err-clause-bad
 returns-in-Err-clause-bad c =
-    rw c.told_of.ensures
+    rw (c.into.ensures, c.of_card.ensures)
     (invalid_is_bad c.args.chart.now c.args.number c.args.line.now c.in_ok-card.card c.in-Err.fault c.in_ok-card.ensures.card c.in-Err.ensures.first)

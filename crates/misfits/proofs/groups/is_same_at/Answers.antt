@@ -4,7 +4,6 @@ use Rattle.charts.specs.Levels.{control_number}
 use Rattle.chart_rules.proofs.ControlFields.{controls-on_card}
 use Rattle.chart_rules.specs.HelperOnCard.{AreOnCard}
 use Rattle.report.specs.Groups.{is_same_on}
-use Rattle.misfits.proofs.Fields.{same-at}
 use Rattle.misfits.proofs.groups.is_same_at.Goals as goal
 
 pub are_same_on-requires : goal.are_same_on-requires
@@ -16,4 +15,3 @@ pub returns : goal.returns
 returns c =
     c.are_same_on.ensures
     ∙ ap (list_all (λ field. is_same_on field c.args.one.now c.args.other.now)) c.control_fields.ensures.value
-    ∙ same-at c.args.chart.now.lines (control_number c.args.level) c.args.one.now c.args.other.now

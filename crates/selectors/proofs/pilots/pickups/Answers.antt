@@ -2,7 +2,8 @@ use Rattle.std.proofs.Common.{◌∙◌, arith, refl}
 use Rattle.std.proofs.lemmas.List.{length-set}
 use Rattle.hubs.specs.declared.hub.Hub.TheVariants.{PIX}
 use Rattle.net.specs.HubSets.{has_hub}
-use Rattle.selectors.proofs.PickupLemmas.{pickup_bit, pickups-more, pickups-all}
+use Rattle.selectors.proofs.PickupLemmas.{pickup_bit, pickups-more}
+use Rattle.selectors.proofs.NumberedLemmas.{all-tests}
 use Rattle.selectors.proofs.pilots.pickups.Goals as goal
 
 pub loop-index-init : goal.loop-index-init
@@ -19,5 +20,5 @@ loop-index-preserved c = record {
 }
 
 pub returns : goal.returns
-returns c = pickups-all c.loop-index.picked_up (λ pilot. has_hub c.args.picture.now (PIX pilot)) c.loop-index.invariant.whole
+returns c = all-tests 16 c.loop-index.picked_up (λ pilot. has_hub c.args.picture.now (PIX pilot)) c.loop-index.invariant.whole
     (λ k below. c.loop-index.invariant.so_far k (omega (arith, below, c.loop-index-test.false)))

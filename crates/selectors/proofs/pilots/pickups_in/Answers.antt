@@ -2,7 +2,8 @@ use Rattle.std.proofs.Common.{◌≡◌, ◌∙◌, ◌+◌, ◌-◌, ℕ, ap, a
 use Rattle.std.proofs.lemmas.List.{length-set}
 use Rattle.net.specs.HubSets.{is_bit}
 use Rattle.net.specs.Links.{has_at}
-use Rattle.selectors.proofs.PickupLemmas.{pickups-more, pickups-all}
+use Rattle.selectors.proofs.PickupLemmas.{pickups-more}
+use Rattle.selectors.proofs.NumberedLemmas.{all-tests}
 use Rattle.selectors.proofs.pilots.pickups_in.Goals as goal
 
 pub loop-index-init : goal.loop-index-init
@@ -20,5 +21,5 @@ loop-index-preserved c =
     }
 
 pub returns : goal.returns
-returns c = pickups-all c.loop-index.picked_up (λ pilot. has_at c.args.sets.now (pilot - 1) 10) c.loop-index.invariant.whole
+returns c = all-tests 16 c.loop-index.picked_up (λ pilot. has_at c.args.sets.now (pilot - 1) 10) c.loop-index.invariant.whole
     (λ k below. c.loop-index.invariant.so_far k (omega (arith, below, c.loop-index-test.false)))

@@ -7,5 +7,5 @@ returns c =
     rw (← c.self.view_is)
     (steady-closed c.args.cycle
     (record { steady = c.steady_contacts-steady.result; digits = c.with_splits.result; zones = c.with_splits-2.result })
-    (machine_in c.self.inside) c.latches.result c.self.invariant.ordered c.latches.ensures c.steady_contacts-steady.ensures
+    (machine_in c.self.inside) c.self.inside.latches c.self.invariant.ordered c.self.invariant.latches c.steady_contacts-steady.ensures
     c.with_splits.ensures c.with_splits-2.ensures)

@@ -1,14 +1,21 @@
 use Rattle.std.proofs.Common.{subst, sym}
 use Rattle.machine.specs.Rest.{AreBusy}
+use Rattle.machine.proofs.KeptLatches.{ended-kept}
 use Rattle.machine.proofs.Rest.{ended-busy}
 use Rattle.machine.proofs.UnitOrder.{ended-in_order}
 use Rattle.machine.proofs.units.Units.end_cycle.Goals as goal
+
+pub keep_latches-requires : goal.keep_latches-requires
+keep_latches-requires c =
+    ended-kept c.self.inside.busy c.self.inside.groups c.end_groups.new.groups c.self.inside.latches c.args.cycle c.end_groups.ensures
+    c.self.invariant.busy c.self.invariant.latches
 
 pub invariant_of-self : goal.invariant_of-self
 invariant_of-self c = record {
   ordered = ended-in_order c.self.inside.groups c.end_groups.new.groups c.args.cycle c.end_groups.ensures c.self.invariant.ordered;
   busy = subst (AreBusy c.none-self-inside.result) (sym c.end_groups.ensures)
       (ended-busy c.self.inside.groups c.args.cycle c.self.inside.busy c.none-self-inside.result c.self.invariant.busy);
+  latches = c.keep_latches.ensures;
 }
 
 pub returns : goal.returns

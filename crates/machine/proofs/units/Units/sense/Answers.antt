@@ -1,4 +1,5 @@
 use Rattle.net.specs.HubSets.{has_hub}
+use Rattle.machine.proofs.KeptLatches.{sensed-kept}
 use Rattle.machine.proofs.UnitOrder.{sensed-in_order}
 use Rattle.machine.proofs.units.Units.sense.Goals as goal
 
@@ -8,6 +9,9 @@ invariant_of-self c = record {
       sensed-in_order c.self.inside.groups c.sense_groups-busy.new.groups c.args.cycle c.args.point
       (has_hub c.args.picture.now) c.sense_groups-busy.ensures.sensed c.self.invariant.ordered;
   busy = c.sense_groups-busy.ensures.busy;
+  latches =
+      sensed-kept c.self.inside.groups c.sense_groups-busy.new.groups c.self.inside.latches c.args.cycle c.args.point
+      (has_hub c.args.picture.now) c.sense_groups-busy.ensures.sensed c.self.invariant.latches;
 }
 
 pub returns : goal.returns

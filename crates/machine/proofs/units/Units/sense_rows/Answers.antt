@@ -3,6 +3,7 @@ use Rattle.net.specs.RowSets.{pictures_of}
 use Rattle.machine.specs.Fields.{machine_in}
 use Rattle.machine.specs.Machine.{MachineState}
 use Rattle.machine.proofs.AllRows.{units-sensed}
+use Rattle.machine.proofs.KeptLatches.{rows-kept}
 use Rattle.machine.proofs.RestingRows.{rows-in_order}
 use Rattle.machine.proofs.units.Units.sense_rows.Goals as goal
 
@@ -12,6 +13,9 @@ invariant_of-self c = record {
       rows-in_order c.self.inside.groups c.sense_group_rows.new.groups c.args.cycle (pictures_of c.args.pictures.now)
       c.sense_group_rows.ensures.sensed c.self.invariant.ordered;
   busy = c.sense_group_rows.ensures.busy;
+  latches =
+      rows-kept c.self.inside.groups c.sense_group_rows.new.groups c.self.inside.latches c.args.cycle (pictures_of c.args.pictures.now)
+      c.sense_group_rows.ensures.sensed c.self.invariant.latches;
 }
 
 pub returns : goal.returns

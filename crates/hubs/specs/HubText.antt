@@ -1,0 +1,22 @@
+-- A hub as it is written: its letters, and its numbers with a point before each.
+use Rattle.std.specs.Prelude.{ℕ, List, [], ◌++◌, codes, decimal}
+use Rattle.hub_table.specs.HubTable.{row_of}
+use Rattle.hub_table.specs.declared.shape.Numbers.{Numbers}
+use Rattle.hub_table.specs.declared.shape.Numbers.TheVariants.{Bare, One, Two, Three}
+use Rattle.hubs.specs.Hubs.{letters_of, numbers_of}
+use Rattle.hubs.specs.declared.hub.Hub.{Hub}
+
+-- a point and a number
+abbrev pub pointed : ℕ → List ℕ
+pointed number = codes "." ++ decimal number
+
+-- the numbers of a hub, a point before each
+abbrev pub numbers_text : Numbers → List ℕ
+numbers_text Bare = []
+numbers_text (One n) = pointed n
+numbers_text (Two m n) = pointed m ++ pointed n
+numbers_text (Three l m n) = pointed l ++ pointed m ++ pointed n
+
+-- a hub
+abbrev pub hub_text : Hub → List ℕ
+hub_text hub = (row_of (letters_of hub)).spelled ++ numbers_text (numbers_of hub)

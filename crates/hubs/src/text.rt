@@ -1,0 +1,30 @@
+//! Hubs as they are written.
+
+ghost use Rattle.std.specs.Prelude.{◌≡◌, ◌++◌, OnOk};
+ghost use Rattle.std.specs.String.{string_bytes};
+ghost use Rattle.hubs.specs.HubText.{hub_text, numbers_text};
+
+use crate::hub::Hub;
+use hub_table::Numbers;
+use std::alloc::AllocError;
+
+/// Writes a hub: its letters, and its numbers with a point before each, as `GX.8.1.3`. Fails only where no memory is left; a front of the
+/// hub may then have been written.
+pub fn write_hub(text: &mut String, hub: Hub) -> Result<(), AllocError>
+    ensures { OnOk result (string_bytes text.new ≡ string_bytes text.old ++ hub_text hub) }
+{
+    text.push_str(hub.letters().spelled())?;
+    write_numbers(text, hub.numbers())
+}
+
+// The numbers of a hub, a point before each.
+fn write_numbers(text: &mut String, numbers: Numbers) -> Result<(), AllocError>
+    ensures { OnOk result (string_bytes text.new ≡ string_bytes text.old ++ numbers_text numbers) }
+{
+    match numbers {
+        Numbers::Bare => Ok(()),
+        Numbers::One(first) => write!(text, ".{first}"),
+        Numbers::Two(first, second) => write!(text, ".{first}.{second}"),
+        Numbers::Three(first, second, third) => write!(text, ".{first}.{second}.{third}"),
+    }
+}
