@@ -13,12 +13,12 @@ use Rattle.setups.specs.Wiring.{HasWire, LeadsToEntries, Wiring}
 use Rattle.bit_sets.specs.Bits.{has_place}
 use Rattle.bit_sets.specs.Contacts.{AreCommons}
 use Rattle.bit_sets.specs.Rows.{leads}
-use Rattle.net.specs.Links.{IsInRange, is_link, is_linked}
+use Rattle.spreads.specs.Links.{IsInRange, is_link, is_linked}
 use Rattle.net.specs.Nets.{IsNetOf, NetRows, leads_by}
 use Rattle.net.specs.Panel.{contact_of}
 use Rattle.net.specs.RowSets.{LeadsToNoContact}
 use Rattle.net.specs.declared.contacts.TheConstants.{CONTACTS}
-use Rattle.net.specs.declared.links.Link.{Link}
+use Rattle.spreads.specs.declared.links.Link.{Link}
 use Rattle.net.proofs.PanelContacts.{contact_numbered, of_runs}
 
 -- hubs of two kinds with the same numbers are both in range

@@ -15,17 +15,20 @@ use Rattle.bit_sets.specs.declared.contacts.Run.{Run}
 use Rattle.bit_sets.specs.Rows.{leads}
 use Rattle.net.specs.HubSets.{HubSet, has_number}
 use Rattle.net.specs.Laws.{EmitsOrIsFed}
-use Rattle.net.proofs.LinkLemmas.{fed-found, fed-from, row-fed}
-use Rattle.net.specs.Links.{AreEights, HasRoom, IsEight, IsInRange, IsPassing, Spreads, is_fed_at, has_at, has_at_number, has_row_at, is_led_to, is_linked}
+use Rattle.net.proofs.RowsFed.{row-fed}
+use Rattle.spreads.proofs.LinkLemmas.{fed-found, fed-from}
+use Rattle.net.specs.Links.{has_at_number, has_row_at}
+use Rattle.spreads.specs.Links.{AreEights, HasRoom, IsEight, IsInRange, IsPassing, Spreads, is_fed_at, has_at, is_led_to, is_linked}
 use Rattle.net.specs.Nets.{IsNetOf, NetRows, leads_by}
 use Rattle.net.specs.Panel.{contact_of}
-use Rattle.net.specs.Passing.{AreContactsSilent, IsPassedOn, Passes, PassesBehind, PassesOn, RunsPass, SpreadsOn, SpreadsRows, closes_at_row, is_closed_at, is_passed_in}
+use Rattle.net.specs.Passing.{AreContactsSilent, IsPassedOn, PassesBehind, PassesOn, SpreadsOn, SpreadsRows, closes_at_row}
+use Rattle.spreads.specs.Passing.{Passes, RunsPass, is_closed_at, is_passed_in}
 use Rattle.net.specs.declared.contacts.TheConstants.{CONTACTS}
-use Rattle.net.specs.declared.links.Link.{Link}
+use Rattle.spreads.specs.declared.links.Link.{Link}
 use Rattle.net.proofs.DirectWires.{exit_numbered}
 use Rattle.net.proofs.PanelContacts.{IsInRuns, contact_by_place, contact_numbered, in_runs, of_runs}
-use Rattle.net.proofs.PassLemmas.{led-linked, linked-led, passed-from}
-use Rattle.net.proofs.ContactRuns.{run-found, run-from}
+use Rattle.spreads.proofs.PassLemmas.{led-linked, linked-led, passed-from}
+use Rattle.spreads.proofs.ContactRuns.{run-found, run-from}
 
 -- whether a contact is closed at a row, by the number of its exit
 closes-number : (digits zones : HubSet) (row : CardRow) (hub : Hub) (n : ℕ) → number_of hub ≡ Some n

@@ -1,6 +1,8 @@
 -- Rows while a net is made: helper words for its loops.
 use Rattle.std.specs.Prelude.{◌≡◌, ◌↔◌, ℕ, ◌+◌, Bool, true, ◌⊎◌, List, Contains}
 use Rattle.bit_sets.specs.Rows.{leads}
+use Rattle.spreads.specs.Links.{is_linked}
+use Rattle.spreads.specs.declared.links.Link.{Link}
 
 -- new leads where old does, and from a place to those whose numbers are listed
 abbrev pub Adds : (ℕ → ℕ → Bool) → (ℕ → ℕ → Bool) → ℕ → List ℕ → Type 0
@@ -10,3 +12,7 @@ Adds old new place entries =
 -- so it is with rows
 abbrev pub AddsRow : List (List ℕ) → List (List ℕ) → ℕ → List ℕ → Type 0
 AddsRow old new place entries = Adds (leads old) (leads new) place entries
+
+-- and so with links, one by one
+abbrev pub AddsLinks : List Link → List Link → ℕ → List ℕ → Type 0
+AddsLinks old new place entries = Adds (is_linked old) (is_linked new) place entries

@@ -1,23 +1,15 @@
 //! What is impulsed at a point of a cycle: cycles, points, pictures of the panel, and the trait of its units.
 #![tactic(auto)]
 
-mod banks;
-mod blocks;
-mod bundles;
-mod contact_runs;
 mod contacts;
 mod cycle;
-mod lanes;
 mod laws;
 mod links;
 mod net;
-mod passing;
 mod picture;
 mod printing;
-mod ribbons;
 mod row_sets;
 mod unit;
-mod wires;
 
 pub use cycle::{Cycle, Ordinal, POINTS, Point, ProgramLevel};
 pub use laws::{

@@ -1,21 +1,19 @@
 //! The wires of a setup, made ready for pictures.
 
-ghost use Rattle.std.specs.Prelude.{◌≡◌, ◌<◌, All, false, length};
+ghost use Rattle.std.specs.Prelude.{◌≡◌, ◌<◌, All, IfOk, length};
 ghost use Rattle.setups.specs.Wiring.{IsEntryNumber};
+ghost use Rattle.net.specs.NetInside.{IsWiredFor};
 ghost use Rattle.net.specs.NetRows.{AddsRow};
 
-use crate::banks::Banks;
-use crate::blocks::ALL_BLOCKS;
-use crate::bundles::Bundles;
 use crate::contacts::CONTACTS;
 use crate::cycle::Point;
-use crate::links::{Link, add_links, leads_on, leads_to_any, skips_of};
-use crate::passing::{add_behind, add_contacts, add_further, add_outer, pass_all};
+use crate::links::{add_links, leads_on, leads_to_any};
 use crate::picture::{Contacts, Picture, cut_after_hubs};
 use crate::row_sets::RowSets;
 use bit_sets::{EXITS, Rows, WORDS, commons_of, meet, reach, reach_by_rows};
 use hubs::Hub;
 use setups::Setup;
+use spreads::{Link, Paths};
 use std::alloc::{AllocError, Global};
 use std::marker::Model;
 
@@ -30,21 +28,10 @@ pub struct Net {
     commons: [u64; WORDS],
     // The same without the carry entries.
     others: [u64; WORDS],
-    // The wires, as the rows have them.
-    wires: Bundles,
-    // Whether they are too many for sets of rows to be spread along them through contacts.
+    // The wires, as the rows have them, and the contacts of the panel to which they lead.
+    paths: Paths,
+    // Whether the wires are too many for sets of rows to be spread along them through contacts.
     has_many: bool,
-    // The contacts that a wire leads to, one by one.
-    contacts: Vec<Link>,
-    // Runs of at most eight contacts of the panel each, in which all these lie, by the blocks of places from which they lead.
-    eights: Banks,
-    // The wires from all exits but those of these contacts.
-    outer: Bundles,
-    // The wires from the exits of these contacts.
-    further: Bundles,
-    // The contacts to which these wires lead, and for each of them where those after it end that lead from the same block of places.
-    behind: Vec<Link>,
-    behind_skips: Vec<usize>,
     // Whether no wire leads to a common hub.
     is_direct: bool,
     // Whether a wire leads to one, other than a carry entry, from an exit that tells of a cycle.
@@ -56,14 +43,8 @@ impl Drop for Net {
     fn drop(self) {
         let Net {
             rows: _rows,
-            wires: _wires,
+            paths: _paths,
             has_many: _has_many,
-            contacts: _contacts,
-            eights: _eights,
-            outer: _outer,
-            further: _further,
-            behind: _behind,
-            behind_skips: _behind_skips,
             commons: _commons,
             others: _others,
             is_direct: _is_direct,
@@ -80,9 +61,9 @@ impl Model for Net {
 
     ghost view = { λ net. record { rows = net.rows } };
 
-    ghost use Rattle.net.specs.Links.{IsNetInside};
+    ghost use Rattle.net.specs.NetInside.{IsNetInside};
 
-    ghost invariant = { λ net. IsNetInside CONTACTS net.commons net.others net.wires net.contacts.items net.outer net.further net.behind.items net.eights net.behind_skips.items net.is_direct net.rows };
+    ghost invariant = { λ net. IsNetInside CONTACTS net.commons net.others net.paths net.is_direct net.rows };
 }
 
 impl Net {
@@ -98,7 +79,8 @@ impl Net {
     ghost use Rattle.net.specs.Links.{has_row_at};
     ghost use Rattle.std.specs.Prelude.{false};
     ghost use Rattle.card_code.specs.declared.row.Row.{Row as CardRow};
-    ghost use Rattle.net.specs.Passing.{AreContactsSilent, PassesBehind, PassesOn, SameSets, SpreadsOn, SpreadsRows, closes_at_row};
+    ghost use Rattle.net.specs.Passing.{AreContactsSilent, PassesBehind, PassesOn, SpreadsOn, SpreadsRows, closes_at_row};
+    ghost use Rattle.spreads.specs.Passing.{SameSets};
     ghost use Rattle.net.specs.RowSets.{LeadsToNoContact, pictures_of};
     ghost use Rattle.net.specs.declared.cycle.Point.TheVariants.{Row};
 
@@ -106,46 +88,19 @@ impl Net {
     pub fn of(alloc: Global, setup: &Setup) -> Result<Net, AllocError>
         ensures { IfOk result (IsNetOf setup.now) }
     {
-        let mut rows = Rows::new(alloc)?;
-        let mut links = Vec::new(alloc);
-        for number in 1..=EXITS as u32 {
-            if let Some(exit) = Hub::of_number(number) {
-                let entries = setup.entries_of(exit);
-                add_row(&mut rows, number as usize - 1, entries);
-                add_links(&mut links, number as usize - 1, entries)?;
-            }
-        }
-        rows.bundle(alloc)?;
-        let wires = Bundles::of(alloc, links.as_slice())?;
-        let has_many = links.len() > MOST_LINKS;
-        let mut contacts = Vec::new(alloc);
-        add_contacts(&CONTACTS, links.as_slice(), &mut contacts)?;
-        let eights = Banks::of(alloc, &CONTACTS, contacts.as_slice())?;
-        let mut outer_links = Vec::new(alloc);
-        add_outer(links.as_slice(), contacts.as_slice(), &mut outer_links)?;
-        let outer = Bundles::of(alloc, outer_links.as_slice())?;
-        let mut further_links = Vec::new(alloc);
-        add_further(links.as_slice(), contacts.as_slice(), &mut further_links)?;
-        let further = Bundles::of(alloc, further_links.as_slice())?;
-        let mut behind = Vec::new(alloc);
-        add_behind(contacts.as_slice(), further_links.as_slice(), &mut behind)?;
-        let behind_skips = skips_of(alloc, behind.as_slice())?;
+        let Wired { rows, links } = wired_for(alloc, setup)?;
+        let paths = Paths::of(alloc, &CONTACTS, links.as_slice())?;
         let commons = commons_of(&CONTACTS);
         let others = commons_of(&CONTACTS[1..]);
+        let has_many = links.len() > MOST_LINKS;
         let is_direct = !leads_to_any(links.as_slice(), &commons);
         let is_controlled = leads_on(links.as_slice(), &others);
         Ok(Net {
             rows,
             commons,
             others,
-            wires,
+            paths,
             has_many,
-            contacts,
-            eights,
-            outer,
-            further,
-            behind,
-            behind_skips,
             is_direct,
             is_controlled,
         })
@@ -204,7 +159,7 @@ impl Net {
             → (row : ℕ) (hub : Hub)
             → (has_row_at sets.new row hub ≡ true) ↔ EmitsOrIsFed wiring (has_row_at sets.old row) hub }
     {
-        self.wires.follow(sets);
+        self.paths.follow(&mut sets.places);
     }
 
     /// Spreads rows along the wires and the closed contacts, all rows at once: each hub gains the rows at which it is impulsed. The
@@ -224,7 +179,7 @@ impl Net {
         if self.has_many {
             return false;
         }
-        if sets.are_empty() {
+        if sets.places.are_empty() {
             return true;
         }
         self.spread_outer(sets);
@@ -240,7 +195,7 @@ impl Net {
         requires { AreContactsSilent sets.old }
         ensures { (wiring : Wiring) → IsNetOf wiring self.now → SpreadsRows wiring sets.old sets.new }
     {
-        self.outer.follow(sets);
+        self.paths.follow_outer(&mut sets.places);
     }
 
     // Passes rows on along the closed contacts that wires lead to. Answers whether one passed any on.
@@ -250,14 +205,15 @@ impl Net {
             → PassesOn wiring digits.now zones.now sets.old sets.new }
         ensures same { result ≡ false → SameSets sets.old sets.new }
     {
-        self.eights.pass(digits.words(), zones.words(), sets)
+        self.paths
+            .pass(digits.words(), zones.words(), &mut sets.places)
     }
 
     // Spreads rows along the wires from the exits of the contacts that wires lead to.
     fn spread_on(&self, sets: &mut RowSets)
         ensures { (wiring : Wiring) → IsNetOf wiring self.now → SpreadsOn wiring sets.old sets.new }
     {
-        self.further.follow(sets);
+        self.paths.follow_further(&mut sets.places);
     }
 
     // Passes rows on along the closed contacts to which wires from the exits of contacts lead. Answers whether a hub may have gained any.
@@ -267,17 +223,33 @@ impl Net {
             → PassesBehind wiring digits.now zones.now sets.old sets.new }
         ensures same { result ≡ false → SameSets sets.old sets.new }
     {
-        let gained = pass_all(
-            self.behind.as_slice(),
-            self.behind_skips.as_slice(),
-            digits.words(),
-            zones.words(),
-            &mut sets.sets,
-        );
-        // Which of the far ends have gained rows is not told.
-        sets.touched = ALL_BLOCKS;
-        gained
+        self.paths
+            .pass_behind(digits.words(), zones.words(), &mut sets.places)
     }
+}
+
+// The wires of a setup, as rows and one by one.
+#[derive(Drop)]
+pub(crate) struct Wired {
+    rows: Rows,
+    links: Vec<Link>,
+}
+
+// The wires of a setup, made ready for pictures, and listed in the order of their exits.
+fn wired_for(alloc: Global, setup: &Setup) -> Result<Wired, AllocError>
+    ensures { IfOk result (IsWiredFor setup.now) }
+{
+    let mut rows = Rows::new(alloc)?;
+    let mut links = Vec::new(alloc);
+    for number in 1..=EXITS as u32 {
+        if let Some(exit) = Hub::of_number(number) {
+            let entries = setup.entries_of(exit);
+            add_row(&mut rows, number as usize - 1, entries);
+            add_links(&mut links, number as usize - 1, entries)?;
+        }
+    }
+    rows.bundle(alloc)?;
+    Ok(Wired { rows, links })
 }
 
 // Adds to a place's row the places of the entries with these numbers.

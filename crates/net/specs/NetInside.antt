@@ -1,0 +1,27 @@
+-- What a net holds beside its rows.
+use Rattle.std.specs.Prelude.{◌≡◌, ℕ, All, Bool, true, false, List, drop}
+use Rattle.setups.specs.Wiring.{Wiring}
+use Rattle.bit_sets.specs.Bits.{has_place}
+use Rattle.bit_sets.specs.Contacts.{AreCommons}
+use Rattle.bit_sets.specs.Rows.{leads}
+use Rattle.bit_sets.specs.declared.contacts.Run.{Run}
+use Rattle.spreads.specs.Links.{IsInRange, is_linked}
+use Rattle.net.specs.Nets.{IsNetOf}
+use Rattle.spreads.specs.Paths.{AreParted, PathLinks}
+use Rattle.net.specs.declared.net.Wired.{Wired}
+
+-- the wires of a setup, as rows and one by one
+pub record IsWiredFor (wiring : Wiring) (wired : Wired) : Type 0 where
+  pub net : IsNetOf wiring (record { rows = wired.rows })
+  pub in_range : All IsInRange wired.links.items
+  pub agree : (from to : ℕ) → is_linked wired.links.items from to ≡ leads wired.rows from to
+
+-- The wires of the paths lead on where the rows do, and the common places of the contacts are known, as it is where no wire leads to any of
+-- them.
+pub record IsNetInside (contacts : List Run) (common_places other_places : List ℕ) (paths : PathLinks) (is_direct : Bool)
+    (rows : List (List ℕ)) : Type 0 where
+  pub commons : AreCommons contacts common_places
+  pub others : AreCommons (drop 1 contacts) other_places
+  pub parted : AreParted contacts paths
+  pub agree : (from to : ℕ) → is_linked paths.wires from to ≡ leads rows from to
+  pub direct : is_direct ≡ true → All (λ link. has_place common_places link.to ≡ false) paths.wires

@@ -1,0 +1,11 @@
+pub mod JoinedSets
+pub mod LinkLemmas
+pub mod PassLemmas
+pub mod ContactRuns
+pub mod Eights
+pub mod BlockLemmas
+pub mod RibbonLemmas
+pub mod Touched
+pub mod BundleLemmas
+pub mod BankLemmas
+pub mod AlikeWires

@@ -1,0 +1,5 @@
+use Rattle.spreads.proofs.BlockLemmas.{lanes-empty}
+use Rattle.spreads.proofs.lanes.are_empty.Goals as goal
+
+pub returns : goal.returns
+returns c none k row low = lanes-empty c.args.rows k row c.requires none low

@@ -1,0 +1,11 @@
+use Rattle.std.proofs.Common.{refl, []}
+use Rattle.spreads.proofs.PassLemmas.{contacts-more}
+use Rattle.spreads.proofs.paths.contacts_of.Goals as goal
+
+pub loop-run-preserved : goal.loop-run-preserved
+loop-run-preserved c = record {
+  passing = c.in_ok-add_run.ensures.passing;
+  wired =
+      contacts-more c.args.runs.now c.loop-run.run-index _ _ c.args.links.now [] c.loop-run.contacts.items c.add_run.new.contacts.items
+      c.loop-run-test.true refl c.loop-run.invariant.wired c.in_ok-add_run.ensures.added;
+}

@@ -1,0 +1,41 @@
+//! Blocks of 32 places that follow one another, as the bits of a word: bit b stands for the places from 32 b on.
+
+ghost use Rattle.std.specs.Prelude.{◌≡◌, ℕ, ◌+◌, ◌/◌, ◌<◌, ◌≤◌, ◌==◌, true};
+ghost use Rattle.bit_sets.specs.Bits.{is_bit};
+
+use crate::sets::HUBS;
+
+// How many places a block has.
+const PLACES_IN_BLOCK: usize = 32;
+
+// All blocks.
+pub(crate) const ALL_BLOCKS: u64 = u64::MAX;
+
+// The block of a place.
+#[inline(always)]
+pub(crate) fn block_of(place: usize) -> u64
+    requires { place < HUBS }
+    ensures { (block : ℕ) → is_bit result block ≡ (block == place / 32) }
+{
+    1 << (place / PLACES_IN_BLOCK)
+}
+
+// The blocks of so many places from the first one on, up to the last place of all.
+#[inline(always)]
+pub(crate) fn blocks_from(first: usize, count: usize) -> u64
+    requires { first < HUBS }
+    ensures { (place : ℕ) → first ≤ place → place < first + count → place < HUBS → is_bit result (place / 32) ≡ true }
+{
+    let last = first + count.max(1).min(HUBS - first) - 1;
+    let block = first / PLACES_IN_BLOCK;
+    first_blocks(last / PLACES_IN_BLOCK - block + 1) << block
+}
+
+// So many blocks from block 0 on.
+#[inline(always)]
+fn first_blocks(count: usize) -> u64
+    requires { count < 64 }
+    ensures { (block : ℕ) → block < count → is_bit result block ≡ true }
+{
+    (1 << count) - 1
+}

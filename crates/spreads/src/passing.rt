@@ -1,0 +1,115 @@
+//! Contacts one by one, and the rows that they pass on while they are closed.
+
+ghost use Rattle.std.specs.Prelude.{◌≡◌, ℕ, ◌<◌, ◌≤◌, ◌&&◌, List, All, false, length, take};
+ghost use Rattle.std.specs.List.{list_any};
+ghost use Rattle.bit_sets.specs.Bits.{is_bit};
+ghost use Rattle.spreads.specs.Links.{AreSkips, HasEntriesOf, IsPassing, is_led_to};
+ghost use Rattle.spreads.specs.Passing.{IsPassed, Passes, SameSets, is_closed_at};
+
+use crate::links::{Link, is_block_empty};
+use crate::sets::HUBS;
+use bit_sets::{PLACES, WORDS, has_within};
+
+// Whether a link leads to a place.
+pub(crate) fn is_led_to(links: &[Link], place: usize) -> bool
+    ensures { result ≡ is_led_to links.now place }
+{
+    for link in links {
+        if link.to as usize == place {
+            return true;
+        }
+    }
+    false
+}
+
+// The contacts pass on the rows of their near ends at which they are closed: `digits` has the exits of those closed at the rows 9 to 0,
+// `zones` of those closed at 11 and 12. Answers whether a far end may have gained any. No contact leads from where another one leads
+// to.
+pub(crate) fn pass_all(
+    contacts: &[Link],
+    skips: &[usize],
+    digits: &[u64; WORDS],
+    zones: &[u64; WORDS],
+    sets: &mut [u16; HUBS],
+) -> bool
+    requires passing { All IsPassing contacts.now }
+    requires skips { AreSkips contacts.now skips.now }
+    ensures passed { Passes digits.now zones.now contacts.now sets.old sets.new }
+    ensures same { result ≡ false → SameSets sets.old sets.new }
+{
+    let mut gained = false;
+    let mut place = 0;
+    while place < contacts.len() {
+        let end = skips[place];
+        if is_block_empty(sets, contacts[place].from as usize) {
+            place = end;
+        } else {
+            let now = pass_run(contacts, place, end, digits, zones, sets);
+            gained |= now;
+            place = end;
+        }
+    }
+    gained
+}
+
+// The contacts from one place of their list up to another pass on the rows of their near ends at which they are closed. Answers whether a far end may
+// have gained any.
+fn pass_run(
+    contacts: &[Link],
+    from: usize,
+    to: usize,
+    digits: &[u64; WORDS],
+    zones: &[u64; WORDS],
+    sets: &mut [u16; HUBS],
+) -> bool
+    requires passing { All IsPassing contacts.now }
+    requires order { from ≤ to }
+    requires within { to ≤ length contacts.now }
+    ensures passed { (first : List ℕ) → HasEntriesOf first sets.old → Passes digits.now zones.now (take from contacts.now) first sets.old
+        → Passes digits.now zones.now (take to contacts.now) first sets.new }
+    ensures entries { HasEntriesOf sets.old sets.new }
+    ensures same { result ≡ false → SameSets sets.old sets.new }
+    ensures long { length sets.new ≡ 1936 }
+{
+    let mut gained = false;
+    for place in from..to {
+        let now = pass(contacts[place], digits, zones, sets);
+        gained |= now;
+    }
+    gained
+}
+
+// A contact passes on the rows of its near end at which it is closed. Answers whether the far end gained any.
+fn pass(contact: Link, digits: &[u64; WORDS], zones: &[u64; WORDS], sets: &mut [u16; HUBS]) -> bool
+    requires { IsPassing contact }
+    ensures passed { IsPassed digits.now zones.now contact sets.old sets.new }
+    ensures same { result ≡ false → SameSets sets.old sets.new }
+{
+    let near = sets[contact.from as usize];
+    if near == 0 {
+        return false;
+    }
+    let passed = near & closed_rows(digits, zones, contact.to as usize);
+    if passed == 0 {
+        return false;
+    }
+    let far = sets[contact.to as usize];
+    let joined = far | passed;
+    sets[contact.to as usize] = joined;
+    joined != far
+}
+
+// The rows at which the contact to a place is closed: 9 to 0 are the first ten, 11 and 12 the next two.
+fn closed_rows(digits: &[u64; WORDS], zones: &[u64; WORDS], place: usize) -> u16
+    requires { place < PLACES }
+    ensures { (row : ℕ) → is_bit result row ≡ is_closed_at digits.now zones.now row place }
+{
+    rows_where(has_within(digits, place), 0x3ff) | rows_where(has_within(zones, place), 0xc00)
+}
+
+// The rows where the test is true, else none.
+fn rows_where(test: bool, rows: u16) -> u16
+    ensures { (row : ℕ) → is_bit result row ≡ (test && is_bit rows row) }
+{
+    if test { rows } else { 0 }
+}

@@ -1,0 +1,107 @@
+//! Sets of rows, one for each place.
+
+ghost use Rattle.std.specs.Prelude.{◌≡◌, ℕ, ◌-◌, ◌<◌, ◌&&◌, ◌||◌, nat_le, length};
+ghost use Rattle.spreads.specs.Links.{has_at};
+
+use crate::blocks::{block_of, blocks_from};
+use std::marker::Model;
+
+/// How many places there are, one for each hub of the panel.
+pub const HUBS: usize = 1936;
+
+/// For each place the set of the rows that it has: bit r of a set tells of the row at place r among the points. Contracts see the list of
+/// the sets.
+#[derive(Debug, Drop)]
+pub struct PlaceSets {
+    pub(crate) sets: [u16; HUBS],
+    // The blocks of places that may have rows. In all others no place has any, so that these needn't be looked at.
+    pub(crate) touched: u64,
+}
+
+impl Model for PlaceSets {
+    ghost use Rattle.std.specs.Prelude.{ℕ, List};
+    ghost use Rattle.spreads.specs.Blocks.{AreTouched};
+
+    ghost Value = { List ℕ };
+
+    ghost view = { λ sets. sets.sets };
+
+    ghost invariant = { λ sets. AreTouched sets.touched sets.sets };
+}
+
+impl PlaceSets {
+    ghost use Rattle.std.specs.Prelude.{◌≡◌, ℕ, ◌-◌, ◌+◌, ◌<◌, ◌==◌, ◌&&◌, ◌||◌, ◌/◌, false, true, drop, length, nat_le};
+    ghost use Rattle.bit_sets.specs.Bits.{is_bit};
+    ghost use Rattle.spreads.specs.Links.{has_at};
+
+    /// Empty sets.
+    #[inline(always)]
+    pub fn new() -> Self
+        ensures { (place row : ℕ) → has_at result place row ≡ false }
+    {
+        PlaceSets {
+            sets: [0; HUBS],
+            touched: 0,
+        }
+    }
+
+    /// Adds a row to the set of a place.
+    #[inline(always)]
+    pub fn insert(&mut self, place: usize, row: usize)
+        requires place { place < HUBS }
+        requires row { row < 12 }
+        ensures { (other r : ℕ) → has_at self.new other r ≡ (has_at self.old other r || ((r == row) && (other == place))) }
+    {
+        self.sets[place] |= 1 << row;
+        self.touched |= block_of(place);
+    }
+
+    /// Adds sets to those of places that follow one another from the first one on. Sets after the last place change nothing.
+    #[inline(always)]
+    pub fn insert_sets(&mut self, first: usize, sets: &[u16])
+        requires { first < HUBS }
+        ensures { (place row : ℕ) → place < HUBS → has_at self.new place row
+            ≡ (has_at self.old place row || (nat_le first place && has_at sets.now (place - first) row)) }
+    {
+        join(&mut self.sets, first, sets);
+        self.touched |= blocks_from(first, sets.len());
+    }
+
+    /// The sets of the places from the first one on.
+    #[inline(always)]
+    pub fn from(&self, first: usize) -> &[u16]
+        requires { first < HUBS }
+        ensures sets { result.now ≡ drop first self.now }
+        ensures long { length result.now + first ≡ HUBS }
+    {
+        &self.sets[first..]
+    }
+
+    /// Whether it is told that no place has a row.
+    pub fn are_empty(&self) -> bool
+        ensures { result ≡ true → (place row : ℕ) → has_at self.now place row ≡ false }
+    {
+        self.touched == 0
+    }
+
+    // Whether places of these blocks may have rows.
+    #[inline(always)]
+    pub(crate) fn may_have(&self, blocks: u64) -> bool
+        ensures { result ≡ false → (place row : ℕ) → is_bit blocks (place / 32) ≡ true → has_at self.now place row ≡ false }
+    {
+        self.touched & blocks != 0
+    }
+}
+
+// Joins sets to those from a place on.
+fn join(all: &mut [u16; HUBS], first: usize, sets: &[u16])
+    requires { first < HUBS }
+    ensures joined { (place row : ℕ) → place < HUBS → has_at all.new place row
+        ≡ (has_at all.old place row || (nat_le first place && has_at sets.now (place - first) row)) }
+    ensures long { length all.new ≡ HUBS }
+{
+    let count = sets.len().min(HUBS - first);
+    for k in 0..count {
+        all[first + k] |= sets[k];
+    }
+}
