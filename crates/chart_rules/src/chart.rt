@@ -4,7 +4,7 @@ use crate::amounts::AmountColumns;
 use crate::controls::Controls;
 use crate::texts::TextColumns;
 use charts::{ControlLevel, Field, Line, Name, RawChart, Statement};
-use field_rules::Fields;
+use field_rules::first_named;
 use print_rules::Item;
 use std::marker::Model;
 
@@ -12,13 +12,25 @@ use std::marker::Model;
 ///
 /// Contracts see it as a raw chart: as its version, its lines in order, the numbers of those whose total bears the word COUPLED,
 /// and the number of the line END.
-#[derive(Drop)]
 pub struct Chart {
     raw: RawChart,
-    fields: Fields,
+    fields: Vec<Field>,
     controls: Controls,
     texts: TextColumns,
     amounts: AmountColumns,
+}
+
+// By hand, so that a function that drops one calls this, and doesn't drop its parts one by one.
+impl Drop for Chart {
+    fn drop(self) {
+        let Chart {
+            raw: _raw,
+            fields: _fields,
+            controls: _controls,
+            texts: _texts,
+            amounts: _amounts,
+        } = self;
+    }
 }
 
 impl Model for Chart {
@@ -29,7 +41,7 @@ impl Model for Chart {
 
     ghost view = { λ chart. chart.raw };
 
-    ghost invariant = { λ chart. IsChecked chart.raw chart.fields chart.controls chart.texts chart.amounts };
+    ghost invariant = { λ chart. IsChecked chart.raw chart.fields.items chart.controls chart.texts chart.amounts };
 }
 
 impl Chart {
@@ -44,8 +56,8 @@ impl Chart {
     ghost use Rattle.chart_rules.specs.Rules.{IsLawful};
 
     /// The chart of lines that break no rule, of their fields, and of the control fields among these.
-    pub(crate) fn of(raw: RawChart, fields: Fields, controls: Controls) -> Chart
-        requires fields { fields ≡ fields_of raw.lines }
+    pub(crate) fn of(raw: RawChart, fields: Vec<Field>, controls: Controls) -> Chart
+        requires fields { fields.items ≡ fields_of raw.lines }
         requires lawful { IsLawful raw }
         requires controls { AreControlsOf raw.lines controls }
         ensures { result ≡ raw }
@@ -89,7 +101,7 @@ impl Chart {
     pub fn field(&self, name: Name) -> Option<Field>
         ensures { result ≡ field_named self.now.lines name }
     {
-        self.fields.get(name)
+        first_named(self.fields(), name)
     }
 
     /// The control fields of a level, in the order of their lines.
@@ -119,6 +131,6 @@ impl Chart {
     pub fn item(&self, statement: &Statement) -> Option<Item>
         ensures { result ≡ item_of (fields_of self.now.lines) statement.now }
     {
-        Item::of(&self.fields, statement)
+        Item::of(self.fields(), statement)
     }
 }

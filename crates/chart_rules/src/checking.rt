@@ -61,7 +61,7 @@ pub fn check(alloc: Global, raw: RawChart) -> Result<Chart, RuleFault>
         Some((rule, line)) => Err(RuleFault::Rule { rule, line }),
         None => {
             let controls = Controls::of(alloc, raw.lines(), &fields)?;
-            Ok(Chart::of(raw, fields, controls))
+            Ok(Chart::of(raw, fields.into_fields(), controls))
         }
     }
 }

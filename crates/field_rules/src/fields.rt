@@ -1,6 +1,7 @@
 //! The fields of a chart, by their names.
 
 ghost use Rattle.std.specs.Prelude.{◌≡◌, ◌++◌, [], ◌∷◌, length, IfOk, OnOk};
+ghost use Rattle.field_rules.specs.Fields as names;
 ghost use Rattle.field_rules.specs.Fields.{field_of, fields_of};
 ghost use Rattle.field_rules.specs.HelperIndex.{IsIndexOf};
 
@@ -55,6 +56,14 @@ impl Fields {
         self.in_order.as_slice()
     }
 
+    /// The fields in the order of their lines, where nothing is looked up any more.
+    pub fn into_fields(self) -> Vec<Field>
+        ensures { result.items ≡ self }
+    {
+        let Fields { in_order, .. } = self;
+        in_order
+    }
+
     /// The first field with a name.
     pub fn get(&self, name: Name) -> Option<Field>
         ensures { result ≡ first_named self.now name }
@@ -69,6 +78,14 @@ impl Fields {
     {
         self.first.get(&name).copied()
     }
+}
+
+/// The first of some fields with a name, by a search along them: [`Fields`] serve where many names are looked up.
+pub fn first_named(fields: &[Field], name: Name) -> Option<Field>
+    ensures { result ≡ names.first_named fields.now name }
+{
+    let field = fields.iter().find(|field| field.name.is(name))?;
+    Some(*field)
 }
 
 /// The field that a line describes, if it is a FIELD line.

@@ -107,10 +107,7 @@ impl Machine {
             self.is_spoiled = true;
             return Err(FeedFault::Memory);
         }
-        match next {
-            Some(_) => self.cards += 1,
-            None => self.is_ended = true,
-        }
+        self.count(&next);
         Ok(())
     }
 
@@ -144,10 +141,7 @@ impl Machine {
             self.is_spoiled = true;
             return Ok(Some(kept));
         }
-        match next {
-            Some(_) => self.cards += 1,
-            None => self.is_ended = true,
-        }
+        self.count(&next);
         Ok(None)
     }
 
@@ -179,11 +173,20 @@ impl Machine {
             self.is_spoiled = true;
             return Err(FeedFault::Memory);
         }
+        self.count(&next);
+        Ok(())
+    }
+
+    // Counts the card that was fed, or takes down that the end was.
+    fn count(&mut self, next: &Option<Card>)
+        requires { refusal self.old next.now ≡ None }
+        ensures machine { self.new.machine ≡ self.old.machine }
+        ensures counted { self.new ≡ fed next.now self.old.machine self.old }
+    {
         match next {
             Some(_) => self.cards += 1,
             None => self.is_ended = true,
         }
-        Ok(())
     }
 
     // Why a feed is refused, if it is.

@@ -5,3 +5,4 @@ pub mod Wheels
 pub mod Printing
 pub mod Forms
 pub mod Tapes
+pub mod HelperItems

@@ -3,9 +3,9 @@
 ghost use Rattle.std.specs.Prelude.{◌≡◌, ◌+◌, ◌^◌, ◌<◌};
 
 use charts::{
-    BodyLine, DetailOption, Field, FieldKind, HeadingLine, Level, Literal, Mark, Statement,
+    BodyLine, DetailOption, Field, FieldKind, HeadingLine, Level, Literal, Mark, Name, Statement,
 };
-use field_rules::Fields;
+use field_rules::{Fields, first_named};
 
 /// A line of the report that items stand on.
 #[derive(Clone, Copy, Debug, PartialEq, Eq)]
@@ -88,47 +88,13 @@ impl Item {
     ghost use Rattle.std.specs.Prelude.{◌≡◌};
     ghost use Rattle.print_rules.specs.Items.{item_of};
 
-    /// The item that a line of the chart is, if it is one.
-    pub fn of(fields: &Fields, statement: &Statement) -> Option<Item>
+    /// The item that a line of a chart with these fields is, if it is one.
+    pub fn of(fields: &[Field], statement: &Statement) -> Option<Item>
         ensures { result ≡ item_of fields.now statement.now }
     {
-        match statement {
-            Statement::Head {
-                line,
-                wheel,
-                literal,
-            } => Some(literal_item(PrintedLine::Heading(*line), *wheel, literal)),
-            Statement::DetailLiteral { wheel, literal } => {
-                Some(literal_item(PrintedLine::Body(BodyLine::Detail), *wheel, literal))
-            }
-            Statement::DetailField { wheel, name, shown } => {
-                let field = fields.get(*name)?;
-                Some(detail_item(*wheel, *shown, field))
-            }
-            Statement::TotalLiteral {
-                level,
-                wheel,
-                literal,
-            } => Some(literal_item(total_line(*level), *wheel, literal)),
-            Statement::TotalText { level, wheel, name } => {
-                let field = fields.get(*name)?;
-                Some(text_item(total_line(*level), *wheel, field.columns()))
-            }
-            Statement::TotalAmount {
-                level,
-                wheel,
-                name,
-                digits,
-                mark,
-            } => {
-                let figure = Figure {
-                    digits: u32::from(*digits),
-                    decimals: fields.get(*name)?.kind.decimals(),
-                    mark: *mark,
-                };
-                Some(figure_item(total_line(*level), *wheel, figure))
-            }
-            _ => None,
+        match name_printed(statement) {
+            Some(name) => item_with(first_named(fields, name), statement),
+            None => item_with(None, statement),
         }
     }
 }
@@ -137,6 +103,78 @@ ghost use Rattle.std.specs.Prelude.{length};
 ghost use Rattle.charts.specs.declared.statement.BodyLine.TheVariants as body;
 ghost use Rattle.charts.specs.Field.{columns_of};
 ghost use Rattle.print_rules.specs.Items as items;
+ghost use Rattle.print_rules.specs.HelperItems as printed;
+
+/// The item that a line of a chart is, if it is one, where many lines are asked for: names are looked up in the index of the fields.
+pub(crate) fn item_among(fields: &Fields, statement: &Statement) -> Option<Item>
+    ensures { result ≡ items.item_of fields.now statement.now }
+{
+    match name_printed(statement) {
+        Some(name) => item_with(fields.get(name), statement),
+        None => item_with(None, statement),
+    }
+}
+
+/// The name of the field that a line puts on the report, if it puts one there.
+fn name_printed(statement: &Statement) -> Option<Name>
+    ensures { result ≡ printed.name_printed statement.now }
+{
+    match statement {
+        Statement::DetailField { name, .. }
+        | Statement::TotalText { name, .. }
+        | Statement::TotalAmount { name, .. } => Some(*name),
+        _ => None,
+    }
+}
+
+/// The item that a line is, if it is one, where its name stands for a field, or for none.
+fn item_with(field: Option<Field>, statement: &Statement) -> Option<Item>
+    ensures { result ≡ printed.item_with field statement.now }
+{
+    match statement {
+        Statement::Head {
+            line,
+            wheel,
+            literal,
+        } => Some(literal_item(PrintedLine::Heading(*line), *wheel, literal)),
+        Statement::DetailLiteral { wheel, literal } => {
+            Some(literal_item(PrintedLine::Body(BodyLine::Detail), *wheel, literal))
+        }
+        Statement::TotalLiteral {
+            level,
+            wheel,
+            literal,
+        } => Some(literal_item(total_line(*level), *wheel, literal)),
+        _ => field_item(field?, statement),
+    }
+}
+
+/// What a line puts on the report of a field, if it puts one there.
+fn field_item(field: Field, statement: &Statement) -> Option<Item>
+    ensures { result ≡ printed.field_item field statement.now }
+{
+    match statement {
+        Statement::DetailField { wheel, shown, .. } => Some(detail_item(*wheel, *shown, field)),
+        Statement::TotalText { level, wheel, .. } => {
+            Some(text_item(total_line(*level), *wheel, field.columns()))
+        }
+        Statement::TotalAmount {
+            level,
+            wheel,
+            digits,
+            mark,
+            ..
+        } => {
+            let figure = Figure {
+                digits: u32::from(*digits),
+                decimals: field.kind.decimals(),
+                mark: *mark,
+            };
+            Some(figure_item(total_line(*level), *wheel, figure))
+        }
+        _ => None,
+    }
+}
 
 /// How many wheels a mark takes.
 fn mark_width(mark: Option<Mark>) -> u8

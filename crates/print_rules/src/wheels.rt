@@ -3,7 +3,7 @@
 ghost use Rattle.std.specs.Prelude.{◌≡◌, ◌↔◌, ℕ, IsTrue};
 ghost use Rattle.print_rules.specs.Wheels as rule;
 
-use crate::items::{Figure, Item, PrintedLine};
+use crate::items::{Figure, Item, PrintedLine, item_among};
 use charts::{Line, Mark, Statement};
 use field_rules::Fields;
 
@@ -11,7 +11,7 @@ use field_rules::Fields;
 pub fn breaks_wheel_range(fields: &Fields, statement: &Statement) -> bool
     ensures { result ≡ rule.breaks_wheel_range fields.now statement.now }
 {
-    match Item::of(fields, statement) {
+    match item_among(fields, statement) {
         Some(item) => !(1 <= item.first && item.end <= 121),
         None => false,
     }
@@ -39,10 +39,10 @@ fn overlap(one: Option<Item>, other: Option<Item>) -> bool
 pub fn breaks_wheel_overlap(fields: &Fields, earlier: &[Line], statement: &Statement) -> bool
     ensures { result ≡ rule.breaks_wheel_overlap fields.now earlier.now statement.now }
 {
-    let item = Item::of(fields, statement);
+    let item = item_among(fields, statement);
     earlier
         .iter()
-        .any(|line| overlap(Item::of(fields, &line.statement), item))
+        .any(|line| overlap(item_among(fields, &line.statement), item))
 }
 
 /// Whether a printed line is a body line.
@@ -99,8 +99,8 @@ fn clash(one: Option<Item>, other: Option<Item>) -> bool
 pub fn breaks_wheel_clash(fields: &Fields, earlier: &[Line], statement: &Statement) -> bool
     ensures { result ≡ rule.breaks_wheel_clash fields.now earlier.now statement.now }
 {
-    let item = Item::of(fields, statement);
+    let item = item_among(fields, statement);
     earlier
         .iter()
-        .any(|line| clash(Item::of(fields, &line.statement), item))
+        .any(|line| clash(item_among(fields, &line.statement), item))
 }

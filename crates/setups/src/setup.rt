@@ -16,12 +16,22 @@ use std::marker::Model;
 /// A wire leads from an exit to an entry, both in range. Any number of wires may start or end at a hub, but for carries: a
 /// carry exit leads to one carry entry at most and to nothing else, and a carry entry is fed by one carry exit at most and by
 /// nothing else. Both are of one counter group, or of two groups of 8 positions; three groups are never joined.
-#[derive(Drop)]
 pub struct Setup {
     tape: Tape,
     jacks: [bool; JACKS],
     // The numbers of the entries that the wires of an exit lead to, by the exit's number.
     wires: Vec<SmallVec<u16, 4>>,
+}
+
+// By hand, so that a function that drops one calls this, and doesn't drop its parts one by one.
+impl Drop for Setup {
+    fn drop(self) {
+        let Setup {
+            tape: _tape,
+            jacks: _jacks,
+            wires: _wires,
+        } = self;
+    }
 }
 
 impl Model for Setup {

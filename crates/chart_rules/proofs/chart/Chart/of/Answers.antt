@@ -6,12 +6,12 @@ use Rattle.chart_rules.proofs.chart.Chart.of.Goals as goal
 
 pub of-texts-requires : goal.of-texts-requires
 of-texts-requires c =
-    subst AreOnCard (sym (c.as_slice.ensures ∙ c.requires.fields)) (AreOnCard-lawful c.args.raw c.requires.lawful)
+    subst AreOnCard (sym (c.as_slice.ensures.value ∙ c.requires.fields)) (AreOnCard-lawful c.args.raw c.requires.lawful)
 
 pub of-amounts-requires-clause-on_card : goal.of-amounts-requires-clause-on_card
 of-amounts-requires-clause-on_card c =
-    subst AreOnCard (sym (c.as_slice-2.ensures ∙ c.requires.fields)) (AreOnCard-lawful c.args.raw c.requires.lawful)
+    subst AreOnCard (sym (c.as_slice-2.ensures.value ∙ c.requires.fields)) (AreOnCard-lawful c.args.raw c.requires.lawful)
 
 pub of-amounts-requires-clause-sized : goal.of-amounts-requires-clause-sized
 of-amounts-requires-clause-sized c =
-    subst AreSized (sym (c.as_slice-2.ensures ∙ c.requires.fields)) (AreSized-lawful c.args.raw c.requires.lawful)
+    subst AreSized (sym (c.as_slice-2.ensures.value ∙ c.requires.fields)) (AreSized-lawful c.args.raw c.requires.lawful)

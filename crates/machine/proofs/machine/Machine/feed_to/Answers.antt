@@ -1,10 +1,8 @@
-use Rattle.std.proofs.Common.{sym, ap, subst, refl}
+use Rattle.std.proofs.Common.{sym, subst, refl}
 use Rattle.net.specs.Nets.{IsNetOf}
 use Rattle.machine.specs.Kept.{FeedsPast, PlacedInFeed}
-use Rattle.machine.specs.Machine.{MachineState}
 use Rattle.machine.specs.Running.{Running}
 use Rattle.machine.proofs.machine.Machine.feed_to.Goals as goal
-use Rattle.machine.proofs.machine.Machine.feed_to.Goals.{in-Some-next, in-None}
 
 pub returns-in-Some-feed_to-clause-found : goal.returns-in-Some-feed_to-clause-found
 returns-in-Some-feed_to-clause-found c = λ wiring is_net.
@@ -13,14 +11,6 @@ returns-in-Some-feed_to-clause-found c = λ wiring is_net.
 
 pub returns-clause-past : goal.returns-clause-past
 returns-clause-past c wiring is_net none =
-    let past =
-    subst (λ (r : Running). FeedsPast wiring r.machine c.args.next c.feed_to.new.self c.args.page c.args.line) c.self.view_is
-    (c.in_default-feed_to.ensures.none wiring (subst (λ (r : Running). IsNetOf wiring r.net) (sym c.self.view_is) is_net) refl) in
-    elim c.match-next.branch [
-      | in-Some-next w ↦
-          subst (λ (m : MachineState). FeedsPast wiring c.args.self.now.machine c.args.next m c.args.page c.args.line)
-          (sym (ap (λ (r : Running). r.machine) w.self-is)) past
-      | in-None w ↦
-          subst (λ (m : MachineState). FeedsPast wiring c.args.self.now.machine c.args.next m c.args.page c.args.line)
-          (sym (ap (λ (r : Running). r.machine) w.self-is)) past
-    ]
+    rw c.count.ensures.machine
+    (subst (λ (r : Running). FeedsPast wiring r.machine c.args.next c.feed_to.new.self c.args.page c.args.line) c.self.view_is
+    (c.in_default-feed_to.ensures.none wiring (subst (λ (r : Running). IsNetOf wiring r.net) (sym c.self.view_is) is_net) refl))
