@@ -3,7 +3,7 @@
 use anyhow::Result;
 use browser_pages::show_to_end;
 use check_calls::check_deck_to_end;
-use commands::{replay_by_orders, serve};
+use commands::{Fault, replay_by_orders, serve, write_line};
 use guides::fault_to_end;
 use match_calls::{match_deck_to_end, match_to_end};
 use panel_guides::{Place, explain_to_end, legend_to_end};
@@ -189,4 +189,29 @@ impl Served {
         out.write_all(self.told.as_slice())?;
         Ok(())
     }
+
+    /// Writes what was printed and told, and the status.
+    pub fn write_with_status<W: Write>(&self, out: &mut W) -> Result<()> {
+        self.write(out)?;
+        write_status(out, self.status)
+    }
+}
+
+/// Writes a status.
+pub fn write_status<W: Write>(out: &mut W, status: u8) -> Result<()> {
+    writeln!(out, "status {status}")?;
+    Ok(())
+}
+
+/// Writes that a chart is good.
+pub fn write_good<W: Write>(out: &mut W, name: &str) -> Result<()> {
+    writeln!(out, "{name} ok")?;
+    Ok(())
+}
+
+/// Writes the fault of a chart.
+pub fn write_fault<W: Write>(out: &mut W, name: &str, fault: &Fault) -> Result<()> {
+    write!(out, "{name} ")?;
+    write_line(fault, out)?;
+    Ok(())
 }

@@ -10,75 +10,92 @@
 //! in `shown_cases`.
 //! Of a million cards the number of bytes printed stands in place of these.
 
-use crate::answered::Served;
+use crate::answered::{Served, write_status};
 use allocate::CapacityFault;
 use anyhow::Result;
 use commands::{Fault, chart_and_deck, serve, tell};
+use devices::limited::{LimitedReader, LimitedWriter, Stop};
 use panel_guides::Place;
 use std::alloc::Global;
-use std::io::{ErrorKind, Read, Write};
-use std::{fs, io};
+use std::fs;
+use std::io::{Read, Write};
 
-// A deck that can't be read, and an output that can't be written.
-#[derive(Drop)]
-struct Broken;
+// The words between parentheses, where a row's part is that.
+fn named(part: &str) -> Option<&str> {
+    part.strip_prefix('(')?.strip_suffix(')')
+}
 
-impl Read for Broken {
-    fn read(&mut self, _buf: &mut [u8]) -> io::Result<usize> {
-        Err(io::Error::from(ErrorKind::Other))
+// The byte that a text or a deck is made of, and how often, where it is made so.
+fn repeated(name: &str) -> Option<(u8, usize)> {
+    match name {
+        "10000000 letters" => Some((b'A', 10_000_000)),
+        "1000000 empty lines" | "1000000 blank cards" => Some((b'\n', 1_000_000)),
+        "1000001 empty lines" => Some((b'\n', 1_000_001)),
+        _ => None,
     }
 }
 
-impl Write for Broken {
-    fn write(&mut self, _buf: &[u8]) -> io::Result<usize> {
-        Err(io::Error::from(ErrorKind::Other))
-    }
-
-    fn flush(&mut self) -> io::Result<()> {
-        Ok(())
+// The bytes of a file, or of a text that is made of one byte.
+fn named_bytes(rt: &HostRuntime, name: &str) -> Result<Vec<u8>> {
+    match repeated(name) {
+        Some((byte, count)) => Ok(vec![in rt.alloc(); byte; count]?),
+        None => read_named(rt, name),
     }
 }
 
-// A row's text or deck.
-fn bytes_of(rt: &HostRuntime, part: &str) -> Result<Vec<u8>> {
-    let alloc = rt.alloc();
-    let named = part
-        .strip_prefix('(')
-        .and_then(|rest| rest.strip_suffix(')'));
-    match named {
-        Some("10000000 letters") => return Ok(vec![in alloc; b'A'; 10_000_000]?),
-        Some("1000000 empty lines") => return Ok(vec![in alloc; b'\n'; 1_000_000]?),
-        Some("1000001 empty lines") => return Ok(vec![in alloc; b'\n'; 1_000_001]?),
-        _ => {}
-    }
-    if let Some(name) = named {
-        return Ok(fs::read(rt, &format!(in alloc; "commands/{name}")?)?);
-    }
-    let mut bytes = Vec::new(alloc);
-    for byte in part.as_bytes() {
-        bytes.push(if *byte == b';' { b'\n' } else { *byte })?;
+fn read_named(rt: &HostRuntime, name: &str) -> Result<Vec<u8>> {
+    let path = ["commands/", name].concat(rt.alloc())?;
+    Ok(fs::read(rt, &path)?)
+}
+
+// A text that stands in its row.
+fn written_bytes(alloc: Global, part: &str) -> Result<Vec<u8>> {
+    let mut bytes = part.as_bytes().to_vec(alloc)?;
+    for byte in &mut bytes {
+        if *byte == b';' {
+            *byte = b'\n';
+        }
     }
     Ok(bytes)
 }
 
-// What a command gives on a text and the deck of a row.
-fn serve_deck(rt: &HostRuntime, command: &str, text: &[u8], deck: &str) -> Result<Served> {
-    let alloc = rt.alloc();
-    Ok(match deck {
-        "(unreadable)" => Served::of(alloc, command, text, Broken),
-        "(1000000 blank cards)" => {
-            let cards = vec![in alloc; b'\n'; 1_000_000]?;
-            Served::of(alloc, command, text, cards.as_slice())
+// A row's text or deck.
+fn bytes_of(rt: &HostRuntime, part: &str) -> Result<Vec<u8>> {
+    match named(part) {
+        Some(name) => named_bytes(rt, name),
+        None => written_bytes(rt.alloc(), part),
+    }
+}
+
+// A row's deck, and the read of it that fails.
+#[derive(Drop)]
+struct RowDeck {
+    cards: Vec<u8>,
+    fails_at: Option<u64>,
+}
+
+impl RowDeck {
+    fn of(rt: &HostRuntime, deck: &str) -> Result<RowDeck> {
+        if deck == "(unreadable)" {
+            return Ok(RowDeck {
+                cards: Vec::new(rt.alloc()),
+                fails_at: Some(1),
+            });
         }
-        _ => {
-            let cards = bytes_of(rt, deck)?;
-            Served::of(alloc, command, text, cards.as_slice())
-        }
-    })
+        Ok(RowDeck {
+            cards: bytes_of(rt, deck)?,
+            fails_at: None,
+        })
+    }
+
+    fn reader(&self) -> LimitedReader<'_> {
+        LimitedReader::new(self.cards.as_slice(), usize::MAX, self.fails_at)
+    }
 }
 
 // What a command gives where its output can't be written.
-fn serve_unwritable(alloc: Global, command: &str, text: &[u8], deck: &[u8]) -> Served {
+fn serve_unwritable<R: Read + Drop>(alloc: Global, command: &str, text: &[u8], deck: R) -> Served {
+    let mut output = LimitedWriter::new(alloc, usize::MAX, Some(Stop::Fails { write: 1 }));
     let mut told = Vec::new(alloc);
     let status = serve(
         alloc,
@@ -86,7 +103,7 @@ fn serve_unwritable(alloc: Global, command: &str, text: &[u8], deck: &[u8]) -> S
         text,
         "my.deck",
         deck,
-        &mut Broken,
+        &mut output,
         &mut told,
     );
     Served {
@@ -96,172 +113,150 @@ fn serve_unwritable(alloc: Global, command: &str, text: &[u8], deck: &[u8]) -> S
     }
 }
 
-// What a replay by orders gives on a wiring chart and the deck of a row.
-fn replay_deck(rt: &HostRuntime, wiring: &[u8], orders: &[u8], deck: &str) -> Result<Served> {
-    let alloc = rt.alloc();
-    if deck == "(unreadable)" {
-        return Ok(Served::by_orders(alloc, wiring, orders, Broken));
-    }
-    let cards = bytes_of(rt, deck)?;
-    Ok(Served::by_orders(alloc, wiring, orders, cards.as_slice()))
-}
-
 // The wheel of a line that three numbers name.
-fn place_of(words: &str) -> Result<Option<Place>> {
+fn place_of(words: &str) -> Option<Place> {
     let Some((page, rest)) = words.split_once(' ') else {
-        return Ok(None);
+        return None;
     };
     let Some((line, wheel)) = rest.split_once(' ') else {
-        return Ok(None);
+        return None;
     };
-    Ok(Some(Place {
-        page: page.parse()?,
-        line: line.parse()?,
-        wheel: wheel.parse()?,
-    }))
+    match (page.parse(), line.parse(), wheel.parse()) {
+        (Ok(page), Ok(line), Ok(wheel)) => Some(Place { page, line, wheel }),
+        _ => None,
+    }
 }
 
-// What is explained of the deck of a row.
-fn explain_deck(rt: &HostRuntime, text: &[u8], deck: &str, place: Place) -> Result<Served> {
+// What a replay by orders gives.
+fn by_orders<R: Read + Drop>(
+    rt: &HostRuntime,
+    wiring: &[u8],
+    orders: &str,
+    deck: R,
+) -> Result<Served> {
+    let orders = bytes_of(rt, orders)?;
+    Ok(Served::by_orders(rt.alloc(), wiring, orders.as_slice(), deck))
+}
+
+// What a command gives that may have more words behind it.
+fn worded<R: Read + Drop>(rt: &HostRuntime, command: &str, text: &[u8], deck: R) -> Result<Served> {
     let alloc = rt.alloc();
-    if deck == "(unreadable)" {
-        return Ok(Served::explain(alloc, text, Broken, place));
-    }
-    let cards = bytes_of(rt, deck)?;
-    Ok(Served::explain(alloc, text, cards.as_slice(), place))
-}
-
-// The trace of the deck of a row.
-fn trace_deck(rt: &HostRuntime, text: &[u8], deck: &str) -> Result<Served> {
-    let alloc = rt.alloc();
-    if deck == "(unreadable)" {
-        return Ok(Served::trace(alloc, text, Broken));
-    }
-    let cards = bytes_of(rt, deck)?;
-    Ok(Served::trace(alloc, text, cards.as_slice()))
-}
-
-// What is listed of the deck of a row.
-fn check_deck(rt: &HostRuntime, text: &[u8], deck: &str) -> Result<Served> {
-    let alloc = rt.alloc();
-    if deck == "(unreadable)" {
-        return Ok(Served::check_deck(alloc, text, Broken));
-    }
-    let cards = bytes_of(rt, deck)?;
-    Ok(Served::check_deck(alloc, text, cards.as_slice()))
-}
-
-// What is shown of the deck of a row.
-fn show_deck(rt: &HostRuntime, text: &[u8], deck: &str) -> Result<Served> {
-    let alloc = rt.alloc();
-    if deck == "(unreadable)" {
-        return Ok(Served::show(alloc, text, Broken));
-    }
-    let cards = bytes_of(rt, deck)?;
-    Ok(Served::show(alloc, text, cards.as_slice()))
-}
-
-// What a row's command gives, where it is one that guides through faults, panels or pages.
-fn guided(rt: &HostRuntime, command: &str, text: &[u8], deck: &str) -> Result<Option<Served>> {
-    if command == "legend" {
-        return Ok(Some(Served::legend(rt.alloc(), text)));
-    }
-    if command == "trace" {
-        return Ok(Some(trace_deck(rt, text, deck)?));
-    }
-    if command == "check deck" {
-        return Ok(Some(check_deck(rt, text, deck)?));
-    }
-    if command == "show" {
-        return Ok(Some(show_deck(rt, text, deck)?));
+    if let Some(orders) = command.strip_prefix("replay --orders ") {
+        return by_orders(rt, text, orders, deck);
     }
     if let Some(number) = command.strip_prefix("fault ") {
-        return Ok(Some(Served::of_fault(rt.alloc(), number.parse()?)));
+        return Ok(Served::of_fault(alloc, number.parse()?));
     }
-    let Some(words) = command.strip_prefix("explain ") else {
-        return Ok(None);
-    };
-    match place_of(words)? {
-        Some(place) => Ok(Some(explain_deck(rt, text, deck, place)?)),
-        None => Ok(None),
+    match command.strip_prefix("explain ").and_then(place_of) {
+        Some(place) => Ok(Served::explain(alloc, text, deck, place)),
+        None => Ok(Served::of(alloc, command, text, deck)),
     }
 }
 
-fn write_served<W: Write>(out: &mut W, served: &Served) -> Result<()> {
-    served.write(out)?;
-    writeln!(out, "status {}", served.status)?;
+// What a command gives.
+fn answer<R: Read + Drop>(rt: &HostRuntime, command: &str, text: &[u8], deck: R) -> Result<Served> {
+    let alloc = rt.alloc();
+    match command {
+        "legend" => Ok(Served::legend(alloc, text)),
+        "trace" => Ok(Served::trace(alloc, text, deck)),
+        "check deck" => Ok(Served::check_deck(alloc, text, deck)),
+        "show" => Ok(Served::show(alloc, text, deck)),
+        _ => worded(rt, command, text, deck),
+    }
+}
+
+// A row: its command, its text, and its deck with all after that.
+#[derive(Clone, Copy)]
+struct Row<'a> {
+    command: &'a str,
+    text: &'a str,
+    deck: &'a str,
+}
+
+fn row_of(line: &str) -> Option<Row<'_>> {
+    let Some((command, given)) = line.split_once('|') else {
+        return None;
+    };
+    let Some((text, deck)) = given.split_once('|') else {
+        return None;
+    };
+    Some(Row {
+        command,
+        text,
+        deck,
+    })
+}
+
+// What the command of a row gives on a text.
+fn row_answer(rt: &HostRuntime, row: Row, text: &[u8]) -> Result<Served> {
+    if let Some(deck) = row.deck.strip_suffix("|(unwritable)") {
+        let deck = RowDeck::of(rt, deck)?;
+        return Ok(serve_unwritable(rt.alloc(), row.command, text, deck.reader()));
+    }
+    let deck = RowDeck::of(rt, row.deck)?;
+    answer(rt, row.command, text, deck.reader())
+}
+
+fn write_lengths<W: Write>(out: &mut W, text: &[u8]) -> Result<()> {
+    let (chart, cards) = chart_and_deck(text);
+    writeln!(out, "chart {} deck {}", chart.len(), cards.len())?;
     Ok(())
 }
 
-// Does what a row says: its command, its text, and its deck with all after that.
-fn write_row<W: Write>(
-    rt: &HostRuntime,
-    out: &mut W,
-    command: &str,
-    text: &str,
-    deck: &str,
-) -> Result<()> {
-    let alloc = rt.alloc();
-    let text = bytes_of(rt, text)?;
-    if command == "(divide)" {
-        let (chart, cards) = chart_and_deck(text.as_slice());
-        writeln!(out, "chart {} deck {}", chart.len(), cards.len())?;
-        return Ok(());
-    }
-    if command == "(standard input)" {
-        let (chart, cards) = chart_and_deck(text.as_slice());
-        return write_served(out, &Served::of(alloc, "run", chart, cards));
-    }
-    if let Some(orders) = command.strip_prefix("replay --orders ") {
-        let orders = bytes_of(rt, orders)?;
-        let served = replay_deck(rt, text.as_slice(), orders.as_slice(), deck)?;
-        return write_served(out, &served);
-    }
-    if let Some(served) = guided(rt, command, text.as_slice(), deck)? {
-        return write_served(out, &served);
-    }
-    if let Some((deck, "(unwritable)")) = deck.split_once('|') {
-        let cards = bytes_of(rt, deck)?;
-        let served = serve_unwritable(alloc, command, text.as_slice(), cards.as_slice());
-        return write_served(out, &served);
-    }
-    let mut served = serve_deck(rt, command, text.as_slice(), deck)?;
-    if deck == "(1000000 blank cards)" {
-        writeln!(out, "{} bytes", served.output.len())?;
-        served.output.clear();
-    }
-    write_served(out, &served)
+fn run_standard_input(alloc: Global, text: &[u8]) -> Served {
+    let (chart, cards) = chart_and_deck(text);
+    Served::of(alloc, "run", chart, cards)
 }
 
-// Two lines that no text brings: a chart that wants too many splits wants too many pilots, which are asked first, and memory suffices here.
-fn write_told<W: Write>(alloc: Global, out: &mut W) -> Result<()> {
+// Writes how many bytes were printed, and the rest.
+fn write_counted<W: Write>(out: &mut W, served: &Served) -> Result<()> {
+    writeln!(out, "{} bytes", served.output.len())?;
+    out.write_all(served.told.as_slice())?;
+    write_status(out, served.status)
+}
+
+fn write_answer<W: Write>(rt: &HostRuntime, out: &mut W, row: Row, text: &[u8]) -> Result<()> {
+    let served = row_answer(rt, row, text)?;
+    if row.deck == "(1000000 blank cards)" {
+        return write_counted(out, &served);
+    }
+    served.write_with_status(out)
+}
+
+fn write_for<W: Write>(rt: &HostRuntime, out: &mut W, row: Row) -> Result<()> {
+    let text = bytes_of(rt, row.text)?;
+    match row.command {
+        "(divide)" => write_lengths(out, text.as_slice()),
+        "(standard input)" => run_standard_input(rt.alloc(), text.as_slice()).write_with_status(
+            out,
+        ),
+        _ => write_answer(rt, out, row, text.as_slice()),
+    }
+}
+
+/// Does what a row says, and writes what that gives.
+pub fn write_row<W: Write>(rt: &HostRuntime, out: &mut W, line: &str) -> Result<()> {
+    match row_of(line) {
+        Some(row) => write_for(rt, out, row),
+        None => Ok(()),
+    }
+}
+
+// Writes what is told of a fault.
+fn write_fault<W: Write>(alloc: Global, out: &mut W, fault: Fault) -> Result<()> {
+    let mut told = Vec::new(alloc);
+    let status = tell(&fault, &mut told).status;
+    out.write_all(told.as_slice())?;
+    write_status(out, status)
+}
+
+/// Two lines that no text brings: a chart that wants too many splits wants too many pilots, which are asked first, and memory suffices here.
+pub fn write_told<W: Write>(alloc: Global, out: &mut W) -> Result<()> {
     out.write_all(b"told without a text\n")?;
     let splits = CapacityFault::Splits {
         wanted: 17,
         there: 16,
     };
-    for fault in [Fault::from(splits), Fault::Memory] {
-        let mut told = Vec::new(alloc);
-        let status = tell(&fault, &mut told).status;
-        out.write_all(told.as_slice())?;
-        writeln!(out, "status {status}")?;
-    }
-    Ok(())
-}
-
-/// Writes what each command gives, after its row.
-pub fn write_all<W: Write>(rt: &HostRuntime, out: &mut W) -> Result<()> {
-    out.write_all(b"== commands\n")?;
-    let rows = fs::read_to_string(rt, "commands/rows")?;
-    for row in rows.as_str().lines() {
-        writeln!(out, "{row}")?;
-        let Some((command, given)) = row.split_once('|') else {
-            continue;
-        };
-        let Some((text, deck)) = given.split_once('|') else {
-            continue;
-        };
-        write_row(rt, out, command, text, deck)?;
-    }
-    write_told(rt.alloc(), out)
+    write_fault(alloc, out, Fault::from(splits))?;
+    write_fault(alloc, out, Fault::Memory)
 }

@@ -5,42 +5,66 @@
 //! one isn't right, the program ends with a fault. The counts that are written were made from the pages and the card code.
 
 use crate::answered::Served;
-use crate::read_case;
-use crate::walked_pages::explain_pages;
+use crate::case_files::read_text;
+use crate::walked_pages::{Walked, explain_pages};
 use crate::walked_ways::Ground;
 use anyhow::Result;
 use card_code::read_deck;
-use compile407::compile;
+use compile407::{Compiled, compile};
 use legend::line_setups;
 use setups::Setup;
+use std::alloc::Global;
 use std::fs;
 use std::io::Write;
 use wire_chart::read_setup;
 
-// What a command gives on a text and a deck, as a text.
-fn text_of(rt: &HostRuntime, command: &str, text: &[u8], deck: &[u8]) -> Result<String> {
-    Ok(String::from_utf8(Served::of(rt.alloc(), command, text, deck).output)?)
+// A chart of either kind, and a deck, as texts.
+#[derive(Drop)]
+struct Example {
+    text: String,
+    deck: String,
 }
 
-// Explains pages on a panel, and writes what was walked.
-fn write_walked<W: Write>(
-    rt: &HostRuntime,
-    out: &mut W,
-    name: &str,
-    setup: &Setup,
-    asked: &[(String, Setup)],
-    ground: &Ground,
-    pages: &str,
-) -> Result<()> {
-    let alloc = rt.alloc();
-    let cards = read_deck(alloc, ground.deck.as_bytes())?;
-    let walked = explain_pages(alloc, setup, asked, cards.as_slice(), ground, pages)?;
-    let (pages, lines, characters, ways) = (
-        walked.pages,
-        walked.lines,
-        walked.characters,
-        walked.ways,
-    );
+impl Example {
+    fn read(rt: &HostRuntime, kind: &str, name: &str, holding: &str) -> Result<Example> {
+        Ok(Example {
+            text: read_text(rt, kind, name, holding)?,
+            deck: read_text(rt, kind, name, "deck")?,
+        })
+    }
+}
+
+// What is printed of an example, its wiring chart, and its legend.
+#[derive(Drop)]
+struct Printed {
+    pages: String,
+    wiring: String,
+    legend: String,
+}
+
+impl Printed {
+    fn of(alloc: Global, example: &Example) -> Result<Printed> {
+        let chart = example.text.as_bytes();
+        Ok(Printed {
+            pages: text_of(alloc, "run", chart, example.deck.as_bytes())?,
+            wiring: text_of(alloc, "wire", chart, b"")?,
+            legend: String::from_utf8(Served::legend(alloc, chart).output)?,
+        })
+    }
+}
+
+// What a command gives on a text and a deck, as a text.
+fn text_of(alloc: Global, command: &str, text: &[u8], deck: &[u8]) -> Result<String> {
+    Ok(String::from_utf8(Served::of(alloc, command, text, deck).output)?)
+}
+
+fn write_walked<W: Write>(out: &mut W, name: &str, walked: Walked) -> Result<()> {
+    let Walked {
+        pages,
+        lines,
+        characters,
+        ways,
+    } = walked;
     writeln!(
         out,
         "{name}: pages {pages}, lines {lines}, characters {characters}, ways {ways}"
@@ -48,61 +72,93 @@ fn write_walked<W: Write>(
     Ok(())
 }
 
-// Explains the pages of a planning chart.
-fn write_chart<W: Write>(rt: &HostRuntime, out: &mut W, name: &str, code: &str) -> Result<()> {
-    let alloc = rt.alloc();
-    let chart = String::from_utf8(read_case(rt, "reports", name, "chart")?)?;
-    let deck = String::from_utf8(read_case(rt, "reports", name, "deck")?)?;
-    let pages = text_of(rt, "run", chart.as_bytes(), deck.as_bytes())?;
-    let wiring = text_of(rt, "wire", chart.as_bytes(), b"")?;
-    let legend = String::from_utf8(Served::legend(alloc, chart.as_bytes()).output)?;
-    let compiled = compile(alloc, chart.as_bytes())?;
-    let asked = line_setups(alloc, compiled.chart(), compiled.plan(), chart.as_bytes())?;
+// Explains pages on a panel.
+fn walk_pages(
+    alloc: Global,
+    setup: &Setup,
+    asked: &[(String, Setup)],
+    ground: &Ground,
+    pages: &str,
+) -> Result<Walked> {
+    let cards = read_deck(alloc, ground.deck.as_bytes())?;
+    explain_pages(alloc, setup, asked, cards.as_slice(), ground, pages)
+}
+
+// Explains the pages of a planning chart that is compiled.
+fn walk_compiled(
+    alloc: Global,
+    compiled: &Compiled,
+    ground: &Ground,
+    pages: &str,
+) -> Result<Walked> {
+    let text = ground.chart.as_bytes();
+    let asked = line_setups(alloc, compiled.chart(), compiled.plan(), text)?;
+    walk_pages(alloc, compiled.setup(), asked.as_slice(), ground, pages)
+}
+
+// Compiles a planning chart, and explains its pages.
+fn walk_chart(alloc: Global, ground: &Ground, pages: &str) -> Result<Walked> {
+    let compiled = compile(alloc, ground.chart.as_bytes())?;
+    walk_compiled(alloc, &compiled, ground, pages)
+}
+
+// Reads a wiring chart, and explains its pages.
+fn walk_panel(alloc: Global, ground: &Ground, pages: &str) -> Result<Walked> {
+    let setup = read_setup(alloc, ground.wiring.as_bytes())?;
+    walk_pages(alloc, &setup, &[], ground, pages)
+}
+
+fn explain_chart(alloc: Global, example: &Example, code: &str) -> Result<Walked> {
+    let printed = Printed::of(alloc, example)?;
     let ground = Ground {
-        wiring: wiring.as_str(),
-        chart: chart.as_str(),
-        legend: legend.as_str(),
-        deck: deck.as_str(),
+        wiring: printed.wiring.as_str(),
+        chart: example.text.as_str(),
+        legend: printed.legend.as_str(),
+        deck: example.deck.as_str(),
         code,
     };
+    walk_chart(alloc, &ground, printed.pages.as_str())
+}
+
+fn explain_panel(alloc: Global, example: &Example, code: &str) -> Result<Walked> {
+    let pages = text_of(
+        alloc,
+        "replay",
+        example.text.as_bytes(),
+        example.deck.as_bytes(),
+    )?;
+    let ground = Ground {
+        wiring: example.text.as_str(),
+        chart: "",
+        legend: "",
+        deck: example.deck.as_str(),
+        code,
+    };
+    walk_panel(alloc, &ground, pages.as_str())
+}
+
+fn read_code(rt: &HostRuntime) -> Result<String> {
+    Ok(fs::read_to_string(rt, "explained/card_code")?)
+}
+
+/// Explains the pages of a planning chart, and writes how much was explained.
+pub fn write_chart<W: Write>(rt: &HostRuntime, out: &mut W, name: &str) -> Result<()> {
+    let code = read_code(rt)?;
+    let example = Example::read(rt, "reports", name, "chart")?;
     write_walked(
-        rt,
         out,
         name,
-        compiled.setup(),
-        asked.as_slice(),
-        &ground,
-        pages.as_str(),
+        explain_chart(rt.alloc(), &example, code.as_str())?,
     )
 }
 
-// Explains the pages of a wired panel.
-fn write_panel<W: Write>(rt: &HostRuntime, out: &mut W, name: &str, code: &str) -> Result<()> {
-    let wiring = String::from_utf8(read_case(rt, "panels", name, "wiring")?)?;
-    let deck = String::from_utf8(read_case(rt, "panels", name, "deck")?)?;
-    let pages = text_of(rt, "replay", wiring.as_bytes(), deck.as_bytes())?;
-    let setup = read_setup(rt.alloc(), wiring.as_bytes())?;
-    let ground = Ground {
-        wiring: wiring.as_str(),
-        chart: "",
-        legend: "",
-        deck: deck.as_str(),
-        code,
-    };
-    write_walked(rt, out, name, &setup, &[], &ground, pages.as_str())
-}
-
-/// Explains the pages of each planning chart and of each panel, and writes how much was explained.
-pub fn write_all<W: Write>(rt: &HostRuntime, out: &mut W) -> Result<()> {
-    out.write_all(b"== explained\n")?;
-    let code = fs::read_to_string(rt, "explained/card_code")?;
-    let charts = fs::read_to_string(rt, "explained/charts")?;
-    for name in charts.as_str().lines() {
-        write_chart(rt, out, name, code.as_str())?;
-    }
-    let panels = fs::read_to_string(rt, "explained/panels")?;
-    for name in panels.as_str().lines() {
-        write_panel(rt, out, name, code.as_str())?;
-    }
-    Ok(())
+/// Explains the pages of a wired panel, and writes how much was explained.
+pub fn write_panel<W: Write>(rt: &HostRuntime, out: &mut W, name: &str) -> Result<()> {
+    let code = read_code(rt)?;
+    let example = Example::read(rt, "panels", name, "wiring")?;
+    write_walked(
+        out,
+        name,
+        explain_panel(rt.alloc(), &example, code.as_str())?,
+    )
 }

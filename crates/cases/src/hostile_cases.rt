@@ -9,6 +9,23 @@ use std::alloc::Global;
 use std::fs;
 use std::io::Write;
 
+/// What is done with the text of a file.
+#[derive(Clone, Copy)]
+pub enum Trial {
+    /// A command is given the text cut after each of its bytes, and a deck.
+    Cut {
+        command: &'static str,
+        deck: &'static str,
+    },
+    /// A command is given the text with each byte in front of the other bytes.
+    Behind {
+        command: &'static str,
+        after: &'static str,
+    },
+    /// Each byte is a deck of one card.
+    Card,
+}
+
 // What was told last, and is not written again.
 #[derive(Drop)]
 struct Changes {
@@ -23,18 +40,22 @@ impl Changes {
     }
 
     // Writes what is told of a text, where it is not what was told last.
-    fn write<W: Write>(&mut self, out: &mut W, number: usize, served: Served) -> Result<()> {
-        if number > 0 && served.told == self.last {
+    fn write<W: Write>(&mut self, out: &mut W, number: usize, told: Vec<u8>) -> Result<()> {
+        if number > 0 && told == self.last {
             return Ok(());
         }
-        write!(out, "{number} ")?;
-        if served.told.is_empty() {
-            out.write_all(b"done\n")?;
-        }
-        out.write_all(served.told.as_slice())?;
-        self.last = served.told;
+        write_told(out, number, told.as_slice())?;
+        self.last = told;
         Ok(())
     }
+}
+
+// Writes what is told of a text, behind its number.
+fn write_told<W: Write>(out: &mut W, number: usize, told: &[u8]) -> Result<()> {
+    write!(out, "{number} ")?;
+    let line = if told.is_empty() { b"done\n" } else { told };
+    out.write_all(line)?;
+    Ok(())
 }
 
 // What is told of a text that is cut after each of its bytes, before the first among them.
@@ -47,18 +68,23 @@ fn write_cuts<W: Write>(
 ) -> Result<()> {
     let mut changes = Changes::new(alloc);
     for (end, _) in text.iter().enumerate() {
-        changes.write(out, end, Served::of(alloc, command, &text[..end], deck))?;
+        let told = Served::of(alloc, command, &text[..end], deck).told;
+        changes.write(out, end, told)?;
     }
-    changes.write(out, text.len(), Served::of(alloc, command, text, deck))
+    let told = Served::of(alloc, command, text, deck).told;
+    changes.write(out, text.len(), told)
 }
 
-// A text with a byte and other bytes after it.
-fn with_byte(alloc: Global, before: &[u8], byte: u8, after: &[u8]) -> Result<Vec<u8>> {
-    let mut whole = Vec::new(alloc);
-    whole.extend_from_slice(before)?;
-    whole.push(byte)?;
-    whole.extend_from_slice(after)?;
-    Ok(whole)
+// What a command tells of a text with a byte and other bytes after it.
+fn told_with(
+    alloc: Global,
+    command: &str,
+    before: &[u8],
+    byte: u8,
+    after: &[u8],
+) -> Result<Vec<u8>> {
+    let whole = [before, &[byte], after].concat(alloc)?;
+    Ok(Served::of(alloc, command, whole.as_slice(), b"\n".as_slice()).told)
 }
 
 // What is told of a text with each byte between two parts of it.
@@ -70,13 +96,9 @@ fn write_bytes<W: Write>(
     after: &[u8],
 ) -> Result<()> {
     let mut changes = Changes::new(alloc);
-    for number in 0..256 {
-        let whole = with_byte(alloc, before, number as u8, after)?;
-        changes.write(
-            out,
-            number,
-            Served::of(alloc, command, whole.as_slice(), "\n".as_bytes()),
-        )?;
+    for byte in 0..=255u8 {
+        let told = told_with(alloc, command, before, byte, after)?;
+        changes.write(out, usize::from(byte), told)?;
     }
     Ok(())
 }
@@ -84,35 +106,31 @@ fn write_bytes<W: Write>(
 // What is told of each byte as a deck of one card, by a chart.
 fn write_decks<W: Write>(alloc: Global, out: &mut W, chart: &[u8]) -> Result<()> {
     let mut changes = Changes::new(alloc);
-    for number in 0..256 {
-        let deck = with_byte(alloc, b"", number as u8, b"\n")?;
-        changes.write(
-            out,
-            number,
-            Served::of(alloc, "run", chart, deck.as_slice()),
-        )?;
+    for byte in 0..=255u8 {
+        let told = Served::of(alloc, "run", chart, [byte, b'\n'].as_slice()).told;
+        changes.write(out, usize::from(byte), told)?;
     }
     Ok(())
 }
 
-/// Writes what is told of cut texts, and of texts with each byte.
-pub fn write_all<W: Write>(rt: &HostRuntime, out: &mut W) -> Result<()> {
-    let alloc = rt.alloc();
-    let bolts = fs::read(rt, "commands/bolts.chart")?;
-    let levels = fs::read(rt, "reports/three-levels-and-a-grand-total.chart")?;
-    let total = fs::read(rt, "panels/one_total.wiring")?;
-    out.write_all(b"== hostile\nbolts.chart cut after each byte\n")?;
-    write_cuts(alloc, out, "check", bolts.as_slice(), b"")?;
-    out.write_all(b"three-levels-and-a-grand-total.chart cut after each byte\n")?;
-    write_cuts(alloc, out, "check", levels.as_slice(), b"")?;
-    out.write_all(b"one_total.wiring cut after each byte\n")?;
-    write_cuts(alloc, out, "replay", total.as_slice(), b"005\n")?;
-    out.write_all(b"bolts.chart and each byte\n")?;
-    write_bytes(alloc, out, "check", bolts.as_slice(), b"")?;
-    out.write_all(b"CHART407, each byte, 1 and the end\n")?;
-    write_bytes(alloc, out, "check", b"CHART407", b"1\nEND\n")?;
-    out.write_all(b"one_total.wiring and each byte\n")?;
-    write_bytes(alloc, out, "replay", total.as_slice(), b"")?;
-    out.write_all(b"a card of each byte\n")?;
-    write_decks(alloc, out, bolts.as_slice())
+// Writes what is told of a text.
+fn write_for<W: Write>(alloc: Global, out: &mut W, trial: Trial, text: &[u8]) -> Result<()> {
+    match trial {
+        Trial::Cut { command, deck } => write_cuts(alloc, out, command, text, deck.as_bytes()),
+        Trial::Behind { command, after } => {
+            write_bytes(alloc, out, command, text, after.as_bytes())
+        }
+        Trial::Card => write_decks(alloc, out, text),
+    }
+}
+
+/// Writes what is told of the text of a file.
+pub fn write_trial<W: Write>(
+    rt: &HostRuntime,
+    out: &mut W,
+    path: &str,
+    trial: Trial,
+) -> Result<()> {
+    let text = fs::read(rt, path)?;
+    write_for(rt.alloc(), out, trial, text.as_slice())
 }

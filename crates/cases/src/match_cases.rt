@@ -5,40 +5,38 @@
 //! all other parts; of others copies from which a wire, a jack or the form was taken, or in which one is more, or another.
 
 use crate::answered::Served;
-use crate::read_case;
+use crate::case_files::read_case;
 use anyhow::Result;
 use std::fs;
 use std::io::Write;
 
-// What a match gives, with a deck or without.
-fn matched(rt: &HostRuntime, wiring: &[u8], chart: &str, deck: Option<&str>) -> Result<Served> {
+// What a match with a chart gives.
+fn matched(rt: &HostRuntime, wiring: &[u8], chart: &str) -> Result<Served> {
     let chart = fs::read(rt, chart)?;
-    Ok(match deck {
-        Some(deck) => {
-            let cards = fs::read(rt, deck)?;
-            Served::matching_deck(rt.alloc(), chart.as_slice(), wiring, cards.as_slice())
-        }
-        None => Served::matching(rt.alloc(), chart.as_slice(), wiring),
-    })
+    Ok(Served::matching(rt.alloc(), chart.as_slice(), wiring))
 }
 
-/// Writes what is found of each panel.
-pub fn write_all<W: Write>(rt: &HostRuntime, out: &mut W) -> Result<()> {
-    out.write_all(b"== matches\n")?;
-    let index = fs::read_to_string(rt, "matches/index")?;
-    for row in index.as_str().lines() {
-        let Some((name, given)) = row.split_once('|') else {
-            continue;
-        };
-        let (chart, deck) = match given.split_once('|') {
-            Some((chart, deck)) => (chart, Some(deck)),
-            None => (given, None),
-        };
-        writeln!(out, "{row}")?;
-        let wiring = read_case(rt, "matches", name, "wiring")?;
-        let served = matched(rt, wiring.as_slice(), chart, deck)?;
-        served.write(out)?;
-        writeln!(out, "status {}", served.status)?;
+// What a match with a chart and a deck gives.
+fn matched_deck(rt: &HostRuntime, wiring: &[u8], chart: &str, deck: &str) -> Result<Served> {
+    let chart = fs::read(rt, chart)?;
+    let cards = fs::read(rt, deck)?;
+    Ok(Served::matching_deck(rt.alloc(), chart.as_slice(), wiring, cards.as_slice()))
+}
+
+// Writes what is found of a panel, beside a chart or a chart and a deck.
+fn write_found<W: Write>(rt: &HostRuntime, out: &mut W, name: &str, given: &str) -> Result<()> {
+    let wiring = read_case(rt, "matches", name, "wiring")?;
+    let served = match given.split_once('|') {
+        Some((chart, deck)) => matched_deck(rt, wiring.as_slice(), chart, deck),
+        None => matched(rt, wiring.as_slice(), given),
+    };
+    served?.write_with_status(out)
+}
+
+/// Writes what is found of the panel that a row names.
+pub fn write_match<W: Write>(rt: &HostRuntime, out: &mut W, row: &str) -> Result<()> {
+    match row.split_once('|') {
+        Some((name, given)) => write_found(rt, out, name, given),
+        None => Ok(()),
     }
-    Ok(())
 }

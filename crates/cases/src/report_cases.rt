@@ -6,64 +6,48 @@
 //! print the same pages; where it doesn't, the program ends with a fault.
 
 use crate::answered::Served;
-use crate::read_case;
+use crate::case_files::Case;
 use anyhow::{Result, bail};
 use std::alloc::Global;
-use std::fs;
 use std::io::Write;
 
-// Writes the wiring chart of a chart where that is known, and what is printed or told of its deck.
-fn write_case<W: Write>(
-    alloc: Global,
-    out: &mut W,
-    chart: &[u8],
-    deck: &[u8],
-    with_wiring: bool,
-) -> Result<()> {
-    let wired = Served::of(alloc, "wire", chart, b"".as_slice());
-    if with_wiring {
-        wired.write(out)?;
-    }
-    let printed = Served::of(alloc, "run", chart, deck);
+// The wiring chart of a chart.
+fn wired(alloc: Global, case: &Case) -> Served {
+    Served::of(alloc, "wire", case.text.as_slice(), b"".as_slice())
+}
+
+// Whether the machine that is wired as a wiring chart says prints these pages.
+fn prints(alloc: Global, wiring: &[u8], deck: &[u8], pages: &[u8]) -> bool {
+    let replayed = Served::of(alloc, "replay", wiring, deck);
+    replayed.output.as_slice() == pages
+}
+
+// Writes what is printed or told of the deck of a chart.
+fn write_printed<W: Write>(alloc: Global, out: &mut W, case: &Case, wiring: &[u8]) -> Result<()> {
+    let deck = case.deck.as_slice();
+    let printed = Served::of(alloc, "run", case.text.as_slice(), deck);
     if printed.status != 0 {
         out.write_all(printed.told.as_slice())?;
         return Ok(());
     }
     printed.write(out)?;
-    let replayed = Served::of(alloc, "replay", wired.output.as_slice(), deck);
-    if replayed.output.as_slice() != printed.output.as_slice() {
+    if !prints(alloc, wiring, deck, printed.output.as_slice()) {
         bail!("the wiring chart prints other pages");
     }
     Ok(())
 }
 
-// Writes the name of each chart that an index names, and its case.
-fn write_indexed<W: Write>(
-    rt: &HostRuntime,
-    out: &mut W,
-    index: &str,
-    with_wiring: bool,
-) -> Result<()> {
-    for name in index.lines() {
-        let chart = read_case(rt, "reports", name, "chart")?;
-        let deck = read_case(rt, "reports", name, "deck")?;
-        writeln!(out, "{name}")?;
-        write_case(
-            rt.alloc(),
-            out,
-            chart.as_slice(),
-            deck.as_slice(),
-            with_wiring,
-        )?;
-    }
-    Ok(())
+/// Writes the wiring chart of a chart, and what is printed or told of its deck.
+pub fn write_report<W: Write>(rt: &HostRuntime, out: &mut W, name: &str) -> Result<()> {
+    let case = Case::read(rt, "reports", name, "chart")?;
+    let wired = wired(rt.alloc(), &case);
+    wired.write(out)?;
+    write_printed(rt.alloc(), out, &case, wired.output.as_slice())
 }
 
-/// Writes the wiring and the pages of each chart.
-pub fn write_all<W: Write>(rt: &HostRuntime, out: &mut W) -> Result<()> {
-    out.write_all(b"== reports\n")?;
-    let index = fs::read_to_string(rt, "reports/index")?;
-    write_indexed(rt, out, index.as_str(), true)?;
-    let index = fs::read_to_string(rt, "reports/pages_index")?;
-    write_indexed(rt, out, index.as_str(), false)
+/// Writes what is printed or told of the deck of a chart.
+pub fn write_pages<W: Write>(rt: &HostRuntime, out: &mut W, name: &str) -> Result<()> {
+    let case = Case::read(rt, "reports", name, "chart")?;
+    let wired = wired(rt.alloc(), &case);
+    write_printed(rt.alloc(), out, &case, wired.output.as_slice())
 }

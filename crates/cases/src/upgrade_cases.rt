@@ -4,27 +4,42 @@
 //! place of the text.
 
 use crate::answered::Served;
-use crate::read_case;
+use crate::case_files::read_case;
 use anyhow::Result;
-use std::fs;
+use std::alloc::Global;
 use std::io::Write;
 
-/// Writes each wiring chart in version 2, and its pages twice.
-pub fn write_all<W: Write>(rt: &HostRuntime, out: &mut W) -> Result<()> {
-    let alloc = rt.alloc();
-    out.write_all(b"== upgrades\n")?;
-    let index = fs::read_to_string(rt, "upgrades/index")?;
-    for name in index.as_str().lines() {
-        let wiring = read_case(rt, "upgrades", name, "wiring")?;
-        let upgraded = Served::of(alloc, "upgrade", wiring.as_slice(), b"".as_slice());
-        writeln!(out, "{name}")?;
-        upgraded.write(out)?;
-        if upgraded.status == 0 {
-            let deck = read_case(rt, "upgrades", name, "deck")?;
-            Served::of(alloc, "replay", wiring.as_slice(), deck.as_slice()).write(out)?;
-            let text = upgraded.output.as_slice();
-            Served::of(alloc, "replay", text, deck.as_slice()).write(out)?;
-        }
+// Writes the pages of a panel, as it was wired before and as it is wired then.
+fn write_replays<W: Write>(
+    alloc: Global,
+    out: &mut W,
+    before: &[u8],
+    then: &[u8],
+    deck: &[u8],
+) -> Result<()> {
+    Served::of(alloc, "replay", before, deck).write(out)?;
+    Served::of(alloc, "replay", then, deck).write(out)
+}
+
+// Writes what an upgrade of a wiring chart gives, and its pages twice where it is not refused.
+fn write_upgraded<W: Write>(
+    rt: &HostRuntime,
+    out: &mut W,
+    name: &str,
+    wiring: &[u8],
+) -> Result<()> {
+    let upgraded = Served::of(rt.alloc(), "upgrade", wiring, b"".as_slice());
+    upgraded.write(out)?;
+    if upgraded.status != 0 {
+        return Ok(());
     }
-    Ok(())
+    let deck = read_case(rt, "upgrades", name, "deck")?;
+    let then = upgraded.output.as_slice();
+    write_replays(rt.alloc(), out, wiring, then, deck.as_slice())
+}
+
+/// Writes a wiring chart in version 2, and its pages twice.
+pub fn write_upgrade<W: Write>(rt: &HostRuntime, out: &mut W, name: &str) -> Result<()> {
+    let wiring = read_case(rt, "upgrades", name, "wiring")?;
+    write_upgraded(rt, out, name, wiring.as_slice())
 }

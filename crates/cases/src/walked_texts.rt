@@ -1,13 +1,47 @@
 //! Looking things up in texts.
 
-/// Whether a text has a line.
-pub fn has_line(text: &str, wanted: &str) -> bool {
+/// Whether a wiring chart or a legend has a wire.
+pub fn has_wire(text: &str, from: &str, to: &str) -> bool {
     for line in text.lines() {
-        if line == wanted {
+        if is_wire(line, from, to) {
             return true;
         }
     }
     false
+}
+
+// Whether a line is that of a wire.
+fn is_wire(line: &str, from: &str, to: &str) -> bool {
+    match line.strip_prefix("WIRE ") {
+        Some(wire) => are_ends(wire, from, to),
+        None => false,
+    }
+}
+
+// Whether hubs with a blank between them are those of a wire.
+fn are_ends(wire: &str, from: &str, to: &str) -> bool {
+    match wire.split_once(' ') {
+        Some((exit, entry)) => exit == from && entry == to,
+        None => false,
+    }
+}
+
+/// Whether a wiring chart has a jack of a wheel.
+pub fn has_jack(text: &str, jack: &str, wheel: u8) -> bool {
+    for line in text.lines() {
+        if is_jack(line, jack, wheel) {
+            return true;
+        }
+    }
+    false
+}
+
+// Whether a line is that of a jack of a wheel.
+fn is_jack(line: &str, jack: &str, wheel: u8) -> bool {
+    match line.strip_prefix(jack) {
+        Some(number) => number_of(number) == u32::from(wheel),
+        None => false,
+    }
 }
 
 /// The line of a text with a number, counted from 1; an empty one where there is none.
@@ -49,12 +83,18 @@ pub fn number_of(digits: &str) -> u32 {
 pub fn rows_in(code: &str, character: u8) -> &str {
     for line in code.lines() {
         if character_at(line, 1) == character {
-            if let Some((_, rows)) = line.split_once(' ') {
-                return rows;
-            }
+            return behind_blank(line);
         }
     }
     ""
+}
+
+// What stands behind the first blank of a line.
+fn behind_blank(line: &str) -> &str {
+    match line.split_once(' ') {
+        Some((_, rest)) => rest,
+        None => "",
+    }
 }
 
 /// Whether a list of words, a blank between each two, has a word.
@@ -67,18 +107,40 @@ pub fn has_word(words: &str, wanted: &str) -> bool {
     false
 }
 
-/// Whether a legend has a wire under the line of the chart with a number.
-pub fn is_asked(legend: &str, number: &str, wire: &str) -> bool {
-    let mut inside = false;
-    for line in legend.lines() {
-        if let Some(after) = line.strip_prefix("line ") {
-            inside = match after.split_once(':') {
-                Some((found, _)) => found == number,
-                None => false,
-            };
-        } else if inside && line == wire {
+/// The word with a number in a list of words, counted from 1; an empty one where there is none.
+pub fn word_numbered(words: &str, number: u32) -> &str {
+    let mut count = 0u32;
+    for word in words.split(' ') {
+        count = count.saturating_add(1);
+        if count == number {
+            return word;
+        }
+    }
+    ""
+}
+
+/// Whether a legend has a wire under the line of the chart with a number. An empty line ends what is told of each line.
+pub fn is_asked(legend: &str, number: &str, from: &str, to: &str) -> bool {
+    for told in legend.split("\n\n") {
+        if is_told_of(told, number) && has_wire(told, from, to) {
             return true;
         }
     }
     false
+}
+
+// Whether something is told of the line with a number.
+fn is_told_of(told: &str, number: &str) -> bool {
+    match told.strip_prefix("line ") {
+        Some(line) => begins_with(line, number),
+        None => false,
+    }
+}
+
+// Whether a number and a colon begin a line.
+fn begins_with(line: &str, number: &str) -> bool {
+    match line.split_once(':') {
+        Some((found, _)) => found == number,
+        None => false,
+    }
 }

@@ -3,14 +3,22 @@
 //! The file `index` names the charts, one a line. After their answers stands how many of the texts that `by_hand.wiring` begins with
 //! have each of them.
 
-use crate::read_case;
+use crate::answered::{write_fault, write_good};
+use crate::case_files::read_case;
 use anyhow::Result;
-use commands::{Fault, write_line};
+use commands::Fault;
 use setups::Setup;
 use std::alloc::Global;
 use std::fs;
 use std::io::Write;
 use wire_chart::{WiringFault, read_setup, write_setup};
+
+// Writes a setup as a wiring chart.
+fn write_again<W: Write>(alloc: Global, out: &mut W, setup: &Setup) -> Result<()> {
+    let text = write_setup(alloc, setup)?;
+    out.write_all(text.as_bytes())?;
+    Ok(())
+}
 
 fn write_answer<W: Write>(
     alloc: Global,
@@ -20,15 +28,22 @@ fn write_answer<W: Write>(
 ) -> Result<()> {
     match read {
         Ok(setup) => {
-            writeln!(out, "{name} ok")?;
-            out.write_all(write_setup(alloc, &setup)?.as_bytes())?;
+            write_good(out, name)?;
+            write_again(alloc, out, &setup)
         }
-        Err(fault) => {
-            write!(out, "{name} ")?;
-            write_line(&Fault::from(fault), out)?;
-        }
+        Err(fault) => write_fault(out, name, &Fault::from(fault)),
     }
-    Ok(())
+}
+
+/// Writes the answer to a wiring chart.
+pub fn write_wiring<W: Write>(rt: &HostRuntime, out: &mut W, name: &str) -> Result<()> {
+    let text = read_case(rt, "wirings", name, "wiring")?;
+    write_answer(
+        rt.alloc(),
+        out,
+        name,
+        read_setup(rt.alloc(), text.as_slice()),
+    )
 }
 
 // How many texts have each answer.
@@ -81,15 +96,8 @@ fn write_counts<W: Write>(out: &mut W, counts: Counts) -> Result<()> {
     Ok(())
 }
 
-/// Writes the answer to each wiring chart, and the counts of one that is cut.
-pub fn write_all<W: Write>(rt: &HostRuntime, out: &mut W) -> Result<()> {
-    let alloc = rt.alloc();
-    out.write_all(b"== wirings\n")?;
-    let index = fs::read_to_string(rt, "wirings/index")?;
-    for name in index.as_str().lines() {
-        let text = read_case(rt, "wirings", name, "wiring")?;
-        write_answer(alloc, out, name, read_setup(alloc, text.as_slice()))?;
-    }
+/// Writes the counts of a wiring chart that is cut.
+pub fn write_cuts<W: Write>(rt: &HostRuntime, out: &mut W) -> Result<()> {
     let by_hand = fs::read(rt, "wirings/by_hand.wiring")?;
-    write_counts(out, count_cuts(alloc, by_hand.as_slice()))
+    write_counts(out, count_cuts(rt.alloc(), by_hand.as_slice()))
 }
