@@ -1,6 +1,6 @@
 -- What a text gains, piece by piece.
 use Rattle.std.proofs.Common.{◌≡◌, ◌∙◌, sym, ap, subst, ℕ, ◌+◌, ◌<◌, List, [], ◌∷◌, ◌++◌, Option, Some, None, append_assoc, append-nil, codes, length, slice_index_or, flat_map, take, get_or}
-use Rattle.std.specs.Prelude.{OnOk, Result, Ok, Err, String, Vec}
+use Rattle.std.specs.Prelude.{IfOk, OnOk, Result, Ok, Err, String, Vec}
 use Rattle.std.specs.String.{string_bytes}
 use Rattle.std.specs.declared.alloc.Global.{Global}
 use Rattle.std.proofs.lemmas.List.{take_more, flat_map_more}
@@ -39,7 +39,7 @@ notes_then old mid new first second = record {
 
 pub note_one : (old : List ℕ) (hub : Hub) (words line new : List ℕ)
     → ((place : ℕ) → place < length line → slice_index_or line place 0 ≡ 10 → ⊥) → line ≡ hub_text hub ++ words
-    → new ≡ ((old ++ codes "  ") ++ line) ++ codes "\n" → GainsNotes old new
+    → new ≡ old ++ (codes "  " ++ line ++ codes "\n") → GainsNotes old new
 note_one old hub words line new plain named is = record {
   notes = codes "  " ++ line ++ codes "\n";
   are = more-notes [] _ no-notes (record {
@@ -48,8 +48,7 @@ note_one old hub words line new plain named is = record {
     plain = subst (λ (l : List ℕ). IsPlain l) named plain;
     spelled = ap (λ (l : List ℕ). codes "  " ++ l ++ codes "\n") named;
   });
-  gained =
-      is ∙ append_assoc (old ++ codes "  ") line (codes "\n") ∙ append_assoc old (codes "  ") (line ++ codes "\n");
+  gained = is;
 }
 
 pub row_none : (asked : List (String Global × Wiring)) (place : ℕ) (old : List ℕ) → GainsRow asked place None old old
@@ -115,3 +114,7 @@ text_whole asked told one two three text first second third last = record {
 pub where_ok : {A E : Type 0} (P Q : Type 0) (result : Result A E) → (P → Q) → OnOk result P → OnOk result Q
 where_ok P Q (Ok x) then was = then was
 where_ok P Q (Err e) then was = was
+
+pub if_ok : {A E : Type 0} (P Q : A → Type 0) (result : Result A E) → ((x : A) → P x → Q x) → IfOk result P → IfOk result Q
+if_ok P Q (Ok x) then was = then x was
+if_ok P Q (Err e) then was = was

@@ -4,6 +4,7 @@ ghost use Rattle.std.specs.Prelude.{◌≡◌, ◌++◌, OnOk};
 ghost use Rattle.std.specs.String.{string_bytes};
 ghost use Rattle.explanation_text.specs.Asked.{asked_line, asked_lines, has_wire_of, leads_on};
 
+use crate::lines::write_line;
 use hubs::Hub;
 use setups::Setup;
 use std::alloc::AllocError;
@@ -30,7 +31,6 @@ fn has_wire_of(setup: &Setup, way: &[Hub]) -> bool
     false
 }
 
-#[tactic(auto, using(crate::proofs::Gains::three_pieces))]
 // A line that names one who asks, where it asks for a wire of a way.
 fn write_asked_by(
     text: &mut String,
@@ -43,9 +43,7 @@ fn write_asked_by(
     if !has_wire_of(setup, way) {
         return Ok(());
     }
-    text.push_str("  wires: ")?;
-    text.push_str(words)?;
-    text.push_str("\n")
+    write_line(text, "  wires: ", words)
 }
 
 #[tactic(auto, using(crate::proofs::Gains::asked_more))]

@@ -10,6 +10,16 @@ use hubs::Hub;
 use net::Cycle;
 use std::alloc::AllocError;
 
+#[tactic(auto, using(crate::proofs::Gains::three_pieces))]
+// A line of words behind its front.
+pub(crate) fn write_line(text: &mut String, front: &str, words: &str) -> Result<(), AllocError>
+    ensures { OnOk result (string_bytes text.new ≡ string_bytes text.old ++ (front.now ++ words.now ++ codes "\n")) }
+{
+    text.push_str(front)?;
+    text.push_str(words)?;
+    text.push_str("\n")
+}
+
 // A character, a word for the blank.
 fn write_character(text: &mut String, character: u8) -> Result<(), AllocError>
     ensures { OnOk result (string_bytes text.new ≡ string_bytes text.old ++ character_text character) }

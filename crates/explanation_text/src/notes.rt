@@ -5,6 +5,7 @@ ghost use Rattle.std.specs.String.{string_bytes};
 ghost use Rattle.explanation_text.specs.Text.{IsPlain};
 ghost use Rattle.explanation_text.specs.Writing.{GainsNotes};
 
+use crate::lines::write_line;
 use crate::names::{is_contact_exit, row_at};
 use explanations::FoundLine;
 use hubs::{Group, Hub, write_hub};
@@ -41,9 +42,7 @@ fn write_note(alloc: Global, text: &mut String, note: &Note) -> Result<(), Alloc
     if !is_plain(line.as_bytes()) {
         return Ok(());
     }
-    text.push_str("  ")?;
-    text.push_str(&line)?;
-    text.push_str("\n")
+    write_line(text, "  ", &line)
 }
 
 #[tactic(auto, using(crate::proofs::Gains::notes_none, crate::proofs::Gains::notes_then))]
@@ -60,16 +59,47 @@ pub(crate) fn write_notes(
     ensures { OnOk result (GainsNotes (string_bytes text.old) (string_bytes text.new)) }
 {
     for step in 0..way.len() {
-        let note = if step == 0 {
-            Some(exit_note(alloc, found, place, way[0])?)
-        } else {
-            contact_note(alloc, way[step - 1], way[step])?
-        };
-        if let Some(note) = note {
-            write_note(alloc, text, &note)?;
-        }
+        write_step(alloc, text, found, place, way, step)?;
     }
     Ok(())
+}
+
+#[tactic(auto, using(crate::proofs::Gains::notes_none))]
+// The note of a hub of a way, where it has one.
+fn write_step(
+    alloc: Global,
+    text: &mut String,
+    found: &FoundLine,
+    place: usize,
+    way: &[Hub],
+    step: usize,
+) -> Result<(), AllocError>
+    requires place { place < 12 }
+    requires step { step < length way.now }
+    ensures { OnOk result (GainsNotes (string_bytes text.old) (string_bytes text.new)) }
+{
+    match note_of_step(alloc, found, place, way, step)? {
+        Some(note) => write_note(alloc, text, &note),
+        None => Ok(()),
+    }
+}
+
+// What is told of a hub of a way: what the exit stands for, or why the contact between the hub before and this one was closed.
+fn note_of_step(
+    alloc: Global,
+    found: &FoundLine,
+    place: usize,
+    way: &[Hub],
+    step: usize,
+) -> Result<Option<Note>, AllocError>
+    requires place { place < 12 }
+    requires step { step < length way.now }
+{
+    if step == 0 {
+        exit_note(alloc, found, place, way[0]).map(Some)
+    } else {
+        contact_note(alloc, way[step - 1], way[step])
+    }
 }
 
 // What an exit that emitted at a row stands for.

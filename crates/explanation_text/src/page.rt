@@ -7,7 +7,7 @@ ghost use Rattle.explanations.specs.PlacedInRun.{PrintsNoneAt};
 ghost use Rattle.explanations.specs.declared.refusal.Refusal.TheVariants.{NoSuchLine, NoSuchWheel};
 ghost use Rattle.explanation_text.specs.Told.{Explains};
 
-use crate::text::wheel_text;
+use crate::text::told_text;
 use explanations::{PageWays, Refusal};
 use setups::Setup;
 use std::alloc::Global;
@@ -39,6 +39,5 @@ pub fn page_wheel_text(
     let Some(ways) = page.line(line) else {
         return Err(Refusal::NoSuchLine);
     };
-    let told = ways.wheel(alloc, setup, wheel)?;
-    Ok(wheel_text(alloc, setup, asked, ways, &told)?)
+    Ok(told_text(alloc, setup, asked, ways, wheel)?)
 }

@@ -3,7 +3,8 @@
 ghost use Rattle.std.specs.Prelude.{◌≡◌, ◌≤◌, ◌<◌, ◌⊎◌, ℕ, List, Err, IfOk, OnOk, length, slice_index_or, None};
 ghost use Rattle.std.specs.String.{string_bytes};
 ghost use Rattle.card_code.specs.MostCards.{most_cards};
-ghost use Rattle.explanations.specs.PlacedInRun.{PrintsNoneAt};
+ghost use Rattle.explanations.specs.Pages.{HasWays};
+ghost use Rattle.explanations.specs.PlacedInRun.{IsFound, PrintsNoneAt};
 ghost use Rattle.explanations.specs.declared.refusal.Refusal.TheVariants.{NoSuchLine, NoSuchWheel};
 ghost use Rattle.explanation_text.specs.Text.{IsTextOf};
 ghost use Rattle.explanation_text.specs.Told.{Explains};
@@ -46,8 +47,25 @@ pub fn explain_text(
         return Err(Refusal::NoSuchLine);
     };
     let ways = LineWays::of(alloc, setup, found)?;
-    let told = ways.wheel(alloc, setup, wheel)?;
-    Ok(wheel_text(alloc, setup, asked, &ways, &told)?)
+    Ok(told_text(alloc, setup, asked, &ways, wheel)?)
+}
+
+// The text of what is told of a wheel, 1 to 120, of a line that was found on this setup.
+pub(crate) fn told_text(
+    alloc: Global,
+    setup: &Setup,
+    asked: &[(String, Setup)],
+    line: &LineWays,
+    wheel: u8,
+) -> Result<String, AllocError>
+    requires found { (deck : List (List ℕ)) × IsFound setup.now deck line.now.found }
+    requires ways { HasWays setup.now line.now }
+    requires wheel { (1 ≤ wheel) × (wheel ≤ 120) }
+    ensures { (deck : List (List ℕ)) → IsFound setup.now deck line.now.found → IfOk result (λ text.
+        Explains setup.now asked.now deck line.now.found.kept.line.page line.now.found.kept.line.line wheel (string_bytes text)) }
+{
+    let told = line.wheel(alloc, setup, wheel)?;
+    wheel_text(alloc, setup, asked, line, &told)
 }
 
 #[tactic(auto, using(crate::proofs::Gains::text_whole))]

@@ -5,6 +5,7 @@ ghost use Rattle.explanation_text.specs.Text.{row_at};
 ghost use Rattle.std.specs.String.{string_bytes};
 ghost use Rattle.explanation_text.specs.Writing.{GainsCharacter, GainsClosing, GainsControl};
 
+use crate::lines::write_line;
 use crate::names::row_at;
 use crate::notes::{is_plain, write_of_number};
 use card_code::{Column, ROWS};
@@ -65,9 +66,7 @@ fn write_row_is(text: &mut String, place: usize, words: &str) -> Result<(), Allo
         return Ok(());
     }
     write_row(text, place)?;
-    text.push_str(" is ")?;
-    text.push_str(words)?;
-    text.push_str("\n")
+    write_line(text, " is ", words)
 }
 
 #[tactic(auto, using(crate::proofs::Closing::character_none, crate::proofs::Closing::character_many))]
@@ -78,9 +77,7 @@ fn write_rows_are(text: &mut String, words: &str) -> Result<(), AllocError>
     if !is_plain(words.as_bytes()) {
         return Ok(());
     }
-    text.push_str("rows ")?;
-    text.push_str(words)?;
-    text.push_str("\n")
+    write_line(text, "rows ", words)
 }
 
 // The row at a place.
@@ -203,9 +200,7 @@ fn write_control(text: &mut String, words: &str) -> Result<(), AllocError>
     if !is_plain(words.as_bytes()) {
         return Ok(());
     }
-    text.push_str("zero control: ")?;
-    text.push_str(words)?;
-    text.push_str("\n")
+    write_line(text, "zero control: ", words)
 }
 
 // Whether a SYMBOL wheel, or a SUPPRESS wheel, prints what it received, and why.

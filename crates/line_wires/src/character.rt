@@ -33,9 +33,10 @@ fn wire_row(setup: &mut Setup, emitter: u8, entry: Hub, set: u16, row: u8) -> Re
     ensures { OnOk result (Adds (RowWire emitter entry set row) setup.old setup.new) }
 {
     if has_row(set, row) {
-        connect(setup, Hub::EM(emitter, row), entry)?;
+        connect(setup, Hub::EM(emitter, row), entry)
+    } else {
+        Ok(())
     }
-    Ok(())
 }
 
 // Wires the rows of a set from an emitter to an entry.
@@ -64,10 +65,10 @@ pub fn wire_character(
     requires ring { carry_into entry ≡ None }
     ensures { OnOk result (Adds (CharacterWires emitter entry character) setup.old setup.new) }
 {
-    if let Some(column) = Column::of_char(character as char) {
-        wire_rows(setup, emitter, entry, column.rows())?;
+    match Column::of_char(character as char) {
+        Some(column) => wire_rows(setup, emitter, entry, column.rows()),
+        None => Ok(()),
     }
-    Ok(())
 }
 
 /// Wires the characters of a literal from an emitter to as many wheels.
@@ -104,7 +105,8 @@ pub fn wire_point(
 {
     if decimals > 0 {
         let entry = Hub::W((wheel + digits - decimals) as u8);
-        wire_character(setup, emitter, entry, b'.')?;
+        wire_character(setup, emitter, entry, b'.')
+    } else {
+        Ok(())
     }
-    Ok(())
 }

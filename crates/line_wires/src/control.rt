@@ -23,13 +23,13 @@ fn wire_compared(
     requires { (1 ≤ at.column) × (at.column ≤ 80) }
     ensures { OnOk result (Adds (ComparedColumn plan.now level at.line at.column) setup.old setup.new) }
 {
-    if let Some(position) = plan.comparing_position(at) {
-        let column = at.column as u8;
-        connect(setup, Hub::FR(column), Hub::CA(position))?;
-        connect(setup, Hub::SR(column), Hub::CB(position))?;
-        connect(setup, Hub::CX(position), Hub::ST(level.number()))?;
-    }
-    Ok(())
+    let Some(position) = plan.comparing_position(at) else {
+        return Ok(());
+    };
+    let column = at.column as u8;
+    connect(setup, Hub::FR(column), Hub::CA(position))?;
+    connect(setup, Hub::SR(column), Hub::CB(position))?;
+    connect(setup, Hub::CX(position), Hub::ST(level.number()))
 }
 
 /// Wires the columns of a control field of a line of the chart.

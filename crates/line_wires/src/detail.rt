@@ -40,12 +40,12 @@ fn wire_indicated_column(
     requires wheel { (1 ≤ wheel) × (wheel ≤ 120) }
     ensures { OnOk result (Adds (IndicatedColumn plan.now level at.line at.column wheel) setup.old setup.new) }
 {
-    if let Some(position) = plan.indicate_position(level, at) {
-        let number = level.number();
-        connect(setup, Hub::SR(at.column as u8), Hub::IE(number, position))?;
-        connect(setup, Hub::IX(number, position), Hub::W(wheel))?;
-    }
-    Ok(())
+    let Some(position) = plan.indicate_position(level, at) else {
+        return Ok(());
+    };
+    let number = level.number();
+    connect(setup, Hub::SR(at.column as u8), Hub::IE(number, position))?;
+    connect(setup, Hub::IX(number, position), Hub::W(wheel))
 }
 
 /// Wires an indicated text of a line of the chart.
@@ -105,14 +105,13 @@ fn wire_digit(
 {
     let (exit, entry) = (Hub::SR(column as u8), Hub::W(wheel));
     if sign != Some(column) {
-        connect(setup, exit, entry)?;
+        return connect(setup, exit, entry);
+    }
+    let Some(split) = plan.split_on(line) else {
         return Ok(());
-    }
-    if let Some(split) = plan.split_on(line) {
-        connect(setup, exit, Hub::CSE(split))?;
-        connect(setup, Hub::CSD(split), entry)?;
-    }
-    Ok(())
+    };
+    connect(setup, exit, Hub::CSE(split))?;
+    connect(setup, Hub::CSD(split), entry)
 }
 
 /// Wires the columns of an amount to the wheels of its digits.

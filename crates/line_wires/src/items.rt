@@ -71,14 +71,16 @@ fn wire_detail_marks(
     requires { HasWheelsForMark wheel mark }
     ensures { OnOk result (Adds (DetailMarks plan.now name wheel rule mark) setup.old setup.new) }
 {
-    if let Some(mark) = mark {
-        if let Some(rule) = rule {
-            if let Some(pilot) = plan.pilot_of(name) {
-                wire_detail_mark(setup, rule, pilot, wheel, mark)?;
-            }
-        }
+    let Some(mark) = mark else {
+        return Ok(());
+    };
+    let Some(rule) = rule else {
+        return Ok(());
+    };
+    match plan.pilot_of(name) {
+        Some(pilot) => wire_detail_mark(setup, rule, pilot, wheel, mark),
+        None => Ok(()),
     }
-    Ok(())
 }
 
 // Wires an amount on the line of a card.
@@ -101,8 +103,7 @@ fn wire_detail_amount(
     let after = mark_wheel(wheel, digits, decimals);
     wire_digits(setup, plan, line, wheel, field)?;
     wire_point(setup, 4, wheel, digits, decimals)?;
-    wire_detail_marks(setup, plan, name, after, rule, mark)?;
-    Ok(())
+    wire_detail_marks(setup, plan, name, after, rule, mark)
 }
 
 /// Wires a field on the line of a card.

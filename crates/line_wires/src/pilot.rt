@@ -73,12 +73,13 @@ pub fn wire_pickup(setup: &mut Setup, plan: &Plan, field: Field) -> Result<(), A
     requires { IfSome (sign_column field.kind) (λ column. (1 ≤ column) × (column ≤ 80)) }
     ensures { OnOk result (Adds (PickupWires plan.now field) setup.old setup.new) }
 {
-    if let Some(column) = field.kind.sign_column() {
-        if let Some(pilot) = plan.pilot_of(field.name) {
-            connect(setup, Hub::FR(column as u8), Hub::PIX(pilot))?;
-        }
+    let Some(column) = field.kind.sign_column() else {
+        return Ok(());
+    };
+    match plan.pilot_of(field.name) {
+        Some(pilot) => connect(setup, Hub::FR(column as u8), Hub::PIX(pilot)),
+        None => Ok(()),
     }
-    Ok(())
 }
 
 /// Wires the mark of an amount on the line of a card, through the positions 2 and 3 of its pilot.

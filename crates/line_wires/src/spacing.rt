@@ -44,9 +44,10 @@ pub fn wire_space(setup: &mut Setup, line: BodyLine, spacing: Spacing) -> Result
 {
     let lines = spacing.number();
     if lines > 1 {
-        connect(setup, source_of(line), Hub::SP(lines))?;
+        connect(setup, source_of(line), Hub::SP(lines))
+    } else {
+        Ok(())
     }
-    Ok(())
 }
 
 /// Wires what follows a kind of line.
@@ -54,6 +55,5 @@ pub fn wire_after(setup: &mut Setup, line: BodyLine, action: After) -> Result<()
     requires { HasChannel action }
     ensures { OnOk result (Adds (AfterWires line action) setup.old setup.new) }
 {
-    connect(setup, source_of(line), entry_of_action(action))?;
-    Ok(())
+    connect(setup, source_of(line), entry_of_action(action))
 }

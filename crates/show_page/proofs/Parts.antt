@@ -1,5 +1,5 @@
 -- The parts of the page.
-use Rattle.std.proofs.Common.{◌≡◌, ◌∙◌, sym, ap, Bool, true, false, ℕ, ◌+◌, ◌<◌, List, [], ◌∷◌, ◌++◌, length, take, get_or}
+use Rattle.std.proofs.Common.{◌≡◌, ◌∙◌, sym, ap, subst, Bool, true, false, ℕ, ◌+◌, ◌<◌, List, [], ◌∷◌, ◌++◌, length, take, get_or}
 use Rattle.std.specs.Prelude.{All, String, if◌then◌else◌, map, nat_le}
 use Rattle.std.specs.declared.alloc.Global.{Global}
 use Rattle.std.proofs.lemmas.List.{map-append, take_more}
@@ -7,7 +7,6 @@ use Rattle.std.proofs.lemmas.List.Elements.{All-cons, All-head, All-nil, All-tai
 use Rattle.explanations.specs.PlacedInRun.{PrintsLine}
 use Rattle.hubs.specs.declared.hub.Hub.{Hub}
 use Rattle.machine.specs.Runs.{MachineLines}
-use Rattle.markup.proofs.Pieces.{and_more}
 use Rattle.placed_lines.specs.declared.placed_line.PlacedLine.{PlacedLine}
 use Rattle.setups.specs.Wiring.{Wiring}
 use Rattle.wheel_sections.specs.Sections.{told_sections}
@@ -19,6 +18,7 @@ use Rattle.panel_drawing.specs.declared.drawing.PanelWire.{PanelWire}
 use Rattle.traces.specs.Traces.{IsTrace}
 use Rattle.show_page.specs.Cycles.{shown_cycles}
 use Rattle.show_page.specs.Frame.{document_close, why_open}
+use Rattle.show_page.specs.Helper.{GainsBody}
 use Rattle.show_page.specs.Page.{IsPage, front, front_text, page_text, shown, unasked}
 
 -- the lines of a run are printed, and so are those of them that are shown
@@ -54,37 +54,45 @@ unasked_item pairs place d old new wire less before is pushed =
     ∙ sym (map-append unasked (take place pairs) (get_or pairs place d ∷ []))
     ∙ ap (λ (l : List (Hub × Hub)). map unasked l) (sym (take_more pairs place d less))
 
+-- the pieces behind the front
+pub body_whole : (cards : ℕ) (wires : List PanelWire) (told : List ToldWheel) (trace legend old one two three four five six new : List ℕ)
+    → GainsDrawing wires old one → two ≡ one ++ legend → three ≡ two ++ why_open → four ≡ three ++ told_sections told
+    → GainsWireSections wires told four five → six ≡ five ++ shown_cycles cards trace → new ≡ six ++ document_close
+    → GainsBody cards trace wires legend told old new
+body_whole cards wires told trace legend old one two three four five six new h1 h2 h3 h4 h5 h6 h7 = record {
+  drawing = h1.drawing;
+  drawn = h1.is;
+  ways = h5.text;
+  are_ways = h5.are;
+  gained =
+      h7 ∙ ap (λ (l : List ℕ). l ++ document_close)
+      (h6 ∙ ap (λ (l : List ℕ). l ++ shown_cycles cards trace)
+      (h5.gained ∙ ap (λ (l : List ℕ). l ++ h5.text)
+      (h4 ∙ ap (λ (l : List ℕ). l ++ told_sections told)
+      (h3 ∙ ap (λ (l : List ℕ). l ++ why_open) (h2 ∙ ap (λ (l : List ℕ). l ++ legend) h1.gained)))));
+}
+
 -- the pieces of the page
 pub page_whole : (wiring : Wiring) (asked : List (String Global × Wiring)) (deck : List (List ℕ)) (lines : List PlacedLine)
-    (wires : List PanelWire) (told : List ToldWheel) (trace legend none one two three four five six seven new : List ℕ)
-    → MachineLines wiring deck lines → IsTrace wiring deck trace
-    → AreTold wiring asked deck (printed_places (shown (length deck) lines)) told → none ≡ []
+    (wires : List PanelWire) (told : List ToldWheel) (trace legend none one new : List ℕ) → MachineLines wiring deck lines
+    → IsTrace wiring deck trace → AreTold wiring asked deck (printed_places (shown (length deck) lines)) told → none ≡ []
     → one ≡ none ++ front_text (length deck) trace (shown (length deck) lines) wiring.tape.lines
-    → GainsDrawing wires one two → three ≡ two ++ legend → four ≡ three ++ why_open → five ≡ four ++ told_sections told
-    → GainsWireSections wires told five six → seven ≡ six ++ shown_cycles (length deck) trace → new ≡ seven ++ document_close
-    → IsPage wiring asked deck wires legend new
+    → GainsBody (length deck) trace wires legend told one new → IsPage wiring asked deck wires legend new
 unfolding page_text
-page_whole wiring asked deck lines wires told trace legend none one two three four five six seven new run traced are empty h1 h2 h3 h4 h5 h6 h7 h8 =
-    let first = front_text (length deck) trace (shown (length deck) lines) wiring.tape.lines in
-    let cycles = shown_cycles (length deck) trace in
-    let begun : one ≡ [] ++ first = h1 ∙ ap (λ (l : List ℕ). l ++ first) empty in
-    record {
-      lines = lines;
-      run = run;
-      told = told;
-      are_told = are;
-      drawing = h2.drawing;
-      drawn = h2.is;
-      ways = h6.text;
-      are_ways = h6.are;
-      trace = trace;
-      traced = traced;
-      spelled =
-          and_more [] seven new (first ++ h2.drawing ++ legend ++ why_open ++ told_sections told ++ h6.text ++ cycles) document_close
-          (and_more [] six seven (first ++ h2.drawing ++ legend ++ why_open ++ told_sections told ++ h6.text) cycles
-          (and_more [] five six (first ++ h2.drawing ++ legend ++ why_open ++ told_sections told) h6.text
-          (and_more [] four five (first ++ h2.drawing ++ legend ++ why_open) (told_sections told)
-          (and_more [] three four (first ++ h2.drawing ++ legend) why_open
-          (and_more [] two three (first ++ h2.drawing) legend
-          (and_more [] one two first h2.drawing begun h2.gained) h3) h4) h5) h6.gained) h7) h8;
-    }
+page_whole wiring asked deck lines wires told trace legend none one new run traced are empty first body = record {
+  lines = lines;
+  run = run;
+  told = told;
+  are_told = are;
+  drawing = body.drawing;
+  drawn = body.drawn;
+  ways = body.ways;
+  are_ways = body.are_ways;
+  trace = trace;
+  traced = traced;
+  spelled =
+      let front = front_text (length deck) trace (shown (length deck) lines) wiring.tape.lines in
+      let cycles = shown_cycles (length deck) trace in
+      subst (λ (l : List ℕ). new ≡ l ++ body.drawing ++ legend ++ why_open ++ told_sections told ++ body.ways ++ cycles ++ document_close)
+      (first ∙ ap (λ (l : List ℕ). l ++ front) empty) body.gained;
+}

@@ -1,3 +1,4 @@
 pub mod Cycles
 pub mod Frame
+pub mod Helper
 pub mod Page

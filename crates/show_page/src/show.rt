@@ -5,6 +5,7 @@ ghost use Rattle.std.specs.String.{string_bytes};
 ghost use Rattle.card_code.specs.MostCards.{most_cards};
 ghost use Rattle.panel_drawing.specs.Wires.{AreWiresOf};
 ghost use Rattle.plans.specs.Plans.{IsFor};
+ghost use Rattle.show_page.specs.Helper.{GainsBody};
 ghost use Rattle.show_page.specs.Page.{IsPage, ShowsChart, ShowsPanel, unasked, wiring_text};
 
 use crate::cycles::{traced, write_shown_cycles};
@@ -23,9 +24,31 @@ use panel_drawing::{PanelWire, panel_wires, write_drawing};
 use plans::Plan;
 use setups::Setup;
 use std::alloc::{AllocError, Global};
-use wheel_sections::{told_wheels, write_told_sections};
+use wheel_sections::{ToldWheel, told_wheels, write_told_sections};
 use wire_sections::write_wire_sections;
 use wiring_text::Version;
+
+// The page behind its front, of a deck of so many cards: the drawing of these wires, this legend, what is told of these wheels and of the
+// wires, and the cycles of the trace.
+fn write_body(
+    alloc: Global,
+    text: &mut String,
+    cards: usize,
+    trace: &[u8],
+    wires: &[PanelWire],
+    legend: &str,
+    told: &[ToldWheel],
+) -> Result<(), AllocError>
+    ensures { OnOk result (GainsBody cards trace.now wires.now legend.now told.now (string_bytes text.old) (string_bytes text.new)) }
+{
+    write_drawing(text, wires)?;
+    text.push_str(legend)?;
+    write_why_open(text)?;
+    write_told_sections(text, told)?;
+    write_wire_sections(alloc, text, wires, told)?;
+    write_shown_cycles(alloc, text, cards, trace)?;
+    write_document_close(text)
+}
 
 // The page of a setup and a deck, with those who ask for wires, these wires and this legend.
 fn page(
@@ -46,13 +69,7 @@ fn page(
     let told = told_wheels(alloc, setup, asked, cards, lines)?;
     let mut text = String::new(alloc);
     write_front(&mut text, cards.len(), &trace, lines, form_lines)?;
-    write_drawing(&mut text, wires)?;
-    text.push_str(legend)?;
-    write_why_open(&mut text)?;
-    write_told_sections(&mut text, &told)?;
-    write_wire_sections(alloc, &mut text, wires, &told)?;
-    write_shown_cycles(alloc, &mut text, cards.len(), &trace)?;
-    write_document_close(&mut text)?;
+    write_body(alloc, &mut text, cards.len(), &trace, wires, legend, &told)?;
     Ok(text)
 }
 
@@ -93,7 +110,6 @@ fn unasked(pair: (Hub, Hub)) -> PanelWire
     }
 }
 
-#[tactic(auto, using(crate::proofs::Parts::unasked_item))]
 // The wires of a panel, none of which a line of a chart asks for.
 fn unasked_wires(alloc: Global, pairs: &[(Hub, Hub)]) -> Result<Vec<PanelWire>, AllocError>
     ensures { IfOk result (λ wires. wires.items ≡ map unasked pairs.now) }

@@ -40,9 +40,10 @@ fn wire_lowest(
         setup.old setup.new) }
 {
     if is_lowest(chart, name, level) {
-        wire_entry(setup, plan, name, field, counter)?;
+        wire_entry(setup, plan, name, field, counter)
+    } else {
+        Ok(())
     }
-    Ok(())
 }
 
 // Wires what only a signed total has, where the amount has a sign rule.
@@ -58,10 +59,10 @@ fn wire_sign(
     requires wheels { HasWheelsForMark wheel mark }
     ensures { OnOk result (Adds (OfSome rule (λ its_rule. SignedTotal level wheel mark counter)) setup.old setup.new) }
 {
-    if let Some(_) = rule {
-        wire_signed_total(setup, level, wheel, mark, counter)?;
+    match rule {
+        Some(_) => wire_signed_total(setup, level, wheel, mark, counter),
+        None => Ok(()),
     }
-    Ok(())
 }
 
 /// Wires a total: its counter has one group, or two that carry through both.
@@ -93,6 +94,5 @@ pub fn wire_total(
     wire_point(setup, 4 + level.number(), wheel, digits, decimals)?;
     wire_sign(setup, level, after, mark, counter, rule)?;
     wire_transfer(setup, chart, plan, name, level, digits, counter, rule)?;
-    wire_carry_up(setup, counter)?;
-    Ok(())
+    wire_carry_up(setup, counter)
 }

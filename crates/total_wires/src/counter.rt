@@ -103,14 +103,13 @@ pub(crate) fn wire_controls(
 {
     match counter {
         TotalCounter::Single { group } => {
-            wire_group_control(setup, exit, control, panel_group(group))?;
+            wire_group_control(setup, exit, control, panel_group(group))
         }
         TotalCounter::Coupled { lower, upper } => {
             wire_group_control(setup, exit, control, panel_group(lower))?;
-            wire_group_control(setup, exit, control, panel_group(upper))?;
+            wire_group_control(setup, exit, control, panel_group(upper))
         }
     }
-    Ok(())
 }
 
 /// Wires the carry of a counter of two groups from the lower one to the upper one.
@@ -118,11 +117,13 @@ pub(crate) fn wire_carry_up(setup: &mut Setup, counter: TotalCounter) -> Result<
     requires { IsCounterOnPanel counter }
     ensures { OnOk result (Adds (CarryUpWires counter) setup.old setup.new) }
 {
-    if let TotalCounter::Coupled { lower, upper } = counter {
-        let (lower, upper) = (panel_group(lower), panel_group(upper));
-        connect(setup, Hub::CO(lower), Hub::CI(upper))?;
+    match counter {
+        TotalCounter::Single { .. } => Ok(()),
+        TotalCounter::Coupled { lower, upper } => {
+            let (lower, upper) = (panel_group(lower), panel_group(upper));
+            connect(setup, Hub::CO(lower), Hub::CI(upper))
+        }
     }
-    Ok(())
 }
 
 /// Wires the carry of a counter round from its highest position to its lowest.
@@ -133,12 +134,11 @@ pub(crate) fn wire_ring(setup: &mut Setup, counter: TotalCounter) -> Result<(), 
     match counter {
         TotalCounter::Single { group } => {
             let group = panel_group(group);
-            connect(setup, Hub::CO(group), Hub::CI(group))?;
+            connect(setup, Hub::CO(group), Hub::CI(group))
         }
         TotalCounter::Coupled { lower, upper } => {
             let (lower, upper) = (panel_group(lower), panel_group(upper));
-            connect(setup, Hub::CO(upper), Hub::CI(lower))?;
+            connect(setup, Hub::CO(upper), Hub::CI(lower))
         }
     }
-    Ok(())
 }

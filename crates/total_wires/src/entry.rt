@@ -34,13 +34,13 @@ fn wire_signed_entry(
     requires { IsCounterOnPanel counter }
     ensures { OnOk result (Adds (SignedEntry plan.now name counter rule) setup.old setup.new) }
 {
-    if let Some(pilot) = plan.pilot_of(name) {
-        let (plus, minus) = (positive_side(rule, pilot, 1), negative_side(rule, pilot, 1));
-        connect(setup, Hub::CC, Hub::PIC(pilot, 1))?;
-        wire_controls(setup, plus, Control::Plus, counter)?;
-        wire_controls(setup, minus, Control::Minus, counter)?;
-    }
-    Ok(())
+    let Some(pilot) = plan.pilot_of(name) else {
+        return Ok(());
+    };
+    let (plus, minus) = (positive_side(rule, pilot, 1), negative_side(rule, pilot, 1));
+    connect(setup, Hub::CC, Hub::PIC(pilot, 1))?;
+    wire_controls(setup, plus, Control::Plus, counter)?;
+    wire_controls(setup, minus, Control::Minus, counter)
 }
 
 // Wires the columns of an amount to the positions of a counter.
@@ -95,6 +95,5 @@ pub(crate) fn wire_entry(
 {
     let rule = rule_of(field.kind);
     wire_entry_digits(setup, field, counter)?;
-    wire_entry_sense(setup, plan, name, counter, rule)?;
-    Ok(())
+    wire_entry_sense(setup, plan, name, counter, rule)
 }

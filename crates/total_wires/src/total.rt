@@ -54,8 +54,7 @@ pub(crate) fn wire_read_out(
     ensures { OnOk result (Adds (ReadOutWires level wheel digits decimals counter) setup.old setup.new) }
 {
     wire_controls(setup, Hub::PX(level.number(), 3), Control::ReadOut, counter)?;
-    wire_total_digits(setup, wheel, digits, decimals, counter)?;
-    Ok(())
+    wire_total_digits(setup, wheel, digits, decimals, counter)
 }
 
 // Wires a counter group back into itself, on all its positions.
@@ -76,13 +75,12 @@ fn wire_feedbacks(setup: &mut Setup, counter: TotalCounter) -> Result<(), AllocE
     ensures { OnOk result (Adds (EachGroup counter FeedbackWires) setup.old setup.new) }
 {
     match counter {
-        TotalCounter::Single { group } => wire_feedback(setup, panel_group(group))?,
+        TotalCounter::Single { group } => wire_feedback(setup, panel_group(group)),
         TotalCounter::Coupled { lower, upper } => {
             wire_feedback(setup, panel_group(lower))?;
-            wire_feedback(setup, panel_group(upper))?;
+            wire_feedback(setup, panel_group(upper))
         }
     }
-    Ok(())
 }
 
 // Wires the balance test of a counter, and the minus read-out into itself where the balance is below 0.
@@ -95,8 +93,7 @@ fn wire_balance(setup: &mut Setup, level: Level, counter: TotalCounter) -> Resul
     connect(setup, Hub::PX(program, 1), Hub::BT(top))?;
     connect(setup, Hub::PX(program, 2), Hub::BAC(top, 1))?;
     wire_controls(setup, Hub::BAT(top, 1), Control::ReadOut, counter)?;
-    wire_controls(setup, Hub::BAT(top, 1), Control::Minus, counter)?;
-    Ok(())
+    wire_controls(setup, Hub::BAT(top, 1), Control::Minus, counter)
 }
 
 // Wires the sign conversion of a signed total: its ring, its balance, and each of its groups back into itself.
@@ -106,8 +103,7 @@ fn wire_conversion(setup: &mut Setup, level: Level, counter: TotalCounter) -> Re
 {
     wire_ring(setup, counter)?;
     wire_balance(setup, level, counter)?;
-    wire_feedbacks(setup, counter)?;
-    Ok(())
+    wire_feedbacks(setup, counter)
 }
 
 // Wires the mark of a signed total, through the balance positions 3 and 4.
@@ -148,8 +144,8 @@ pub(crate) fn wire_signed_total(
     ensures { OnOk result (Adds (SignedTotal level wheel mark counter) setup.old setup.new) }
 {
     wire_conversion(setup, level, counter)?;
-    if let Some(mark) = mark {
-        wire_total_mark(setup, level, wheel, mark, top_group(counter))?;
+    match mark {
+        Some(mark) => wire_total_mark(setup, level, wheel, mark, top_group(counter)),
+        None => Ok(()),
     }
-    Ok(())
 }

@@ -45,10 +45,10 @@ pub fn wire_total_text(
     ensures { OnOk result (Adds
         (OfSome (unit_for plan.now line) (λ unit. TotalTextWires level unit wheel field)) setup.old setup.new) }
 {
-    if let Some(unit) = plan.storage_unit(line) {
-        connect(setup, Hub::CC, Hub::SI(unit))?;
-        connect(setup, Hub::PX(level.number(), 3), Hub::SO(unit))?;
-        wire_stored(setup, unit, wheel, field)?;
-    }
-    Ok(())
+    let Some(unit) = plan.storage_unit(line) else {
+        return Ok(());
+    };
+    connect(setup, Hub::CC, Hub::SI(unit))?;
+    connect(setup, Hub::PX(level.number(), 3), Hub::SO(unit))?;
+    wire_stored(setup, unit, wheel, field)
 }

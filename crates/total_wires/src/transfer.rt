@@ -104,8 +104,7 @@ fn wire_signed_transfer(
     let top = top_group(counter);
     connect(setup, Hub::PX(program, 3), Hub::BAC(top, 2))?;
     wire_controls(setup, Hub::BAN(top, 2), Control::Plus, higher)?;
-    wire_controls(setup, Hub::BAT(top, 2), Control::Minus, higher)?;
-    Ok(())
+    wire_controls(setup, Hub::BAT(top, 2), Control::Minus, higher)
 }
 
 // Wires what the higher counter does with the lower one.
@@ -155,6 +154,5 @@ pub(crate) fn wire_transfer(
         unreachable!()
     };
     wire_transfer_digits(setup, digits, counter, higher)?;
-    wire_transfer_sense(setup, level, counter, higher, rule)?;
-    Ok(())
+    wire_transfer_sense(setup, level, counter, higher, rule)
 }

@@ -29,7 +29,6 @@ fn write_pilot(text: &mut Vec<u8>, pilots: &Pilots, pilot: u8) -> io::Result<()>
     Ok(())
 }
 
-#[tactic(auto, using(crate::proofs::Pieces::number_more))]
 // The pilots that stand transferred.
 pub(crate) fn write_pilots(text: &mut Vec<u8>, pilots: &Pilots) -> io::Result<()>
     ensures { OnOk result (text.new.items ≡ text.old.items ++ pilots_told pilots.now) }

@@ -8,6 +8,50 @@ use charts::{ControlLevel, Name};
 use std::alloc::{AllocError, Global};
 use std::marker::Model;
 
+// What the indicate positions serve, by level.
+struct ByLevel {
+    minor: Vec<Position>,
+    intermediate: Vec<Position>,
+    major: Vec<Position>,
+}
+
+// By hand, as for `Parts`.
+impl Drop for ByLevel {
+    fn drop(self) {
+        let ByLevel {
+            minor: _minor,
+            intermediate: _intermediate,
+            major: _major,
+        } = self;
+    }
+}
+
+impl ByLevel {
+    ghost use Rattle.std.specs.Prelude.{◌≡◌, IfOk};
+    ghost use Rattle.charts.specs.declared.level.ControlLevel.TheVariants as control;
+    ghost use Rattle.wanted.specs.Positions.{indicate_of};
+
+    // What they serve for a chart.
+    fn of(alloc: Global, chart: &Chart) -> Result<ByLevel, AllocError>
+        ensures minor { IfOk result (λ served. served.minor.items ≡ indicate_of control.Minor chart.now.lines) }
+        ensures intermediate { IfOk result (λ served. served.intermediate.items ≡ indicate_of control.Intermediate chart.now.lines) }
+        ensures major { IfOk result (λ served. served.major.items ≡ indicate_of control.Major chart.now.lines) }
+    {
+        let minor = positions_of(alloc, chart, ColumnUse::Indicate(ControlLevel::Minor))?;
+        let intermediate = positions_of(
+            alloc,
+            chart,
+            ColumnUse::Indicate(ControlLevel::Intermediate),
+        )?;
+        let major = positions_of(alloc, chart, ColumnUse::Indicate(ControlLevel::Major))?;
+        Ok(ByLevel {
+            minor,
+            intermediate,
+            major,
+        })
+    }
+}
+
 /// What the pilots, comparing positions, storage units, column splits and indicate positions serve, in the order in which a chart
 /// asks for it.
 pub struct Parts {
@@ -18,10 +62,7 @@ pub struct Parts {
     storage: Vec<u16>,
     // The lines of the amounts.
     splits: Vec<u16>,
-    // The indicate positions by level.
-    minor: Vec<Position>,
-    intermediate: Vec<Position>,
-    major: Vec<Position>,
+    indicate: ByLevel,
 }
 
 // By hand, so that a function that drops one calls this, and doesn't drop its parts one by one.
@@ -32,9 +73,7 @@ impl Drop for Parts {
             comparing: _comparing,
             storage: _storage,
             splits: _splits,
-            minor: _minor,
-            intermediate: _intermediate,
-            major: _major,
+            indicate: _indicate,
         } = self;
     }
 }
@@ -49,9 +88,9 @@ impl Model for Parts {
       comparing = parts.comparing.items;
       storage = parts.storage.items;
       splits = parts.splits.items;
-      minor = parts.minor.items;
-      intermediate = parts.intermediate.items;
-      major = parts.major.items;
+      minor = parts.indicate.minor.items;
+      intermediate = parts.indicate.intermediate.items;
+      major = parts.indicate.major.items;
     } };
 }
 
@@ -67,21 +106,13 @@ impl Parts {
         let comparing = positions_of(alloc, chart, ColumnUse::Comparing)?;
         let storage = lines_of_kind(alloc, chart, LineKind::TotalText)?;
         let splits = lines_of_kind(alloc, chart, LineKind::SplitAmount)?;
-        let minor = positions_of(alloc, chart, ColumnUse::Indicate(ControlLevel::Minor))?;
-        let intermediate = positions_of(
-            alloc,
-            chart,
-            ColumnUse::Indicate(ControlLevel::Intermediate),
-        )?;
-        let major = positions_of(alloc, chart, ColumnUse::Indicate(ControlLevel::Major))?;
+        let indicate = ByLevel::of(alloc, chart)?;
         Ok(Parts {
             pilots,
             comparing,
             storage,
             splits,
-            minor,
-            intermediate,
-            major,
+            indicate,
         })
     }
 
@@ -143,9 +174,9 @@ impl Parts {
         ensures { result.now ≡ indicate_at self.now level }
     {
         match level {
-            ControlLevel::Minor => self.minor.as_slice(),
-            ControlLevel::Intermediate => self.intermediate.as_slice(),
-            ControlLevel::Major => self.major.as_slice(),
+            ControlLevel::Minor => self.indicate.minor.as_slice(),
+            ControlLevel::Intermediate => self.indicate.intermediate.as_slice(),
+            ControlLevel::Major => self.indicate.major.as_slice(),
         }
     }
 }

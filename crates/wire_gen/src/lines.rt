@@ -35,10 +35,10 @@ fn wire_control_line(
     ensures { OnOk result (Adds (OfSome (field_named chart.now.lines name)
         (λ field. ComparedWires plan.now level line field)) setup.old setup.new) }
 {
-    if let Some(field) = chart.field(name) {
-        wire_control(setup, plan, level, line, field)?;
+    match chart.field(name) {
+        Some(field) => wire_control(setup, plan, level, line, field),
+        None => Ok(()),
     }
-    Ok(())
 }
 
 // Wires a field on the line of a card.
@@ -55,10 +55,10 @@ fn wire_detail_line(
     ensures { OnOk result (Adds (OfSome (field_named chart.now.lines name)
         (λ field. DetailWires plan.now line wheel name field shown field.kind)) setup.old setup.new) }
 {
-    if let Some(field) = chart.field(name) {
-        wire_detail(setup, plan, line, wheel, name, field, shown)?;
+    match chart.field(name) {
+        Some(field) => wire_detail(setup, plan, line, wheel, name, field, shown),
+        None => Ok(()),
     }
-    Ok(())
 }
 
 // Wires a text on a total line.
@@ -75,10 +75,10 @@ fn wire_text_line(
     ensures { OnOk result (Adds (OfSome (field_named chart.now.lines name) (λ field.
         OfSome (unit_for plan.now line) (λ unit. TotalTextWires level unit wheel field))) setup.old setup.new) }
 {
-    if let Some(field) = chart.field(name) {
-        wire_total_text(setup, plan, line, level, wheel, field)?;
+    match chart.field(name) {
+        Some(field) => wire_total_text(setup, plan, line, level, wheel, field),
+        None => Ok(()),
     }
-    Ok(())
 }
 
 // Wires a total.
@@ -99,12 +99,12 @@ fn wire_total_line(
         OfSome (counter_for chart.now.lines plan.now line) (λ counter.
         TotalWires chart.now.lines plan.now name level wheel digits mark field counter))) setup.old setup.new) }
 {
-    if let Some(field) = chart.field(name) {
-        wire_total(
+    match chart.field(name) {
+        Some(field) => wire_total(
             setup, chart, plan, line, level, wheel, name, digits, mark, field,
-        )?;
+        ),
+        None => Ok(()),
     }
-    Ok(())
 }
 
 // Wires what a line of the chart says.
@@ -168,8 +168,7 @@ pub(crate) fn wire_line(
     ensures { OnOk result (Adds
         (LineWire chart.now.lines plan.now line.now.number line.now.statement) setup.old setup.new) }
 {
-    wire_statement(setup, chart, plan, line.number, &line.statement)?;
-    Ok(())
+    wire_statement(setup, chart, plan, line.number, &line.statement)
 }
 
 /// Wires all lines of the chart.

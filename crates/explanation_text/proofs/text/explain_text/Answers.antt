@@ -1,8 +1,9 @@
 use Rattle.std.proofs.Common.{◌≡◌, sym, subst, Option}
 use Rattle.std.specs.Prelude.{IfSome}
+use Rattle.std.specs.String.{string_bytes}
 use Rattle.explanations.specs.PlacedInRun.{IsFound}
 use Rattle.explanations.specs.declared.found.FoundLine.{FoundLine}
-use Rattle.explanation_text.proofs.Places.{told_there}
+use Rattle.explanation_text.proofs.Places.{explained_there}
 use Rattle.explanation_text.proofs.text.explain_text.Goals as goal
 
 pub returns-clause-told : goal.returns-clause-told
@@ -15,10 +16,5 @@ returns-clause-told c =
     let at_page = subst (λ (f : Option FoundLine). IfSome f (λ f. f.kept.line.page ≡ c.args.page)) c.in-Some.is clauses.page in
     let at_line = subst (λ (f : Option FoundLine). IfSome f (λ f. f.kept.line.line ≡ c.args.line)) c.in-Some.is clauses.line in
     let same = c.in_ok-ways.ensures.line in
-    record {
-      told = c.in_ok-told.told;
-      right =
-          told_there setup deck c.in_ok-ways.ways.found found c.args.page c.args.line c.args.wheel c.in_ok-told.told same at_page at_line
-          (c.in_ok-told.ensures deck (subst (IsFound setup deck) (sym same) is));
-      spelled = c.in_ok-wheel_text.ensures;
-    }
+    explained_there setup c.args.asked.now deck c.in_ok-ways.ways.found found c.args.page c.args.line c.args.wheel
+    (string_bytes c.in_ok-told_text.field-0) same at_page at_line (c.in_ok-told_text.ensures deck (subst (IsFound setup deck) (sym same) is))

@@ -1,8 +1,9 @@
 use Rattle.std.proofs.Common.{Some, ap, sym, ◌∙◌}
+use Rattle.std.proofs.lemmas.Result.{on_ok_weaker}
 use Rattle.line_wires.proofs.Steps.{adds-character}
 use Rattle.line_wires.proofs.character.wire_character.Goals as goal
 
-pub returns-in_ok-wire_rows : goal.returns-in_ok-wire_rows
-returns-in_ok-wire_rows c =
+pub returns-in-Some : goal.returns-in-Some
+returns-in-Some c =
     let e = c.rows.ensures.value in
-    adds-character (sym c.in-Some.ensures ∙ ap Some (sym e)) c.rows.ensures.lawful c.in_ok-wire_rows.ensures
+    on_ok_weaker c.wire_rows.result (adds-character (sym c.in-Some.ensures ∙ ap Some (sym e)) c.rows.ensures.lawful) c.wire_rows.ensures

@@ -1,7 +1,10 @@
 use Rattle.std.proofs.Common.{sym}
+use Rattle.std.proofs.lemmas.Result.{on_ok_weaker}
 use Rattle.line_wires.proofs.Steps.{adds-some}
 use Rattle.line_wires.proofs.items.wire_detail_marks.Goals as goal
 
-pub returns-in_ok-wire_detail_mark : goal.returns-in_ok-wire_detail_mark
-returns-in_ok-wire_detail_mark c =
-    adds-some c.in-Some.is (adds-some c.in-Some-rule.is (adds-some (sym c.in-Some-pilot_of.ensures.value) c.in_ok-wire_detail_mark.ensures))
+pub returns-in-Some-pilot_of : goal.returns-in-Some-pilot_of
+returns-in-Some-pilot_of c =
+    on_ok_weaker c.wire_detail_mark.result
+    (λ last. adds-some c.in-Some.is (adds-some c.in-Some-rule.is (adds-some (sym c.in-Some-pilot_of.ensures.value) last)))
+    c.wire_detail_mark.ensures

@@ -1,6 +1,7 @@
 use Rattle.charts.specs.Field.{decimals_of}
 use Rattle.charts.specs.Levels.{level_number}
 use Rattle.std.proofs.Common.{ap, sym, ◌+◌, ◌∙◌}
+use Rattle.std.proofs.lemmas.Result.{on_ok_weaker}
 use Rattle.line_wires.proofs.Steps.{adds-both, adds-by, adds-some}
 use Rattle.line_wires.specs.Below.wiring_table.Figures.{mark_wheel}
 use Rattle.line_wires.specs.HelperAdds.{OfSome}
@@ -14,7 +15,7 @@ returns c =
     let d = c.decimals-decimals.ensures in
     let r = c.rule_of-rule.ensures in
     let counter = c.in-Some.counter in
-    adds-some (sym c.in-Some.ensures)
+    on_ok_weaker c.wire_carry_up.result (λ carried. adds-some (sym c.in-Some.ensures)
     (adds-both c.in_ok-wire_lowest.ensures
     (adds-both (adds-by (λ n. ReadOutWires c.args.level c.args.wheel c.args.digits n counter) c.in_ok-wire_read_out.ensures d)
     (adds-both
@@ -26,4 +27,5 @@ returns c =
     c.in_ok-wire_sign.ensures (c.mark_wheel-after.ensures ∙ ap (mark_wheel c.args.wheel c.args.digits) d)) r)
     (adds-both
     (adds-by (NextWires c.args.chart.now.lines c.args.plan.now c.args.name c.args.level c.args.digits counter)
-    c.in_ok-wire_transfer.ensures r) c.in_ok-wire_carry_up.ensures)))))
+    c.in_ok-wire_transfer.ensures r) carried))))))
+    c.wire_carry_up.ensures

@@ -1,4 +1,5 @@
 use Rattle.std.proofs.Common.{sym}
+use Rattle.std.proofs.lemmas.Result.{on_ok_weaker}
 use Rattle.line_wires.proofs.Steps.{adds-both, adds-some}
 use Rattle.total_wires.proofs.TotalLevels.{adds-next, adds-no_next}
 use Rattle.total_wires.proofs.transfer.wire_transfer.Goals as goal
@@ -8,6 +9,8 @@ returns-in_default c = adds-no_next c.in_default.ensures
 
 pub returns : goal.returns
 returns c =
-    adds-next c.requires.alone c.in-Some.ensures
+    on_ok_weaker c.wire_transfer_sense.result
+    (λ last. adds-next c.requires.alone c.in-Some.ensures
     (adds-some (sym c.in-Some-counter_on.ensures)
-    (adds-both c.in_ok-wire_transfer_digits.ensures c.in_ok-wire_transfer_sense.ensures))
+    (adds-both c.in_ok-wire_transfer_digits.ensures last)))
+    c.wire_transfer_sense.ensures

@@ -1,6 +1,7 @@
 use Rattle.std.proofs.Common.{sym}
+use Rattle.std.proofs.lemmas.Result.{on_ok_weaker}
 use Rattle.line_wires.proofs.Steps.{adds-some}
 use Rattle.wire_gen.proofs.lines.wire_detail_line.Goals as goal
 
-pub returns-in_ok-wire_detail : goal.returns-in_ok-wire_detail
-returns-in_ok-wire_detail c = adds-some (sym c.in-Some.ensures) c.in_ok-wire_detail.ensures
+pub returns-in-Some : goal.returns-in-Some
+returns-in-Some c = on_ok_weaker c.wire_detail.result (adds-some (sym c.in-Some.ensures)) c.wire_detail.ensures

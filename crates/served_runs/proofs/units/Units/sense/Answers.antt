@@ -69,3 +69,10 @@ returns-else-unit-eq45 c =
     (nothing_senses (machine_in c.self.inside) c.self.invariant c.args.cycle c.args.point (has_hub c.args.picture.now) c.args.unit
     (omega arith) (omega (arith, c.requires.1)) (λ is. absurd (omega (arith, is))) (λ is. absurd (omega (arith, is)))
     (λ is. absurd (omega (arith, is))) (λ is. absurd (omega (arith, is))))
+
+pub invariant_of-self-then-unit-le38 : goal.invariant_of-self-then-unit-le38
+invariant_of-self-then-unit-le38 c =
+    storage-whole (machine_in c.self.inside) c.self.invariant c.args.cycle c.args.point (has_hub c.args.picture.now) c.args.unit
+    c.index-self-unit-then-unit-le38.result c.sense-then-unit-le38.new.self (omega arith) (omega arith) c.index-self-unit-then-unit-le38.is
+    (c.sense-then-unit-le38.ensures
+    ∙ ap (λ g. storage_sensed g c.args.cycle c.args.point (has_hub c.args.picture.now)) (sym c.index-self-unit-then-unit-le38.is))
