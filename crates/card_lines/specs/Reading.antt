@@ -3,6 +3,7 @@ use Rattle.std.specs.Prelude.{◌≡◌, ℕ, ◌<◌, ◌⊎◌, Bool, true, fa
 use Rattle.std.specs.Io.KnownBytes.{prepend_known}
 use Rattle.card_code.specs.Deck.{IsCardOf}
 use Rattle.card_code.specs.Lines.{lines_of, without_cr}
+use Rattle.card_code.specs.MostCards.{most_cards}
 use Rattle.card_lines.specs.Front.{IsLine, IsTooLong}
 
 -- A reading of cards: its source, the bytes held that were read and not given yet, how many cards were given, whether the end of the source
@@ -30,7 +31,7 @@ pub record IsOver {S : Type 0} (reading : Reading S) : Type 0 where
 
 -- The card after so many others is that of the first line of a text, and the text still to come then has the others.
 pub record GivesCard (given : ℕ) (text card : List ℕ) (to_come : Option (List ℕ)) : Type 0 where
-  pub few : given < 999999
+  pub few : given < most_cards
   pub line : List ℕ
   pub rest : List ℕ
   pub left : to_come ≡ Some rest

@@ -3,6 +3,7 @@
 ghost use Rattle.std.specs.Prelude.{◌≡◌, ◌≢◌, ◌+◌, ◌≤◌, ℕ, List, Option, [], ◌∷◌, length, Some, true, false, IfOk, IfErr, IfSome, IfNone, IsErr, IsOk, IsSome, None, Ok, OnErr, OnOk};
 ghost use Rattle.std.specs.Io.KnownBytes.{IsAtEnd, Keeps};
 ghost use Rattle.card_code.specs.Lines.{lines_of, without_cr};
+ghost use Rattle.card_code.specs.MostCards.{most_cards};
 ghost use Rattle.card_lines.specs.Reading.{Reading, still_to_come, IsSettled, IsOver, GivesCard, HasFirstLine};
 ghost use Rattle.card_lines.specs.Front.{IsFront, IsTooLong};
 ghost use Rattle.card_lines.specs.Faults.{HasFaultNext};
@@ -40,7 +41,7 @@ impl<S: Source + Drop> Model for CardLines<S> {
       has_failed = lines.has_failed;
     } };
 
-    ghost invariant = { λ lines. (lines.given ≤ 999999) × (lines.at_end ≡ true → IsAtEnd (S.left lines.source)) };
+    ghost invariant = { λ lines. (lines.given ≤ most_cards) × (lines.at_end ≡ true → IsAtEnd (S.left lines.source)) };
 }
 
 impl<S: Source + Drop> CardLines<S> {
@@ -82,7 +83,7 @@ impl<S: Source + Drop> CardLines<S> {
         ensures card { IfOk result (λ found. IfSome found (λ card. (text : List ℕ) → still_to_come S.left self.old ≡ Some text →
             GivesCard self.old.given text card (still_to_come S.left self.new))) }
         ensures one_more { IfOk result (λ found. IfSome found (λ _. self.new.given ≡ self.old.given + 1)) }
-        ensures few { self.new.given ≤ 999999 }
+        ensures few { self.new.given ≤ most_cards }
         ensures none { IfOk result (λ found. IfNone found ((text : List ℕ) → still_to_come S.left self.old ≡ Some text →
             lines_of text ≡ [])) }
         ensures all { IfOk result (λ found. IfNone found (IsAtEnd (S.left self.new.source))) }

@@ -22,11 +22,12 @@ use Rattle.misfits.specs.Below.report.ChartForm.{form_of}
 use Rattle.misfits.specs.Below.report.Report.{report_lines}
 use Rattle.misfits.specs.Below.report.Totals.{Fits}
 use Rattle.wiring_reader.proofs.Answered.{one_setup}
-use Rattle.wiring_reader.specs.Below.wiring_text.WiringText.{IsSameSetup}
+use Rattle.wiring_reader.specs.Below.wiring_text.WiringText.{IsSameSetup, ReadsAs}
 use Rattle.printed_reports.specs.Below.wiring_table.WiredFor.{WiredFor}
 use Rattle.compile407.specs.Compilation.{Compilation, IsCompiled}
 use Rattle.streamed_runs.specs.Below.promises.Promises.{IsDeck}
-use Rattle.compile407.specs.Headline.{IsSound, ReadSetupsPrintAlike, WiredSetupsBeginReports, WiredSetupsPrintReports, WrittenSetupsPrintReports}
+use Rattle.compile407.specs.Headline.{IsSound, ReadSetupsPrintAlike, WiredSetupsBeginReports, WiredSetupsPrintReports}
+use Rattle.compile407.specs.Headline.{WrittenSetupsBeginReports, WrittenSetupsPrintReports}
 
 -- a chart that was read and breaks no rule is sound
 pub sound_read : (bytes : List ℕ) (raw chart : Chart) → Reads bytes raw → chart ≡ raw → IsLawful chart →
@@ -58,7 +59,7 @@ wired_setups_begin_reports chart plan wiring sound serves wired card cards later
       (record { lawful = sound.lawful; planned = serves; wired = wired }) sound.rising sound.literals deck.valid deck.long fit fed,
 )
 
--- a deck can be run by the chart of a compilation
+-- a deck is valid for the chart of a compilation
 pub compiled_deck : (compiled : Compilation) (chart : Chart) (cards : List (List ℕ)) → chart ≡ compiled.chart →
     length cards ≤ most_cards → All (IsValidCard chart) cards → IsDeck compiled.chart cards
 compiled_deck compiled chart cards same_chart long valid =
@@ -97,11 +98,21 @@ same_wired lines plan one other same wired = record {
   };
 }
 
+-- a setup that the text of a wired one reads as is wired too
+read_wired : (lines : List Line) (plan : Lists) (text : List ℕ) (wiring read : Wiring) → WiredFor lines plan wiring → ReadsAs text wiring →
+    ReadsAs text read → WiredFor lines plan read
+read_wired lines plan text wiring read wired written reads =
+    same_wired lines plan wiring read (one_setup text wiring read written reads) wired
+
 -- the headline as the wiring chart says
 pub written_setups_print_reports : WrittenSetupsPrintReports
 written_setups_print_reports chart plan wiring text read sound serves wired written reads =
-    wired_setups_print_reports chart plan read sound serves
-    (same_wired chart.lines plan wiring read (one_setup text wiring read written reads) wired)
+    wired_setups_print_reports chart plan read sound serves (read_wired chart.lines plan text wiring read wired written reads)
+
+-- and the lines before those of a card before which all totals fit
+pub written_setups_begin_reports : WrittenSetupsBeginReports
+written_setups_begin_reports chart plan wiring text read sound serves wired written reads =
+    wired_setups_begin_reports chart plan read sound serves (read_wired chart.lines plan text wiring read wired written reads)
 
 -- setups that one wiring chart reads as
 pub read_setups_print_alike : ReadSetupsPrintAlike

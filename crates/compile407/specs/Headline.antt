@@ -36,6 +36,12 @@ WrittenSetupsPrintReports =
     (chart : Chart) (plan : Lists) (wiring : Wiring) (text : List ℕ) (read : Wiring) → IsSound chart → IsFor chart.lines plan →
     WiredFor chart.lines plan wiring → ReadsAs text wiring → ReadsAs text read → PrintsReport chart read
 
+-- and begins them where not all totals fit
+abbrev pub WrittenSetupsBeginReports : Type 0
+WrittenSetupsBeginReports =
+    (chart : Chart) (plan : Lists) (wiring : Wiring) (text : List ℕ) (read : Wiring) → IsSound chart → IsFor chart.lines plan →
+    WiredFor chart.lines plan wiring → ReadsAs text wiring → ReadsAs text read → BeginsReport chart read
+
 -- Any two setups that one wiring chart reads as, wired by hand or for a chart, print the same lines for every deck.
 abbrev pub ReadSetupsPrintAlike : Type 0
 ReadSetupsPrintAlike =

@@ -1,5 +1,6 @@
 -- Decks that can be run: their cards are valid, not too many, and their totals fit.
 use Rattle.std.specs.Prelude.{ℕ, ◌≤◌, List, replicate}
+use Rattle.card_code.specs.MostCards.{most_cards}
 use Rattle.chart_rules.specs.Rules.{IsLawful}
 use Rattle.chart_text.specs.Below.charts.Chart.{Chart}
 use Rattle.misfits.specs.Below.report.Totals.{Fits}
@@ -16,4 +17,4 @@ blank_card = replicate 80 0
 
 -- For every chart that breaks no rule, a deck of blank cards can be run: a blank card is valid, and its amounts are 0.
 abbrev pub BlankDecksAreRunnable : Type 0
-BlankDecksAreRunnable = (chart : Chart) (count : ℕ) → IsLawful chart → count ≤ 999999 → IsRunnable chart (replicate count blank_card)
+BlankDecksAreRunnable = (chart : Chart) (count : ℕ) → IsLawful chart → count ≤ most_cards → IsRunnable chart (replicate count blank_card)

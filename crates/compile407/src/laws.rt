@@ -1,7 +1,8 @@
 //! Laws over definitions alone.
 
 ghost use Rattle.compile407.specs.Headline.{ReadSetupsPrintAlike};
-ghost use Rattle.compile407.specs.Headline.{WiredSetupsBeginReports, WiredSetupsPrintReports, WrittenSetupsPrintReports};
+ghost use Rattle.compile407.specs.Headline.{WiredSetupsBeginReports, WiredSetupsPrintReports};
+ghost use Rattle.compile407.specs.Headline.{WrittenSetupsBeginReports, WrittenSetupsPrintReports};
 ghost use Rattle.compile407.specs.Runnable.{BlankDecksAreRunnable};
 ghost use Rattle.compile407.specs.Outcomes.{ChartsHaveOneFault, CompiledTextsHaveNoFault, DecksHaveOneFault, RunnableDecksHaveNoFault};
 ghost use Rattle.compile407.specs.Versions.{VersionsCompileAlike, VersionsReportAlike, VersionsRunAlike};
@@ -23,6 +24,12 @@ pub fn wired_setups_begin_reports()
 /// `write_setup` of the crate `wire_chart` writes such a text.
 pub fn written_setups_print_reports()
     ensures { WrittenSetupsPrintReports }
+{}
+
+/// Where not all totals of a deck fit, the machine wired as the text of a wired setup says begins the report too: the lines that it places
+/// before those of the first card at which one doesn't fit are the lines of the report before that card's.
+pub fn written_setups_begin_reports()
+    ensures { WrittenSetupsBeginReports }
 {}
 
 /// Any two setups that one wiring chart reads as print the same lines for every deck, wired by hand or for a chart. So a setup that is

@@ -15,7 +15,7 @@ use Rattle.decks.specs.Below.report.ChartForm.{form_of}
 use Rattle.decks.specs.Below.report.Report.{Report}
 use Rattle.decks.specs.Below.report.Totals.{Fits}
 
--- a deck that can be run: valid cards, at most 999,999 of them
+-- a valid deck: its cards are valid for the chart, at most 999,999 of them
 pub record IsDeck (chart : Chart) (cards : List (List ℕ)) : Type 0 where
   pub valid : All (IsValidCard chart) cards
   pub long : length cards ≤ most_cards

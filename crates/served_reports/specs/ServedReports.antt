@@ -15,8 +15,8 @@ use Rattle.served_runs.specs.Below.served_units.Runs.{ServedLines}
 use Rattle.served_runs.specs.Below.setups.Wiring.{Wiring}
 use Rattle.compile407.specs.Below.wiring_table.WiredFor.{WiredFor}
 
--- Where the units run ahead of one another: for every deck that can be run and whose totals fit there is a run by schedules, and the pages
--- of the lines that any such run places are the report, byte by byte; so are those of any run that is served by the orders of a service.
+-- Where the units run ahead of one another: for every valid deck whose totals fit there is a run by schedules, and the pages of the lines
+-- that any such run places are the report, byte by byte; so are those of any run that is served by the orders of a service.
 pub record PrintsReportServed (chart : Chart) (wiring : Wiring) : Type 0 where
   pub runs : (cards : List (List ℕ)) → IsDeck chart cards → Fits chart.lines cards →
       (lines : List PlacedLine) × ServedLines wiring cards lines

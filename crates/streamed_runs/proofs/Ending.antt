@@ -19,7 +19,7 @@ use Rattle.streamed_runs.proofs.Standing.{run_in_order}
 use Rattle.streamed_runs.proofs.Written.{all_written, begins_shorter, taken_broken, taken_more}
 use Rattle.decks.specs.Stands.{report_before}
 use Rattle.streamed_runs.specs.Causes.{HasCause, cards_written, stops_between_cards}
-use Rattle.streamed_runs.specs.FirstCauses.{IsFirstCause}
+use Rattle.streamed_runs.specs.FirstCauses.{HaveFitSoFar, IsFirstCause}
 use Rattle.streamed_runs.specs.HelperStanding.{Ends, HasTaken, PutsOut, Serves, Start, Stops, broken, whole}
 use Rattle.streamed_runs.specs.Runs.{HasRun, HasStopped}
 use Rattle.streamed_runs.specs.declared.fault.StreamCause.{StreamCause}
@@ -30,8 +30,10 @@ use Rattle.streamed_runs.specs.declared.fault.StreamFault.{StreamFault}
 told_of_writing : (chart : Chart) (text : List ℕ) (cards : List (List ℕ)) (told : StreamCause) → told ≡ cause.Write → HasCause chart text cards told
 told_of_writing chart text cards told is = subst (HasCause chart text cards) (sym is) tt
 
-first_of_writing : (chart : Chart) (text : List ℕ) (cards : List (List ℕ)) (told : StreamCause) → told ≡ cause.Write → IsFirstCause chart text cards told
-first_of_writing chart text cards told is = subst (IsFirstCause chart text cards) (sym is) tt
+-- and it is the first cause
+first_of_writing : (chart : Chart) (text : List ℕ) (cards : List (List ℕ)) (told : StreamCause) → told ≡ cause.Write
+    → HaveFitSoFar chart.lines cards → IsFirstCause chart text cards told
+first_of_writing chart text cards told is fit = subst (IsFirstCause chart text cards) (sym is) fit
 
 not_between : (told : StreamCause) → told ≡ cause.Write → stops_between_cards told ≡ true → ⊥
 not_between told is between = false≢true (sym (ap stops_between_cards is) ∙ between)
@@ -84,7 +86,7 @@ module _ {S W : Type 0} {left : S → Option (List ℕ)} {held : W → Option (L
           is_read = read_all text ends.cards (ends.read text known);
           valid = ends.valid;
           has_cause = told_of_writing chart text ends.cards fault.cause is;
-          is_first = first_of_writing chart text ends.cards fault.cause is;
+          is_first = first_of_writing chart text ends.cards fault.cause is ends.so_far;
           counted = taken.counted ∙ sym count_is;
           begins = begins_shorter (Report chart ends.cards) taken.sent taken.left
               (subst (StartsWith (Report chart ends.cards)) report (take-length (Report chart ends.cards)));
@@ -102,19 +104,20 @@ module _ {W : Type 0} {held : W → Option (List ℕ)} {has_failed : W → Bool}
       → (written : List ℕ) × HasStopped chart text fault written × Appends start.held (held new.sink) written
   broken_off rest taken none is text known =
       let all = Open stops.lines (form_of chart.lines).lines in
-      let read = stops.read text known in
+      let begun = stops.begun in
+      let read = begun.read text known in
       let parts : all ≡ taken.sent ++ taken.left = sym (append-nil all) ∙ ap (λ t. all ++ t) (sym none) ∙ taken.parts in (
         taken.sent,
         record {
-          cards = stops.cards;
+          cards = begun.cards;
           rest = read.0;
           is_read = read.1;
-          valid = stops.valid;
-          has_cause = told_of_writing chart text stops.cards fault.cause is;
-          is_first = first_of_writing chart text stops.cards fault.cause is;
+          valid = begun.valid;
+          has_cause = told_of_writing chart text begun.cards fault.cause is;
+          is_first = first_of_writing chart text begun.cards fault.cause is begun.so_far;
           counted = taken.counted ∙ sym counted;
-          begins = begins_shorter (Report chart stops.cards) taken.sent taken.left
-              (subst (StartsWith (Report chart stops.cards)) parts stops.begins);
+          begins = begins_shorter (Report chart begun.cards) taken.sent taken.left
+              (subst (StartsWith (Report chart begun.cards)) parts begun.begins);
           stands = λ between. absurd (not_between fault.cause is between);
         },
         taken.taken,

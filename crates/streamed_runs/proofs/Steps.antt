@@ -9,10 +9,11 @@ use Rattle.card_code.specs.Deck.{Deck}
 use Rattle.card_code.specs.MostCards.{most_cards}
 use Rattle.card_lines.specs.Reading.{Reading}
 use Rattle.charts.specs.Chart.{Chart}
+use Rattle.charts.specs.declared.chart.Line.{Line}
 use Rattle.chart_rules.specs.ValidCard.{IsValidCard}
 use Rattle.decks.specs.FitSoFar.{misfits_of_last}
 use Rattle.decks.specs.Stands.{report_before}
-use Rattle.decks.proofs.FitSoFar.{first_told}
+use Rattle.decks.proofs.FitSoFar.{first_told, fits_go_on}
 use Rattle.machine.specs.Feeds.{Feeds}
 use Rattle.machine.specs.Gains.{GainsFeed}
 use Rattle.machine.specs.Machine.{MachineState, machine_at_start}
@@ -38,7 +39,7 @@ use Rattle.streamed_runs.proofs.Standing.{HaveNoMisfit, fed_deck, fed_end, fed_n
 use Rattle.streamed_runs.proofs.Written.{breaks_more, follow, open_none, taken_none, takes_more}
 use Rattle.streamed_runs.specs.Causes.{HasCause, cards_written}
 use Rattle.streamed_runs.specs.FirstCauses.{HaveFitSoFar, IsFirstCause, IsFirstMisfit}
-use Rattle.streamed_runs.specs.HelperStanding.{Ends, HasFed, HasTaken, HasToCome, HaveLast, IsOfNext, IsUnbegun, ReadsOn, Serves, Stands, Start, Stops, start_of}
+use Rattle.streamed_runs.specs.HelperStanding.{Ends, HasFed, HasTaken, HasToCome, HaveBegun, HaveLast, IsOfNext, IsUnbegun, ReadsOn, Serves, Stands, Start, Stops, start_of}
 use Rattle.streamed_runs.specs.Reading.{HasRead}
 use Rattle.streamed_runs.specs.declared.fault.StreamCause.{StreamCause}
 use Rattle.streamed_runs.specs.declared.fault.StreamCause.TheVariants as cause
@@ -100,14 +101,21 @@ fed_fit : (chart : Chart) (wiring : Wiring) (cards : List (List ℕ)) (machine :
 fed_fit chart wiring [] machine lines fed = tt
 fed_fit chart wiring (card ∷ cards) machine lines fed = fed.fit
 
+-- and with the next card, where no group that ends before it has a misfit
+next_fit : (lines : List Line) (cards : List (List ℕ)) (next : Option (List ℕ)) → HaveFitSoFar lines cards
+    → HaveNoMisfit lines cards next → HaveFitSoFar lines (with_next cards next)
+next_fit lines cards None fit none = subst (HaveFitSoFar lines) (sym (append-nil cards)) fit
+next_fit lines [] (Some card) fit none = (fits_go_on lines card).0
+next_fit lines (one ∷ cards) (Some card) fit none = (fits_go_on lines one).1 cards card fit none
+
 -- so a cause of the next card is the first
 first_of_next : (chart : Chart) (text : List ℕ) (cards : List (List ℕ)) (stopped : StreamCause) → IsOfNext stopped
     → HaveFitSoFar chart.lines cards → IsFirstCause chart text cards stopped
 first_of_next chart text cards (cause.Card fault) is fit = fit
 first_of_next chart text cards (cause.Invalid fault card) is fit = fit
 first_of_next chart text cards (cause.Misfit misfit) is fit = absurd is
-first_of_next chart text cards cause.Write is fit = tt
-first_of_next chart text cards cause.Memory is fit = tt
+first_of_next chart text cards cause.Write is fit = fit
+first_of_next chart text cards cause.Memory is fit = fit
 
 -- a misfit is the first of the cards read, and stands after all lines that are placed
 misfit_of : (chart : Chart) (wiring : Wiring) → Serves chart wiring → (cards : List (List ℕ)) (machine : MachineState) (lines : List PlacedLine)
@@ -213,15 +221,24 @@ module _ {S W : Type 0} (left : S → Option (List ℕ)) (held : W → Option (L
   stops_at_once =
       let form = (form_of chart.lines).lines in
       let none : IsDeck chart [] = record { valid = All-nil (IsValidCard chart); long = omega arith } in
+      let begins : StartsWith (Report chart []) (Open [] form) =
+      report_begins chart wiring serves [] [] [] (machine_at_start wiring) [] (refl, refl) refl none in
       record {
         cards = [];
         lines = [];
         valid = none;
         read = λ text known. let come = unread left text reading unbegun.nothing_held known in (come.rest, come.is_read, tt);
-        begins = report_begins chart wiring serves [] [] [] (machine_at_start wiring) [] (refl, refl) refl none;
+        begins = begins;
         stands = λ between. absurd (false≢true between);
         written = subst (λ b. HasTaken held has_failed (held writing.out.sink) b writing.out) (sym (open_none form)) first_bytes;
         first = λ text known. tt;
+        begun = record {
+          cards = [];
+          valid = none;
+          read = λ text known. let come = unread left text reading unbegun.nothing_held known in (come.rest, come.is_read);
+          so_far = tt;
+          begins = begins;
+        };
         broken = λ same. cc;
       }
 
@@ -236,6 +253,20 @@ module _ {S W : Type 0} {left : S → Option (List ℕ)} {held : W → Option (L
 
   abbrev form_is : writing.form_lines ≡ form
   form_is = stands.form ∙ serves.form
+
+  abbrev fit_so_far : HaveFitSoFar chart.lines stands.cards
+  fit_so_far = fed_fit chart start.wiring stands.cards run.machine.machine stands.lines stands.fed
+
+  -- what is known of the cards so far, whatever stops the run
+  abbrev begun_so_far : HaveBegun chart start stands.lines
+  begun_so_far = record {
+    cards = stands.cards;
+    valid = deck;
+    read = λ text known. let come = stands.read text known in (come.rest, come.is_read);
+    so_far = fit_so_far;
+    begins = report_begins chart start.wiring serves stands.cards [] stands.cards run.machine.machine stands.lines stands.fed
+        (append-nil stands.cards) deck;
+  }
 
   -- there are few cards
   pub few_cards : run.count ≤ most_cards
@@ -277,14 +308,13 @@ module _ {S W : Type 0} {left : S → Option (List ℕ)} {held : W → Option (L
     read = λ text known.
         let come = stands.read text known in
         (come.rest, come.is_read, told text stands.cards come (sym stands.counted));
-    begins = report_begins chart start.wiring serves stands.cards [] stands.cards run.machine.machine stands.lines stands.fed
-        (append-nil stands.cards) deck;
+    begins = begun_so_far.begins;
     stands = λ _.
         stand_before chart start.wiring serves stands.cards run.machine.machine stands.lines stands.fed
         ∙ ap (report_before chart stands.cards) (sym (stops_between stopped stands.cards is));
     written = same_form held has_failed start.held stands.lines writing form form_is stands.written.bytes;
-    first = λ text known. first_of_next chart text stands.cards stopped is
-        (fed_fit chart start.wiring stands.cards run.machine.machine stands.lines stands.fed);
+    first = λ text known. first_of_next chart text stands.cards stopped is fit_so_far;
+    begun = begun_so_far;
     broken = λ same. absurd (not_of_writing stopped is same);
   }
 
@@ -318,12 +348,13 @@ module _ {S W : Type 0} {left : S → Option (List ℕ)} {held : W → Option (L
           written = same_form held has_failed start.held stands.lines writing form form_is stands.written.bytes;
           first = λ text known. first_misfit chart start.wiring text stands.cards run.machine.machine stands.lines run.last next run.sums misfit
               stands.fed stands.sums none tells (λ ends. subst (ReadsOn left text stands.cards read_on) ends (is.read text known));
+          begun = begun_so_far;
           broken = λ same. cc;
         }
 
     -- memory is refused
-    pub stops_for_memory : Stops held has_failed chart start cause.Memory writing
-    stops_for_memory = record {
+    pub stops_for_memory : HaveNoMisfit chart.lines stands.cards next → Stops held has_failed chart start cause.Memory writing
+    stops_for_memory none = record {
       cards = all;
       lines = stands.lines;
       valid = all_deck;
@@ -331,7 +362,8 @@ module _ {S W : Type 0} {left : S → Option (List ℕ)} {held : W → Option (L
       begins = report_begins chart start.wiring serves stands.cards (option_to_list next) all run.machine.machine stands.lines stands.fed refl all_deck;
       stands = λ between. absurd (false≢true between);
       written = same_form held has_failed start.held stands.lines writing form form_is stands.written.bytes;
-      first = λ text known. tt;
+      first = λ text known. next_fit chart.lines stands.cards next fit_so_far none;
+      begun = begun_so_far;
       broken = λ same. cc;
     }
 
@@ -350,18 +382,23 @@ module _ {S W : Type 0} {left : S → Option (List ℕ)} {held : W → Option (L
       pub stops_in_writing : HaveNoMisfit chart.lines stands.cards next → (written : Writing W)
           → Breaks held has_failed (added_all writing.form_lines writing.page writing.line more) writing.out written.out
           → Stops held has_failed chart start cause.Write written
-      stops_in_writing none written breaks = record {
-        cards = all;
-        lines = stands.lines ++ more;
-        valid = all_deck;
-        read = λ text known. let read = all_read text known in (read.0, read.1, tt);
-        begins = placed_begins chart start.wiring serves stands.cards run.machine.machine stands.lines next new more stands.fed all_deck is.valid
-            (room_of read_on stands.cards next is.room) none feed;
-        stands = λ between. absurd (false≢true between);
-        written = breaks_more form stands.lines more writing written form_is in_order stands.written breaks;
-        first = λ text known. tt;
-        broken = λ _. breaks.told;
-      }
+      stops_in_writing none written breaks =
+          let begins : StartsWith (Report chart all) (Open (stands.lines ++ more) form) =
+          placed_begins chart start.wiring serves stands.cards run.machine.machine stands.lines next new more stands.fed all_deck is.valid
+          (room_of read_on stands.cards next is.room) none feed in
+          let so_far : HaveFitSoFar chart.lines all = next_fit chart.lines stands.cards next fit_so_far none in
+          record {
+            cards = all;
+            lines = stands.lines ++ more;
+            valid = all_deck;
+            read = λ text known. let read = all_read text known in (read.0, read.1, tt);
+            begins = begins;
+            stands = λ between. absurd (false≢true between);
+            written = breaks_more form stands.lines more writing written form_is in_order stands.written breaks;
+            first = λ text known. so_far;
+            begun = record { cards = all; valid = all_deck; read = all_read; so_far = so_far; begins = begins };
+            broken = λ _. breaks.told;
+          }
 
   -- a card more was fed, and its lines are written
   pub goes_further : (read_on : Reading S) (next : Option (List ℕ)) (new : Run) (more : List PlacedLine) (written : Writing W)
@@ -404,6 +441,7 @@ module _ {S W : Type 0} {left : S → Option (List ℕ)} {held : W → Option (L
         lines = stands.lines ++ more;
         valid = deck;
         fit = ends.0;
+        so_far = fit_so_far;
         printed = ends.1;
         counted = counted ∙ stands.counted;
         read = is.read;

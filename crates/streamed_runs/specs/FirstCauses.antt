@@ -27,10 +27,7 @@ pub record IsFirstMisfit (chart : Chart) (text : List ℕ) (cards : List (List �
   pub number : misfit.card ≡ length (card ∷ others)
   pub is_first : first_of (misfits_of_last chart.lines card others next) ≡ Some (told misfit)
 
--- No cause that is met earlier is one of the cards that were read; a sink may fail at any time.
+-- No cause that is met earlier is one of the cards that were read: no group that ended before has a misfit.
 abbrev pub IsFirstCause : Chart → (text : List ℕ) → (cards : List (List ℕ)) → StreamCause → Type 0
-IsFirstCause chart text cards (cause.Card fault) = HaveFitSoFar chart.lines cards
-IsFirstCause chart text cards (cause.Invalid fault number) = HaveFitSoFar chart.lines cards
 IsFirstCause chart text cards (cause.Misfit misfit) = IsFirstMisfit chart text cards misfit
-IsFirstCause chart text cards cause.Write = ⊤
-IsFirstCause chart text cards cause.Memory = ⊤
+IsFirstCause chart text cards other = HaveFitSoFar chart.lines cards

@@ -26,7 +26,7 @@ use Rattle.report.specs.Totals.{Fits}
 use Rattle.setups.specs.Tapes.{IsCarriageTape}
 use Rattle.setups.specs.Wiring.{Wiring}
 use Rattle.streamed_runs.specs.Causes.{HasCause, cards_written, stops_between_cards}
-use Rattle.streamed_runs.specs.FirstCauses.{IsFirstCause}
+use Rattle.streamed_runs.specs.FirstCauses.{HaveFitSoFar, IsFirstCause}
 use Rattle.streamed_runs.specs.Reading.{HasRead}
 use Rattle.streamed_runs.specs.Streams.{Streams}
 use Rattle.streamed_runs.specs.declared.fault.StreamCause.{StreamCause}
@@ -137,6 +137,7 @@ pub record Ends {S W : Type 0} (left : S → Option (List ℕ)) (held : W → Op
   pub lines : List PlacedLine
   pub valid : IsDeck chart cards
   pub fit : Fits chart.lines cards
+  pub so_far : HaveFitSoFar chart.lines cards
   pub printed : MachineLines start.wiring cards lines
   pub counted : count ≡ length cards
   pub read : (text : List ℕ) → start.text ≡ Some text → Deck text cards
@@ -144,7 +145,16 @@ pub record Ends {S W : Type 0} (left : S → Option (List ℕ)) (held : W → Op
   pub form : writing.form_lines ≡ start.wiring.tape.lines
   pub written : TakesLines held has_failed start.held lines writing
 
--- How a run stops for a cause, but for what waits to be written.
+-- What is known where the sink fails: cards that were read are valid, no group that ended before the last of them has a misfit, and
+-- their report begins with the lines that were placed.
+pub record HaveBegun (chart : Chart) (start : Start) (lines : List PlacedLine) : Type 0 where
+  pub cards : List (List ℕ)
+  pub valid : IsDeck chart cards
+  pub read : (text : List ℕ) → start.text ≡ Some text → (rest : List ℕ) × HasRead text cards rest
+  pub so_far : HaveFitSoFar chart.lines cards
+  pub begins : StartsWith (Report chart cards) (Open lines (form_of chart.lines).lines)
+
+-- How a run stops for a cause, but for what waits to be written. The sink may then fail, and the cause is not told.
 pub record Stops {W : Type 0} (held : W → Option (List ℕ)) (has_failed : W → Bool) (chart : Chart) (start : Start) (stopped : StreamCause)
     (writing : Writing W) : Type 0 where
   pub cards : List (List ℕ)
@@ -155,6 +165,7 @@ pub record Stops {W : Type 0} (held : W → Option (List ℕ)) (has_failed : W �
   pub stands : stops_between_cards stopped ≡ true → lines ≡ report_before chart cards (cards_written cards stopped)
   pub written : HasTaken held has_failed start.held (Open lines (form_of chart.lines).lines) writing.out
   pub first : (text : List ℕ) → start.text ≡ Some text → IsFirstCause chart text cards stopped
+  pub begun : HaveBegun chart start lines
   pub broken : stopped ≡ cause.Write → writing.out.has_failed ≡ true
 
 -- After a step a run stands a card further, or it has ended.

@@ -23,8 +23,8 @@ pub record HasRun (chart : Chart) (text : List ℕ) (count : ℕ) (written : Lis
   pub fit : Fits chart.lines cards
   pub report : written ≡ Report chart cards
 
--- The run stopped: the cards that were read before are valid, the cause is so, it is the first one, and what was written is counted and begins their report.
--- Where a card or a total stopped it, that is exactly what stands before the lines of a card.
+-- The run stopped: the cards that were read before are valid, the cause is so, it is the first one, and what was written is counted and
+-- begins their report. Where a card or a total stopped it, that is exactly what stands before the lines of a card.
 pub record HasStopped (chart : Chart) (text : List ℕ) (fault : StreamFault) (written : List ℕ) : Type 0 where
   pub cards : List (List ℕ)
   pub rest : List ℕ

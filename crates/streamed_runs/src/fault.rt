@@ -40,7 +40,8 @@ impl StreamCause {
     ghost use Rattle.std.specs.Prelude.{◌≡◌};
     ghost use Rattle.streamed_runs.specs.Causes.{cause_number};
 
-    /// Its number in the catalogue of faults, 1 to 5, 41 to 43 or 91; none where memory was refused.
+    /// Its number in the catalogue of faults: 1 to 4, 41 to 43 or 91 in what a run tells, 5 for `ReadFault::Failed`; none where memory was
+    /// refused.
     pub fn number(self) -> Option<u8>
         ensures { result ≡ cause_number self }
     {

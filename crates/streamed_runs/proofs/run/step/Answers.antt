@@ -24,8 +24,10 @@ returns-in_err-feed-clause-goes_on g c =
     λ start serves stands.
     let is = next_is serves stands c.next_valid.new.cards c.next_valid.new.next c.in_ok-next_valid.ensures.read c.in_ok-next_valid.ensures.valid
     c.in_ok-next_valid.ensures.well c.in_ok-next_valid.ensures.one_more c.in_ok-next_valid.ensures.all in
+    let none = none_told c.args.chart.now.lines stands.cards c.args.run.now.last c.next_valid.new.next c.args.run.now.sums c.try_totals.result
+    c.try_totals.ensures.tells c.in_default.is stands.sums in
     let p = err_from_is_err_and c.from_residual-in_err-feed.result c.from_residual-in_err-feed.ensures.1 in
-    rw (p.1, p.2, c.in_err-feed.ensures.refused) (stops_for_memory serves stands is)
+    rw (p.1, p.2, c.in_err-feed.ensures.refused) (stops_for_memory serves stands is none)
 
 pub add_all-requires : goal.add_all-requires
 add_all-requires g c =
