@@ -22,11 +22,11 @@ ChartsWithinHaveAnAssignment =
     (chart : Chart) (machine : Capacities) → IsLawful chart → All (λ width. ¬ IsOverAt width chart machine) widths
     → (counters : List TotalCounter) × IsAssignment (totals_of chart.lines) machine counters
 
--- where a chart that breaks no rule exceeds the counter groups at a width, not each total can have a counter of its own
+-- where a chart exceeds the counter groups at a width, not each total can have a counter of its own
 abbrev pub ChartsOverHaveNone : Type 0
 ChartsOverHaveNone =
-    (chart : Chart) (machine : Capacities) (width : ℕ) (counters : List TotalCounter) → IsLawful chart
-    → IsOverAt width chart machine → ¬ IsAssignment (totals_of chart.lines) machine counters
+    (chart : Chart) (machine : Capacities) (width : ℕ) (counters : List TotalCounter) → IsOverAt width chart machine
+    → ¬ IsAssignment (totals_of chart.lines) machine counters
 
 -- what fits a machine has no fault on it
 abbrev pub FittingChartsHaveNoFault : Type 0

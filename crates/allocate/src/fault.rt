@@ -29,7 +29,7 @@ pub enum CapacityFault {
         /// How many there are.
         there: u32,
     },
-    /// The control fields have more columns than the machine has comparing positions: fault 63.
+    /// The CONTROL lines name more columns, a field of two levels twice, than the machine has comparing positions: fault 63.
     #[error("{wanted} comparing positions are wanted, and there are {there}")]
     Comparing {
         /// How many comparing positions the chart wants.

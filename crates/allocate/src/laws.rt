@@ -11,9 +11,9 @@ ghost use Rattle.allocate.specs.Groups.{IsByRule};
 ghost use Rattle.allocate.specs.Laws.{ChartsWithinHaveAnAssignment, ChartsOverHaveNone, FittingChartsHaveNoFault, ChartsExceedOneCapacity};
 ghost use Rattle.wanted.specs.declared.total.Total.{Total};
 
-/// For every chart that breaks no rule: no total needs more positions than two of the widest counter groups have; where the
-/// counter groups are exceeded at no width, each total can have a counter of its own, one group or two of 8; where they are exceeded at one, not
-/// all can.
+/// No total of a chart that breaks no rule needs more positions than two of the widest counter groups have; where such a chart exceeds
+/// the counter groups at no width, each of its totals can have a counter of its own, one group or two of 8; where any chart exceeds
+/// them at a width, not all can.
 pub fn totals_fit_exactly_where_no_width_is_over()
     ensures needs { (chart : Chart) → IsLawful chart → NeedsFit (totals_of chart.lines) }
     ensures fit { ChartsWithinHaveAnAssignment }

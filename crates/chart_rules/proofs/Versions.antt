@@ -1,25 +1,26 @@
 -- Charts of both versions that say the same break the same rules.
-use Rattle.std.proofs.Common.{◌≡◌, ℕ, Bool, true, false, List, ◌∷◌, ◌++◌, Contains, sym, ap, ◌∙◌, true≢false, subst}
+use Rattle.std.proofs.Common.{◌≡◌, ℕ, Bool, true, false, ◌&&◌, List, ◌∷◌, ◌++◌, Contains, refl, sym, ap, ◌∙◌, true≢false, subst}
 use Rattle.std.proofs.lemmas.List.Elements.{Contains-append_right}
 use Rattle.charts.proofs.Listed.{listed-first}
 use Rattle.charts.specs.declared.chart.Line.{Line}
-use Rattle.field_rules.specs.Coupled.{is_coupled, is_mismarked, takes_two}
+use Rattle.field_rules.specs.Coupled.{is_coupled, is_mismarked, is_total, takes_two}
 use Rattle.field_rules.specs.Fields.{fields_of}
 use Rattle.chart_rules.specs.declared.rule.Rule.{Rule}
 use Rattle.chart_rules.specs.declared.rule.Rule.TheVariants as rule
 use Rattle.chart_rules.specs.Rules.{breaks_at, Broken, by_line, by_end, IsKept, IsLawful}
 use Rattle.chart_rules.specs.Versions.{in_first, in_second, AreCoupled, VersionsAreLawfulAlike}
 
--- a total that bears the word exactly where it takes two groups is marked as it has to be
-well_marked : (word two : Bool) → word ≡ two → is_mismarked word two ≡ false
-well_marked true two is = ap (is_mismarked true) (sym is)
-well_marked false two is = ap (is_mismarked false) (sym is)
+-- a line that bears the word exactly where it takes two groups is marked as it has to be, a total or not
+well_marked : (total word two : Bool) → word ≡ two → (total && is_mismarked word two) ≡ false
+well_marked false word two is = refl
+well_marked true true two is = ap (is_mismarked true) (sym is)
+well_marked true false two is = ap (is_mismarked false) (sym is)
 
 module _ (lines : List Line) (coupled : List ℕ) (end : ℕ) (marked : AreCoupled lines coupled) where
   kept_mark : (earlier : List Line) (line : Line) (later : List Line) → lines ≡ earlier ++ line ∷ later
       → breaks_at rule.CoupledMark (in_second lines coupled end) earlier line ≡ false
   kept_mark earlier line later split =
-      well_marked (is_coupled coupled line.number) (takes_two (fields_of lines) line.statement)
+      well_marked (is_total line.statement) (is_coupled coupled line.number) (takes_two (fields_of lines) line.statement)
       (marked line (subst (λ ls. Contains ls line) (sym split) (Contains-append_right earlier (line ∷ later) line (listed-first line later))))
 
   -- a line breaks a rule of one where it breaks it of the other

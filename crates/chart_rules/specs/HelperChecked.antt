@@ -16,5 +16,5 @@ pub record IsChecked (chart : Chart) (fields : List Field) (controls : Controls)
   pub fields_are : fields ≡ fields_of chart.lines
   pub lawful : IsLawful chart
   pub controls_are : AreControlsOf chart.lines controls
-  pub texts_are : AreMarked (fields_of chart.lines) (length (fields_of chart.lines)) texts.masks texts.end
-  pub amounts_are : AreAmountsMarked (fields_of chart.lines) (length (fields_of chart.lines)) amounts
+  pub texts_are : AreMarked fields (length fields) texts.masks texts.end
+  pub amounts_are : AreAmountsMarked fields (length fields) amounts

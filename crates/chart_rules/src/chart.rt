@@ -3,7 +3,7 @@
 use crate::amounts::AmountColumns;
 use crate::controls::Controls;
 use crate::texts::TextColumns;
-use charts::{ControlLevel, Field, Line, Name, RawChart, Statement};
+use charts::{ControlLevel, Field, Line, Name, RawChart, Statement, Version};
 use field_rules::first_named;
 use print_rules::Item;
 use std::marker::Model;
@@ -73,6 +73,13 @@ impl Chart {
         }
     }
 
+    /// The version of its language.
+    pub fn version(&self) -> Version
+        ensures { result ≡ self.now.version }
+    {
+        self.raw.version()
+    }
+
     /// The lines that say something, in order. They break no rule.
     pub fn lines(&self) -> &[Line]
         ensures value { result.now ≡ self.now.lines }
@@ -80,6 +87,13 @@ impl Chart {
         ensures lawful { IsLawful self.now }
     {
         self.raw.lines()
+    }
+
+    /// The numbers of the lines whose total bears the word COUPLED, in order.
+    pub fn coupled(&self) -> &[u16]
+        ensures { result.now ≡ self.now.coupled }
+    {
+        self.raw.coupled()
     }
 
     /// The number of the line END.

@@ -6,8 +6,9 @@
 //! fields, levels and totals, in `print_rules` what is said of the wheels and the form.
 //!
 //! `specs/Rules.antt` joins those tests to the rules of a chart, and says which charts are lawful. That a chart or a card has
-//! one fault at most is a law, and so is that charts of both versions that say the same are lawful alike (`specs/Versions.antt`). The files `Helper..` there are words of the code alone, but for `HelperChecked`, which says
-//! what a checked chart keeps, and `HelperOnCard`, which proofs of the crates above speak of.
+//! one fault at most is a law, and so is that charts of both versions that say the same are lawful alike (`specs/Versions.antt`).
+//! The files `Helper..` there are words of the code alone, but for `HelperChecked`, `HelperTexts` and `HelperAmounts`, which say what a
+//! checked chart keeps, and `HelperOnCard`, which contracts above speak of.
 #![tactic(auto)]
 
 mod amounts;

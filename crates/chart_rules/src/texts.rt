@@ -58,7 +58,7 @@ impl TextColumns {
     }
 }
 
-// Marks the columns of a text.
+// Sets all bits of the masks of some columns.
 pub(crate) fn mark(masks: &mut [u16; CARD_COLUMNS], first: u16, last: u16)
     requires from { 1 ≤ first }
     requires to { last ≤ 80 }

@@ -233,7 +233,8 @@ pub enum DetailOption {
     Marked(Mark),
 }
 
-/// What one line of a planning chart says. Numbers of columns, digits, wheels, channels and lines are 0 to 999.
+/// What one line of a planning chart says. Numbers of columns, digits, wheels, channels and lines are 0 to 999 as a text gives them; the
+/// rules judge any.
 #[derive(Drop)]
 pub enum Statement {
     /// `FIELD`: a field of the cards.

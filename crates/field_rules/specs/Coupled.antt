@@ -1,5 +1,5 @@
 -- A rule on the word COUPLED of version 2: a total bears it exactly where it takes two counter groups.
-use Rattle.std.specs.Prelude.{ℕ, ◌+◌, ◌==◌, Bool, true, false, List, Option, Some, None, is_some, not, nat_lt, if◌then◌else◌}
+use Rattle.std.specs.Prelude.{ℕ, ◌+◌, ◌==◌, Bool, true, false, List, Option, Some, None, is_some, not, ◌&&◌, nat_lt, if◌then◌else◌}
 use Rattle.std.specs.List.{list_any}
 use Rattle.charts.specs.Field.{sign_column}
 use Rattle.charts.specs.declared.chart.Line.{Line}
@@ -37,7 +37,13 @@ abbrev pub is_mismarked : Bool → Bool → Bool
 is_mismarked true two = not two
 is_mismarked false two = two
 
+-- whether a line is a total of an amount
+abbrev pub is_total : Statement → Bool
+is_total (says.TotalAmount level wheel name digits mark) = true
+is_total other = false
+
 -- Coupled mark: in version 2, a total with COUPLED that needs 8 positions or fewer, or without it that needs more.
 abbrev pub breaks_coupled_mark : List Field → Version → List ℕ → Line → Bool
 breaks_coupled_mark fields First coupled line = false
-breaks_coupled_mark fields Second coupled line = is_mismarked (is_coupled coupled line.number) (takes_two fields line.statement)
+breaks_coupled_mark fields Second coupled line =
+    is_total line.statement && is_mismarked (is_coupled coupled line.number) (takes_two fields line.statement)

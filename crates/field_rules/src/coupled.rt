@@ -45,8 +45,15 @@ fn is_coupled(coupled: &[u16], number: u16) -> bool
     coupled.iter().any(|each| *each == number)
 }
 
+/// Whether a line is a total of an amount.
+fn is_total(statement: &Statement) -> bool
+    ensures { result ≡ rule.is_total statement.now }
+{
+    matches!(statement, Statement::TotalAmount { .. })
+}
+
 /// Whether a line is a total with the word COUPLED that needs 8 positions or fewer, or one without it that needs more, in a
-/// chart of version 2. The word stands on the lines with the numbers of `coupled`.
+/// chart of version 2. The word stands on the totals with the numbers of `coupled`; of other lines these tell nothing.
 pub fn breaks_coupled_mark(fields: &Fields, version: Version, coupled: &[u16], line: &Line) -> bool
     ensures { result ≡ rule.breaks_coupled_mark fields.now version coupled.now line.now }
 {
@@ -54,11 +61,12 @@ pub fn breaks_coupled_mark(fields: &Fields, version: Version, coupled: &[u16], l
         Version::First => false,
         Version::Second => {
             let two = takes_two(fields, &line.statement);
-            if is_coupled(coupled, line.number) {
+            let is_mismarked = if is_coupled(coupled, line.number) {
                 !two
             } else {
                 two
-            }
+            };
+            is_total(&line.statement) && is_mismarked
         }
     }
 }

@@ -49,13 +49,6 @@ impl Fields {
         Ok(Fields { in_order, first })
     }
 
-    /// The fields in the order of their lines.
-    pub fn as_slice(&self) -> &[Field]
-        ensures { result.now ≡ self.now }
-    {
-        self.in_order.as_slice()
-    }
-
     /// The fields in the order of their lines, where nothing is looked up any more.
     pub fn into_fields(self) -> Vec<Field>
         ensures { result.items ≡ self }

@@ -1,11 +1,11 @@
 //! The fields of a planning chart by their names, and the rules on what its lines say of fields, control levels and totals.
 //!
-//! [`Fields`] are the fields of some lines, with the first of each name; [`first_named`] finds it in a list without them. Each `breaks_` call tells whether one line breaks one
-//! of the rules 21 to 30 and 38: that names are known, and stand for the right kind of field; that columns are on the card; that no
-//! line says a thing again; that levels are controlled; that totals have digits enough, and bear the word COUPLED where
-//! they take two counter groups. Which lines a rule looks at beside
-//! that one is seen by its arguments: all lines of the chart, those before this one, or the fields. What a line says comes
-//! from below, and of wheels and of the form nothing is known here.
+//! [`Fields`] are the fields of some lines, with the first of each name; [`first_named`] finds it by a search where there is no index.
+//! Each `breaks_` call tells whether one line breaks one of the rules 21 to 30 and 38: that names are known, and stand for the right
+//! kind of field; that columns are on the card; that no line says a thing again; that levels are controlled; that totals have digits
+//! enough, and bear the word COUPLED where they take two counter groups. What a rule looks at beside that line is seen by its
+//! arguments: all lines of the chart, those before this one, the fields, or the version and the numbers of the lines with COUPLED.
+//! What a line says comes from below, and of wheels and of the form nothing is known here.
 //!
 //! `specs/` has a test for each rule, in a file for each notion, and `Fields` with what a name stands for. `HelperIndex`
 //! there is a word of the code alone.

@@ -19,7 +19,7 @@ fn stands_among(fields: &Fields, earlier: &[Line], name: Name) -> bool
     }
 }
 
-/// Whether a line is a FIELD line whose name stands on an earlier FIELD line.
+/// Whether a line is a FIELD line whose name stands on an earlier FIELD line. `earlier` are the first lines of the fields' chart.
 pub fn breaks_name_twice(fields: &Fields, earlier: &[Line], statement: &Statement) -> bool
     requires { (later : List Field) × (fields.now ≡ fields_of earlier.now ++ later) }
     ensures { result ≡ rule.breaks_name_twice (fields_of earlier.now) statement.now }

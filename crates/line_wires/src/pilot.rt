@@ -40,7 +40,8 @@ pub fn mark_characters(mark: Mark) -> &'static [u8]
     }
 }
 
-/// The contact of a pilot's position, 1 to 3, that is closed while its amount is below 0.
+/// The contact of a pilot's position, 1 to 3, that is closed while the sign column of its amount tells negative: by X, while it has row 11;
+/// by NX, while it has none. That of a zero or a blank may tell so too, but its sign never shows.
 pub fn negative_side(rule: SignRule, pilot: u8, position: u8) -> Hub
     requires pilot { (1 ≤ pilot) × (pilot ≤ 16) }
     requires position { (1 ≤ position) × (position ≤ 3) }
@@ -54,7 +55,7 @@ pub fn negative_side(rule: SignRule, pilot: u8, position: u8) -> Hub
     }
 }
 
-/// The contact of a pilot's position, 1 to 3, that is closed while its amount is not below 0.
+/// The contact of a pilot's position, 1 to 3, that is closed while the sign column of its amount doesn't tell negative.
 pub fn positive_side(rule: SignRule, pilot: u8, position: u8) -> Hub
     requires pilot { (1 ≤ pilot) × (pilot ≤ 16) }
     requires position { (1 ≤ position) × (position ≤ 3) }

@@ -26,7 +26,7 @@ pub(crate) struct OpenTotal {
     pub digits: u16,
     // The amount.
     pub field: Field,
-    // The sum of the amount over the cards so far of the group.
+    // The sum of the amount over the cards so far of the group, up to the last card that ended a group.
     pub sum: i64,
 }
 

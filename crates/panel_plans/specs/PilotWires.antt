@@ -23,7 +23,7 @@ pub record IsSignedOf (lines : List Line) (amount : SignedAmount) : Type 0 where
   pub named : field_named lines amount.field.name ≡ Some amount.field
   pub ruled : rule_of amount.field.kind ≡ Some amount.rule
 
--- a pilot has the counter of the total on a line subtract while its amount is below 0
+-- a pilot has the counter of the total on a line subtract while the sign column of its amount tells negative
 pub record LeadsToTotal (lines : List Line) (plan : Lists) (setup : Wiring) (rule : SignRule) (pilot number : ℕ) : Type 0 where
   pub counter : TotalCounter
   pub served : counter_for lines plan number ≡ Some counter

@@ -59,7 +59,7 @@ fn signed_amount(chart: &Chart, name: Name) -> Option<SignedAmount>
     Some(SignedAmount { field, rule })
 }
 
-// The contact of a pilot's position that is closed while its amount is below 0.
+// The contact of a pilot's position that is closed while the sign column of its amount tells negative.
 fn negative_side(rule: SignRule, pilot: u8, position: u8) -> Hub
     ensures { result ≡ negative_side rule pilot position }
 {
@@ -79,7 +79,7 @@ fn units_group(counter: TotalCounter) -> Group
     }
 }
 
-// Whether a pilot has the counter of the total on a line subtract while the amount is below 0.
+// Whether a pilot has the counter of the total on a line subtract while the sign column tells negative.
 fn leads_to_total(chart: &Chart, setup: &Setup, line: &Line, rule: SignRule, pilot: u8) -> bool
     ensures { (its : Lists) (total : Total) → IsWiredBy chart.now.lines setup.now its → Contains chart.now.lines line.now
         → line_total chart.now.lines line.now.number line.now.statement ≡ Some total
@@ -108,7 +108,7 @@ fn mark_wheel(wheel: u16, field: Field) -> u32
     u32::from(wheel) + digits + point
 }
 
-// Whether a pilot leads to the wheel of a mark while its amount is below 0.
+// Whether a pilot leads to the wheel of a mark while the sign column tells negative.
 fn leads_to_mark(setup: &Setup, mark: u32, rule: SignRule, pilot: u8) -> bool
     ensures { IsTrue result ↔ HasWire setup.now (negative_side rule pilot 2) (W mark) }
 {

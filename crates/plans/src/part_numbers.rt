@@ -158,7 +158,7 @@ impl PartNumbers {
         }
     }
 
-    /// These numbers, but of one kind others.
+    /// These numbers, but of one kind others, each one of the standard machine's.
     pub fn with(self, kind: PartKind, numbers: Vec<u8>) -> PartNumbers
         requires { AreThere (last_of kind) numbers.items }
         ensures { result ≡ renumbered self kind numbers.items }

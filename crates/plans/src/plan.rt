@@ -51,7 +51,8 @@ impl Plan {
     ghost use Rattle.plans.specs.Plans.{IsFor, IsWithinMachine, counter_on};
     ghost use Rattle.wanted.specs.Positions.{is_same_position};
 
-    /// The plan of these counters, and of other parts with these numbers.
+    /// The plan of these counters, and of other parts with these numbers. The other parts serve no more things than the standard machine
+    /// has parts.
     pub fn of(counters: Vec<TotalCounter>, parts: Parts, numbers: PartNumbers) -> Plan
         requires { IsWithinMachine parts }
         ensures counters { result.counters ≡ counters.items }
@@ -65,7 +66,8 @@ impl Plan {
         }
     }
 
-    /// The plan of these counters, in which the parts 1, 2 and so on of each other kind serve what is asked of it, in its order.
+    /// The plan of these counters, in which the parts 1, 2 and so on of each other kind serve what is asked of it, in its order: no more
+    /// things than the standard machine has parts.
     pub fn in_order(
         alloc: Global,
         counters: Vec<TotalCounter>,

@@ -54,8 +54,8 @@ abbrev pub first_body_line : List Line → ℕ → ℕ
 first_body_line lines kind =
     (if heading_count lines == 0 then (form_of lines).first else (form_of lines).first + heading_count lines - 1) + spacing_of lines kind
 
--- Body lines stand after a line of a kind on a page and a line: each its spacing below where the line before it comes to, above the
--- overflow line, or first on the next page where the line before it ends its page.
+-- Body lines stand after a line of a kind on a page and a line: each its spacing below where the line before it comes to, where that is
+-- above the overflow line, or first on the next page where the line before it ends its page.
 pub data Follow (lines : List Line) : (kind page line : ℕ) → List BodyText → List PlacedLine → Type 0 where
   no_more : (kind page line : ℕ) → Follow lines kind page line [] []
   on_its_page : (kind page line to : ℕ) (body : BodyText) (bodies : List BodyText) (others : List PlacedLine) → ComesTo lines kind line to → to < (form_of lines).overflow → Follow lines body.kind page (to + spacing_of lines body.kind) bodies others → Follow lines kind page line (body ∷ bodies) (standing body page (to + spacing_of lines body.kind) ∷ others)

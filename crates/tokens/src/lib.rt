@@ -12,8 +12,9 @@
 //! `specs/` has the grammar apart from any scanner: `HasTokens`, `IsNumber` and `IsNumberTo` are relations,
 //! and what a reader answers is exactly what is related. `Frame` has what the text formats share: the size of a text, its first
 //! line, its empty lines, its END, the line at a number, and what stands after END. That a line has one list of tokens at most, and
-//! a token is one number at most, is a law of them. The files `Dividing`, `NumberReading`, `FrameReading` and `HelperLines` are words of
-//! code alone, of this crate and of those that read by it: no contract that a caller sees speaks of them.
+//! a token is one number at most, is a law of them. The files `Dividing`, `Steps`, `NumberReading`, `FrameReading` and `HelperLines` are
+//! words of the code of this crate and of those that read by it. No contract that a caller sees speaks of them, but for `is_space` of
+//! `Dividing`, by which a crate above says with which word a text begins.
 #![tactic(auto)]
 
 mod frame;

@@ -56,7 +56,7 @@ ReadOutWires level wheel digits decimals counter =
 abbrev pub FeedbackWires : Group → Wires
 FeedbackWires group = Upto group.width (λ place. One (GX group (place + 1)) (GE group (place + 1)))
 
--- the balance test of a counter, and the minus read-out into itself where the balance is below 0
+-- the balance test of a counter, and the minus read-out into itself where that sets the latch
 abbrev pub BalanceWires : Level → TotalCounter → Wires
 BalanceWires level counter =
     Both (One (PX (level_number level) 1) (BT (top_group counter)))

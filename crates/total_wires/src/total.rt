@@ -83,7 +83,8 @@ fn wire_feedbacks(setup: &mut Setup, counter: TotalCounter) -> Result<(), AllocE
     }
 }
 
-// Wires the balance test of a counter, and the minus read-out into itself where the balance is below 0.
+// Wires the balance test of a counter, and the minus read-out into itself where that sets the latch: for a number below 0, and for a 0 that
+// stands as all nines.
 fn wire_balance(setup: &mut Setup, level: Level, counter: TotalCounter) -> Result<(), AllocError>
     requires { IsCounterOnPanel counter }
     ensures { OnOk result (Adds (BalanceWires level counter) setup.old setup.new) }

@@ -89,7 +89,7 @@ fn wire_transfer_digits(
     Ok(())
 }
 
-// Wires the higher counter so that it adds the lower one, or subtracts it where the balance of that is below 0.
+// Wires the higher counter so that it adds the lower one, or subtracts it where the latch of that is set.
 fn wire_signed_transfer(
     setup: &mut Setup,
     program: u8,

@@ -88,7 +88,7 @@ impl Wanted {
         }
     }
 
-    /// The lowest line of a total text that is too wide for a storage unit.
+    /// The lowest line of a total text that is too wide for a storage unit; there is one.
     pub fn wide_text(&self) -> u16
         requires { 0 < length self.now.wide_texts }
         ensures { IsLowestOf self.now.wide_texts result }

@@ -102,12 +102,13 @@ split_for plan number = number_for (λ served. served == number) plan.parts.spli
 abbrev pub unit_for : Lists → ℕ → Option ℕ
 unit_for plan number = number_for (λ served. served == number) plan.parts.storage plan.numbers.storage
 
--- The contact of a pilot's position that is closed while its amount is below 0: the transferred one for X, the normal one for NX.
+-- The contact of a pilot's position that is closed while the sign column of its amount tells negative: for X, while it has row 11, the
+-- transferred one; for NX, while it has none, the normal one. That of a zero or a blank may tell so too, but its sign never shows.
 abbrev pub negative_side : SignRule → (pilot position : ℕ) → Hub
 negative_side (sign.X column) pilot position = PIT pilot position
 negative_side (sign.NX column) pilot position = PIN pilot position
 
--- the contact of a pilot's position that is closed while its amount is not below 0
+-- the contact of a pilot's position that is closed while the sign column of its amount doesn't tell negative
 abbrev pub positive_side : SignRule → (pilot position : ℕ) → Hub
 positive_side (sign.X column) pilot position = PIN pilot position
 positive_side (sign.NX column) pilot position = PIT pilot position

@@ -67,7 +67,7 @@ pub data LineWire (lines : List Line) (plan : Lists) (number : ℕ) : Statement 
       → LineWire lines plan number (says.DetailField wheel name how)
       (CSD split) (W (digit_wheel wheel (columns_of field) (decimals_of field.kind) position))
   -- The mark of an amount on the line of a card: the rows of its characters pass through the positions 2 and 3 of the pilot, on the
-  -- side that is closed while the amount is below 0.
+  -- side that is closed while the sign column tells negative. That of a zero or a blank may, and then the mark doesn't show.
   detail_mark_in : (wheel : ℕ) (name : List ℕ) (mark : Mark) (rule : SignRule) (pilot k row : ℕ)
       → IsSigned lines name rule → pilot_for plan name ≡ Some pilot → HasPunchAt (mark_text mark) k row
       → LineWire lines plan number (says.DetailField wheel name (shown.Marked mark)) (EM detail_emitter row) (PIC pilot (2 + k))
@@ -118,8 +118,8 @@ pub data LineWire (lines : List Line) (plan : Lists) (number : ℕ) : Statement 
       → counter_for lines plan number ≡ Some (of.Coupled lower upper)
       → LineWire lines plan number (says.TotalAmount level wheel name digits mark) (CO (panel_group lower)) (CI (panel_group upper))
   -- The sign conversion of a signed total. Its wheels form a ring, of one group or of both. The first program cycle of the level
-  -- tests the balance, that of the top group; the second, where the balance is below 0, reads the total out into itself by minus, on
-  -- all positions of its groups, which leaves the figure.
+  -- tests the balance, that of the top group, which sets the latch for a total below 0 and for a 0 that stands as all nines; the second,
+  -- where the latch is set, reads the total out into itself by minus, on all positions of its groups, which leaves the figure.
   ring : (level : Level) (wheel : ℕ) (name : List ℕ) (digits : ℕ) (mark : Option Mark) (rule : SignRule) (group : Group)
       → group_for lines plan number ≡ Some group → IsSigned lines name rule
       → LineWire lines plan number (says.TotalAmount level wheel name digits mark) (CO group) (CI group)
@@ -159,7 +159,7 @@ pub data LineWire (lines : List Line) (plan : Lists) (number : ℕ) : Statement 
       → LineWire lines plan number (says.TotalAmount level wheel name digits (Some mark))
       (BAT top (3 + k)) (W (mark_wheel wheel digits (decimals_of field.kind) + k))
   -- The transfer of a total to the next higher total of its amount: its digits enter that one, position by position, which adds
-  -- them, or subtracts them where the balance is below 0.
+  -- them, or subtracts them where the latch is set.
   transfer : (level : Level) (wheel : ℕ) (name : List ℕ) (digits : ℕ) (mark : Option Mark) (group upper : Group)
       (other position place upper_place : ℕ)
       → ServesPosition lines plan number position group place → IsNextHigher lines name (level_number level) other

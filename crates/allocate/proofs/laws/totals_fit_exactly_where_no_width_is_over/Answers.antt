@@ -12,5 +12,5 @@ returns-clause-fit c chart machine lawful within =
     (widest_first totals machine, widest_first-assigns totals machine (NeedsFit-lawful chart lawful) within)
 
 pub returns-clause-over : goal.returns-clause-over
-returns-clause-over c chart machine width counters lawful over =
+returns-clause-over c chart machine width counters over =
     none_where_over width (totals_of chart.lines) machine counters over
