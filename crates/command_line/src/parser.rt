@@ -9,7 +9,7 @@ const VERSION: &str = "0.3";
 
 /// What stands behind the commands of the program's help.
 const AFTER_HELP: &str =
-    "Status: 0 done, 2 words that are no command, 3 a chart, a deck or another text that is refused, 4 a file that can't be read or an output that can't be written, 5 no memory. Why is told on one line of standard error.\n\nDocuments, in the folder docs: CHART.md the planning chart, GALLERY.md whole charts with their pages, WIRING.md wiring charts, MACHINE.md the machine, EXPLAIN.md explanations, SHOW.md the page for a browser, FAULTS.md every fault.";
+    "Status: 0 done, 2 words that can't be obeyed, 3 a text that is refused, a line or wheel that isn't there, or a panel that isn't wired for its chart, 4 a file that can't be read or an output that can't be written, 5 no memory. Why is told on one line of standard error.\n\nDocuments, in the folder docs: CHART.md the planning chart, GALLERY.md whole charts with their pages, WIRING.md wiring charts, MACHINE.md the machine, EXPLAIN.md explanations, SHOW.md the page for a browser, FAULTS.md every fault.";
 
 /// How large a number may be: as large as the type has it.
 #[derive(Clone, Copy)]
@@ -147,7 +147,7 @@ static COMMANDS: [CommandRow; 11] = [
     },
     CommandRow {
         name: "match",
-        about: "Tells whether a wired panel prints a chart's report of every deck",
+        about: "Tells whether a panel is wired for a planning chart, and so prints its report of every deck",
         words: &[DECK_ON_BOTH, CHART, WIRING],
     },
     CommandRow {

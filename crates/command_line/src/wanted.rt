@@ -46,12 +46,12 @@ pub enum Wanted<'a> {
     Upgrade {
         wiring: &'a str,
     },
-    /// Whether a panel that is wired by a wiring chart prints a planning chart's report of every deck.
+    /// Whether a panel, as a wiring chart wires it, is wired for a planning chart, and so prints its report of every deck.
     Match {
         chart: &'a str,
         wiring: &'a str,
     },
-    /// The same; where it doesn't, a deck is run on it and on the chart's own panel.
+    /// The same; where it isn't, a deck is run on it and on the chart's own panel.
     MatchDeck {
         chart: &'a str,
         wiring: &'a str,

@@ -164,11 +164,15 @@ pub fn serve<R: Read + Drop, W: Write, V: Write>(
     out: &mut W,
     faults: &mut V,
 ) -> u8
-    ensures unknown { IsNoCommand command.now → result ≡ 2 }
+    ensures unknown { IsNoCommand command.now → (result ≡ 2) × (out.new ≡ out.old) }
+    ensures mistaken { result ≡ 2 → IsNoCommand command.now }
     ensures done { result ≡ 0 → (known : Command) × (command.now ≡ word_of known)
-        × HasServed known text.now (R.remaining deck) (W.contents out.old) (W.contents out.new) }
+        × HasServed known text.now (R.remaining deck) (W.contents out.old) (W.contents out.new) × (faults.new ≡ faults.old) }
     ensures refused { result ≡ 3 → (known : Command) × (told : Fault) × (command.now ≡ word_of known)
         × HasRefused known text.now (R.remaining deck) (W.contents out.old) (W.contents out.new) told (out.new ≡ out.old) }
+    ensures failed { 3 ≤ result → (known : Command) × (told : Fault) × (command.now ≡ word_of known) × (result ≡ status_of told)
+        × HasFailed known text.now (R.remaining deck) (W.contents out.old) (W.contents out.new) told (Fault.File path.entry) (out.new ≡ out.old) }
+    ensures statuses { (result ≢ 1) × (result ≤ 5) }
 {
     serve_to_end(alloc, command, text, path, deck, out, faults).status
 }

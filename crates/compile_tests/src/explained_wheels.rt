@@ -80,7 +80,7 @@ static EXPLAINED: [(&[u8], &[u8], (u32, u8), &str); 8] = [
         row 2: GX.8.1.5 -> W.15\n  \
         GX.8.1.5: group 8.1 held 00027234, and is read out\n\
         row 2 is 2\n\
-        zero control: a SUPPRESS wheel that received no zero: it prints\n"),
+        zero control: a SUPPRESS wheel that received no zero alone: it changes nothing\n"),
     // A point is three rows.
     (DEPARTMENTS, SALES, (2, 18), "page 1 line 2 wheel 18 prints .\n\
         cycle Prog 1 3 after card 3\n\

@@ -142,10 +142,10 @@ fn write_received(words: &mut String, told: &Explanation, count: u32) -> Result<
     Ok(())
 }
 
-// The character that the rows are, a word for the blank.
+// The print character that the rows are, or words that they are none.
 fn write_printed(words: &mut String, character: u8) -> Result<(), AllocError> {
     if character == b' ' {
-        words.push_str("no character: a blank")?;
+        words.push_str("no print character: a blank")?;
         Ok(())
     } else {
         words.push(char::from(character))
@@ -203,7 +203,7 @@ fn write_control(text: &mut String, words: &str) -> Result<(), AllocError>
     write_line(text, "zero control: ", words)
 }
 
-// Whether a SYMBOL wheel, or a SUPPRESS wheel, prints what it received, and why.
+// Whether zero control blanks what a SYMBOL wheel, or a SUPPRESS wheel, received, and why.
 fn write_significance(
     words: &mut String,
     line: &LineWays,
@@ -215,9 +215,23 @@ fn write_significance(
 {
     match told.significance {
         _ if is_nothing(told) => words.push_str(" that received nothing: it is blank"),
-        Significance::Uncontrolled => words.push_str("; heading cycles have none: it prints"),
-        _ if !is_symbol && !is_zero(told) => words.push_str(" that received no zero: it prints"),
-        Significance::From(from) => write_given(words, line, from, told.wheel, is_symbol),
+        Significance::Uncontrolled => {
+            words.push_str("; heading cycles have none: ")?;
+            words.push_str(kept_words(told))
+        },
+        _ if !is_symbol && !is_zero(told) => {
+            words.push_str(" that received no zero alone: it changes nothing")
+        },
+        Significance::From(from) => {
+            words.push_str("; ")?;
+            write_giver(words, line, from, told.wheel)?;
+            words.push_str(": so ")?;
+            words.push_str(if is_symbol {
+                kept_words(told)
+            } else {
+                "the zero prints"
+            })
+        },
         Significance::Absent => words.push_str(if is_symbol {
             " without significance: it is blank"
         } else {
@@ -226,23 +240,15 @@ fn write_significance(
     }
 }
 
-// That a wheel gives significance to a SYMBOL wheel, or to a SUPPRESS wheel that received a zero, which so prints.
-fn write_given(
-    words: &mut String,
-    line: &LineWays,
-    from: u8,
-    wheel: u8,
-    is_symbol: bool,
-) -> Result<(), AllocError>
-    requires { 12 ≤ length line.now.ways.items }
+// That a wheel prints what it received; where that is no print character, that zero control changes nothing.
+fn kept_words(told: &Explanation) -> &'static str
+    requires { 12 ≤ length told.now.rows.items }
 {
-    words.push_str("; ")?;
-    write_giver(words, line, from, wheel)?;
-    words.push_str(if is_symbol {
-        ": so it prints"
+    if received_column(told).print_character() == b' ' {
+        "it changes nothing"
     } else {
-        ": so the zero prints"
-    })
+        "it prints"
+    }
 }
 
 // Whether no row was received.

@@ -12,7 +12,7 @@ use Rattle.wiring_text.specs.declared.fault.WiringFault.{WiringFault}
 abbrev pub is_among : (first last number : ℕ) → Bool
 is_among first last number = nat_le first number && nat_le number last
 
--- whether a number is that of a fault
+-- whether a number is that of a fault that the program tells
 abbrev pub is_numbered : ℕ → Bool
 is_numbered number =
     is_among 1 4 number || is_among 11 14 number || is_among 21 38 number || is_among 41 43 number || is_among 51 54 number

@@ -8,7 +8,7 @@ use crate::table::{
     match_entry, order_entry, rule_entry, unfit_entry, wiring_text_entry,
 };
 
-/// The entry of the fault with a number; none where no fault has the number.
+/// The entry of the fault with a number; none where the program tells no fault with the number.
 pub fn fault_entry(number: u8) -> Option<FaultEntry>
     ensures there { IsSome result ↔ (is_numbered number ≡ true) }
     ensures its_own { IfSome result (λ entry. entry.number ≡ number) }

@@ -290,7 +290,7 @@ static CAPACITIES: [Words; 7] = [
     Words {
         name: "Splits",
         cause: "more than 16 DETAIL amounts have their sign over one of their own columns. On the machine as it is, fault 62 comes first, since each of them wants a pilot too",
-        cure: "as 62",
+        cure: "drop the sign rule of amounts that are never negative, or leave amounts out; one amount counts once, on however many lines it stands",
         example: "",
     },
     Words {
@@ -330,7 +330,7 @@ static WIRING_TEXTS: [Words; 6] = [
     Words {
         name: "Unfit",
         cause: "line K is well written, and the panel can't have what it says; N is 51, 52, 53 or 54",
-        cure: "see the cause",
+        cure: "see what is said of fault N, as by run407 fault 51",
         example: "WIRE W.1 SR.1",
     },
     Words {

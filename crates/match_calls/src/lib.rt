@@ -1,5 +1,5 @@
-//! Whether a panel prints a chart's reports, as a command: from the bytes of a planning chart and a wiring chart to what is printed, what is
-//! told and the status.
+//! Whether a panel is wired for a chart, and so prints its reports, as a command: from the bytes of a planning chart and a wiring chart to
+//! what is printed, what is told and the status.
 //!
 //! [`match_to_end`] does the whole command, and [`match_deck_to_end`] the command with a deck, of which the first line is told that the
 //! panel prints otherwise than one that is wired for the chart. Why a panel doesn't match is an [`Unmatched`].

@@ -42,10 +42,12 @@ written_row page line (first ∷ others) = row_open page line ++ characters_text
 unfoldable pub row_text : List PlacedLine → (page line : ℕ) → List ℕ
 row_text lines page line = written_row page line (text_at lines page line) ++ codes "\n"
 
--- a sheet of so many rows
+-- the front of a sheet; a reader of HTML drops an end of a line that stands directly behind a `pre`'s tag, which a blank row 1 would be, so
+-- an empty element stands between them
 abbrev pub sheet_open : ℕ → List ℕ
-sheet_open page = codes "<pre id=\"page" ++ decimal page ++ codes "\">"
+sheet_open page = codes "<pre id=\"page" ++ decimal page ++ codes "\"><span></span>"
 
+-- a sheet of so many rows
 unfoldable pub sheet_text : List PlacedLine → (long page : ℕ) → List ℕ
 sheet_text lines long page = sheet_open page ++ flat_map (row_text lines page) (range_with_len 1 long) ++ codes "</pre>\n"
 

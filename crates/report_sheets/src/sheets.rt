@@ -166,11 +166,11 @@ fn write_rows(
     Ok(())
 }
 
-// The front of a sheet.
+// The front of a sheet. Behind it stands an empty element, since a reader of HTML drops an end of a line that stands there.
 fn write_sheet_open(text: &mut String, page: u64) -> Result<(), AllocError>
     ensures { OnOk result (string_bytes text.new ≡ string_bytes text.old ++ sheet_open page) }
 {
-    write!(text, "<pre id=\"page{page}\">")
+    write!(text, "<pre id=\"page{page}\"><span></span>")
 }
 
 #[tactic(auto, unfolding(crate::specs::Sheets::sheet_text))]

@@ -128,6 +128,7 @@ pub fn replay_by_orders<R: Read + Drop, W: Write, V: Write>(
         × Appends (V.contents faults.old) (V.contents faults.new) (counts_line counts) }
     ensures refused { result ≡ 3 → (told : Fault)
         × IsRefusedByOrders wiring.now orders.now (R.remaining deck) told × (out.new ≡ out.old) }
+    ensures statuses { (result ≡ 0) ⊎ (3 ≤ result × result ≤ 5) }
 {
     replay_by_orders_to_end(alloc, wiring, orders, path, deck, out, faults).status
 }
