@@ -1,16 +1,16 @@
 -- Closed contacts passed on by rows of bits.
-use Rattle.std.proofs.Common.{⊎_elim, ◌⊎◌, inl, inr, ◌≡◌, ℕ, ◌+◌, ◌-◌, ◌*◌, ◌%◌, ◌^◌, ◌<◌, ◌≤◌, ◌∙◌, sym, ap, refl, arith, Bool, true, false, not, ◌&&◌, ◌||◌, List, length, slice_index_or, drop, [], ◌∷◌, add-one}
+use Rattle.std.proofs.Common.{zero, suc, ⊎_elim, ◌⊎◌, inl, inr, ◌≡◌, ℕ, ◌+◌, ◌-◌, ◌*◌, ◌%◌, ◌^◌, ◌<◌, ◌≤◌, ◌∙◌, sym, ap, refl, arith, Bool, true, false, not, ◌&&◌, ◌||◌, List, length, slice_index_or, drop, [], ◌∷◌, add-one}
 use Rattle.std.proofs.Math.Seq.{drop-cons}
 use Rattle.std.proofs.lemmas.Grind.{common_steps}
 use Rattle.std.specs.Prelude.{nat_le, nat_lt, ◌==◌}
 use Rattle.std.specs.Int.{bit_not, w128}
 use Rattle.std.specs.Int.Bits.{bit_and}
 use Rattle.std.proofs.lemmas.Bool.Decides.{nat_tests}
-use Rattle.std.proofs.lemmas.Bool.{cases_lt, false≢true, or_cases, or_left, or_right}
+use Rattle.std.proofs.lemmas.Bool.{and_parts, cases_lt, false≢true, or_cases, or_left, or_right}
 use Rattle.std.proofs.lemmas.Nat.{one_shl}
 use Rattle.std.proofs.Math.Bool.{and-false}
 use Rattle.bit_sets.specs.Bits.{is_bit, has_place, is_in_run}
-use Rattle.bit_sets.specs.Contacts.{AreCommons, is_any_contact, is_contact, passes_run, IsRunInRange}
+use Rattle.bit_sets.specs.Contacts.{AreCommons, AreOnlyCommons, is_any_contact, is_contact, passes_run, IsRunInRange}
 use Rattle.bit_sets.specs.declared.contacts.Run.{Run}
 use Rattle.bit_sets.proofs.BitLemmas.{is_bit-and, is_bit-not, is_bit-ones, none_set}
 
@@ -107,6 +107,40 @@ contact_parts : (exits common count from to : ℕ)
     → (nat_le exits to && (nat_lt (to - exits) count && (from == common + (to - exits)))) ≡ true
     → (nat_le common from ≡ true) × (nat_lt (from - common) count ≡ true)
 contact_parts exits common count from to is = (grind (arith, nat_tests, is), grind (arith, nat_tests, is))
+
+-- the contact of a run from one of its common places
+is_contact-from : (exits common count from : ℕ) → nat_le common from ≡ true → nat_lt (from - common) count ≡ true
+    → (nat_le exits (exits + (from - common))
+    && (nat_lt (exits + (from - common) - exits) count && (from == common + (exits + (from - common) - exits)))) ≡ true
+is_contact-from exits common count from low high = grind (arith, nat_tests, low, high)
+
+-- a contact of one of the runs is one of them all
+any_contact : (runs : List Run) (i : ℕ) (d : Run) (from to : ℕ) → i < length runs → is_contact (slice_index_or runs i d) from to ≡ true
+    → is_any_contact runs from to ≡ true
+any_contact [] i d from to inside is = absurd (omega (arith, inside))
+any_contact (run ∷ runs) zero d from to inside is = or_left _ _ is
+any_contact (run ∷ runs) (suc i) d from to inside is =
+    or_right (is_contact run from to) _ (any_contact runs i d from to (omega (arith, inside)) is)
+
+-- each place of the commons of one run more is one that a contact leads from
+pub only_commons_more :
+    (runs : List Run) (i : ℕ) (d : Run) (old now : List ℕ) (ones : ℕ) → i < length runs
+    → ((k : ℕ) → is_bit ones k ≡ nat_lt k (slice_index_or runs i d).count)
+    → ((place : ℕ) → has_place now place
+    ≡ (has_place old place || (nat_lt place 1984 && is_in_run (slice_index_or runs i d).common ones place)))
+    → AreOnlyCommons runs old → AreOnlyCommons runs now
+only_commons_more runs i d old now ones inside bits gained before from at =
+    ⊎_elim (before from) here (or_cases (has_place old from) _ (sym (gained from) ∙ at)) where
+      run : Run
+      run = slice_index_or runs i d
+
+      here : (nat_lt from 1984 && is_in_run run.common ones from) ≡ true → (to : ℕ) × (is_any_contact runs from to ≡ true)
+      here is =
+          let row = and_parts (nat_le run.common from) _ (and_parts (nat_lt from 1984) _ is).1 in (
+            run.exits + (from - run.common),
+            any_contact runs i d from (run.exits + (from - run.common)) inside
+                (is_contact-from run.exits run.common run.count from row.0 (sym (bits (from - run.common)) ∙ row.1)),
+          )
 
 -- the places that the contacts of one run more lead from
 pub commons_more :

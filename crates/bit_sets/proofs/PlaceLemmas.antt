@@ -1,15 +1,17 @@
 -- Sets of places: what their words have, and what comes to them with a word.
 use Rattle.std.proofs.Common.{⊎_elim, ◌⊎◌, inl, inr, ◌≡◌, ◌≢◌, ℕ, ◌+◌, ◌-◌, ◌*◌, ◌/◌, ◌%◌, ◌^◌, ◌<◌, ◌≤◌, ◌∙◌, sym, ap, refl, arith, Bool, true, false, ◌&&◌, ◌||◌, List, length, replicate, slice_index_or, slice_set}
 use Rattle.std.specs.Prelude.{nat_le, nat_lt, ◌==◌}
+use Rattle.std.specs.Int.{trailing_zeros, w64}
 use Rattle.std.specs.Int.Bits.{bit_and, bit_or}
-use Rattle.std.proofs.lemmas.Nat.{le_or_l, le_or_r}
+use Rattle.std.proofs.lemmas.Nat.{and_le_l, le_or_l, le_or_r}
 use Rattle.std.proofs.lemmas.Bool.Decides.{nat_tests}
-use Rattle.std.proofs.lemmas.Bool.{cases_eq, cases_lt, false≢true}
+use Rattle.std.proofs.lemmas.Bool.{and_parts, cases_eq, cases_lt, false≢true}
 use Rattle.std.proofs.Math.Bool.{and-false, or-false}
 use Rattle.std.proofs.lemmas.Grind.{common_steps}
 use Rattle.std.proofs.lemmas.List.{get_or_past, get_or-replicate}
 use Rattle.bit_sets.specs.Bits.{is_bit, has_place, is_in_run}
-use Rattle.bit_sets.proofs.BitLemmas.{is_bit-and, is_bit-or, is_bit-zero, is_bit-above, none_set}
+use Rattle.bit_sets.specs.Contacts.{ShareAPlace}
+use Rattle.bit_sets.proofs.BitLemmas.{is_bit-and, is_bit-or, is_bit-zero, is_bit-above, lowest_bit, none_set}
 
 pub has_place-word : (words : List ℕ) (k : ℕ) → has_place words k ≡ is_bit (slice_index_or words (k / 64) 0) (k % 64)
 unfolding has_place
@@ -280,3 +282,26 @@ apart-words one other none place at = by (cases_lt (place / 64) (length one)) wh
         both : (a b : Bool) → a ≡ true → (a && b) ≡ false → b ≡ false
         both a b e f = grind (arith, nat_tests, e, f)
   by (inr high) = absurd (false≢true (sym (has_place-past one place (omega (arith, high))) ∙ at))
+
+-- sets of which a word has a bit in common have a place in common
+common-word : (one other : List ℕ) (number : ℕ) → slice_index_or one number 0 < 2 ^ 64
+    → bit_and (slice_index_or one number 0) (slice_index_or other number 0) ≢ 0 → ShareAPlace one other
+common-word one other number small some =
+    let word : ℕ = bit_and (slice_index_or one number 0) (slice_index_or other number 0) in
+    let low = and_le_l (slice_index_or one number 0) (slice_index_or other number 0) in
+    let lowest = lowest_bit word (omega (arith, some)) (omega (arith, small, low)) in
+    let bit : ℕ = trailing_zeros w64 word in
+    let both = and_parts (is_bit (slice_index_or one number 0) bit) _
+    (sym (is_bit-and (slice_index_or one number 0) (slice_index_or other number 0) bit) ∙ lowest.1) in
+    (64 * number + bit, sym (word_bits one number bit lowest.0) ∙ both.0, sym (word_bits other number bit lowest.0) ∙ both.1)
+
+-- once a bit is found in a word of both sets, they have a place in common
+pub common-more : (one other : List ℕ) (number both : ℕ) → slice_index_or one number 0 < 2 ^ 64 → (both ≢ 0 → ShareAPlace one other)
+    → bit_or both (bit_and (slice_index_or one number 0) (slice_index_or other number 0)) ≢ 0 → ShareAPlace one other
+common-more one other number both small before some =
+    elim (cases_lt both 1) [
+      | inl none ↦ common-word one other number small (λ empty. some (neither both _ (omega (arith, none)) empty))
+      | inr more ↦ before (omega (arith, more))
+    ] where
+      neither : (a b : ℕ) → a ≡ 0 → b ≡ 0 → bit_or a b ≡ 0
+      neither a b e f = rw (e, f) refl

@@ -31,6 +31,14 @@ abbrev pub AreCommons : List Run → List ℕ → Type 0
 AreCommons runs commons =
     (from to : ℕ) → from < 1984 → is_any_contact runs from to ≡ true → has_place commons from ≡ true
 
+-- a contact of the runs leads from each of these places
+abbrev pub AreOnlyCommons : List Run → List ℕ → Type 0
+AreOnlyCommons runs commons = (from : ℕ) → has_place commons from ≡ true → (to : ℕ) × (is_any_contact runs from to ≡ true)
+
 -- two sets have no place in common
 abbrev pub ArePlacesApart : List ℕ → List ℕ → Type 0
 ArePlacesApart one other = (place : ℕ) → has_place one place ≡ true → has_place other place ≡ false
+
+-- two sets have a place in common
+abbrev pub ShareAPlace : List ℕ → List ℕ → Type 0
+ShareAPlace one other = (place : ℕ) × (has_place one place ≡ true) × (has_place other place ≡ true)

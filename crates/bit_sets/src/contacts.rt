@@ -2,7 +2,7 @@
 
 ghost use Rattle.std.specs.Prelude.{◌≡◌, ℕ, ◌≤◌, nat_lt, All};
 ghost use Rattle.bit_sets.specs.Bits.{is_bit};
-ghost use Rattle.bit_sets.specs.Contacts.{AreCommons, IsRunInRange};
+ghost use Rattle.bit_sets.specs.Contacts.{AreCommons, AreOnlyCommons, IsRunInRange};
 
 use crate::places::{WORDS, put_run};
 
@@ -18,10 +18,11 @@ pub struct Run {
     pub count: usize,
 }
 
-/// All places that a contact of the runs leads from.
+/// The places of a set, those below 1984, that a contact of the runs leads from.
 pub fn commons_of(runs: &[Run]) -> [u64; WORDS]
     requires { All IsRunInRange runs.now }
-    ensures { AreCommons runs.now result }
+    ensures all { AreCommons runs.now result }
+    ensures only { AreOnlyCommons runs.now result }
 {
     let mut commons = [0; WORDS];
     for run in runs {

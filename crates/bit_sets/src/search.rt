@@ -2,7 +2,7 @@
 
 ghost use Rattle.std.specs.Prelude.{◌≡◌, ◌≤◌, ℕ, ◌↔◌, ◌||◌, true, false, length, All, List, []};
 ghost use Rattle.bit_sets.specs.Bits.{has_place};
-ghost use Rattle.bit_sets.specs.Contacts.{AreCommons, ArePlacesApart, IsRunInRange};
+ghost use Rattle.bit_sets.specs.Contacts.{AreCommons, ArePlacesApart, IsRunInRange, ShareAPlace};
 ghost use Rattle.bit_sets.specs.Reached.{IsReached};
 ghost use Rattle.bit_sets.specs.declared.contacts.Run.{Run};
 
@@ -51,7 +51,8 @@ pub fn reach_by_rows(rows: &Rows, emits: &[u64; WORDS], out: &mut [u64; WORDS])
 /// Whether two sets have a place in common.
 #[inline(always)]
 pub fn meet(one: &[u64; WORDS], other: &[u64; WORDS]) -> bool
-    ensures { result ≡ false → ArePlacesApart one.now other.now }
+    ensures apart { result ≡ false → ArePlacesApart one.now other.now }
+    ensures common { result ≡ true → ShareAPlace one.now other.now }
 {
     let mut both = 0;
     for number in 0..WORDS {

@@ -4,7 +4,7 @@ ghost use Rattle.std.specs.Prelude.{◌≡◌, ◌+◌, ◌-◌, ◌*◌, ◌<�
 ghost use Rattle.hub_table.specs.Places.{place_of, up_to, two_or_three, row_place, width_place, positions_before, part_place, group_place, is_width, position_place};
 ghost use Rattle.hub_table.specs.declared.shape.Shape.TheVariants.{Positions};
 
-/// The numbers after a hub's letters, 0 to 999 each.
+/// The numbers after a hub's letters; those out of a kind's range have no place.
 #[derive(Clone, Copy, Debug, PartialEq, Eq)]
 pub enum Numbers {
     /// No number.

@@ -3,7 +3,7 @@ pub mod LinkLemmas
 pub mod PassLemmas
 pub mod ContactRuns
 pub mod Eights
-pub mod BlockLemmas
+pub mod SixteenLemmas
 pub mod RibbonLemmas
 pub mod Touched
 pub mod BundleLemmas

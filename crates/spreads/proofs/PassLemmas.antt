@@ -280,7 +280,7 @@ not-passed digits zones contact sets none place row =
     nothing : (a b : Bool) → (a || (b && false)) ≡ a
     nothing a b = grind (arith, nat_tests)
 
--- contacts from a block of places that have no row are passed over
+-- contacts from a sixteen whose places have no row are passed over
 pub Passes-past : (digits zones : List ℕ) (contacts : List Link) (place end : ℕ) (d : Link) (first now : List ℕ) → All IsPassing contacts
     → IsSkip contacts place end
     → ((other row : ℕ) → other / 16 ≡ (slice_index_or contacts place d).from / 16 → has_at now other row ≡ false)

@@ -330,6 +330,17 @@ ribbon-of links link lanes range inside high lead = record {
       let low : k < 8 = omega (arith, eight, within) in
       lead.wired k low (has-all (slice_index_or lanes k 0) (lead.each k low) on))
 
+-- so it is with the wire at a place of their list
+pub ribbon-first : (links : List Link) (first : ℕ) (d e : Link) (lanes : List ℕ) → All IsInRange links → first < length links
+    → (slice_index_or links first d).to + 8 ≤ 1936
+    → AreLanes links (slice_index_or links first d).from (slice_index_or links first d).to lanes
+    → IsRibbonAt links (slice_index_or links first e)
+    (record { from = (slice_index_or links first d).from; to = (slice_index_or links first d).to; lanes = lanes })
+ribbon-first links first d e lanes range inside high lead =
+    let wire = slice_index_or links first d in
+    subst (λ (link : Link). IsRibbonAt links link (record { from = wire.from; to = wire.to; lanes = lanes }))
+    (get_or_default links first d e inside) (ribbon-of links wire lanes range (range first d inside) high lead)
+
 -- a ribbon more brings the wire with which it begins, and others of the links
 pub AddsWire-ribbon : (links : List Link) (place : ℕ) (d : Link) (ribbons : List Ribbon) (ribbon : Ribbon) (single : List Link)
     → place < length links → IsRibbonAt links (slice_index_or links place d) ribbon

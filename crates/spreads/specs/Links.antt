@@ -21,7 +21,7 @@ is_link from to link = (from == link.from) && (to == link.to)
 abbrev pub is_linked : List Link → ℕ → ℕ → Bool
 is_linked links from to = list_any (is_link from to) links
 
--- the links from one place of their list on lead from the same block of sixteen places of the panel up to where they end
+-- the links from one place of their list on lead from the same sixteen places of the panel up to where they end
 pub record IsSkip (links : List Link) (first end : ℕ) : Type 0 where
   pub on : first < end
   pub within : end ≤ length links

@@ -1,6 +1,6 @@
 -- Contacts as links: sets of rows, one for each place, are passed on along closed contacts. A contact passes on the rows of its near end
 -- at which it is closed.
-use Rattle.std.specs.Prelude.{◌≡◌, ◌⊎◌, ℕ, ◌+◌, ◌-◌, ◌≤◌, min, nat_le, ◌==◌, ◌&&◌, ◌||◌, nat_lt, Bool, true, List, if◌then◌else◌}
+use Rattle.std.specs.Prelude.{◌≡◌, ◌⊎◌, ℕ, ◌+◌, ◌-◌, min, nat_le, ◌==◌, ◌&&◌, ◌||◌, nat_lt, Bool, true, List, if◌then◌else◌}
 use Rattle.std.specs.List.{list_any}
 use Rattle.bit_sets.specs.Bits.{has_place}
 use Rattle.bit_sets.specs.Contacts.{is_any_contact}
@@ -63,9 +63,3 @@ pub record AddsEights (test : ℕ → ℕ → Bool) (listed : List Link) (old ne
   pub kept : (from to : ℕ) → is_any_contact old from to ≡ true → is_any_contact new from to ≡ true
   pub added : (from to : ℕ) → test from to ≡ true → is_linked listed from to ≡ true → is_any_contact new from to ≡ true
   pub only : (from to : ℕ) → is_any_contact new from to ≡ true → (is_any_contact old from to ≡ true) ⊎ (test from to ≡ true)
-
--- a run of contacts leads from entries of the panel to exits
-pub record LeadsToExits (run : Run) : Type 0 where
-  pub from : 1040 ≤ run.common
-  pub high : run.common + run.count ≤ 1936
-  pub to : run.exits + run.count ≤ 1040

@@ -3,7 +3,7 @@
 ghost use Rattle.std.specs.Prelude.{◌≡◌, ℕ, ◌+◌, ◌/◌, ◌<◌, ◌≤◌, ◌==◌, true};
 ghost use Rattle.bit_sets.specs.Bits.{is_bit};
 
-use crate::sets::HUBS;
+use crate::sets::PANEL_PLACES;
 
 // How many places a block has.
 const PLACES_IN_BLOCK: usize = 32;
@@ -14,7 +14,7 @@ pub(crate) const ALL_BLOCKS: u64 = u64::MAX;
 // The block of a place.
 #[inline(always)]
 pub(crate) fn block_of(place: usize) -> u64
-    requires { place < HUBS }
+    requires { place < PANEL_PLACES }
     ensures { (block : ℕ) → is_bit result block ≡ (block == place / 32) }
 {
     1 << (place / PLACES_IN_BLOCK)
@@ -23,10 +23,10 @@ pub(crate) fn block_of(place: usize) -> u64
 // The blocks of so many places from the first one on, up to the last place of all.
 #[inline(always)]
 pub(crate) fn blocks_from(first: usize, count: usize) -> u64
-    requires { first < HUBS }
-    ensures { (place : ℕ) → first ≤ place → place < first + count → place < HUBS → is_bit result (place / 32) ≡ true }
+    requires { first < PANEL_PLACES }
+    ensures { (place : ℕ) → first ≤ place → place < first + count → place < PANEL_PLACES → is_bit result (place / 32) ≡ true }
 {
-    let last = first + count.max(1).min(HUBS - first) - 1;
+    let last = first + count.max(1).min(PANEL_PLACES - first) - 1;
     let block = first / PLACES_IN_BLOCK;
     first_blocks(last / PLACES_IN_BLOCK - block + 1) << block
 }

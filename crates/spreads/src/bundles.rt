@@ -6,7 +6,7 @@ ghost use Rattle.spreads.specs.Bundles.{IsBundle, IsBundleOf, LeadFromSixteen, l
 ghost use Rattle.spreads.specs.Links.{IsInRange, Spreads};
 
 use crate::blocks::block_of;
-use crate::links::{Link, is_block_empty, run_end};
+use crate::links::{Link, is_sixteen_empty, run_end};
 use crate::sets::PlaceSets;
 use crate::wires::Wires;
 use std::alloc::{AllocError, Global};
@@ -145,7 +145,7 @@ fn follow_bundle(bundle: &Bundle, sets: &mut PlaceSets)
     requires { IsBundle bundle.now }
     ensures { Spreads bundle.now.wires sets.old sets.new }
 {
-    if sets.may_have(bundle.near) && !is_block_empty(&sets.sets, bundle.place as usize) {
+    if sets.may_have(bundle.near) && !is_sixteen_empty(&sets.sets, bundle.place as usize) {
         bundle.wires.follow(&mut sets.sets);
         sets.touched |= bundle.far;
     }

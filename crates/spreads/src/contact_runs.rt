@@ -10,7 +10,7 @@ ghost use Rattle.spreads.specs.Passing.{AddsEights, IsRunPassed, RunsPass, SameS
 use crate::lanes::{LANES, are_empty, eight_from, join_eight, rows_in_lanes};
 use crate::links::Link;
 use crate::passing::is_led_to;
-use crate::sets::HUBS;
+use crate::sets::PANEL_PLACES;
 use bit_sets::{Run, WORDS};
 use std::alloc::{AllocError, Global};
 use std::simd::prelude::*;
@@ -69,7 +69,7 @@ pub(crate) fn pass_eights(
     eights: &[Run],
     digits: &[u64; WORDS],
     zones: &[u64; WORDS],
-    sets: &mut [u16; HUBS],
+    sets: &mut [u16; PANEL_PLACES],
 ) -> bool
     requires { All IsEight eights.now }
     ensures passed { RunsPass digits.now zones.now eights.now sets.old sets.new }
@@ -86,7 +86,12 @@ pub(crate) fn pass_eights(
 // The contacts of an eight pass on the rows of their near ends at which they are closed. Answers whether one passed any on. Mostly the near
 // ends have none.
 #[inline(always)]
-fn pass_eight(run: Run, digits: &[u64; WORDS], zones: &[u64; WORDS], sets: &mut [u16; HUBS]) -> bool
+fn pass_eight(
+    run: Run,
+    digits: &[u64; WORDS],
+    zones: &[u64; WORDS],
+    sets: &mut [u16; PANEL_PLACES],
+) -> bool
     requires { IsEight run }
     ensures passed { IsRunPassed digits.now zones.now run sets.old sets.new }
     ensures same { result ≡ false → SameSets sets.old sets.new }

@@ -4,7 +4,7 @@ ghost use Rattle.std.specs.Prelude.{◌≡◌, ℕ, ◌+◌, ◌-◌, ◌<◌, �
 ghost use Rattle.bit_sets.specs.Bits.{is_bit};
 ghost use Rattle.spreads.specs.Links.{has_at};
 
-use crate::sets::HUBS;
+use crate::sets::PANEL_PLACES;
 use std::simd::prelude::*;
 
 // How many sets are taken at once.
@@ -15,8 +15,8 @@ const BITS: [u16; LANES] = [1, 2, 4, 8, 16, 32, 64, 128];
 
 // Eight sets from a place on, all taken at once.
 #[inline(always)]
-pub(crate) fn eight_from(sets: &[u16; HUBS], first: usize) -> u16x8
-    requires { first + 8 ≤ HUBS }
+pub(crate) fn eight_from(sets: &[u16; PANEL_PLACES], first: usize) -> u16x8
+    requires { first + 8 ≤ PANEL_PLACES }
     ensures { result ≡ take 8 (drop first sets.now) }
 {
     u16x8::from_slice(&sets[first..])
@@ -43,13 +43,13 @@ pub(crate) fn are_empty(rows: u16x8) -> bool
 
 // Eight sets from a place on gain the rows of the lanes.
 #[inline(always)]
-pub(crate) fn join_eight(sets: &mut [u16; HUBS], first: usize, rows: u16x8)
-    requires within { first + 8 ≤ HUBS }
+pub(crate) fn join_eight(sets: &mut [u16; PANEL_PLACES], first: usize, rows: u16x8)
+    requires within { first + 8 ≤ PANEL_PLACES }
     requires eight { length rows ≡ 8 }
     ensures joined { (place row : ℕ) → has_at sets.new place row
         ≡ (has_at sets.old place row
         || (nat_le first place && (nat_lt (place - first) 8 && is_bit (slice_index_or rows (place - first) 0) row))) }
-    ensures long { length sets.new ≡ HUBS }
+    ensures long { length sets.new ≡ PANEL_PLACES }
 {
     let joined = eight_from(sets, first) | rows;
     joined.copy_to_slice(&mut sets[first..]);

@@ -19,4 +19,4 @@ mod wires;
 
 pub use links::Link;
 pub use paths::Paths;
-pub use sets::{HUBS, PlaceSets};
+pub use sets::{PANEL_PLACES, PlaceSets};

@@ -6,8 +6,8 @@ ghost use Rattle.bit_sets.specs.Bits.{is_bit};
 ghost use Rattle.spreads.specs.Links.{AreSkips, HasEntriesOf, IsPassing, is_led_to};
 ghost use Rattle.spreads.specs.Passing.{IsPassed, Passes, SameSets, is_closed_at};
 
-use crate::links::{Link, is_block_empty};
-use crate::sets::HUBS;
+use crate::links::{Link, is_sixteen_empty};
+use crate::sets::PANEL_PLACES;
 use bit_sets::{PLACES, WORDS, has_within};
 
 // Whether a link leads to a place.
@@ -30,7 +30,7 @@ pub(crate) fn pass_all(
     skips: &[usize],
     digits: &[u64; WORDS],
     zones: &[u64; WORDS],
-    sets: &mut [u16; HUBS],
+    sets: &mut [u16; PANEL_PLACES],
 ) -> bool
     requires passing { All IsPassing contacts.now }
     requires skips { AreSkips contacts.now skips.now }
@@ -41,7 +41,7 @@ pub(crate) fn pass_all(
     let mut place = 0;
     while place < contacts.len() {
         let end = skips[place];
-        if is_block_empty(sets, contacts[place].from as usize) {
+        if is_sixteen_empty(sets, contacts[place].from as usize) {
             place = end;
         } else {
             let now = pass_run(contacts, place, end, digits, zones, sets);
@@ -52,15 +52,15 @@ pub(crate) fn pass_all(
     gained
 }
 
-// The contacts from one place of their list up to another pass on the rows of their near ends at which they are closed. Answers whether a far end may
-// have gained any.
+// The contacts from one place of their list up to another pass on the rows of their near ends at which they are closed. Answers whether a
+// far end may have gained any.
 fn pass_run(
     contacts: &[Link],
     from: usize,
     to: usize,
     digits: &[u64; WORDS],
     zones: &[u64; WORDS],
-    sets: &mut [u16; HUBS],
+    sets: &mut [u16; PANEL_PLACES],
 ) -> bool
     requires passing { All IsPassing contacts.now }
     requires order { from ≤ to }
@@ -80,7 +80,12 @@ fn pass_run(
 }
 
 // A contact passes on the rows of its near end at which it is closed. Answers whether the far end gained any.
-fn pass(contact: Link, digits: &[u64; WORDS], zones: &[u64; WORDS], sets: &mut [u16; HUBS]) -> bool
+fn pass(
+    contact: Link,
+    digits: &[u64; WORDS],
+    zones: &[u64; WORDS],
+    sets: &mut [u16; PANEL_PLACES],
+) -> bool
     requires { IsPassing contact }
     ensures passed { IsPassed digits.now zones.now contact sets.old sets.new }
     ensures same { result ≡ false → SameSets sets.old sets.new }

@@ -2,8 +2,8 @@
 
 ghost use Rattle.std.specs.Prelude.{◌≡◌, All, IfOk, OnOk};
 ghost use Rattle.bit_sets.specs.Contacts.{is_any_contact, is_contact};
-ghost use Rattle.spreads.specs.Links.{IsInRange, IsPassing, is_led_to};
-ghost use Rattle.spreads.specs.Passing.{AddsContacts, LeadsToExits};
+ghost use Rattle.spreads.specs.Links.{HasRoom, IsInRange, IsPassing, is_led_to};
+ghost use Rattle.spreads.specs.Passing.{AddsContacts};
 ghost use Rattle.spreads.specs.Paths.{AreContactsOf, IsBeyond, links_behind, links_elsewhere};
 ghost use Rattle.spreads.specs.Ribbons.{LeadAlike};
 
@@ -19,22 +19,23 @@ use std::marker::Model;
 
 /// Wires, and the contacts to which they lead, parted so that sets of rows are spread along them in turns. Contracts see lists of them.
 pub struct Paths {
-    // All wires.
+    // All wires, for `follow`. A caller that lets contacts pass rows on follows them by `follow_outer` and `follow_further` instead, so that a
+    // run follows only these or only those.
     wires: Bundles,
-    // The contacts that a wire leads to, one by one.
+    // The contacts that a wire leads to, one by one. No call looks at them: they are kept for the contracts, which name the parts by them.
     contacts: Vec<Link>,
-    // Runs of at most eight contacts each, in which all these lie, by the blocks of places from which they lead.
+    // Runs of at most eight contacts each, in which all these lie, by the blocks of places from which they lead: for `pass`.
     eights: Banks,
-    // The wires from all exits but those of these contacts.
+    // The wires from all exits but those of these contacts, for `follow_outer`.
     outer: Bundles,
     beyond: Beyond,
 }
 
 // What lies beyond the contacts that a wire leads to.
 pub(crate) struct Beyond {
-    // The wires from the exits of these contacts.
+    // The wires from the exits of these contacts, for `follow_further`.
     wires: Bundles,
-    // The contacts to which these wires lead.
+    // The contacts to which these wires lead, for `pass_behind`.
     behind: Singles,
 }
 
@@ -79,14 +80,14 @@ impl Model for Paths {
 impl Paths {
     ghost use Rattle.std.specs.Prelude.{◌≡◌, All, IfOk, false};
     ghost use Rattle.spreads.specs.Links.{HasRoom, IsInRange, Spreads};
-    ghost use Rattle.spreads.specs.Passing.{LeadsToExits, Passes, RunsPass, SameSets};
+    ghost use Rattle.spreads.specs.Passing.{Passes, RunsPass, SameSets};
     ghost use Rattle.spreads.specs.Paths.{AreParted};
     ghost use Rattle.spreads.specs.Ribbons.{LeadAlike};
 
-    /// The wires that are listed, and the contacts of the runs to which they lead. The wires are in few bundles where the list goes by exits.
+    /// The wires that are listed, and the contacts of the runs to which they lead. The wires are in few bundles where the list goes by
+    /// exits. The contacts lead from entries to exits, and behind the last entry of each run there are eight places more.
     pub fn of(alloc: Global, runs: &[Run], links: &[Link]) -> Result<Paths, AllocError>
         requires range { All IsInRange links.now }
-        requires exits { All LeadsToExits runs.now }
         requires room { All HasRoom runs.now }
         ensures parted { IfOk result (AreParted runs.now) }
         ensures alike { IfOk result (λ paths. LeadAlike links.now paths.wires) }
@@ -119,7 +120,8 @@ impl Paths {
     }
 
     /// The contacts pass on the rows of their near ends at which they are closed: `digits` has the exits of those closed at the rows 9 to
-    /// 0, `zones` of those closed at 11 and 12. Answers whether one passed any on.
+    /// 0, `zones` of those closed at 11 and 12. They are taken in eights that begin at one to which a wire leads, so that up to seven
+    /// beside it pass on rows too, wired or not. Answers whether a far end may have gained any.
     pub fn pass(&self, digits: &[u64; WORDS], zones: &[u64; WORDS], sets: &mut PlaceSets) -> bool
         ensures passed { RunsPass digits.now zones.now self.now.eights sets.old sets.new }
         ensures same { result ≡ false → SameSets sets.old sets.new }
@@ -150,7 +152,7 @@ impl Paths {
 
 // The contacts of the runs that a link leads to.
 fn contacts_of(alloc: Global, runs: &[Run], links: &[Link]) -> Result<Vec<Link>, AllocError>
-    requires { All LeadsToExits runs.now }
+    requires { All HasRoom runs.now }
     ensures { IfOk result (λ contacts. AreContactsOf runs.now links.now contacts.items) }
 {
     let mut contacts = Vec::new(alloc);
@@ -162,7 +164,7 @@ fn contacts_of(alloc: Global, runs: &[Run], links: &[Link]) -> Result<Vec<Link>,
 
 // Adds the contacts of a run that a link leads to.
 fn add_run(run: Run, links: &[Link], contacts: &mut Vec<Link>) -> Result<(), AllocError>
-    requires run { LeadsToExits run }
+    requires room { HasRoom run }
     requires passing { All IsPassing contacts.old.items }
     ensures passing { OnOk result (All IsPassing contacts.new.items) }
     ensures added { OnOk result (AddsContacts (is_contact run) links.now contacts.old.items contacts.new.items) }

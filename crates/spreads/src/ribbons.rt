@@ -1,12 +1,13 @@
 //! Wires side by side, as ribbons: sets of rows are spread along the wires of a ribbon all at once.
 
-ghost use Rattle.std.specs.Prelude.{◌≡◌, All, IfSome, length, true};
+ghost use Rattle.std.specs.Prelude.{◌≡◌, ◌<◌, All, IfSome, length, slice_index_or, true};
 ghost use Rattle.spreads.specs.Links.{HasExitsOf, IsInRange, Spreads, is_linked};
+ghost use Rattle.spreads.specs.declared.links.Link.{Link};
 ghost use Rattle.spreads.specs.Ribbons.{AreLanes, IsRibbon, IsRibbonAt, links_of_ribbons, ribbon_links};
 
 use crate::lanes::{LANES, eight_from, join_eight};
 use crate::links::Link;
-use crate::sets::HUBS;
+use crate::sets::PANEL_PLACES;
 use std::simd::prelude::*;
 
 // The most wires of one list of which ribbons are made.
@@ -28,7 +29,7 @@ pub(crate) struct Ribbon {
 }
 
 // Spreads sets of rows, one for each place, along the wires of the ribbons. No wire leads from where another one leads to.
-pub(crate) fn follow_ribbons(ribbons: &[Ribbon], sets: &mut [u16; HUBS])
+pub(crate) fn follow_ribbons(ribbons: &[Ribbon], sets: &mut [u16; PANEL_PLACES])
     requires { All IsRibbon ribbons.now }
     ensures spread { Spreads (links_of_ribbons ribbons.now) sets.old sets.new }
     ensures exits { HasExitsOf sets.old sets.new }
@@ -39,7 +40,7 @@ pub(crate) fn follow_ribbons(ribbons: &[Ribbon], sets: &mut [u16; HUBS])
 }
 
 // The places to which the wires of a ribbon lead gain the rows of those from which they lead.
-fn follow_ribbon(ribbon: &Ribbon, sets: &mut [u16; HUBS])
+fn follow_ribbon(ribbon: &Ribbon, sets: &mut [u16; PANEL_PLACES])
     requires { IsRibbon ribbon.now }
     ensures spread { Spreads (ribbon_links ribbon.now) sets.old sets.new }
     ensures long { length sets.new ≡ 1936 }
@@ -82,15 +83,15 @@ fn is_in(ribbon: &Ribbon, link: Link) -> bool
     ribbon.lanes[lane] != 0
 }
 
-// The ribbon that begins with a wire, with all that lie side by side with it: those behind it in the list. None where these are few, or where
-// there are too many wires to search.
-pub(crate) fn ribbon_at(links: &[Link], first: usize, link: Link) -> Option<Ribbon>
+// The ribbon that begins with the wire at `first`, with all that lie side by side with it: those behind it in the list. None where these are
+// few, where there are too many wires to search, or where fewer than eight places are left from the far end on.
+pub(crate) fn ribbon_at(links: &[Link], first: usize) -> Option<Ribbon>
     requires links { All IsInRange links.now }
-    requires range { IsInRange link }
-    requires listed { is_linked links.now link.from link.to ≡ true }
-    ensures { IfSome result (IsRibbonAt links.now link) }
+    requires first { first < length links.now }
+    ensures { (d : Link) → IfSome result (IsRibbonAt links.now (slice_index_or links.now first d)) }
 {
-    if links.len() > MOST_SEARCHED || link.to as usize + LANES > HUBS {
+    let link = links[first];
+    if links.len() > MOST_SEARCHED || link.to as usize + LANES > PANEL_PLACES {
         return None;
     }
     let lanes = lanes_at(links, first, link);

@@ -6,14 +6,14 @@ ghost use Rattle.spreads.specs.Links.{has_at};
 use crate::blocks::{block_of, blocks_from};
 use std::marker::Model;
 
-/// How many places there are, one for each hub of the panel.
-pub const HUBS: usize = 1936;
+/// How many places the panel has, and so how many sets there are. A set of bits has room for some more places.
+pub const PANEL_PLACES: usize = 1936;
 
 /// For each place the set of the rows that it has: bit r of a set tells of the row at place r among the points. Contracts see the list of
 /// the sets.
 #[derive(Debug, Drop)]
 pub struct PlaceSets {
-    pub(crate) sets: [u16; HUBS],
+    pub(crate) sets: [u16; PANEL_PLACES],
     // The blocks of places that may have rows. In all others no place has any, so that these needn't be looked at.
     pub(crate) touched: u64,
 }
@@ -40,15 +40,15 @@ impl PlaceSets {
         ensures { (place row : ℕ) → has_at result place row ≡ false }
     {
         PlaceSets {
-            sets: [0; HUBS],
+            sets: [0; PANEL_PLACES],
             touched: 0,
         }
     }
 
-    /// Adds a row to the set of a place.
+    /// Adds a row to the set of a place. `row` is its place among the rows of a cycle: that of row 9 is 0, and that of row 12 is 11.
     #[inline(always)]
     pub fn insert(&mut self, place: usize, row: usize)
-        requires place { place < HUBS }
+        requires place { place < PANEL_PLACES }
         requires row { row < 12 }
         ensures { (other r : ℕ) → has_at self.new other r ≡ (has_at self.old other r || ((r == row) && (other == place))) }
     {
@@ -59,8 +59,8 @@ impl PlaceSets {
     /// Adds sets to those of places that follow one another from the first one on. Sets after the last place change nothing.
     #[inline(always)]
     pub fn insert_sets(&mut self, first: usize, sets: &[u16])
-        requires { first < HUBS }
-        ensures { (place row : ℕ) → place < HUBS → has_at self.new place row
+        requires { first < PANEL_PLACES }
+        ensures { (place row : ℕ) → place < PANEL_PLACES → has_at self.new place row
             ≡ (has_at self.old place row || (nat_le first place && has_at sets.now (place - first) row)) }
     {
         join(&mut self.sets, first, sets);
@@ -70,9 +70,9 @@ impl PlaceSets {
     /// The sets of the places from the first one on.
     #[inline(always)]
     pub fn from(&self, first: usize) -> &[u16]
-        requires { first < HUBS }
+        requires { first < PANEL_PLACES }
         ensures sets { result.now ≡ drop first self.now }
-        ensures long { length result.now + first ≡ HUBS }
+        ensures long { length result.now + first ≡ PANEL_PLACES }
     {
         &self.sets[first..]
     }
@@ -94,13 +94,13 @@ impl PlaceSets {
 }
 
 // Joins sets to those from a place on.
-fn join(all: &mut [u16; HUBS], first: usize, sets: &[u16])
-    requires { first < HUBS }
-    ensures joined { (place row : ℕ) → place < HUBS → has_at all.new place row
+fn join(all: &mut [u16; PANEL_PLACES], first: usize, sets: &[u16])
+    requires { first < PANEL_PLACES }
+    ensures joined { (place row : ℕ) → place < PANEL_PLACES → has_at all.new place row
         ≡ (has_at all.old place row || (nat_le first place && has_at sets.now (place - first) row)) }
-    ensures long { length all.new ≡ HUBS }
+    ensures long { length all.new ≡ PANEL_PLACES }
 {
-    let count = sets.len().min(HUBS - first);
+    let count = sets.len().min(PANEL_PLACES - first);
     for k in 0..count {
         all[first + k] |= sets[k];
     }

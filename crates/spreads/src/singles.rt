@@ -1,4 +1,4 @@
-//! Contacts one by one, in their order. Only those from blocks of places that have rows are looked at.
+//! Contacts one by one, in their order. Only those from sixteens that have rows are looked at.
 
 use crate::blocks::ALL_BLOCKS;
 use crate::links::{Link, skips_of};
@@ -11,7 +11,7 @@ use std::marker::Model;
 /// Contacts one by one. Contracts see the list of them.
 pub(crate) struct Singles {
     contacts: Vec<Link>,
-    // For each of them where those after it end that lead from the same block of places.
+    // For each of them where those after it end that lead from the same sixteen.
     skips: Vec<usize>,
 }
 

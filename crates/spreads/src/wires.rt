@@ -6,7 +6,7 @@ ghost use Rattle.spreads.specs.Ribbons.{AddsWire, IsRibbon, wires_of};
 
 use crate::links::{Link, follow_links};
 use crate::ribbons::{Ribbon, follow_ribbons, is_in_one, ribbon_at};
-use crate::sets::HUBS;
+use crate::sets::PANEL_PLACES;
 use std::alloc::{AllocError, Global};
 use std::marker::Model;
 
@@ -45,7 +45,8 @@ impl Wires {
     ghost use Rattle.spreads.specs.Links.{IsInRange, Spreads};
     ghost use Rattle.spreads.specs.Ribbons.{LeadAlike};
 
-    /// Makes the wires that are listed ready. All that lie side by side are found where the list goes by exits.
+    /// Makes the wires that are listed ready. Of up to 1,024 wires those side by side are found, three or more, where the list goes by
+    /// exits; but none of which the first leads to one of the last seven places.
     pub(crate) fn of(alloc: Global, links: &[Link]) -> Result<Wires, AllocError>
         requires { All IsInRange links.now }
         ensures range { IfOk result (All IsInRange) }
@@ -63,7 +64,7 @@ impl Wires {
     }
 
     /// Spreads sets of rows, one for each place, along the wires: the far end of each gains the rows of the near end.
-    pub(crate) fn follow(&self, sets: &mut [u16; HUBS])
+    pub(crate) fn follow(&self, sets: &mut [u16; PANEL_PLACES])
         ensures { Spreads self.now sets.old sets.new }
     {
         follow_ribbons(self.ribbons.as_slice(), sets);
@@ -92,7 +93,7 @@ fn add_wire(
     if is_in_one(ribbons.as_slice(), link) {
         return Ok(());
     }
-    if let Some(ribbon) = ribbon_at(links, place, link) {
+    if let Some(ribbon) = ribbon_at(links, place) {
         ribbons.push(ribbon)?;
         return Ok(());
     }

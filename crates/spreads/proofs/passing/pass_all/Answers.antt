@@ -11,13 +11,13 @@ loop-place-init c = record {
   long = c.told-sets;
 }
 
-pub loop-place-preserved-then-is_block_empty : goal.loop-place-preserved-then-is_block_empty
-loop-place-preserved-then-is_block_empty c =
+pub loop-place-preserved-then-is_sixteen_empty : goal.loop-place-preserved-then-is_sixteen_empty
+loop-place-preserved-then-is_sixteen_empty c =
     let skip = c.requires.skips.each c.loop-place.place c.loop-place-test.true in
     record {
       passed =
           Passes-past c.args.digits.now c.args.zones.now c.args.contacts.now c.loop-place.place _ _ c.args.sets.now c.loop-place.sets
-          c.requires.passing skip (c.is_block_empty.ensures c.if-is_block_empty.true) c.loop-place.invariant.entries
+          c.requires.passing skip (c.is_sixteen_empty.ensures c.if-is_sixteen_empty.true) c.loop-place.invariant.entries
           c.loop-place.invariant.passed;
       entries = c.loop-place.invariant.entries;
       same = c.loop-place.invariant.same;

@@ -1,4 +1,4 @@
--- Blocks of sixteen places, of which none has a row, with eight of their sets taken at once.
+-- Sixteens: sixteen places that follow one another, of which none has a row, with eight of their sets taken at once.
 use Rattle.std.proofs.Common.{◌≡◌, ◌∙◌, ◌⊎◌, inl, inr, ℕ, ◌+◌, ◌-◌, ◌*◌, ◌/◌, ◌%◌, ◌^◌, ◌<◌, ◌≤◌, Bool, true, false, not, ◌||◌, List, length, take, drop, get_or, map, replicate, sym, ap, refl, arith, bit_or, cond, eqb, nat_eq}
 use Rattle.std.proofs.lemmas.Bool.{cases_lt}
 use Rattle.std.proofs.lemmas.Bool.Decides.{nat_tests}
@@ -40,7 +40,7 @@ length-eight sets first within =
 eight-at : (sets : List ℕ) (first k : ℕ) → k < 8 → get_or (eight sets first) k 0 ≡ get_or sets (first + k) 0
 eight-at sets first k low = get_or-take 8 (drop first sets) k 0 low ∙ get_or-drop first sets k 0
 
--- the sets of a block joined are eight
+-- the sets of a sixteen joined are eight
 pub joined-eight : (sets : List ℕ) (place : ℕ) → length sets ≡ 1936 → place < 1936
     → length (zip2 bit_or (take 8 (drop (place / 16 * 16) sets)) (take 8 (drop (place / 16 * 16 + 8) sets))) ≡ 8
 joined-eight sets place long inside =
@@ -49,12 +49,12 @@ joined-eight sets place long inside =
     let two = length-eight sets (first + 8) (omega (arith, long, inside)) in
     length-zip2 bit_or (eight sets first) (eight sets (first + 8)) (one ∙ sym two) ∙ one
 
--- where the joined sets of a block are empty none of its places has a row
-pub block-empty : (sets : List ℕ) (place other row : ℕ) → length sets ≡ 1936 → place < 1936
+-- where the joined sets of a sixteen are empty none of its places has a row
+pub sixteen-empty : (sets : List ℕ) (place other row : ℕ) → length sets ≡ 1936 → place < 1936
     → ((k at : ℕ) → k < 8
     → is_bit (get_or (zip2 bit_or (take 8 (drop (place / 16 * 16) sets)) (take 8 (drop (place / 16 * 16 + 8) sets))) k 0) at ≡ false)
     → other / 16 ≡ place / 16 → has_at sets other row ≡ false
-block-empty sets place other row long inside none same = by (cases_lt other (place / 16 * 16 + 8))
+sixteen-empty sets place other row long inside none same = by (cases_lt other (place / 16 * 16 + 8))
   where
     first : ℕ
     first = place / 16 * 16
