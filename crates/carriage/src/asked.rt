@@ -1,12 +1,12 @@
 //! What the carriage is asked for at the control point of a cycle.
 
-ghost use Rattle.std.specs.Prelude.{◌≡◌, ◌<◌, ◌≤◌};
+ghost use Rattle.std.specs.Prelude.{◌≡◌, ◌≤◌};
 ghost use Rattle.hubs.specs.declared.hub.Hub.TheVariants.{SP};
-ghost use Rattle.net.specs.HubSets.{is_bit, is_in_row};
+ghost use Rattle.net.specs.HubSets.{is_in_row};
 ghost use Rattle.carriage.specs.Asked.{asked_by, lines_asked, lowest_from};
 
 use hubs::Hub;
-use net::Picture;
+use net::{Picture, has_bit};
 
 /// What is asked for in a cycle.
 #[derive(Clone, Copy, Debug, PartialEq, Eq)]
@@ -73,18 +73,9 @@ fn channel_in(hubs: u128, channels: u8) -> Option<u8>
     ensures { result ≡ lowest_from 1 channels (is_in_row (SP 2) hubs) }
 {
     for channel in 1..channels + 1 {
-        if has_bit(hubs, channel + 1) {
+        if has_bit(hubs, channel as usize + 1) {
             return Some(channel);
         }
     }
     None
-}
-
-// Whether a bit of a word is set.
-#[tactic(auto, unfolding(net::specs::HubSets::is_bit))]
-fn has_bit(word: u128, bit: u8) -> bool
-    requires { bit < 128 }
-    ensures { result ≡ is_bit word bit }
-{
-    word >> bit & 1 == 1
 }

@@ -5,8 +5,8 @@ use Rattle.hubs.specs.declared.hub.Hub.{Hub}
 use Rattle.hubs.specs.declared.jack.Jack.{Jack}
 use Rattle.setups.specs.Tapes.{has_stop}
 use Rattle.setups.proofs.WiredLemmas.{HasWire-is_wired}
-use Rattle.setups.specs.Wiring.{HasJack, HasWire, Wiring, is_plugged, is_wired}
-use Rattle.differences.specs.Differences.{HasSize, IsDifference, LacksJack, LacksStop, LacksWire, SameSetup}
+use Rattle.setups.specs.Wiring.{IsSameSetup, Wiring, is_plugged, is_wired}
+use Rattle.differences.specs.Differences.{HasSize, IsDifference, LacksJack, LacksStop, LacksWire}
 use Rattle.differences.specs.HelperSizes.{SameForm}
 use Rattle.differences.proofs.Counts.{many-zero, zero-many}
 
@@ -14,15 +14,6 @@ use Rattle.differences.proofs.Counts.{many-zero, zero-many}
 decided : {P : Type 0} (test : Bool) → IsTrue test ↔ P → ((P → ⊥) → ⊥) → P
 decided true tells not = tells.0 refl
 decided false tells not = absurd (not (λ p. true≢false (sym (tells.1 p))))
-
--- a stop is punched or not
-punched : (test : Bool) → (test ≡ false → ⊥) → test ≡ true
-punched true not = refl
-punched false not = absurd (not refl)
-
-unpunched : (test : Bool) → (test ≡ true → ⊥) → test ≡ false
-unpunched true not = absurd (not refl)
-unpunched false not = refl
 
 -- nothing is in a difference of no size
 none-lacking : {one other left : Wiring} → IsDifference one other left → HasSize left 0
@@ -45,7 +36,7 @@ size-zero is wires jacks stops size =
 
 -- from the sizes of the differences to the setups
 pub same-from : (one other missing extra : Wiring) → IsDifference one other missing → IsDifference other one extra → HasSize missing 0
-    → HasSize extra 0 → SameForm one.tape other.tape → SameSetup one other
+    → HasSize extra 0 → SameForm one.tape other.tape → IsSameSetup one other
 same-from one other missing extra less more nothing no_more form =
     let a = none-lacking less nothing in
     let b = none-lacking more no_more in
@@ -55,10 +46,7 @@ same-from one other missing extra less more nothing no_more form =
         λ has. decided (is_wired other exit entry) (HasWire-is_wired other exit entry)
             (λ not. a.0 exit entry (record { there = has; lacking = not })),
       );
-      jacks = λ jack. (
-        λ has. punched (is_plugged one jack) (λ e. b.1 jack (record { there = has; lacking = λ h. true≢false (sym h ∙ e) })),
-        λ has. punched (is_plugged other jack) (λ e. a.1 jack (record { there = has; lacking = λ h. true≢false (sym h ∙ e) })),
-      );
+      jacks = λ jack. plugged_alike jack (is_plugged one jack) (is_plugged other jack) refl refl;
       tape = record {
         lines = form.lines;
         first = form.first;
@@ -73,33 +61,39 @@ same-from one other missing extra less more nothing no_more form =
     alike c l true false e f = absurd ((none-lacking less nothing).2 c l (record { there = e; lacking = f }))
     alike c l false true e f = absurd ((none-lacking more no_more).2 c l (record { there = f; lacking = e }))
 
+    plugged_alike : (jack : Jack) (p q : Bool) → is_plugged one jack ≡ p → is_plugged other jack ≡ q → q ≡ p
+    plugged_alike jack true true e f = refl
+    plugged_alike jack false false e f = refl
+    plugged_alike jack true false e f = absurd ((none-lacking less nothing).1 jack (record { there = e; lacking = λ h. true≢false (sym h ∙ f) }))
+    plugged_alike jack false true e f = absurd ((none-lacking more no_more).1 jack (record { there = f; lacking = λ h. true≢false (sym h ∙ e) }))
+
 -- and back
-pub same-missing : {one other missing : Wiring} {size : ℕ} → SameSetup one other → IsDifference one other missing → HasSize missing size → size ≡ 0
+pub same-missing : {one other missing : Wiring} {size : ℕ} → IsSameSetup one other → IsDifference one other missing → HasSize missing size → size ≡ 0
 same-missing {one} {other} same is =
     size-zero is (λ exit entry lacks. lacks.lacking ((same.wires exit entry).1 lacks.there))
-    (λ jack lacks. lacks.lacking ((same.jacks jack).1 lacks.there))
+    (λ jack lacks. lacks.lacking (same.jacks jack ∙ lacks.there))
     (λ channel line lacks. true≢false (sym lacks.there ∙ sym (same.tape.stops channel line) ∙ lacks.lacking))
 
-pub same-extra : {one other extra : Wiring} {size : ℕ} → SameSetup one other → IsDifference other one extra → HasSize extra size → size ≡ 0
+pub same-extra : {one other extra : Wiring} {size : ℕ} → IsSameSetup one other → IsDifference other one extra → HasSize extra size → size ≡ 0
 same-extra {one} {other} same is =
     size-zero is (λ exit entry lacks. lacks.lacking ((same.wires exit entry).0 lacks.there))
-    (λ jack lacks. lacks.lacking ((same.jacks jack).0 lacks.there))
+    (λ jack lacks. lacks.lacking (sym (same.jacks jack) ∙ lacks.there))
     (λ channel line lacks. true≢false (sym lacks.there ∙ same.tape.stops channel line ∙ lacks.lacking))
 
 -- so a test of the form and of the two sizes tells whether the setups are the same
 pub same-tells : (one other missing extra : Wiring) (form : Bool) (m n : ℕ) → IsDifference one other missing → IsDifference other one extra
     → HasSize missing m → HasSize extra n → IsTrue form ↔ SameForm one.tape other.tape
-    → IsTrue (form && (nat_eq m 0 && nat_eq n 0)) ↔ SameSetup one other
+    → IsTrue (form && (nat_eq m 0 && nat_eq n 0)) ↔ IsSameSetup one other
 same-tells one other missing extra form m n less more size size_too tells = (there, back)
   where
-    there : IsTrue (form && (nat_eq m 0 && nat_eq n 0)) → SameSetup one other
+    there : IsTrue (form && (nat_eq m 0 && nat_eq n 0)) → IsSameSetup one other
     there is =
         let outer = and_parts form _ is in
         let inner = and_parts (nat_eq m 0) (nat_eq n 0) outer.1 in
         same-from one other missing extra less more (subst (HasSize missing) (eqb-true m 0 inner.0) size)
         (subst (HasSize extra) (eqb-true n 0 inner.1) size_too) (tells.0 outer.0)
 
-    back : SameSetup one other → IsTrue (form && (nat_eq m 0 && nat_eq n 0))
+    back : IsSameSetup one other → IsTrue (form && (nat_eq m 0 && nat_eq n 0))
     back same =
         and_from form _ (tells.1 (record { lines = same.tape.lines; first = same.tape.first; overflow = same.tape.overflow }))
         (and_from (nat_eq m 0) (nat_eq n 0) (eq-eqb m 0 (same-missing same less size)) (eq-eqb n 0 (same-extra same more size_too)))

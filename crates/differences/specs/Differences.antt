@@ -1,6 +1,6 @@
 -- Two setups side by side: what one has and the other has not, and how much a setup has.
 use Rattle.std.specs.Prelude.{◌≡◌, ◌≢◌, ◌↔◌, ℕ, ◌+◌, List, AllPairs, Contains, length, true, false}
-use Rattle.setups.specs.Tapes.{IsStopOf, SameTape, has_stop}
+use Rattle.setups.specs.Tapes.{IsStopOf, has_stop}
 use Rattle.setups.specs.Wiring.{Wiring, HasWire, HasJack, IsWireOf}
 use Rattle.hubs.specs.declared.hub.Hub.{Hub}
 use Rattle.hubs.specs.declared.jack.Jack.{Jack}
@@ -45,9 +45,3 @@ pub record HasSize (wiring : Wiring) (size : ℕ) : Type 0 where
   pub are_jacks : AreMany (HasJack wiring) jacks
   pub are_stops : AreMany (IsStopOf wiring.tape) stops
   pub together : size ≡ wires + jacks + stops
-
--- two setups are the same: they have the same wires, jacks and tape
-pub record SameSetup (one other : Wiring) : Type 0 where
-  pub wires : (exit entry : Hub) → HasWire other exit entry ↔ HasWire one exit entry
-  pub jacks : (jack : Jack) → HasJack other jack ↔ HasJack one jack
-  pub tape : SameTape one.tape other.tape

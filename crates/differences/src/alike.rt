@@ -1,8 +1,9 @@
 //! Whether two setups are the same.
 
 ghost use Rattle.std.specs.Prelude.{◌≡◌, ◌↔◌, ◌&&◌, IsTrue, nat_eq};
-ghost use Rattle.differences.specs.Differences.{HasSize, IsDifference, SameSetup};
+ghost use Rattle.differences.specs.Differences.{HasSize, IsDifference};
 ghost use Rattle.differences.specs.HelperSizes.{SameForm};
+ghost use Rattle.setups.specs.Wiring.{IsSameSetup};
 
 use crate::sizes::size;
 use setups::{Setup, Tape};
@@ -27,7 +28,7 @@ fn has_none(same_form: bool, missing: u32, extra: u32) -> bool
 pub fn is_same(one: &Setup, other: &Setup, missing: &Setup, extra: &Setup) -> bool
     requires missing { IsDifference one.now other.now missing.now }
     requires extra { IsDifference other.now one.now extra.now }
-    ensures { IsTrue result ↔ SameSetup one.now other.now }
+    ensures { IsTrue result ↔ IsSameSetup one.now other.now }
 {
     let same_form = is_same_form(one.tape(), other.tape());
     let missing = size(missing);

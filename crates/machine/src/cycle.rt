@@ -4,6 +4,7 @@ ghost use Rattle.std.specs.Prelude.{◌≡◌, map};
 
 use crate::closed::Closed;
 use crate::groups::{comes_to_nines, nines};
+use crate::lines::placed_line;
 use crate::units::Units;
 use card_code::Row;
 use net::{Cycle, Net, POINTS, Picture, Point, RowSets};
@@ -265,10 +266,6 @@ impl Units {
     pub(crate) fn placed_line(&self) -> Option<PlacedLine>
         ensures { option_to_list result ≡ line_of self.now }
     {
-        self.carriage.printed().map(|(page, line)| PlacedLine {
-            page,
-            line,
-            text: *self.wheels.line(),
-        })
+        placed_line(&self.carriage, &self.wheels)
     }
 }

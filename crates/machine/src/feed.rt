@@ -1,7 +1,6 @@
 //! A feed: the next card, or the end, and the cycles that follow.
 
-ghost use Rattle.std.specs.Prelude.{◌≡◌, ◌++◌, OnOk, OnErr, option_to_list};
-
+use crate::lines::append_line;
 use crate::units::Units;
 use card_code::Card;
 use net::{Cycle, Net};
@@ -98,19 +97,8 @@ impl Units {
         let mut waits = self.begin(next);
         while let Some(cycle) = self.due_in(waits, next) {
             waits = self.run_due(net, cycle, waits, next);
-            append(out, self.placed_line())?;
+            append_line(out, self.placed_line())?;
         }
         Ok(())
     }
-}
-
-// Puts the line, if there is one, after the others. Where memory is refused they stay as they were.
-fn append(lines: &mut Vec<PlacedLine>, line: Option<PlacedLine>) -> Result<(), AllocError>
-    ensures appended { OnOk result (lines.new.items ≡ lines.old.items ++ option_to_list line) }
-    ensures refused { OnErr result (lines.new.items ≡ lines.old.items) }
-{
-    if let Some(line) = line {
-        lines.push(line)?;
-    }
-    Ok(())
 }

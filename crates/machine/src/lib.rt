@@ -13,6 +13,7 @@ mod group_rows;
 mod groups;
 mod kept;
 pub mod laws;
+mod lines;
 mod machine;
 mod marked;
 mod rows;
@@ -22,7 +23,9 @@ mod storage_rows;
 mod units;
 
 pub use fault::FeedFault;
+pub use groups::groups_at_start;
 pub use kept::{KeptCycle, KeptPoint};
+pub use lines::{append_line, placed_line};
 pub use machine::Machine;
 pub use placed_lines::{LINE_WHEELS, PlacedLine};
 pub use run::simulate;

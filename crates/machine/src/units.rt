@@ -1,7 +1,7 @@
 //! The units of a machine.
 
 use crate::group_rows::{emit_group_rows, sense_group_rows};
-use crate::groups::{Busy, emit_groups, end_groups, groups, keep_latches, sense_groups};
+use crate::groups::{Busy, emit_groups, end_groups, groups_at_start, keep_latches, sense_groups};
 use crate::rows::end_all;
 use crate::storage_rows::{emit_storage, emit_storage_rows, sense_storage, sense_storage_rows};
 use carriage::Carriage;
@@ -66,7 +66,7 @@ impl Units {
         Units {
             stations: Stations::new(),
             comparing: Comparing::new(),
-            groups: groups(),
+            groups: groups_at_start(),
             storage: [
                 Storage::new(35),
                 Storage::new(36),

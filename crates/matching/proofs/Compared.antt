@@ -2,13 +2,13 @@
 -- their differences are what is missing and what is too much.
 use Rattle.std.proofs.Common.{◌≡◌, ◌↔◌, ◌∙◌, ℕ, List, Contains, true, false, true≢false, Bool, refl, sym}
 use Rattle.charts.specs.declared.chart.Line.{Line}
-use Rattle.differences.specs.Differences.{IsDifference, SameSetup}
+use Rattle.differences.specs.Differences.{IsDifference}
 use Rattle.hubs.specs.declared.hub.Hub.{Hub}
 use Rattle.hubs.specs.declared.jack.Jack.{Jack}
 use Rattle.matching.specs.Answers.{IsExtra, IsMissing}
 use Rattle.plans.specs.Plans.{Lists}
 use Rattle.setups.specs.Tapes.{has_stop}
-use Rattle.setups.specs.Wiring.{HasJack, HasWire, Wiring}
+use Rattle.setups.specs.Wiring.{IsSameSetup, Wiring, is_plugged}
 use Rattle.wiring_table.specs.WiredFor.{WiredFor}
 
 both : {P Q R : Type 0} → P ↔ Q → Q ↔ R → P ↔ R
@@ -19,10 +19,10 @@ back a = (a.1, a.0)
 
 module _ (lines : List Line) (plan : Lists) (wanted setup : Wiring) (wired : WiredFor lines plan wanted) where
   -- the same setup is wired too
-  pub wired-same : SameSetup wanted setup → WiredFor lines plan setup
+  pub wired-same : IsSameSetup wanted setup → WiredFor lines plan setup
   wired-same same = record {
     wires = λ exit entry. both (same.wires exit entry) (wired.wires exit entry);
-    jacks = λ jack. both (same.jacks jack) (wired.jacks jack);
+    jacks = λ jack. both (λ has. sym (same.jacks jack) ∙ has, λ has. same.jacks jack ∙ has) (wired.jacks jack);
     tape = record {
       form_lines = same.tape.lines ∙ wired.tape.form_lines;
       first = same.tape.first ∙ wired.tape.first;
@@ -33,10 +33,10 @@ module _ (lines : List Line) (plan : Lists) (wanted setup : Wiring) (wired : Wir
   }
 
   -- and what is wired too is the same setup
-  pub same-wired : WiredFor lines plan setup → SameSetup wanted setup
+  pub same-wired : WiredFor lines plan setup → IsSameSetup wanted setup
   same-wired also = record {
     wires = λ exit entry. both (also.wires exit entry) (back (wired.wires exit entry));
-    jacks = λ jack. both (also.jacks jack) (back (wired.jacks jack));
+    jacks = λ jack. alike (is_plugged setup jack) (is_plugged wanted jack) (both (also.jacks jack) (back (wired.jacks jack)));
     tape = record {
       lines = also.tape.form_lines ∙ sym wired.tape.form_lines;
       first = also.tape.first ∙ sym wired.tape.first;

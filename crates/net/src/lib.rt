@@ -1,6 +1,7 @@
 //! What is impulsed at a point of a cycle: cycles, points, pictures of the panel, and the trait of its units.
 #![tactic(auto)]
 
+mod bits;
 mod contacts;
 mod cycle;
 mod laws;
@@ -11,6 +12,7 @@ mod printing;
 mod row_sets;
 mod unit;
 
+pub use bits::has_bit;
 pub use cycle::{Cycle, Ordinal, POINTS, Point, ProgramLevel};
 pub use laws::{
     emitting_exits_have_a_picture, impulsed_hubs_are_the_least_set, wires_make_the_picture,

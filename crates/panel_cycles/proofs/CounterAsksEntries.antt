@@ -40,6 +40,7 @@ use Rattle.totals.specs.Below.net.declared.cycle.Point.TheVariants.{C, Row}
 use Rattle.line_places.specs.Below.report.Amounts.{digits_on, number_in}
 use Rattle.wired_panels.specs.Below.stations.Punches.{is_punched_at, is_punched}
 use Rattle.wired_panels.specs.Below.whole_cycles.Between.{IsIdle}
+use Rattle.wired_panels.specs.Below.whole_cycles.Units.{group_at}
 use Rattle.printed_lines.specs.Below.wiring_table.Figures.{IsAmount, IsSigned}
 use Rattle.printed_lines.proofs.Below.wiring_table.Groups.{position-given, position-serves}
 use Rattle.printed_lines.proofs.Below.wiring_table.Totals.{one-total}
@@ -54,13 +55,14 @@ use Rattle.wired_panels.proofs.CounterAsksGiven.{gives_read}
 use Rattle.wired_panels.proofs.CounterAsksRows.{ReadsDigit, Enters, enters_is, gives_entry}
 use Rattle.wired_panels.proofs.CounterAsksRows.Enters.{card as enters_card, own_digit, lower_digit}
 use Rattle.wired_panels.proofs.CounterAsksTold.{IsUnder}
-use Rattle.wired_panels.proofs.CounterUnits.{at_unit, counter_there, planned_unit}
+use Rattle.wired_panels.proofs.CounterUnits.{counter_there, planned_unit}
 use Rattle.wired_panels.proofs.Below.charts.Listed.{found-listed}
 use Rattle.wired_panels.proofs.PlanOwners.{of_place}
 use Rattle.wired_panels.specs.Groups.{IsCounterOf, IsGroupOf, IsPlaceFor}
 use Rattle.wired_panels.specs.PanelCycles.{IsPanelCycle, IsCardRead}
-use Rattle.panel_cycles.proofs.Counters.{SpellsCounter, grouped, place_has, placed, places_spell, position_some, same_position}
-use Rattle.panel_cycles.specs.CounterStates.{number_at, number_held}
+use Rattle.panel_cycles.proofs.Counters.{SpellsCounter, grouped, number_at, place_has, placed, places_spell, position_some, same_position}
+use Rattle.panel_cycles.specs.CounterStates.{number_held}
+use Rattle.panel_cycles.proofs.WheelRowsUnits.{group-own}
 
 -- tests
 second_holds : (a b : Bool) → (a && b) ≡ true → b ≡ true
@@ -82,24 +84,24 @@ module _ (chart : Chart) (plan : Lists) (wiring : Wiring) (old : MachineState) (
     (at : IsPanelCycle chart plan wiring old cycle pictures) where
   -- the number in a group is that of its counter
   pub number_is : (counter : Counter) (group : Group) → Contains old.groups counter → counter.name ≡ group
-      → number_at old.groups group ≡ number counter.digits
+      → number_at old group ≡ number counter.digits
   number_is counter group listed named =
-      ap (number_at old.groups) (sym named) ∙ at_unit (λ (c : Counter). number c.digits) 0 old.groups counter at.between.ordered listed
+      ap (number_at old) (sym named) ∙ ap (λ (c : Counter). number c.digits) (sym (group-own old at.between counter listed))
 
   -- a digit that is read out is one of the number in the group
   digit_read : (row : CardRow) (group : Group) (position : ℕ) → ReadsDigit old pictures row group position
-      → (digit_of (number_at old.groups group) position == row_number row) ≡ true
+      → (digit_of (number_at old group) position == row_number row) ≡ true
   digit_read row group position reads =
       let lawful = is_counter old.groups reads.counter at.between.groups reads.listed in
       let told = digits-tell.of_list reads.counter.digits position lawful.digits reads.from reads.to in
-      let is : digit_of (number_at old.groups group) position ≡ row_number row =
+      let is : digit_of (number_at old group) position ≡ row_number row =
       ap (λ n. digit_of n position) (number_is reads.counter group reads.listed reads.named) ∙ sym told ∙ reads.is in
       grind (arith, nat_tests, is)
 
   -- and a digit of the number in a group that reads out is read out
   read_digit : (row : CardRow) (group : Group) (position number : ℕ) → 1 ≤ row_number row → 1 ≤ position
       → ServesTotal chart.lines plan number group → pictures C (RO group) ≡ true
-      → (digit_of (number_at old.groups group) position == row_number row) ≡ true → ReadsDigit old pictures row group position
+      → (digit_of (number_at old group) position == row_number row) ≡ true → ReadsDigit old pictures row group position
   read_digit row group position line some from served reads same =
       let (counter, listed, named) =
       counter_there old.groups group at.between.ordered (planned_unit chart.lines plan line group at.panel.planned served) in
@@ -111,7 +113,7 @@ module _ (chart : Chart) (plan : Lists) (wiring : Wiring) (old : MachineState) (
           let lawful = is_counter old.groups counter at.between.groups listed in
           let to : position ≤ length counter.digits = grind (arith, nat_tests, within) in
           let told = digits-tell.of_list counter.digits position lawful.digits from to in
-          let is : digit_of (number_at old.groups group) position ≡ row_number row = grind (arith, nat_tests, same) in
+          let is : digit_of (number_at old group) position ≡ row_number row = grind (arith, nat_tests, same) in
           record {
             counter = counter;
             listed = listed;
@@ -123,15 +125,15 @@ module _ (chart : Chart) (plan : Lists) (wiring : Wiring) (old : MachineState) (
           }
       by counter listed named false above =
           let lawful = is_counter old.groups counter at.between.groups listed in
-          let is : digit_of (number_at old.groups group) position ≡ row_number row = grind (arith, nat_tests, same) in
+          let is : digit_of (number_at old group) position ≡ row_number row = grind (arith, nat_tests, same) in
           let more : counter.name.width < position = let long = lawful.positions in grind (arith, nat_tests, above, long) in
           let none = digit_of-above (number counter.digits) counter.name.width position (number-within counter lawful) more in
-          let zero_digit : digit_of (number_at old.groups group) position ≡ 0 =
+          let zero_digit : digit_of (number_at old group) position ≡ 0 =
           ap (λ n. digit_of n position) (number_is counter group listed named) ∙ none in
           absurd (omega (arith, zero_digit, is, some))
 
   -- a group of the plan holds a number of as many digits as it has positions
-  within_group : (number : ℕ) (group : Group) → ServesTotal chart.lines plan number group → number_at old.groups group < 10 ^ group.width
+  within_group : (number : ℕ) (group : Group) → ServesTotal chart.lines plan number group → number_at old group < 10 ^ group.width
   within_group line group serves =
       let (counter, listed, named) =
       counter_there old.groups group at.between.ordered (planned_unit chart.lines plan line group at.panel.planned serves) in
@@ -139,30 +141,45 @@ module _ (chart : Chart) (plan : Lists) (wiring : Wiring) (old : MachineState) (
       subst (λ n. n < 10 ^ group.width) (sym (number_is counter group listed named))
       (subst (λ (g : Group). number counter.digits < 10 ^ g.width) named (number-within counter lawful))
 
+  -- and it has as many digits as positions
+  group_long : (number : ℕ) (group : Group) → ServesTotal chart.lines plan number group → length (group_at old group).digits ≡ group.width
+  group_long line group serves =
+      let (counter, listed, named) =
+      counter_there old.groups group at.between.ordered (planned_unit chart.lines plan line group at.panel.planned serves) in
+      let lawful = is_counter old.groups counter at.between.groups listed in
+      ap (λ (g : Group). length (group_at old g).digits) (sym named)
+      ∙ ap (λ (c : Counter). length c.digits) (sym (group-own old at.between counter listed))
+      ∙ lawful.positions ∙ ap (λ (g : Group). g.width) named
+
   -- the digits of the number in a counter are those of its groups, at their places
   pub counter_digit : (number : ℕ) (counter : TotalCounter) → counter_for chart.lines plan number ≡ Some counter
       → (position : ℕ) (group : Group) (place : ℕ) → IsPlaceOf counter position group place
-      → digit_of (number_held old.groups counter) position ≡ digit_of (number_at old.groups group) place
+      → digit_of (number_held old counter) position ≡ digit_of (number_at old group) place
   counter_digit line counter there position group place is = by counter there is.from is.to is.at
     where
       by : (its : TotalCounter) → counter_for chart.lines plan line ≡ Some its → 1 ≤ place → place ≤ group.width
           → StandsAt its position group place
-          → digit_of (number_held old.groups its) position ≡ digit_of (number_at old.groups group) place
+          → digit_of (number_held old its) position ≡ digit_of (number_at old group) place
       by (of.Single own) served from to stands =
-          ap (λ g. digit_of (number_at old.groups g) position) stands.0 ∙ ap (digit_of (number_at old.groups group)) stands.1
+          ap (λ g. digit_of (number_at old g) position) stands.0 ∙ ap (digit_of (number_at old group)) stands.1
       by (of.Coupled lower upper) served from to (inl stands) =
           let same = stands.1 in
+          let long = group_long line (panel_group lower) (record { counter = of.Coupled lower upper; there = served; has = inl refl }) in
           let width : lower.width ≡ group.width = ap (λ (g : Group). g.width) stands.0 in
-          digit_of-below (number_at old.groups (panel_group upper)) (number_at old.groups (panel_group lower)) lower.width position
-          (omega (arith, same, from)) (omega (arith, same, to, width))
-          ∙ ap (λ g. digit_of (number_at old.groups g) position) stands.0 ∙ ap (digit_of (number_at old.groups group)) same
+          digit_of-below (number_at old (panel_group upper)) (number_at old (panel_group lower))
+          (length (group_at old (panel_group lower)).digits) position (omega (arith, same, from)) (omega (arith, same, to, width, long))
+          ∙ ap (λ g. digit_of (number_at old g) position) stands.0 ∙ ap (digit_of (number_at old group)) same
       by (of.Coupled lower upper) served from to (inr stands) =
-          let small = within_group line (panel_group lower) (record { counter = of.Coupled lower upper; there = served; has = inl refl }) in
-          ap (digit_of (number_held old.groups (of.Coupled lower upper))) stands.1
-          ∙ digit_of-above_width (number_held old.groups (of.Coupled lower upper)) lower.width place from
-          ∙ ap (λ n. digit_of n place) (div-mul-add (number_at old.groups (panel_group upper)) (10 ^ lower.width)
-          (number_at old.groups (panel_group lower)) small)
-          ∙ ap (λ g. digit_of (number_at old.groups g) place) stands.0
+          let lower_serves : ServesTotal chart.lines plan line (panel_group lower)
+          = record { counter = of.Coupled lower upper; there = served; has = inl refl } in
+          let long = group_long line (panel_group lower) lower_serves in
+          let small : number_at old (panel_group lower) < 10 ^ length (group_at old (panel_group lower)).digits
+          = subst (λ w. number_at old (panel_group lower) < 10 ^ w) (sym long) (within_group line (panel_group lower) lower_serves) in
+          ap (digit_of (number_held old (of.Coupled lower upper))) (stands.1 ∙ ap (λ w. w + place) (sym long))
+          ∙ digit_of-above_width (number_held old (of.Coupled lower upper)) (length (group_at old (panel_group lower)).digits) place from
+          ∙ ap (λ n. digit_of n place) (div-mul-add (number_at old (panel_group upper))
+          (10 ^ length (group_at old (panel_group lower)).digits) (number_at old (panel_group lower)) small)
+          ∙ ap (λ g. digit_of (number_at old g) place) stands.0
 
 module _ (chart : Chart) (plan : Lists) (wiring : Wiring) (rise : NumbersRise chart.lines chart.end) (old : MachineState)
     (pictures : Point → Hub → Bool) (name : List ℕ) (level : ℕ) (group : Group) (own : IsGroupOf chart.lines plan name level group) where
@@ -291,7 +308,7 @@ module _ (chart : Chart) (plan : Lists) (wiring : Wiring) (rise : NumbersRise ch
       → ((group : Group) → HasPanelGroup counter group → pictures C (RO group) ≡ true)
       → (row : CardRow) → 1 ≤ row_number row → row_number row ≤ 9 → (position : ℕ) (group : Group) (place : ℕ)
       → IsPlaceOf counter position group place
-      → pictures (Row row) (GE group place) ≡ (digit_of (number_held old.groups counter) position == row_number row)
+      → pictures (Row row) (GE group place) ≡ (digit_of (number_held old counter) position == row_number row)
   turn_enters l at is_level rule its_sign reads_out row some few position group place at_place =
       same_tests _ _
       (λ on. ap (λ d. d == row_number row) its_digit
@@ -304,11 +321,11 @@ module _ (chart : Chart) (plan : Lists) (wiring : Wiring) (rise : NumbersRise ch
       its_group : IsGroupOf chart.lines plan name level group
       its_group = grouped chart.lines plan own group has
 
-      its_digit : digit_of (number_held old.groups counter) position ≡ digit_of (number_at old.groups group) place
+      its_digit : digit_of (number_held old counter) position ≡ digit_of (number_at old group) place
       its_digit = counter_digit chart plan wiring old (Prog l Second) pictures at own.number counter own.served position group place at_place
 
       told : Enters chart.lines plan old pictures (Prog l Second) row name level group place
-          → (digit_of (number_at old.groups group) place == row_number row) ≡ true
+          → (digit_of (number_at old group) place == row_number row) ≡ true
       told (enters_card its its_position its_place is lowest its_amount its_from within punched) = cc
       told (own_digit its_rule signed its_from its_to reads) =
           digit_read chart plan wiring old (Prog l Second) pictures at row group place reads
@@ -317,7 +334,7 @@ module _ (chart : Chart) (plan : Lists) (wiring : Wiring) (rise : NumbersRise ch
           let below = under.below in
           absurd (omega (arith, same, is_level, below))
 
-      given : (digit_of (number_at old.groups group) place == row_number row) ≡ true → pictures (Row row) (GE group place) ≡ true
+      given : (digit_of (number_at old group) place == row_number row) ≡ true → pictures (Row row) (GE group place) ≡ true
       given same =
           gives_entry chart plan wiring old (Prog l Second) pictures at rise name level group its_group row place
           (own_digit rule its_sign at_place.from at_place.to
@@ -327,17 +344,17 @@ module _ (chart : Chart) (plan : Lists) (wiring : Wiring) (rise : NumbersRise ch
   pub turn_spells : (l : ProgramLevel) → IsPanelCycle chart plan wiring old (Prog l Second) pictures → level_number l ≡ level
       → (rule : SignRule) → IsSigned chart.lines name rule
       → ((group : Group) → HasPanelGroup counter group → pictures C (RO group) ≡ true)
-      → SpellsCounter counter (digit_of (number_held old.groups counter)) pictures
+      → SpellsCounter counter (digit_of (number_held old counter)) pictures
   turn_spells l at is_level rule its_sign reads_out =
-      places_spell counter (digit_of (number_held old.groups counter)) pictures (turn_enters l at is_level rule its_sign reads_out)
+      places_spell counter (digit_of (number_held old counter)) pictures (turn_enters l at is_level rule its_sign reads_out)
 
   -- in the third program cycle of a lower level a total enters the number of the lower one, if that has no more digits than it may
   up_enters : (l : ProgramLevel) → IsPanelCycle chart plan wiring old (Prog l Third) pictures
       → (under : IsUnder chart.lines name (level_number l) level) (lower : TotalCounter)
-      → counter_for chart.lines plan under.number ≡ Some lower → number_held old.groups lower < 10 ^ under.total.digits
+      → counter_for chart.lines plan under.number ≡ Some lower → number_held old lower < 10 ^ under.total.digits
       → (row : CardRow) → 1 ≤ row_number row → row_number row ≤ 9 → (position : ℕ) (group : Group) (place : ℕ)
       → IsPlaceOf counter position group place
-      → pictures (Row row) (GE group place) ≡ (digit_of (number_held old.groups lower) position == row_number row)
+      → pictures (Row row) (GE group place) ≡ (digit_of (number_held old lower) position == row_number row)
   up_enters l at under lower lower_there small row some few position group place at_place =
       same_tests _ _
       (λ on. told (enters_is chart plan wiring old (Prog l Third) pictures at rise name level group its_group row place on)) given
@@ -350,13 +367,13 @@ module _ (chart : Chart) (plan : Lists) (wiring : Wiring) (rise : NumbersRise ch
 
       -- the digit of the lower total at a position
       lower_is : (its_position : ℕ) (other : Group) (other_place : ℕ) → ServesPosition chart.lines plan under.number its_position other other_place
-          → digit_of (number_held old.groups lower) its_position ≡ digit_of (number_at old.groups other) other_place
+          → digit_of (number_held old lower) its_position ≡ digit_of (number_at old other) other_place
       lower_is its_position other other_place serves =
           counter_digit chart plan wiring old (Prog l Third) pictures at under.number lower lower_there its_position other other_place
           (subst (λ c. IsPlaceOf c its_position other other_place) (same_Some serves.counter lower (sym serves.there ∙ lower_there)) serves.at)
 
       told : Enters chart.lines plan old pictures (Prog l Third) row name level group place
-          → (digit_of (number_held old.groups lower) position == row_number row) ≡ true
+          → (digit_of (number_held old lower) position == row_number row) ≡ true
       told (enters_card its its_position at_it is lowest its_amount its_from within punched) = cc
       told (own_digit its_rule signed its_from its_to reads) =
           let same = third_reads chart plan wiring rise old pictures name level group its_group l at reads.reads in
@@ -368,16 +385,16 @@ module _ (chart : Chart) (plan : Lists) (wiring : Wiring) (rise : NumbersRise ch
           let numbers = one-total chart name at.panel.lawful (level_number l) other_at.number under.number total under.total in
           let serves = subst (λ n. ServesPosition chart.lines plan n its_position other other_place) numbers other_at.served in
           let positions = same_position chart.lines plan at.panel.planned at_it its_place in
-          subst (λ p. (digit_of (number_held old.groups lower) p == row_number row) ≡ true) positions
+          subst (λ p. (digit_of (number_held old lower) p == row_number row) ≡ true) positions
           (ap (λ d. d == row_number row) (lower_is its_position other other_place serves)
           ∙ digit_read chart plan wiring old (Prog l Third) pictures at row other other_place reads)
 
-      given : (digit_of (number_held old.groups lower) position == row_number row) ≡ true → pictures (Row row) (GE group place) ≡ true
+      given : (digit_of (number_held old lower) position == row_number row) ≡ true → pictures (Row row) (GE group place) ≡ true
       given same =
           gives_entry chart plan wiring old (Prog l Third) pictures at rise name level group its_group row place
           (by (nat_le position under.total.digits) refl)
         where
-          is : digit_of (number_held old.groups lower) position ≡ row_number row
+          is : digit_of (number_held old lower) position ≡ row_number row
           is = grind (arith, nat_tests, same)
 
           from : 1 ≤ position
@@ -387,7 +404,7 @@ module _ (chart : Chart) (plan : Lists) (wiring : Wiring) (rise : NumbersRise ch
               → Enters chart.lines plan old pictures (Prog l Third) row name level group place
           by false above =
               let more : under.total.digits < position = grind (arith, nat_tests, above) in
-              let none = digit_of-above (number_held old.groups lower) under.total.digits position small more in
+              let none = digit_of-above (number_held old lower) under.total.digits position small more in
               absurd (omega (arith, none, is, some))
           by true below =
               let within : position ≤ under.total.digits = grind (arith, nat_tests, below) in
@@ -405,7 +422,7 @@ module _ (chart : Chart) (plan : Lists) (wiring : Wiring) (rise : NumbersRise ch
 
   pub up_spells : (l : ProgramLevel) → IsPanelCycle chart plan wiring old (Prog l Third) pictures
       → (under : IsUnder chart.lines name (level_number l) level) (lower : TotalCounter)
-      → counter_for chart.lines plan under.number ≡ Some lower → number_held old.groups lower < 10 ^ under.total.digits
-      → SpellsCounter counter (digit_of (number_held old.groups lower)) pictures
+      → counter_for chart.lines plan under.number ≡ Some lower → number_held old lower < 10 ^ under.total.digits
+      → SpellsCounter counter (digit_of (number_held old lower)) pictures
   up_spells l at under lower lower_there small =
-      places_spell counter (digit_of (number_held old.groups lower)) pictures (up_enters l at under lower lower_there small)
+      places_spell counter (digit_of (number_held old lower)) pictures (up_enters l at under lower lower_there small)

@@ -9,6 +9,8 @@ use Rattle.wired_panels.specs.Below.charts.Chart.{Chart}
 use Rattle.wired_panels.specs.Below.charts.declared.chart.Line.{Line}
 use Rattle.totals.specs.Below.counter_cycles.Acts.{Act, Entered, Held, Spells, act_controls}
 use Rattle.totals.specs.Below.counter_cycles.Pairs.{EnteredInBoth, SpellInBoth}
+use Rattle.totals.specs.Below.counters.Numbers.{number}
+use Rattle.wired_panels.specs.Below.whole_cycles.Units.{group_at}
 use Rattle.wired_panels.specs.Below.hubs.declared.hub.Group.{Group}
 use Rattle.wired_panels.specs.Below.hubs.declared.hub.Hub.{Hub}
 use Rattle.wired_panels.specs.Below.hubs.declared.hub.Hub.TheVariants.{GE}
@@ -23,7 +25,7 @@ use Rattle.printed_lines.proofs.Below.wiring_table.Groups.{position-own, positio
 use Rattle.wired_panels.specs.Groups.{IsCounterOf, IsGroupOf, IsPlaceFor, IsTopOf}
 use Rattle.panel_cycles.proofs.AmountFacts.{counter_at}
 use Rattle.panel_cycles.proofs.CounterAsksKinds.{AreTold, alone}
-use Rattle.panel_cycles.specs.CounterStates.{AsksCounter, held_in, number_at, state_of}
+use Rattle.panel_cycles.specs.CounterStates.{AsksCounter, held_in, state_of}
 use Rattle.wired_panels.proofs.Contacts.{is_set}
 
 module _ (lines : List Line) (plan : Lists) {name : List ℕ} {level : ℕ} {counter : TotalCounter}
@@ -88,9 +90,13 @@ pub counter_held : (machine : MachineState) (chart : Chart) (plan : Lists) (name
 counter_held machine chart plan name level counter lawful own =
     ap (held_in machine) (counter_at chart plan name level own.number lawful own.total ∙ own.served)
 
+-- the number in a counter group
+abbrev pub number_at : MachineState → Group → ℕ
+number_at machine group = number (group_at machine group).digits
+
 -- what a counter group holds
 abbrev pub held_at : MachineState → Group → Held
-held_at machine group = record { number = number_at machine.groups group; latch = is_set machine group }
+held_at machine group = record { number = number_at machine group; latch = is_set machine group }
 
 -- the latch of a total is that of the group with its balance
 pub top_latch : (machine : MachineState) (chart : Chart) (plan : Lists) (name : List ℕ) (level : ℕ) (top : Group) → IsLawful chart

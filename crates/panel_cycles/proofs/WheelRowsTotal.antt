@@ -1,5 +1,5 @@
 -- What the print wheels receive in the third program cycle of a level: what the totals, the texts and the literals of its total line send.
-use Rattle.std.proofs.Common.{◌≡◌, ◌∙◌, refl, sym, ap, subst, ℕ, ◌+◌, ◌-◌, ◌<◌, ◌≤◌, ◌==◌, ◌&&◌, ◌||◌, not, nat_lt, Bool, true, false, cond, List, Contains, Option, Some, None, is_some, length, map, slice_get, get_or, option_map, arith, ◌^◌, inl, inr}
+use Rattle.std.proofs.Common.{◌≡◌, ◌∙◌, refl, sym, ap, subst, ℕ, ◌+◌, ◌-◌, ◌<◌, ◌≤◌, ◌==◌, ◌&&◌, ◌||◌, not, nat_lt, Bool, true, false, cond, List, Contains, Option, Some, None, is_some, length, map, slice_get, get_or, option_map, arith}
 use Rattle.std.proofs.lemmas.Bool.Decides.{nat_tests}
 use Rattle.std.proofs.lemmas.List.{length-map, get_or-map}
 use Rattle.totals.proofs.Below.counter_cycles.DigitLemmas.{digit_of-small}
@@ -39,20 +39,15 @@ use Rattle.line_places.specs.Below.report.Amounts.{columns_in}
 use Rattle.line_places.specs.Below.report.Edits.{last_digits}
 use Rattle.wired_panels.specs.Below.storage_units.Storage.{StorageState, holds as holds_row}
 use Rattle.wired_panels.proofs.Below.whole_cycles.Units.{units-by_name}
-use Rattle.totals.specs.Below.counters.Numbers.{number as figure}
-use Rattle.totals.proofs.Below.counter_cycles.DigitLemmas.{digit_of-below, number-within}
-use Rattle.totals.proofs.Below.counter_cycles.PairLemmas.{digit_of-above_width}
-use Rattle.std.proofs.lemmas.Nat.{div-mul-add}
 use Rattle.std.proofs.lemmas.Option.{same_Some}
 use Rattle.wired_panels.specs.Below.plans.declared.counter.TotalCounter.{TotalCounter}
 use Rattle.wired_panels.specs.Below.whole_cycles.Units.{IsGroup, group_at}
 use Rattle.printed_lines.specs.Below.wiring_table.Figures.{IsAmount, IsText, HasPunchAt, digit_wheel, mark_wheel, mark_text}
-use Rattle.printed_lines.specs.Below.wiring_table.Parts.{IsPlaceOf, ServesPosition, ServesTotal, StandsAt, counter_for, panel_group, top_for, top_group, unit_for}
+use Rattle.printed_lines.specs.Below.wiring_table.Parts.{IsPlaceOf, ServesPosition, ServesTotal, counter_for, top_for, top_group, unit_for}
 use Rattle.wired_panels.specs.Sources.{EmitsAtControl, digit_at}
 use Rattle.wired_panels.specs.Sources.EmitsAtControl.{card as emits_card, prog as emits_prog, head as emits_head}
 use Rattle.wired_panels.specs.CycleRows.{CycleRow, is_closed}
-use Rattle.panel_cycles.specs.PrintedRows.{CounterHoldsTotal, IsTotalRow, figure_in}
-use Rattle.wired_panels.specs.Below.plans.declared.counter.TotalCounter.TheVariants as of
+use Rattle.panel_cycles.specs.PrintedRows.{CounterHoldsTotal, IsTotalRow}
 use Rattle.wired_panels.proofs.ReadingOut.{total-read, text-read}
 use Rattle.wired_panels.proofs.Below.charts.Rising as rising
 use Rattle.wired_panels.proofs.Below.chart_rules.Laws.{good-field}
@@ -60,13 +55,14 @@ use Rattle.printed_lines.proofs.Below.wiring_table.Groups as groups
 use Rattle.printed_lines.proofs.Below.wiring_table.Parts as parts
 use Rattle.line_places.proofs.Below.report.EditLaws.{last_digits-length}
 use Rattle.wired_panels.proofs.SpeakersLawful.{kept-at}
+use Rattle.panel_cycles.proofs.CounterAsksEntries.{counter_digit}
 use Rattle.panel_cycles.proofs.WheelRows.{SendsRow}
 use Rattle.panel_cycles.proofs.WheelRowsDigits.{digit-row}
 use Rattle.panel_cycles.proofs.WheelRowsField.{right-of}
 use Rattle.panel_cycles.proofs.WheelRowsFigure.FigureSends.{digit as figure_digit, marked as figure_marked}
 use Rattle.panel_cycles.proofs.WheelRowsFigure.{FigureSends, amount_shown, figure-sent}
 use Rattle.panel_cycles.proofs.WheelRowsText.{columns-stand, columns-sent}
-use Rattle.panel_cycles.proofs.WheelRowsUnits.{group-named, group-own, digit-of, unit-own, last-at, counter-is}
+use Rattle.panel_cycles.proofs.WheelRowsUnits.{group-named, group-own, digit-of, unit-own, last-at}
 
 -- the counter with a top group
 top-counter : (o : Option TotalCounter) (top : Group) → option_map top_group o ≡ Some top
@@ -183,51 +179,6 @@ module _ (wiring : Wiring) (its : ProgramLevel) (held : List ℕ → Printed) (c
           → chart_number other ≡ level_number its → chart_number level ≡ level_number its
       by other w n same is = let e : other ≡ level = cc in sym (ap chart_number e) ∙ is
 
-  -- the digits of the figure in a counter are those of its groups, at their places
-  figure-digit : (number : ℕ) (counter : TotalCounter) → counter_for at.chart.lines at.plan number ≡ Some counter
-      → (position : ℕ) (group : Group) (place : ℕ) → IsPlaceOf counter position group place
-      → digit_of (figure_in at counter) position ≡ digit_of (figure (group_at at.old group).digits) place
-  figure-digit line counter there position group place is = by counter there is.from is.to is.at
-    where
-      by : (its : TotalCounter) → counter_for at.chart.lines at.plan line ≡ Some its → 1 ≤ place → place ≤ group.width
-          → StandsAt its position group place
-          → digit_of (figure_in at its) position ≡ digit_of (figure (group_at at.old group).digits) place
-      by (of.Single own) served from to stands =
-          ap (λ g. digit_of (figure (group_at at.old g).digits) position) stands.0
-          ∙ ap (digit_of (figure (group_at at.old group).digits)) stands.1
-      by (of.Coupled lower upper) served from to stands =
-          split (group-named at.chart.lines at.plan line (panel_group lower) row.on_panel.panel.planned
-          (record { counter = of.Coupled lower upper; there = served; has = inl refl })) stands
-        where
-          split : IsGroup (panel_group lower) → StandsAt (of.Coupled lower upper) position group place
-              → digit_of (figure_in at (of.Coupled lower upper)) position ≡ digit_of (figure (group_at at.old group).digits) place
-          split is_group (inl stands) =
-              let long = (counter-is at.old row.on_panel.between (panel_group lower) is_group).positions in
-              let name : (group_at at.old (panel_group lower)).name.width ≡ lower.width
-              = ap (λ (g : Group). g.width) (units-by_name.groups at.old (panel_group lower) row.on_panel.between is_group).named in
-              let width : lower.width ≡ group.width = ap (λ (g : Group). g.width) stands.0 in
-              let same = stands.1 in
-              digit_of-below (figure (group_at at.old (panel_group upper)).digits) (figure (group_at at.old (panel_group lower)).digits)
-              (length (group_at at.old (panel_group lower)).digits) position (omega (arith, same, from))
-              (omega (arith, same, to, width, long, name))
-              ∙ ap (λ g. digit_of (figure (group_at at.old g).digits) position) stands.0
-              ∙ ap (digit_of (figure (group_at at.old group).digits)) same
-          split is_group (inr stands) =
-              let lawful = counter-is at.old row.on_panel.between (panel_group lower) is_group in
-              let long = lawful.positions in
-              let name : (group_at at.old (panel_group lower)).name.width ≡ lower.width
-              = ap (λ (g : Group). g.width) (units-by_name.groups at.old (panel_group lower) row.on_panel.between is_group).named in
-              let same : position ≡ length (group_at at.old (panel_group lower)).digits + place
-              = stands.1 ∙ ap (λ w. w + place) (sym (long ∙ name)) in
-              let small : figure (group_at at.old (panel_group lower)).digits < 10 ^ length (group_at at.old (panel_group lower)).digits
-              = subst (λ w. figure (group_at at.old (panel_group lower)).digits < 10 ^ w) (sym long)
-              (number-within (group_at at.old (panel_group lower)) lawful) in
-              ap (digit_of (figure_in at (of.Coupled lower upper))) same
-              ∙ digit_of-above_width (figure_in at (of.Coupled lower upper)) (length (group_at at.old (panel_group lower)).digits) place from
-              ∙ ap (λ n. digit_of n place) (div-mul-add (figure (group_at at.old (panel_group upper)).digits)
-              (10 ^ length (group_at at.old (panel_group lower)).digits) (figure (group_at at.old (panel_group lower)).digits) small)
-              ∙ ap (λ g. digit_of (figure (group_at at.old g).digits) place) stands.0
-
   -- the digit of a group is that of the total
   pub held-digit : (number : ℕ) (counter : TotalCounter) (name : List ℕ) (position : ℕ) (group : Group) (place : ℕ)
       → counter_for at.chart.lines at.plan number ≡ Some counter → IsPlaceOf counter position group place → IsGroup group
@@ -235,7 +186,7 @@ module _ (wiring : Wiring) (its : ProgramLevel) (held : List ℕ → Printed) (c
       → digit_at (group_at at.old group).digits place ≡ digit_of (held name).figure position
   held-digit line counter name position group place there stands is holds to =
       digit-of at.old row.on_panel.between group place is stands.from to
-      ∙ sym (figure-digit line counter there position group place stands) ∙ ap (λ n. digit_of n position) holds.figure
+      ∙ sym (counter_digit at.chart at.plan wiring at.old at.cycle at.pictures row.on_panel line counter there position group place stands) ∙ ap (λ n. digit_of n position) holds.figure
 
   -- a balance position leads on where the latch is set
   pub closed-BAT : (group : Group) (position : ℕ) → IsGroup group

@@ -1,5 +1,5 @@
 -- What the counters of a chart's totals hold and are asked, and a cycle as these totals tell it apart.
-use Rattle.std.specs.Prelude.{ℕ, ◌+◌, ◌-◌, ◌*◌, ◌^◌, Bool, false, List, Option, Some, None, map, slice_index_or}
+use Rattle.std.specs.Prelude.{ℕ, Bool, false, List, Option, Some, None}
 use Rattle.totals.specs.Below.counter_cycles.Acts.{Act, Asks, Held}
 use Rattle.totals.specs.Below.counter_cycles.Pairs.{AsksBoth}
 use Rattle.wired_panels.specs.Below.plans.Plans.{Lists}
@@ -8,14 +8,12 @@ use Rattle.wired_panels.specs.Below.plans.declared.counter.TotalCounter.TheVaria
 use Rattle.wired_panels.specs.Below.charts.Chart.{Chart}
 use Rattle.wired_panels.specs.Below.charts.declared.chart.Line.{Line}
 use Rattle.wired_panels.specs.Below.charts.declared.statement.Field.{Field}
-use Rattle.totals.specs.Below.counters.Counters.{Counter}
+use Rattle.totals.specs.Below.counters.Laws.{number_of_both}
 use Rattle.totals.specs.Below.counters.Numbers.{number}
-use Rattle.wired_panels.specs.Below.hubs.declared.hub.Group.{Group}
 use Rattle.wired_panels.specs.Below.hubs.declared.hub.Hub.{Hub}
 use Rattle.wired_panels.specs.Below.machine.Machine.{MachineState}
 use Rattle.wired_panels.specs.Below.machine.Steady.{balance_latches}
 use Rattle.totals.specs.Below.net.Cycles.{level_number}
-use Rattle.totals.specs.Below.net.Panel.{unit_of}
 use Rattle.totals.specs.Below.net.declared.cycle.Cycle.{Cycle}
 use Rattle.totals.specs.Below.net.declared.cycle.Cycle.TheVariants.{Card, Head, Prog, RunIn}
 use Rattle.totals.specs.Below.net.declared.cycle.Point.{Point}
@@ -23,6 +21,7 @@ use Rattle.totals.specs.Below.net.declared.cycle.ProgramLevel.{ProgramLevel}
 use Rattle.totals.specs.Below.net.declared.cycle.Ordinal.{Ordinal}
 use Rattle.line_places.specs.Below.report.Amounts.{digits_on, is_negated, number_in}
 use Rattle.wired_panels.specs.Below.selectors.Contacts.{is_balance_set}
+use Rattle.wired_panels.specs.Below.whole_cycles.Units.{group_at}
 use Rattle.totals.specs.Amounts.{Kind}
 use Rattle.totals.specs.Amounts.Kind.{Entry, Other, Prog as ProgKind}
 use Rattle.printed_lines.specs.Below.wiring_table.Figures.{IsAmount}
@@ -30,20 +29,16 @@ use Rattle.wired_panels.specs.PanelCycles.{IsCardRead}
 use Rattle.printed_lines.specs.Below.wiring_table.Parts.{panel_group, top_group}
 use Rattle.panel_cycles.specs.ChartAmounts.{total_counter}
 
--- the number in a counter group; the groups stand in the order of the units 3 to 34
-abbrev pub number_at : List Counter → Group → ℕ
-number_at groups group = slice_index_or (map (λ (counter : Counter). number counter.digits) groups) (unit_of group - 3) 0
-
--- the number in a counter; where two groups serve a total the digits of the upper one stand above those of the lower one
-abbrev pub number_held : List Counter → TotalCounter → ℕ
-number_held groups (of.Single group) = number_at groups (panel_group group)
-number_held groups (of.Coupled lower upper) =
-    number_at groups (panel_group upper) * 10 ^ lower.width + number_at groups (panel_group lower)
+-- the number in a counter: that of its group, or of both groups as one
+abbrev pub number_held : MachineState → TotalCounter → ℕ
+number_held machine (of.Single group) = number (group_at machine (panel_group group)).digits
+number_held machine (of.Coupled lower upper) =
+    number_of_both (group_at machine (panel_group upper)).digits (group_at machine (panel_group lower)).digits
 
 -- what a counter of a machine holds, if there is one: its number, and the latch of its top group
 abbrev pub held_in : MachineState → Option TotalCounter → Held
 held_in machine (Some counter) =
-    record { number = number_held machine.groups counter; latch = is_balance_set (balance_latches machine.groups) (top_group counter) }
+    record { number = number_held machine counter; latch = is_balance_set (balance_latches machine.groups) (top_group counter) }
 held_in machine None = record { number = 0; latch = false }
 
 -- what the counter of the total of an amount at a level holds

@@ -12,10 +12,7 @@ use Rattle.wired_panels.specs.Below.charts.declared.level.Level.{Level}
 use Rattle.wired_panels.specs.Below.charts.declared.statement.Field.{Field}
 use Rattle.wired_panels.specs.Below.charts.declared.statement.Mark.{Mark}
 use Rattle.wired_panels.specs.Below.charts.declared.statement.Statement.TheVariants as says
-use Rattle.totals.specs.Below.counters.Laws.{number_of_both}
-use Rattle.totals.specs.Below.counters.Numbers.{number}
 use Rattle.wired_panels.specs.Below.plans.declared.counter.TotalCounter.{TotalCounter}
-use Rattle.wired_panels.specs.Below.plans.declared.counter.TotalCounter.TheVariants as of
 use Rattle.wired_panels.specs.Below.setups.Wiring.{Wiring}
 use Rattle.totals.specs.Below.net.Cycles.{level_number}
 use Rattle.totals.specs.Below.net.declared.cycle.Cycle.TheVariants.{Card, Prog, Head}
@@ -25,9 +22,10 @@ use Rattle.totals.specs.Below.net.declared.cycle.Ordinal.{Ordinal}
 use Rattle.printed_lines.specs.Shown.{Printed}
 use Rattle.wired_panels.specs.Below.storage_units.Storage.{holds}
 use Rattle.wired_panels.specs.Below.whole_cycles.Units.{group_at, storage_at}
-use Rattle.printed_lines.specs.Below.wiring_table.Parts.{counter_for, panel_group, top_group, unit_for}
+use Rattle.printed_lines.specs.Below.wiring_table.Parts.{counter_for, top_group, unit_for}
 use Rattle.wired_panels.specs.CycleRows.{CycleRow}
 use Rattle.wired_panels.specs.PanelCycles.{AreSetTo, IsCardRead, IsPanelCycle}
+use Rattle.panel_cycles.specs.CounterStates.{number_held}
 
 -- A row of a heading cycle.
 pub record IsHeadingRow (wiring : Wiring) (heading : Ordinal) (at : CycleRow) : Type 0 where
@@ -44,15 +42,9 @@ pub record IsCardRow (wiring : Wiring) (card : List ℕ) (opens : ℕ) (at : Cyc
   pub read : IsCardRead at.chart at.plan at.old card
   pub latches : AreSetTo at.old.indicate opens
 
--- the number that the digits of a counter spell: of its group, or of both
-abbrev pub figure_in : CycleRow → TotalCounter → ℕ
-figure_in at (of.Single group) = number (group_at at.old (panel_group group)).digits
-figure_in at (of.Coupled lower upper) =
-    number_of_both (group_at at.old (panel_group upper)).digits (group_at at.old (panel_group lower)).digits
-
 -- A counter stands at the figure of a total, with the latch of its top group as the total has it.
 pub record CounterHoldsTotal (at : CycleRow) (counter : TotalCounter) (printed : Printed) : Type 0 where
-  pub figure : figure_in at counter ≡ printed.figure
+  pub figure : number_held at.old counter ≡ printed.figure
   pub latch : (group_at at.old (top_group counter)).latch ≡ printed.latch
 
 -- A row of the third program cycle of a level: the counters of its totals stand at the totals by name, and the storage units of its

@@ -4,8 +4,8 @@ ghost use Rattle.std.specs.Prelude.{◌≡◌, ℕ, ◌<◌, length, slice_index
 ghost use Rattle.print_unit.specs.RowSets.{rows_in, HasCharacters};
 ghost use Rattle.print_unit.specs.ZeroControl.{character_of, received_set};
 
-use crate::wheel_words::has_bit;
 use card_code::{Column, ROWS};
+use net::has_bit;
 
 // How many sets of the twelve rows there are.
 const SETS: usize = 4096;

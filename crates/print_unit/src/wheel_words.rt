@@ -48,15 +48,6 @@ pub fn plugged(setup: &Setup, kind: WheelJack) -> u128
     word
 }
 
-/// Whether a bit of a word is set.
-#[tactic(auto, unfolding(net::specs::HubSets::is_bit))]
-pub fn has_bit(word: u128, bit: usize) -> bool
-    requires { bit < 128 }
-    ensures { result ≡ is_bit word bit }
-{
-    word >> bit & 1 == 1
-}
-
 // The word with a bit set too, where the test is true.
 fn with_bit(word: u128, bit: usize, test: bool) -> u128
     requires { bit < 128 }

@@ -1,5 +1,5 @@
 -- What the rules of a chart say of its amounts, and what the totals hold before the first card.
-use Rattle.std.proofs.Common.{◌≡◌, ◌∙◌, refl, sym, ap, subst, ℕ, zero, suc, ◌-◌, ◌<◌, ◌^◌, true, false, List, [], ◌∷◌, Option, Some, None, map, replicate, slice_index_or, is_some, arith, unsigned_abs, ◌+◌, ◌*◌}
+use Rattle.std.proofs.Common.{◌≡◌, ◌∙◌, refl, sym, ap, subst, ℕ, zero, suc, ◌-◌, ◌<◌, ◌^◌, true, false, List, [], ◌∷◌, Option, Some, None, map, replicate, slice_index_or, is_some, arith, length, unsigned_abs, ◌+◌, ◌*◌}
 use Rattle.panel_cycles.specs.Below.field_rules.Coupled.{has_sign}
 use Rattle.panel_cycles.specs.Below.plans.Plans.{Lists}
 use Rattle.panel_cycles.proofs.Below.field_rules.Places.{is_same_name-equal}
@@ -10,9 +10,11 @@ use Rattle.decks.specs.Below.charts.Field.{sign_column}
 use Rattle.decks.specs.Below.charts.declared.statement.Field.{Field}
 use Rattle.decks.specs.Below.charts.declared.statement.FieldKind.{FieldKind}
 use Rattle.decks.specs.Below.charts.declared.statement.FieldKind.TheVariants as holds
-use Rattle.panel_cycles.specs.Below.counters.Counters.{Counter, counter_at_start}
+use Rattle.panel_cycles.specs.Below.counters.Counters.{Counter, counter_at_start, counter_of}
 use Rattle.panel_cycles.specs.Below.counters.Numbers.{number}
+use Rattle.panel_cycles.specs.Below.hubs.declared.hub.Group.{Group}
 use Rattle.panel_cycles.specs.Below.setups.Wiring.{Wiring}
+use Rattle.panel_cycles.specs.Below.whole_cycles.Units.{group_at}
 use Rattle.panel_cycles.specs.Below.plans.declared.counter.TotalCounter.{TotalCounter}
 use Rattle.panel_cycles.specs.Below.plans.declared.counter.TotalCounter.TheVariants as of
 use Rattle.panel_cycles.specs.Below.wiring_table.Parts.{panel_group}
@@ -57,11 +59,14 @@ zeros_spell zero = refl
 zeros_spell (suc count) = let rest = zeros_spell count in omega (arith, rest)
 
 -- groups at the start hold zero
-start_number : (units : List ℕ) (place : ℕ)
-    → slice_index_or (map (λ (c : Counter). number c.digits) (map counter_at_start units)) place 0 ≡ 0
-start_number [] place = refl
-start_number (unit ∷ units) zero = zeros_spell _
-start_number (unit ∷ units) (suc place) = start_number units place
+start_number : (units : List ℕ) (place : ℕ) (other : Counter) → number other.digits ≡ 0
+    → number (slice_index_or (map counter_at_start units) place other).digits ≡ 0
+start_number [] place other none = none
+start_number (unit ∷ units) zero other none = zeros_spell _
+start_number (unit ∷ units) (suc place) other none = start_number units place other none
+
+start_group : (wiring : Wiring) (group : Group) → number (group_at (machine_at_start wiring) group).digits ≡ 0
+start_group wiring group = start_number group_units (unit_of group - 3) (counter_of group) (zeros_spell _)
 
 -- before the first card all totals are zero
 pub start_zero : (chart : Chart) (plan : Lists) (wiring : Wiring) (name : List ℕ) (level : ℕ)
@@ -70,11 +75,10 @@ start_zero chart plan wiring name level = by (total_counter chart.lines plan nam
   where
     by : (o : Option TotalCounter) → (held_in (machine_at_start wiring) o).number ≡ 0
     by None = refl
-    by (Some (of.Single group)) = start_number group_units (unit_of (panel_group group) - 3)
+    by (Some (of.Single group)) = start_group wiring (panel_group group)
     by (Some (of.Coupled lower upper)) =
-        let above = start_number group_units (unit_of (panel_group upper) - 3) in
-        let below = start_number group_units (unit_of (panel_group lower) - 3) in
-        (λ i. above i * 10 ^ lower.width + below i) ∙ nothing (10 ^ lower.width)
+        let power = 10 ^ length (group_at (machine_at_start wiring) (panel_group lower)).digits in
+        (λ i. start_group wiring (panel_group upper) i * power + start_group wiring (panel_group lower) i) ∙ nothing power
       where
         nothing : (power : ℕ) → 0 * power + 0 ≡ 0
         nothing power = omega arith

@@ -1,5 +1,5 @@
 -- What a cycle leaves of the totals of an amount: each holds what its act makes of what it held.
-use Rattle.std.proofs.Common.{◌≡◌, ◌∙◌, refl, sym, ap, subst, ℕ, ◌≤◌, Bool, true, false, List, Contains, Option, Some, None, is_some, option_and_then, if◌then◌else◌, arith, ◌+◌, ◌*◌, ◌^◌, length, inl, inr}
+use Rattle.std.proofs.Common.{◌≡◌, ◌∙◌, refl, sym, ap, subst, ℕ, ◌≤◌, Bool, true, false, List, Contains, Option, Some, None, is_some, option_and_then, if◌then◌else◌, arith, ◌+◌, inl, inr}
 use Rattle.std.proofs.lemmas.List.Elements.{All-contains}
 use Rattle.panel_cycles.proofs.Below.counter_cycles.ActLemmas.{acts-done}
 use Rattle.panel_cycles.specs.Below.counter_cycles.Acts.{Act, Asks, Held, IsWithinGroup, held_after, held_by}
@@ -28,7 +28,7 @@ use Rattle.panel_cycles.proofs.Below.wired_panels.Ways.{leads}
 use Rattle.panel_cycles.proofs.Below.wired_panels.CounterUnits.{at_unit, counter_there, planned_unit}
 use Rattle.panel_cycles.proofs.Below.wired_panels.AfterCycles.{cycle-of}
 use Rattle.panel_cycles.specs.ChartAmounts.{amount_of, positions_of, total_counter}
-use Rattle.panel_cycles.specs.CounterStates.{AsksCounter, held_in, number_at}
+use Rattle.panel_cycles.specs.CounterStates.{AsksCounter, held_in}
 use Rattle.panel_cycles.proofs.Below.wired_panels.Contacts.{is_set}
 use Rattle.panel_cycles.specs.Below.wired_panels.Groups.{IsCounterOf}
 use Rattle.panel_cycles.specs.Below.field_rules.Coupled.{has_sign}
@@ -37,7 +37,7 @@ use Rattle.panel_cycles.specs.Below.plans.declared.counter.TotalCounter.{TotalCo
 use Rattle.panel_cycles.specs.Below.plans.declared.counter.TotalCounter.TheVariants as of
 use Rattle.panel_cycles.proofs.Below.counter_cycles.PairLemmas.{pairs-done}
 use Rattle.panel_cycles.specs.Below.counter_cycles.Pairs.{AsksBoth, held_by_both}
-use Rattle.panel_cycles.specs.Below.counters.Laws.{IsCounter, number_of_both}
+use Rattle.panel_cycles.specs.Below.counters.Laws.{number_of_both}
 use Rattle.panel_cycles.specs.Below.net.declared.cycle.Point.{Point}
 use Rattle.panel_cycles.specs.Below.net.declared.cycle.Point.TheVariants.{K}
 use Rattle.panel_cycles.specs.Below.hubs.declared.hub.Hub.{Hub}
@@ -66,7 +66,7 @@ use Rattle.printed_reports.proofs.FromCycles.{whole}
 pub held_there : (machine : MachineState) (counter : Counter) (group : Group) → IsBetween machine → Contains machine.groups counter
     → counter.name ≡ group → held_at machine group ≡ held_by counter
 held_there machine counter group between listed named =
-    let digits = at_unit (λ (c : Counter). number c.digits) 0 machine.groups counter between.ordered listed in
+    let digits = ap (λ (c : Counter). number c.digits) (sym (group-own machine between counter listed)) in
     let latch = at_unit (λ (c : Counter). c.latch) false machine.groups counter between.ordered listed in
     ap (held_at machine) (sym named)
     ∙ (λ i. record { number = digits i; latch = latch i })
@@ -107,16 +107,15 @@ group_done wiring cycle old new group act signed is is_new all there ring fits a
 -- what two groups of a machine hold as one
 abbrev pub held_pair : MachineState → (upper lower : Group) → Held
 held_pair machine upper lower =
-    record { number = number_at machine.groups upper * 10 ^ lower.width + number_at machine.groups lower; latch = is_set machine upper }
+    record { number = number_of_both (group_at machine upper).digits (group_at machine lower).digits; latch = is_set machine upper }
 
 pub pair_there : (machine : MachineState) (upper lower : Counter) → IsBetween machine → Contains machine.groups upper
-    → Contains machine.groups lower → IsCounter lower → held_pair machine upper.name lower.name ≡ held_by_both upper lower
-pair_there machine upper lower between listed and_listed lawful =
-    let above = at_unit (λ (c : Counter). number c.digits) 0 machine.groups upper between.ordered listed in
-    let below = at_unit (λ (c : Counter). number c.digits) 0 machine.groups lower between.ordered and_listed in
+    → Contains machine.groups lower → held_pair machine upper.name lower.name ≡ held_by_both upper lower
+pair_there machine upper lower between listed and_listed =
+    let above = sym (group-own machine between upper listed) in
+    let below = sym (group-own machine between lower and_listed) in
     let latch = at_unit (λ (c : Counter). c.latch) false machine.groups upper between.ordered listed in
-    let width : lower.name.width ≡ length lower.digits = sym lawful.positions in
-    (λ i. record { number = above i * 10 ^ width i + below i; latch = latch i })
+    (λ i. record { number = number_of_both (above i).digits (below i).digits; latch = latch i })
 
 -- two groups through a cycle, by what is asked of both
 abbrev PairDoes : (wiring : Wiring) (old new : MachineState) → (Point → Hub → Bool) → Act → Bool → (upper lower : Group) → Type 0
@@ -146,7 +145,7 @@ counters_done wiring cycle old new upper lower act signed is is_new all listed a
     (subst (λ (c : Counter). CarryThrough (is_wired wiring (CO upper.name) (CI lower.name)) (all.pictures K) upper.name lower.name
     (wheels_in (after_its_points cycle all.pictures c)) (wheels_in (after_its_points cycle all.pictures (group_at old lower.name))))
     (sym (group-own old is.between upper listed)) by_wire)) in
-    let holds = pair_there old upper lower is.between listed and_listed and_idle.lawful in
+    let holds = pair_there old upper lower is.between listed and_listed in
     let asked : AsksBoth act (number_of_both upper.digits lower.digits) upper.name lower.name all.pictures
     = subst (λ (h : Held). AsksBoth act h.number upper.name lower.name all.pictures) holds asks in
     let done = pairs-done signed act upper lower cycle all.pictures (record { is_counter = idle.lawful; entered = idle.entered })
@@ -159,7 +158,6 @@ counters_done wiring cycle old new upper lower act signed is is_new all listed a
     (listed-map (after_cycle cycle all.pictures) old.groups lower and_listed) in
     (λ i. held_pair new (sym done.upper_name i) (sym done.lower_name i))
     ∙ pair_there new (after_cycle cycle all.pictures upper) (after_cycle cycle all.pictures lower) is_new.between listed_new and_listed_new
-    done.lower_ready.is_counter
     ∙ done.held
     ∙ ap (λ (h : Held). held_after signed (upper.name.width + lower.name.width) act h) (sym holds)
 

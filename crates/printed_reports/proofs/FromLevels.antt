@@ -144,7 +144,7 @@ module _ (chart : Chart) (plan : Lists) (wiring : Wiring) (panel : IsPanel chart
             let (and_listed, and_named, and_lawful) = group_there line.number (panel_group lower)
             (record { counter = of.Coupled lower upper; there = served; has = inl refl }) in
             let holds = state ∙ (λ i. held_pair old (sym named i) (sym and_named i))
-            ∙ pair_there old (group_at old (panel_group upper)) (group_at old (panel_group lower)) is.between listed and_listed and_lawful in
+            ∙ pair_there old (group_at old (panel_group upper)) (group_at old (panel_group lower)) is.between listed and_listed in
             record { figure = sym (ap (λ h. h.number) holds); latch = sym (ap (λ h. h.latch) holds) }
 
     -- a text on a total line is a text

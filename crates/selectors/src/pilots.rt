@@ -1,15 +1,15 @@
 //! The pilots.
 
-ghost use Rattle.std.specs.Prelude.{◌≡◌, ◌-◌, ◌<◌, ◌≤◌, length};
+ghost use Rattle.std.specs.Prelude.{◌≡◌, ◌-◌, ◌≤◌, length};
 ghost use Rattle.net.specs.Links.{has_at};
 ghost use Rattle.selectors.specs.Numbered.{tests_to};
-ghost use Rattle.net.specs.HubSets.{has_hub, is_bit};
+ghost use Rattle.net.specs.HubSets.{has_hub};
 ghost use Rattle.selectors.specs.Pilots.{moves_pilots, pickups};
 
 use crate::spread::spread;
 use card_code::Row;
 use hubs::Hub;
-use net::{Contacts, Cycle, Picture, Point, RowSets, Unit};
+use net::{Contacts, Cycle, Picture, Point, RowSets, Unit, has_bit};
 use std::marker::Model;
 
 /// How many pilots there are.
@@ -156,12 +156,4 @@ fn pickups_in(sets: &[u16]) -> [bool; PILOTS]
         picked_up[index] = has_bit(u128::from(sets[index]), 10);
     }
     picked_up
-}
-
-// Whether a bit of a word is set.
-fn has_bit(word: u128, bit: usize) -> bool
-    requires { bit < 128 }
-    ensures { result ≡ is_bit word bit }
-{
-    word >> bit & 1 == 1
 }

@@ -1,4 +1,4 @@
--- How many hubs the pictures have that the units sense, one with another.
+-- How many hubs the pictures have that the units sense, all together.
 use Rattle.std.specs.Prelude.{◌≡◌, ℕ, zero, suc, ◌+◌, Bool, List, [], ◌∷◌, Some, if◌then◌else◌}
 use Rattle.hubs.specs.Hubs.{number_of}
 use Rattle.hubs.specs.declared.hub.Hub.{Hub}

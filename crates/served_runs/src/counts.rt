@@ -5,6 +5,6 @@
 pub struct Counts {
     /// How many rounds were taken in all cycles.
     pub rounds: u64,
-    /// How many hubs the pictures had that the units sensed, one with another.
+    /// How many hubs the pictures had that the units sensed, all together.
     pub seen: u64,
 }

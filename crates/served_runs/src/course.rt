@@ -163,7 +163,7 @@ impl Course {
         size(&picture)
     }
 
-    // A unit takes all steps that it can. Answers how many hubs its pictures have, one with another.
+    // A unit takes all steps that it can. Answers how many hubs its pictures have, all together.
     fn take_turn(&mut self, panel: &Panel, cycle: Cycle, unit: u8) -> u64
         requires { IsUnit unit_count unit }
         ensures turn { (wiring : Wiring) → IsPanelOf wiring panel.now

@@ -6,7 +6,6 @@ mod contacts;
 mod counts;
 mod course;
 mod feed;
-mod groups;
 mod rounds;
 mod run;
 mod sizes;

@@ -1,6 +1,6 @@
 //! A whole served run.
 
-ghost use Rattle.std.specs.Prelude.{◌≡◌, ◌≤◌, ◌++◌, IfOk, OnErr, OnOk, length, option_to_list};
+ghost use Rattle.std.specs.Prelude.{◌≤◌, IfOk, length};
 ghost use Rattle.card_code.specs.MostCards.{most_cards};
 ghost use Rattle.machine.specs.Runs.{MachineLines};
 ghost use Rattle.placed_lines.specs.InOrder.{IsInOrder};
@@ -11,6 +11,7 @@ use crate::course::Panel;
 use crate::rounds::serve_cycle;
 use crate::units::Units;
 use card_code::Card;
+use machine::append_line;
 use net::Net;
 use placed_lines::PlacedLine;
 use served::Service;
@@ -55,18 +56,7 @@ pub fn simulate_served(
         hopper = units.make_ready(cycle, hopper);
         units.known();
         (units, counts) = serve_cycle(units, &panel, cycle, service, counts);
-        append(&mut lines, units.placed_line())?;
+        append_line(&mut lines, units.placed_line())?;
     }
     Ok(ServedRun { lines, counts })
-}
-
-// Puts the line, if there is one, after the others. Where memory is refused they stay as they were.
-fn append(lines: &mut Vec<PlacedLine>, line: Option<PlacedLine>) -> Result<(), AllocError>
-    ensures appended { OnOk result (lines.new.items ≡ lines.old.items ++ option_to_list line) }
-    ensures refused { OnErr result (lines.new.items ≡ lines.old.items) }
-{
-    if let Some(line) = line {
-        lines.push(line)?;
-    }
-    Ok(())
 }

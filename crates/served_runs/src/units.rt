@@ -1,9 +1,9 @@
 //! The units of a machine, each by its number.
 
 use crate::contacts::close_group;
-use crate::groups::groups;
 use carriage::Carriage;
 use counters::Group;
+use machine::{groups_at_start, placed_line};
 use net::{Contacts, Cycle, Picture, Point, Unit};
 use placed_lines::PlacedLine;
 use print_unit::{Emitters, Wheels};
@@ -64,7 +64,7 @@ impl Units {
         Units {
             stations: Stations::new(),
             comparing: Comparing::new(),
-            groups: groups(),
+            groups: groups_at_start(),
             storage: [
                 Storage::new(35),
                 Storage::new(36),
@@ -164,11 +164,7 @@ impl Units {
     pub(crate) fn placed_line(&self) -> Option<PlacedLine>
         ensures { option_to_list result ≡ line_of self.now }
     {
-        self.carriage.printed().map(|(page, line)| PlacedLine {
-            page,
-            line,
-            text: *self.wheels.line(),
-        })
+        placed_line(&self.carriage, &self.wheels)
     }
 }
 

@@ -4,7 +4,7 @@ use Rattle.std.specs.List.{list_any}
 use Rattle.hubs.specs.Carries.{do_wires_agree, keeps_carry}
 use Rattle.hubs.specs.Hubs.{number_of, is_exit_hub, is_entry_hub}
 use Rattle.hubs.specs.Jacks.{jack_place, is_jack_in_range, is_same_jack}
-use Rattle.setups.specs.Tapes.{CarriageTape}
+use Rattle.setups.specs.Tapes.{CarriageTape, SameTape}
 use Rattle.hubs.specs.declared.hub.Hub.{Hub}
 use Rattle.hubs.specs.declared.jack.Jack.{Jack}
 
@@ -90,6 +90,12 @@ SameWires old new = (exit entry : Hub) → HasWire new exit entry ↔ HasWire ol
 -- the same jacks are plugged
 abbrev pub SameJacks : Wiring → Wiring → Type 0
 SameJacks old new = (jack : Jack) → is_plugged new jack ≡ is_plugged old jack
+
+-- two setups are the same: the same wires, jacks and tape
+pub record IsSameSetup (one other : Wiring) : Type 0 where
+  pub wires : SameWires one other
+  pub jacks : SameJacks one other
+  pub tape : SameTape one.tape other.tape
 
 -- new has the wires of old and the wire from this exit to this entry
 abbrev pub AddsWire : Wiring → Wiring → Hub → Hub → Type 0

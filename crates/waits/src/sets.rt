@@ -11,6 +11,7 @@ ghost use Rattle.waits.specs.Waits.{SensesOther};
 
 use crate::bits::with_bit;
 use crate::owners::{owner_of, reader_of};
+use crate::waiting::UNITS;
 use hubs::Hub;
 use net::{Contacts, HUBS, Picture};
 
@@ -60,5 +61,5 @@ pub(crate) fn readers(picture: &Picture, but: u16) -> u64
 fn is_other(unit: u16, but: u16) -> bool
     ensures { (result ≡ true) ↔ (IsUnit unit_count unit × (but ≢ unit)) }
 {
-    1 <= unit && unit <= 45 && unit != but
+    1 <= unit && unit <= UNITS as u16 && unit != but
 }

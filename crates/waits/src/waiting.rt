@@ -10,8 +10,8 @@ use crate::bits::{has_bit, with_bit};
 use crate::sets::{all_contacts, exits_of, readers};
 use net::{Net, Picture};
 
-/// How many units the machine has. They are numbered from 1.
-pub const UNITS: usize = 45;
+/// How many units the machine has, as the length of what [`waits`] answers. They are numbered from 1.
+pub const UNITS: usize = served::UNITS as usize;
 
 /// For each unit, from unit 1 on, the units that it waits for: bit v - 1 stands for unit v.
 pub fn waits(net: &Net) -> [u64; UNITS]

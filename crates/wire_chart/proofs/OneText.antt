@@ -1,12 +1,11 @@
 -- A setup has one text.
-use Rattle.std.proofs.Common.{◌≡◌, inl, inr, ℕ, ◌<◌, List, refl, sym, ap, ◌∙◌, subst, arith}
+use Rattle.std.proofs.Common.{◌≡◌, inl, inr, ℕ, ◌<◌, List, ◌++◌, codes, refl, sym, ap, ◌∙◌, subst, arith}
 use Rattle.std.proofs.lemmas.Option.{same_Some}
 use Rattle.setups.specs.Tapes.{CarriageTape, SameTape}
-use Rattle.setups.specs.Wiring.{Wiring}
+use Rattle.setups.specs.Wiring.{IsSameSetup, Wiring}
 use Rattle.hubs.specs.declared.hub.Hub.{Hub}
 use Rattle.hubs.specs.declared.jack.Jack.{Jack}
-use Rattle.wiring_text.specs.WiringText.{IsSameSetup}
-use Rattle.wire_chart.specs.WrittenText.{IsWritten, IsWrittenIn, IsStopBefore, IsJackBefore, IsHubBefore, IsLineBefore, IsWireBefore, JoinsGroups, form_place, text_of}
+use Rattle.wire_chart.specs.WrittenText.{ArePartsOf, IsWritten, IsWrittenIn, IsStopBefore, IsJackBefore, IsHubBefore, IsLineBefore, IsWireBefore, JoinsGroups, ended, form_line, form_place, parts_text, title_line}
 use Rattle.wire_chart.proofs.Ordered.{IsOneWay, same_list}
 use Rattle.wiring_text.specs.declared.statement.Version.{Version}
 use Rattle.wiring_text.specs.declared.statement.Version.TheVariants.{First, Second}
@@ -49,44 +48,53 @@ lines_one_way version x y one other =
     ]
 
 -- the same members of two lists by what they are
-same_stops : (version : Version) (one other : Wiring) (text words : List ℕ) → IsSameSetup one other → (first : IsWrittenIn version one text)
-    → (second : IsWrittenIn version other words) → first.stops ≡ second.stops
+same_stops : (version : Version) (one other : Wiring) (text words : List ℕ) → IsSameSetup one other → (first : ArePartsOf version one text)
+    → (second : ArePartsOf version other words) → first.stops ≡ second.stops
 same_stops version one other text words same first second =
     same_list IsStopBefore first.stops second.stops stops_one_way first.stops_in_order second.stops_in_order
     (λ a has. (second.all_stops a.0 a.1).0 (same.tape.stops a.0 a.1 ∙ (first.all_stops a.0 a.1).1 has))
     (λ a has. (first.all_stops a.0 a.1).0 (sym (same.tape.stops a.0 a.1) ∙ (second.all_stops a.0 a.1).1 has))
 
-same_jacks : (version : Version) (one other : Wiring) (text words : List ℕ) → IsSameSetup one other → (first : IsWrittenIn version one text)
-    → (second : IsWrittenIn version other words) → first.jacks ≡ second.jacks
+same_jacks : (version : Version) (one other : Wiring) (text words : List ℕ) → IsSameSetup one other → (first : ArePartsOf version one text)
+    → (second : ArePartsOf version other words) → first.jacks ≡ second.jacks
 same_jacks version one other text words same first second =
     same_list IsJackBefore first.jacks second.jacks jacks_one_way first.jacks_in_order second.jacks_in_order
     (λ a has. (second.all_jacks a).0 (same.jacks a ∙ (first.all_jacks a).1 has))
     (λ a has. (first.all_jacks a).0 (sym (same.jacks a) ∙ (second.all_jacks a).1 has))
 
-same_wires : (version : Version) (one other : Wiring) (text words : List ℕ) → IsSameSetup one other → (first : IsWrittenIn version one text)
-    → (second : IsWrittenIn version other words) → first.wires ≡ second.wires
+same_wires : (version : Version) (one other : Wiring) (text words : List ℕ) → IsSameSetup one other → (first : ArePartsOf version one text)
+    → (second : ArePartsOf version other words) → first.wires ≡ second.wires
 same_wires version one other text words same first second =
     same_list (IsLineBefore version) first.wires second.wires (lines_one_way version) first.wires_in_order second.wires_in_order
     (λ a has. (second.all_wires a.0 a.1).0 ((same.wires a.0 a.1).1 ((first.all_wires a.0 a.1).1 has)))
     (λ a has. (first.all_wires a.0 a.1).0 ((same.wires a.0 a.1).0 ((second.all_wires a.0 a.1).1 has)))
 
+-- so the same setups have the same lines
+one_parts : (version : Version) (one other : Wiring) (text words : List ℕ) → IsSameSetup one other → ArePartsOf version one text
+    → ArePartsOf version other words → text ≡ words
+one_parts version one other text words same first second =
+    first.spelled
+    ∙ ap (λ (stops : List (ℕ × ℕ)). parts_text version stops first.jacks first.wires)
+    (same_stops version one other text words same first second)
+    ∙ ap (λ (jacks : List Jack). parts_text version second.stops jacks first.wires)
+    (same_jacks version one other text words same first second)
+    ∙ ap (λ (wires : List (Hub × Hub)). parts_text version second.stops second.jacks wires)
+    (same_wires version one other text words same first second)
+    ∙ sym second.spelled
+
 -- a form is written by its numbers alone
-same_text : (version : Version) (one other : CarriageTape) (stops : List (ℕ × ℕ)) (jacks : List Jack) (wires : List (Hub × Hub))
-    → SameTape one other → text_of version one stops jacks wires ≡ text_of version other stops jacks wires
-same_text version one other stops jacks wires same = rw (same.lines, same.first, same.overflow) refl
+same_form : (one other : CarriageTape) → SameTape one other → form_line one ≡ form_line other
+same_form one other same = rw (same.lines, same.first, same.overflow) refl
 
 -- The same setups have one text in each version.
 pub one_text_in : (version : Version) (one other : Wiring) (text words : List ℕ) → IsSameSetup one other → IsWrittenIn version one text → IsWrittenIn version other words
     → text ≡ words
 one_text_in version one other text words same first second =
     first.spelled
-    ∙ ap (λ (stops : List (ℕ × ℕ)). text_of version one.tape stops first.jacks first.wires)
-    (same_stops version one other text words same first second)
-    ∙ ap (λ (jacks : List Jack). text_of version one.tape second.stops jacks first.wires)
-    (same_jacks version one other text words same first second)
-    ∙ ap (λ (wires : List (Hub × Hub)). text_of version one.tape second.stops second.jacks wires)
-    (same_wires version one other text words same first second)
-    ∙ same_text version one.tape other.tape second.stops second.jacks second.wires same.tape
+    ∙ ap (λ (parts : List ℕ). ended (title_line version) ++ ended (form_line one.tape) ++ parts ++ ended (codes "END"))
+    (one_parts version one other first.parts second.parts same first.are second.are)
+    ∙ ap (λ (form : List ℕ). ended (title_line version) ++ ended form ++ second.parts ++ ended (codes "END"))
+    (same_form one.tape other.tape same.tape)
     ∙ sym second.spelled
 
 -- and the version of what is written is the setup's

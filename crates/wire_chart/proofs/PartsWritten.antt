@@ -3,8 +3,8 @@ use Rattle.std.proofs.Common.{◌≡◌, ℕ, List, ◌++◌, refl, ap, ◌∙�
 use Rattle.std.specs.List.{flat_map}
 use Rattle.setups.specs.Tapes.{CarriageTape, IsStopOf}
 use Rattle.setups.specs.Wiring.{Wiring, HasJack, IsWireOf}
-use Rattle.wire_chart.specs.Parts.{GainsParts, parts_text}
-use Rattle.wire_chart.specs.WrittenText.{ended, jack_line, stop_line, wire_line}
+use Rattle.wire_chart.specs.Parts.{GainsParts}
+use Rattle.wire_chart.specs.WrittenText.{ended, jack_line, parts_text, stop_line, wire_line}
 use Rattle.wire_chart.specs.Writing.{GainsStops, GainsJacks, GainsAllWires}
 use Rattle.wiring_text.specs.declared.statement.Version.{Version}
 

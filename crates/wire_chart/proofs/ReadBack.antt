@@ -14,7 +14,7 @@ use Rattle.wire_chart.specs.Laws.{IsSetup}
 use Rattle.hubs.specs.Carries.{do_wires_agree}
 use Rattle.wiring_text.specs.Statements.{do_hubs_agree, do_statements_agree, statement_fault}
 use Rattle.wiring_text.specs.WiringText.{IsSetupOf, ReadsAs}
-use Rattle.wire_chart.specs.WrittenText.{IsWrittenIn, title_line, form_line, IsStopBefore, IsJackBefore, IsLineBefore}
+use Rattle.wire_chart.specs.WrittenText.{ArePartsOf, IsWrittenIn, title_line, form_line, IsStopBefore, IsJackBefore, IsLineBefore}
 use Rattle.wiring_text.specs.declared.statement.Statement.{Statement}
 use Rattle.wiring_text.specs.declared.statement.Statement.TheVariants.{Stop, Plug, Wire}
 use Rattle.wire_chart.proofs.Ordered.{pairs_none, pairs_append, contains_none, contains_mapped, contains_unmapped, pairs_mapped}
@@ -117,9 +117,9 @@ abbrev AreApart : Statement → Statement → Type 0
 AreApart one other = one ≢ other
 
 said_once : (version : Version) (wiring : Wiring) (text : List ℕ) → (is : IsText version wiring text)
-    → AllPairs AreApart (statements_of is.written.stops is.written.jacks is.written.wires)
+    → AllPairs AreApart (statements_of is.written.are.stops is.written.are.jacks is.written.are.wires)
 said_once version wiring text is =
-    let w : IsWrittenIn version wiring text = is.written in
+    let w : ArePartsOf version wiring is.written.parts = is.written.are in
     pairs_append AreApart (map stop_statement w.stops) (map Plug w.jacks ++ (map wire_statement w.wires ++ []))
     (pairs_mapped IsStopBefore AreApart stop_statement w.stops (distinct IsStopBefore stop_statement stops_one_way same_stop)
     w.stops_in_order)
@@ -144,9 +144,9 @@ said_once version wiring text is =
 -- every statement fits
 all_fit : (version : Version) (wiring : Wiring) (text : List ℕ) → (is : IsText version wiring text)
     → All (λ statement. statement_fault wiring.tape.lines statement ≡ None)
-    (statements_of is.written.stops is.written.jacks is.written.wires)
+    (statements_of is.written.are.stops is.written.are.jacks is.written.are.wires)
 all_fit version wiring text is =
-    let w : IsWrittenIn version wiring text = is.written in
+    let w : ArePartsOf version wiring is.written.parts = is.written.are in
     let fits : Statement → Type 0 = λ statement. statement_fault wiring.tape.lines statement ≡ None in
     All-append (λ statement. statement_fault wiring.tape.lines statement ≡ None) (map stop_statement w.stops)
     (map Plug w.jacks ++ (map wire_statement w.wires ++ []))
@@ -166,18 +166,18 @@ all_fit version wiring text is =
 -- each two statements agree
 all_together : (version : Version) (wiring : Wiring) (text : List ℕ) → (is : IsText version wiring text)
     → AllPairs (λ one other. do_statements_agree one other ≡ true)
-    (statements_of is.written.stops is.written.jacks is.written.wires)
+    (statements_of is.written.are.stops is.written.are.jacks is.written.are.wires)
 all_together version wiring text is =
     λ i j d before within.
     agree (slice_index_or said i d) (slice_index_or said j d)
     (as_one w.stops w.jacks w.wires (slice_index_or said i d) (Contains-get_or said i d (omega (arith, before, within))))
     (as_one w.stops w.jacks w.wires (slice_index_or said j d) (Contains-get_or said j d within))
   where
-    w : IsWrittenIn version wiring text
-    w = is.written
+    w : ArePartsOf version wiring is.written.parts
+    w = is.written.are
 
     said : List Statement
-    said = statements_of is.written.stops is.written.jacks is.written.wires
+    said = statements_of is.written.are.stops is.written.are.jacks is.written.are.wires
 
     named : (exit entry other next : Hub) → do_wires_agree exit entry other next ≡ true
         → do_statements_agree (wire_statement (exit, entry)) (wire_statement (other, next)) ≡ true
@@ -185,8 +185,8 @@ all_together version wiring text is =
         (λ i. do_hubs_agree (hub_named-own exit i) (hub_named-own entry i) (hub_named-own other i) (hub_named-own next i)) ∙ agrees
 
     agree : (one other : Statement)
-        → IsStopStatement is.written.stops one ⊎ (IsPlugStatement is.written.jacks one ⊎ IsWireStatement is.written.wires one)
-        → IsStopStatement is.written.stops other ⊎ (IsPlugStatement is.written.jacks other ⊎ IsWireStatement is.written.wires other)
+        → IsStopStatement is.written.are.stops one ⊎ (IsPlugStatement is.written.are.jacks one ⊎ IsWireStatement is.written.are.wires one)
+        → IsStopStatement is.written.are.stops other ⊎ (IsPlugStatement is.written.are.jacks other ⊎ IsWireStatement is.written.are.wires other)
         → do_statements_agree one other ≡ true
     agree one other (inl stop) its = ap (λ s. do_statements_agree s other) stop.said
     agree one other (inr (inl plug)) its = ap (λ s. do_statements_agree s other) plug.said
@@ -202,9 +202,9 @@ all_together version wiring text is =
 
 -- what is said is the setup
 setup_is : (version : Version) (wiring : Wiring) (text : List ℕ) → (is : IsText version wiring text)
-    → IsSetupOf (form_numbers wiring.tape) (statements_of is.written.stops is.written.jacks is.written.wires) wiring
+    → IsSetupOf (form_numbers wiring.tape) (statements_of is.written.are.stops is.written.are.jacks is.written.are.wires) wiring
 setup_is version wiring text is =
-    let w : IsWrittenIn version wiring text = is.written in
+    let w : ArePartsOf version wiring is.written.parts = is.written.are in
     let others : List Statement = map Plug w.jacks ++ (map wire_statement w.wires ++ []) in
     record {
       lines = refl;
@@ -250,19 +250,19 @@ setup_is version wiring text is =
     }
   where
     stop_there : (wiring : Wiring) (text : List ℕ) → (is : IsText version wiring text) → (channel line : ℕ) (stop : ℕ × ℕ)
-        → (channel, line) ≡ stop → Contains is.written.stops stop → has_stop wiring.tape channel line ≡ true
+        → (channel, line) ≡ stop → Contains is.written.are.stops stop → has_stop wiring.tape channel line ≡ true
     stop_there wiring text is channel line stop e has =
-        (is.written.all_stops channel line).1 (subst (λ (s : ℕ × ℕ). Contains is.written.stops s) (sym e) has)
+        (is.written.are.all_stops channel line).1 (subst (λ (s : ℕ × ℕ). Contains is.written.are.stops s) (sym e) has)
 
     jack_there : (wiring : Wiring) (text : List ℕ) → (is : IsText version wiring text) → (jack other : Jack) → jack ≡ other
-        → Contains is.written.jacks other → HasJack wiring jack
+        → Contains is.written.are.jacks other → HasJack wiring jack
     jack_there wiring text is jack other e has =
-        (is.written.all_jacks jack).1 (subst (λ (j : Jack). Contains is.written.jacks j) (sym e) has)
+        (is.written.are.all_jacks jack).1 (subst (λ (j : Jack). Contains is.written.are.jacks j) (sym e) has)
 
     wire_there : (wiring : Wiring) (text : List ℕ) → (is : IsText version wiring text) → (exit entry : Hub) (wire : Hub × Hub)
-        → (exit, entry) ≡ wire → Contains is.written.wires wire → HasWire wiring exit entry
+        → (exit, entry) ≡ wire → Contains is.written.are.wires wire → HasWire wiring exit entry
     wire_there wiring text is exit entry wire e has =
-        (is.written.all_wires exit entry).1 (subst (λ (w : Hub × Hub). Contains is.written.wires w) (sym e) has)
+        (is.written.are.all_wires exit entry).1 (subst (λ (w : Hub × Hub). Contains is.written.are.wires w) (sym e) has)
 
 -- What is written of a setup in a version reads as that setup.
 pub read_back : (version : Version) (wiring : Wiring) (text : List ℕ) → IsSetup wiring → IsWrittenIn version wiring text → ReadsAs text wiring
@@ -270,14 +270,14 @@ read_back version wiring text setup written =
     let is : IsText version wiring text = record { setup = setup; written = written } in
     record {
       form = form_numbers wiring.tape;
-      statements = statements_of written.stops written.jacks written.wires;
+      statements = statements_of written.are.stops written.are.jacks written.are.wires;
       chart = record {
         reads = record {
           size = not_large version wiring text is;
           version = version;
           first = title_line version;
           second = form_line wiring.tape;
-          others = lines_after version written.stops written.jacks written.wires;
+          others = lines_after version written.are.stops written.are.jacks written.are.wires;
           lines = text_lines version wiring text is;
           begun = (first_written version).divided;
           formed = form_is wiring.tape setup.form.formed;

@@ -9,7 +9,7 @@ use Rattle.hubs.specs.declared.hub.Hub.{Hub}
 use Rattle.hubs.specs.declared.jack.Jack.{Jack}
 use Rattle.wiring_text.specs.WiringText.{IsFormLine, SaysLines, end_line, version_text}
 use Rattle.wiring_text.specs.declared.statement.FormNumbers.{FormNumbers}
-use Rattle.wire_chart.specs.WrittenText.{IsWrittenIn, title_line, ended, form_line, stop_line, jack_line, wire_line}
+use Rattle.wire_chart.specs.WrittenText.{ArePartsOf, title_line, ended, form_line, stop_line, jack_line, wire_line}
 use Rattle.wiring_text.specs.declared.statement.Statement.{Statement}
 use Rattle.wiring_text.specs.declared.statement.Statement.TheVariants.{Plug}
 use Rattle.wire_chart.proofs.WrittenBytes.{IsWord, IsWrittenLine, words_line, line_of_words, ended_line, ended_lines, no_lines}
@@ -80,19 +80,21 @@ lines_after version stops jacks wires =
 abbrev pub statements_of : List (ℕ × ℕ) → List Jack → List (Hub × Hub) → List Statement
 statements_of stops jacks wires = map stop_statement stops ++ (map Plug jacks ++ (map wire_statement wires ++ []))
 
-regroup : (a b c d e f : List ℕ) → a ++ b ++ c ++ d ++ e ++ f ≡ a ++ (b ++ (c ++ (d ++ (e ++ f))))
+regroup : (a b c d e f : List ℕ) → a ++ b ++ (c ++ d ++ e) ++ f ≡ a ++ (b ++ (c ++ (d ++ (e ++ f))))
 regroup a b c d e f = simp append_assoc
 
 -- the lines of the text
 pub text_lines : (version : Version) (wiring : Wiring) (text : List ℕ) → (is : IsText version wiring text) → lines_of text
-    ≡ title_line version ∷ form_line wiring.tape ∷ lines_after version is.written.stops is.written.jacks is.written.wires
+    ≡ title_line version ∷ form_line wiring.tape ∷ lines_after version is.written.are.stops is.written.are.jacks is.written.are.wires
 text_lines version wiring text is =
-    let w : IsWrittenIn version wiring text = is.written in
+    let w : ArePartsOf version wiring is.written.parts = is.written.are in
     let stops : List ℕ = flat_map (λ stop. ended (stop_line stop)) w.stops in
     let jacks : List ℕ = flat_map (λ jack. ended (jack_line jack)) w.jacks in
     let wires : List ℕ = flat_map (λ wire. ended (wire_line version wire)) w.wires in
     let end : List ℕ = ended (codes "END") in
-    ap lines_of (w.spelled ∙ regroup (ended (title_line version)) (ended (form_line wiring.tape)) stops jacks wires end)
+    ap lines_of (is.written.spelled
+    ∙ ap (λ (parts : List ℕ). ended (title_line version) ++ ended (form_line wiring.tape) ++ parts ++ end) w.spelled
+    ∙ regroup (ended (title_line version)) (ended (form_line wiring.tape)) stops jacks wires end)
     ∙ ended_line (title_line version) (ended (form_line wiring.tape) ++ (stops ++ (jacks ++ (wires ++ end)))) (first_written version).inner
     ∙ ap (λ (ls : List (List ℕ)). title_line version ∷ ls)
     (ended_line (form_line wiring.tape) (stops ++ (jacks ++ (wires ++ end))) (form_written wiring.tape is.setup.form.formed).inner
@@ -107,10 +109,10 @@ text_lines version wiring text is =
     (ended_line (codes "END") [] refl ∙ ap (λ (ls : List (List ℕ)). codes "END" ∷ ls) no_lines)))))
 
 pub text_said : (version : Version) (wiring : Wiring) (text : List ℕ) → (is : IsText version wiring text)
-    → SaysLines version (lines_after version is.written.stops is.written.jacks is.written.wires)
-    (statements_of is.written.stops is.written.jacks is.written.wires)
+    → SaysLines version (lines_after version is.written.are.stops is.written.are.jacks is.written.are.wires)
+    (statements_of is.written.are.stops is.written.are.jacks is.written.are.wires)
 text_said version wiring text is =
-    let w : IsWrittenIn version wiring text = is.written in
+    let w : ArePartsOf version wiring is.written.parts = is.written.are in
     lines_said version stop_line stop_statement w.stops _ _ (stops_said version wiring text is)
     (lines_said version jack_line Plug w.jacks _ _ (λ jack has. jack_said version jack (each_jack version wiring text is jack has))
     (lines_said version (wire_line version) wire_statement w.wires _ _ (wires_said version wiring text is)

@@ -17,7 +17,7 @@ use Rattle.hubs.specs.declared.hub.Group.{Group}
 use Rattle.hubs.specs.declared.hub.Hub.{Hub}
 use Rattle.hubs.specs.declared.jack.Jack.{Jack}
 use Rattle.wiring_text.specs.WiringText.{IsTooLarge}
-use Rattle.wire_chart.specs.WrittenText.{IsWrittenIn, carry_form, form_place, title_line, wire_form, form_line, stop_line, jack_line, wire_line, IsStopBefore, IsJackBefore, IsHubBefore, IsLineBefore}
+use Rattle.wire_chart.specs.WrittenText.{ArePartsOf, carry_form, form_place, title_line, wire_form, form_line, stop_line, jack_line, wire_line, IsStopBefore, IsJackBefore, IsHubBefore, IsLineBefore}
 use Rattle.wiring_text.specs.declared.statement.Statement.TheVariants.{Plug}
 use Rattle.wire_chart.proofs.HubRanges.{exit_number, entry_number}
 use Rattle.wire_chart.proofs.JackGains.{place_within}
@@ -33,9 +33,9 @@ use Rattle.wire_chart.specs.declared.form.WireForm.{WireForm}
 use Rattle.wire_chart.specs.declared.form.WireForm.TheVariants.{Ring, Couple, Plain}
 
 -- how many stops, jacks and wires there are at most
-stops_few : (version : Version) (wiring : Wiring) (text : List ℕ) → (is : IsText version wiring text) → length is.written.stops ≤ 2400
+stops_few : (version : Version) (wiring : Wiring) (text : List ℕ) → (is : IsText version wiring text) → length is.written.are.stops ≤ 2400
 stops_few version wiring text is =
-    few_by_key IsStopBefore (λ (stop : ℕ × ℕ). 200 * stop.0 + stop.1) 2400 is.written.stops
+    few_by_key IsStopBefore (λ (stop : ℕ × ℕ). 200 * stop.0 + stop.1) 2400 is.written.are.stops
     (λ stop has.
     let at : IsStop wiring.tape.lines stop.0 stop.1 = each_stop version wiring text is stop has in
     let to : wiring.tape.lines ≤ 144 = is.setup.form.formed.lines_to in
@@ -44,14 +44,14 @@ stops_few version wiring text is =
     let at : IsStop wiring.tape.lines one.0 one.1 = each_stop version wiring text is one has in
     let to : wiring.tape.lines ≤ 144 = is.setup.form.formed.lines_to in
     elim before [ inl h ↦ omega (arith, at.line_to) | inr h ↦ omega (arith, h.0, h.1) ])
-    is.written.stops_in_order
+    is.written.are.stops_in_order
 
-jacks_few : (version : Version) (wiring : Wiring) (text : List ℕ) → (is : IsText version wiring text) → length is.written.jacks ≤ 368
+jacks_few : (version : Version) (wiring : Wiring) (text : List ℕ) → (is : IsText version wiring text) → length is.written.are.jacks ≤ 368
 jacks_few version wiring text is =
-    few_by_key IsJackBefore jack_place 368 is.written.jacks
+    few_by_key IsJackBefore jack_place 368 is.written.are.jacks
     (λ jack has. place_within jack (each_jack version wiring text is jack has))
     (λ one other has also before. before)
-    is.written.jacks_in_order
+    is.written.are.jacks_in_order
 
 abbrev hub_key : Hub → ℕ
 hub_key hub = unwrap_or (number_of hub) 0
@@ -72,7 +72,7 @@ record HasKeys (wire : Hub × Hub) : Type 0 where
   entry_from : 1041 ≤ hub_key wire.1
   entry_to : hub_key wire.1 ≤ 1936
 
-wire_keys : (version : Version) (wiring : Wiring) (text : List ℕ) → (is : IsText version wiring text) → (wire : Hub × Hub) → Contains is.written.wires wire
+wire_keys : (version : Version) (wiring : Wiring) (text : List ℕ) → (is : IsText version wiring text) → (wire : Hub × Hub) → Contains is.written.are.wires wire
     → HasKeys wire
 wire_keys version wiring text is wire has =
     let there : HasWire wiring wire.0 wire.1 = each_wire version wiring text is wire has in
@@ -195,9 +195,9 @@ hub_apart one other before same =
     omega (arith, below, ap (λ (hub : Hub). hub_key hub) same)
 
 wires_few : (version : Version) (wiring : Wiring) (text : List ℕ) → (is : IsText version wiring text)
-    → length is.written.wires ≤ 937777
+    → length is.written.are.wires ≤ 937777
 wires_few version wiring text is =
-    few_by_key (IsLineBefore version) (wire_key version) 937777 is.written.wires
+    few_by_key (IsLineBefore version) (wire_key version) 937777 is.written.are.wires
     (λ wire has.
     let keys : HasKeys wire = wire_keys version wiring text is wire has in
     key_low (wire_form version wire) (hub_key wire.0) (hub_key wire.1) keys.exit_to keys.entry_to)
@@ -219,7 +219,7 @@ wires_few version wiring text is =
                 (ap (λ (hub : Hub). hub_key hub) entries.0) (before_keys one.1 other.1 entries.1)
           ])
     ])
-    is.written.wires_in_order
+    is.written.are.wires_in_order
 
 -- the text is not too large
 no_more : (lines : List (List ℕ)) → length lines ≤ 1000000 → All (λ line. length line ≤ 60) lines → IsTooLarge lines → ⊥
@@ -230,9 +230,9 @@ no_more lines few short (inr h) =
     omega (arith, at, same, h.4)
 
 text_short : (version : Version) (wiring : Wiring) (text : List ℕ) → (is : IsText version wiring text) → All (λ line. length line ≤ 60)
-    (title_line version ∷ form_line wiring.tape ∷ lines_after version is.written.stops is.written.jacks is.written.wires)
+    (title_line version ∷ form_line wiring.tape ∷ lines_after version is.written.are.stops is.written.are.jacks is.written.are.wires)
 text_short version wiring text is =
-    let w : IsWrittenIn version wiring text = is.written in
+    let w : ArePartsOf version wiring is.written.parts = is.written.are in
     let last : List (List ℕ) = codes "END" ∷ [] in
     All-cons (λ line. length line ≤ 60) (title_line version)
     (form_line wiring.tape ∷ lines_after version w.stops w.jacks w.wires) (first_written version).short
@@ -262,11 +262,11 @@ after_length version stops jacks wires =
 pub not_large : (version : Version) (wiring : Wiring) (text : List ℕ) → (is : IsText version wiring text) → IsTooLarge (lines_of text) → ⊥
 not_large version wiring text is large =
     let lines : List (List ℕ) =
-    title_line version ∷ form_line wiring.tape ∷ lines_after version is.written.stops is.written.jacks is.written.wires in
+    title_line version ∷ form_line wiring.tape ∷ lines_after version is.written.are.stops is.written.are.jacks is.written.are.wires in
     no_more lines
-    (few (length is.written.stops) (length is.written.jacks) (length is.written.wires)
-    (lines_after version is.written.stops is.written.jacks is.written.wires)
-    (after_length version is.written.stops is.written.jacks is.written.wires)
+    (few (length is.written.are.stops) (length is.written.are.jacks) (length is.written.are.wires)
+    (lines_after version is.written.are.stops is.written.are.jacks is.written.are.wires)
+    (after_length version is.written.are.stops is.written.are.jacks is.written.are.wires)
     (stops_few version wiring text is) (jacks_few version wiring text is) (wires_few version wiring text is))
     (text_short version wiring text is)
     (subst (λ (ls : List (List ℕ)). IsTooLarge ls) (text_lines version wiring text is) large)

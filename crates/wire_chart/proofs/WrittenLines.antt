@@ -60,26 +60,26 @@ pub record IsText (version : Version) (wiring : Wiring) (text : List ℕ) : Type
   pub written : IsWrittenIn version wiring text
 
 pub each_stop : (version : Version) (wiring : Wiring) (text : List ℕ) → (is : IsText version wiring text) → (stop : ℕ × ℕ)
-    → Contains is.written.stops stop → IsStop wiring.tape.lines stop.0 stop.1
-each_stop version wiring text is stop has = is.setup.form.stops stop.0 stop.1 ((is.written.all_stops stop.0 stop.1).1 has)
+    → Contains is.written.are.stops stop → IsStop wiring.tape.lines stop.0 stop.1
+each_stop version wiring text is stop has = is.setup.form.stops stop.0 stop.1 ((is.written.are.all_stops stop.0 stop.1).1 has)
 
 pub stops_said : (version : Version) (wiring : Wiring) (text : List ℕ) → (is : IsText version wiring text) → (stop : ℕ × ℕ)
-    → Contains is.written.stops stop → IsSaidLine version (stop_line stop) (stop_statement stop)
+    → Contains is.written.are.stops stop → IsSaidLine version (stop_line stop) (stop_statement stop)
 stops_said version wiring text is stop has =
     let at : IsStop wiring.tape.lines stop.0 stop.1 = each_stop version wiring text is stop has in
     let lines_to : wiring.tape.lines ≤ 144 = is.setup.form.formed.lines_to in
     stop_said version stop.0 stop.1 at.channel_from at.channel_to (omega (arith, at.line_to))
 
 pub each_jack : (version : Version) (wiring : Wiring) (text : List ℕ) → (is : IsText version wiring text) → (jack : Jack)
-    → Contains is.written.jacks jack → is_jack_in_range jack ≡ true
-each_jack version wiring text is jack has = plugged_in_range wiring jack ((is.written.all_jacks jack).1 has)
+    → Contains is.written.are.jacks jack → is_jack_in_range jack ≡ true
+each_jack version wiring text is jack has = plugged_in_range wiring jack ((is.written.are.all_jacks jack).1 has)
 
 pub each_wire : (version : Version) (wiring : Wiring) (text : List ℕ) → (is : IsText version wiring text) → (wire : Hub × Hub)
-    → Contains is.written.wires wire → HasWire wiring wire.0 wire.1
-each_wire version wiring text is wire has = (is.written.all_wires wire.0 wire.1).1 has
+    → Contains is.written.are.wires wire → HasWire wiring wire.0 wire.1
+each_wire version wiring text is wire has = (is.written.are.all_wires wire.0 wire.1).1 has
 
 pub wires_said : (version : Version) (wiring : Wiring) (text : List ℕ) → (is : IsText version wiring text) → (wire : Hub × Hub)
-    → Contains is.written.wires wire → IsSaidLine version (wire_line version wire) (wire_statement wire)
+    → Contains is.written.are.wires wire → IsSaidLine version (wire_line version wire) (wire_statement wire)
 wires_said version wiring text is wire has =
     let there = each_wire version wiring text is wire has in
     let lawful = is.setup.wires.leads wire.0 wire.1 there in

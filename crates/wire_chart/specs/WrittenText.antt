@@ -82,16 +82,6 @@ title_line version = codes "WIRING407" ++ spaced (version_text version)
 abbrev pub ended : List ℕ → List ℕ
 ended line = line ++ 10 ∷ []
 
--- the whole text
-abbrev pub text_of : Version → CarriageTape → List (ℕ × ℕ) → List Jack → List (Hub × Hub) → List ℕ
-text_of version form stops jacks wires =
-    ended (title_line version)
-    ++ ended (form_line form)
-    ++ flat_map (λ stop. ended (stop_line stop)) stops
-    ++ flat_map (λ jack. ended (jack_line jack)) jacks
-    ++ flat_map (λ wire. ended (wire_line version wire)) wires
-    ++ ended (codes "END")
-
 -- one stop stands before another: by channel, then by line
 abbrev pub IsStopBefore : ℕ × ℕ → ℕ × ℕ → Type 0
 IsStopBefore one other = (one.0 < other.0) ⊎ ((one.0 ≡ other.0) × (one.1 < other.1))
@@ -124,8 +114,15 @@ IsLineBefore version one other =
     (form_place (wire_form version one) < form_place (wire_form version other))
     ⊎ ((wire_form version one ≡ wire_form version other) × IsWireBefore one other)
 
--- The text of a setup in a version: exactly its stops, jacks and wires, each kind in its order.
-pub record IsWrittenIn (version : Version) (wiring : Wiring) (text : List ℕ) : Type 0 where
+-- the lines of stops, jacks and wires
+abbrev pub parts_text : Version → List (ℕ × ℕ) → List Jack → List (Hub × Hub) → List ℕ
+parts_text version stops jacks wires =
+    flat_map (λ stop. ended (stop_line stop)) stops
+    ++ flat_map (λ jack. ended (jack_line jack)) jacks
+    ++ flat_map (λ wire. ended (wire_line version wire)) wires
+
+-- The lines of a setup in a version: exactly its stops, jacks and wires, each kind in its order.
+pub record ArePartsOf (version : Version) (wiring : Wiring) (text : List ℕ) : Type 0 where
   pub stops : List (ℕ × ℕ)
   pub jacks : List Jack
   pub wires : List (Hub × Hub)
@@ -135,7 +132,13 @@ pub record IsWrittenIn (version : Version) (wiring : Wiring) (text : List ℕ) :
   pub stops_in_order : AllPairs IsStopBefore stops
   pub jacks_in_order : AllPairs IsJackBefore jacks
   pub wires_in_order : AllPairs (IsLineBefore version) wires
-  pub spelled : text ≡ text_of version wiring.tape stops jacks wires
+  pub spelled : text ≡ parts_text version stops jacks wires
+
+-- The text of a setup in a version: the first line, the form, the lines of the setup, and END.
+pub record IsWrittenIn (version : Version) (wiring : Wiring) (text : List ℕ) : Type 0 where
+  pub parts : List ℕ
+  pub are : ArePartsOf version wiring parts
+  pub spelled : text ≡ ended (title_line version) ++ ended (form_line wiring.tape) ++ parts ++ ended (codes "END")
 
 -- a wire of the setup couples two counter groups
 pub record JoinsGroups (wiring : Wiring) : Type 0 where

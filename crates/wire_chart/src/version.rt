@@ -28,8 +28,7 @@ pub fn version_of(setup: &Setup) -> Version
     }
 }
 
-/// The version in which a wiring chart is read, which its first line names. Of a text that is no wiring chart it is the second where the
-/// first line names that, else the first.
+/// The version in which a wiring chart is read, which its first line names.
 pub fn version_of_text(text: &[u8]) -> Version
     ensures { (wiring : Wiring) (reads : ReadsAs text.now wiring) → result ≡ reads.chart.reads.version }
 {

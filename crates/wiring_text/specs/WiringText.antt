@@ -4,8 +4,9 @@
 use Rattle.std.specs.Prelude.{◌≡◌, ◌≢◌, ◌↔◌, ℕ, true, List, [], ◌∷◌, All, AllPairs, Contains, None, codes}
 use Rattle.std.specs.List.{AllByRecursion}
 use Rattle.card_code.specs.Lines.{lines_of}
-use Rattle.setups.specs.Tapes.{IsFormed, SameTape, has_stop}
-use Rattle.setups.specs.Wiring.{Wiring, HasWire, HasJack, SameWires, SameJacks}
+use Rattle.setups.specs.Tapes.{IsFormed, has_stop}
+pub use Rattle.setups.specs.Wiring.{IsSameSetup}
+use Rattle.setups.specs.Wiring.{Wiring, HasWire, HasJack}
 use Rattle.hubs.specs.declared.hub.Hub.{Hub}
 use Rattle.hubs.specs.declared.jack.Jack.{Jack}
 pub use Rattle.tokens.specs.Frame.{IsEmptyLine, IsEndLine}
@@ -94,9 +95,3 @@ pub record ReadsAs (bytes : List ℕ) (wiring : Wiring) : Type 0 where
   pub statements : List Statement
   pub chart : IsWiringChart bytes form statements
   pub setup : IsSetupOf form statements wiring
-
--- two setups are the same: the same wires, jacks and tape
-pub record IsSameSetup (one other : Wiring) : Type 0 where
-  pub wires : SameWires one other
-  pub jacks : SameJacks one other
-  pub tape : SameTape one.tape other.tape

@@ -66,7 +66,7 @@ loop-cycle-preserved c =
           (λ (lines : List PlacedLine).
           RunSoFar wiring c.args.service.now c.args.cards.now
           (record { machine = c.serve_cycle.result.0; hopper = c.make_ready-hopper.result.now }) c.serve_cycle.result.1 lines)
-          (sym c.in_ok-append.ensures.appended)
+          (sym c.in_ok-append_line.ensures.appended)
           (run_step wiring c.args.service.now c.args.cards.now now ready c.loop-cycle.counts c.serve_cycle.result.1 c.loop-cycle.lines.items
           (option_to_list c.placed_line.result) c.in-Some.cycle c.serve_cycle.result.0 c.make_ready-hopper.ensures due
           (c.serve_cycle.ensures.ran wiring is_panel) c.placed_line.ensures c.loop-cycle.invariant.goes);

@@ -7,7 +7,7 @@ use Rattle.machine.proofs.units.Units.new.Goals as goal
 
 pub invariant_of-result : goal.invariant_of-result
 invariant_of-result c = record {
-  ordered = ap (λ (gs : List Counter). map counter_number gs) c.groups.ensures ∙ refl;
-  busy = subst (AreBusy c.none.result) (sym c.groups.ensures) (start-busy c.none.result);
-  latches = c.of.ensures ∙ sym (ap balance_latches c.groups.ensures);
+  ordered = ap (λ (gs : List Counter). map counter_number gs) c.groups_at_start.ensures ∙ refl;
+  busy = subst (AreBusy c.none.result) (sym c.groups_at_start.ensures) (start-busy c.none.result);
+  latches = c.of.ensures ∙ sym (ap balance_latches c.groups_at_start.ensures);
 }

@@ -1,0 +1,34 @@
+//! The lines that cycles place.
+
+ghost use Rattle.std.specs.Prelude.{◌≡◌, ◌++◌, OnErr, OnOk, option_to_list};
+ghost use Rattle.placed_lines.specs.Lines.{line_at};
+
+use carriage::Carriage;
+use placed_lines::PlacedLine;
+use print_unit::Wheels;
+use std::alloc::AllocError;
+
+/// The line that the cycle that ended last placed: the characters of the wheels, at the page and the line where the carriage stood.
+/// `None` if it placed none, and before any cycle.
+pub fn placed_line(carriage: &Carriage, wheels: &Wheels) -> Option<PlacedLine>
+    ensures { option_to_list result ≡ line_at carriage.now.printed wheels.now.line }
+{
+    carriage.printed().map(|(page, line)| PlacedLine {
+        page,
+        line,
+        text: *wheels.line(),
+    })
+}
+
+/// Puts a line, if there is one, after the others.
+///
+/// Fails only where memory was refused; the lines then stay as they were.
+pub fn append_line(lines: &mut Vec<PlacedLine>, line: Option<PlacedLine>) -> Result<(), AllocError>
+    ensures appended { OnOk result (lines.new.items ≡ lines.old.items ++ option_to_list line) }
+    ensures refused { OnErr result (lines.new.items ≡ lines.old.items) }
+{
+    if let Some(line) = line {
+        lines.push(line)?;
+    }
+    Ok(())
+}
