@@ -15,7 +15,7 @@ use Rattle.hub_table.specs.Ranges.{is_within}
 use Rattle.hubs.specs.declared.hub.Group.{Group}
 use Rattle.hubs.specs.declared.hub.Hub.TheVariants.{GE}
 use Rattle.net.specs.HubSets.{is_bit}
-use Rattle.net.specs.Links.{has_at, has_row_at}
+use Rattle.net.specs.HubRows.{has_at, has_row_at}
 use Rattle.net.specs.RowSets.{pictures_of}
 use Rattle.counters.specs.AllRows.{digit_entered, earliest_digit}
 use Rattle.counters.specs.WholeCycles.{digit_rows, first_digit, listed}

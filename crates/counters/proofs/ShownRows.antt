@@ -16,7 +16,7 @@ use Rattle.hubs.specs.declared.hub.Hub.{Hub}
 use Rattle.hubs.specs.declared.hub.Hub.TheVariants.{GX}
 use Rattle.net.proofs.KindRows.{GX_numbered, numbered_in}
 use Rattle.net.specs.HubSets.{is_bit, is_bit_from, is_hub, is_in_row, is_same_number}
-use Rattle.net.specs.Links.{has_at}
+use Rattle.net.specs.HubRows.{has_at}
 use Rattle.net.specs.RowSets.{is_in_sets, is_set_from}
 use Rattle.counters.specs.Counters.{shows}
 use Rattle.counters.specs.Shown.{shows_at}

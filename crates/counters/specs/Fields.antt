@@ -3,6 +3,7 @@ use Rattle.std.specs.Prelude.{◌≡◌, ◌≤◌, true, All, reverse, take}
 use Rattle.hub_table.specs.Places.{is_width}
 use Rattle.hub_table.specs.Ranges.{is_within}
 use Rattle.counters.specs.Counters.{Counter, group_of_unit}
+use Rattle.counters.specs.Laws.{IsDigit}
 use Rattle.counters.specs.declared.group.Group.TheInside.{Inside}
 
 -- a group: the first of its eight places stand for its positions, the units first, as many as it has
@@ -23,5 +24,5 @@ pub record IsOfItsUnit (group : Inside) : Type 0 where
   pub unit : group.name ≡ group_of_unit group.unit
   pub width : is_width group.name.width ≡ true
   pub named : is_within group.name.number 8 ≡ true
-  pub digits : All (λ digit. digit ≤ 9) group.digits
-  pub entered : All (λ digit. digit ≤ 9) group.entered
+  pub digits : All IsDigit group.digits
+  pub entered : All IsDigit group.entered

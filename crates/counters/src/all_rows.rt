@@ -5,7 +5,7 @@ ghost use Rattle.std.specs.Prelude.{◌≡◌, ℕ, ◌<◌, ◌≤◌, ◌==◌
 ghost use Rattle.card_code.specs.Rows.{passing_place, row_number};
 ghost use Rattle.card_code.specs.declared.row.Row.{Row as CardRow};
 ghost use Rattle.net.specs.HubSets.{is_bit};
-ghost use Rattle.net.specs.Links.{has_at};
+ghost use Rattle.net.specs.HubRows.{has_at};
 ghost use Rattle.counters.specs.AllRows.{digit_entered, earliest_digit};
 ghost use Rattle.counters.specs.Laws.{IsDigit};
 ghost use Rattle.counters.specs.Shown.{shows_at};

@@ -1,5 +1,5 @@
 -- The hubs of the panel: their letters, their numbers, and their hub numbers by the hub table.
-use Rattle.std.specs.Prelude.{ℕ, ◌+◌, ◌==◌, ◌&&◌, not, Bool, true, false, Option, Some, None, option_map, is_some}
+use Rattle.std.specs.Prelude.{ℕ, ◌+◌, ◌&&◌, not, Bool, Option, Some, None, option_map, is_some}
 pub use Rattle.hub_table.specs.Ranges.{is_within}
 use Rattle.hub_table.specs.HubTable.{row_of}
 use Rattle.hub_table.specs.Places.{place_of}
@@ -130,14 +130,3 @@ carry_out_of other = None
 abbrev pub carry_into : Hub → Option Group
 carry_into (CI group) = Some group
 carry_into other = None
-
--- whether two counter groups, if there are any, are the same: none is the same as none
-abbrev pub is_same_group : Option Group → Option Group → Bool
-is_same_group (Some one) (Some other) = (one.width == other.width) && (one.number == other.number)
-is_same_group None None = true
-is_same_group one other = false
-
--- whether a wire may lead from the exit to the entry as far as carries go: a carry exit leads to the carry entry of its own
--- group alone, and a carry entry is fed by the carry exit of its own group alone
-abbrev pub keeps_ring : Hub → Hub → Bool
-keeps_ring exit entry = is_same_group (carry_out_of exit) (carry_into entry)

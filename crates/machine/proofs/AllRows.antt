@@ -15,7 +15,7 @@ use Rattle.hubs.specs.declared.hub.Hub.TheVariants.{BAC, BAN, BAT, CI, CO, CSD, 
 use Rattle.net.proofs.Rows.{is_hub-same}
 use Rattle.net.specs.HubSets.{has_hub, is_hub}
 use Rattle.net.specs.Impulsed.{IsPicture}
-use Rattle.net.specs.Links.{has_row_at}
+use Rattle.net.specs.HubRows.{has_row_at}
 use Rattle.net.specs.Panel.{contact_of}
 use Rattle.net.specs.Passing.{AreContactsSilent, closes_at_row}
 use Rattle.net.specs.Laws.{EmitsOrIsFed}

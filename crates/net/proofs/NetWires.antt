@@ -11,7 +11,7 @@ use Rattle.hubs.specs.declared.hub.Hub.{Hub}
 use Rattle.hubs.specs.Hubs.{number_of}
 use Rattle.setups.specs.Wiring.{Wiring, HasWire, IsLawfulWiring}
 use Rattle.bit_sets.specs.Rows.{leads}
-use Rattle.net.specs.NetRows.{Adds, AddsRow}
+use Rattle.net.specs.AddedWires.{Adds, AddsRow}
 use Rattle.net.specs.Nets.{IsNetOf, NetRows, leads_by}
 
 -- a test of two parts, one of them with two equations

@@ -17,7 +17,7 @@ use Rattle.net.specs.HubSets.{HubSet, has_number}
 use Rattle.net.specs.Laws.{EmitsOrIsFed}
 use Rattle.net.proofs.RowsFed.{row-fed}
 use Rattle.spreads.proofs.LinkLemmas.{fed-found, fed-from}
-use Rattle.net.specs.Links.{has_at_number, has_row_at}
+use Rattle.net.specs.HubRows.{has_at_number, has_row_at}
 use Rattle.spreads.specs.Links.{AreEights, HasRoom, IsEight, IsInRange, IsPassing, Spreads, is_fed_at, has_at, is_led_to, is_linked}
 use Rattle.net.specs.Nets.{IsNetOf, NetRows, leads_by}
 use Rattle.net.specs.Panel.{contact_of}

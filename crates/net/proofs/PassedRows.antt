@@ -12,7 +12,7 @@ use Rattle.net.specs.HubSets.{HubSet}
 use Rattle.net.specs.Impulsed.{IsImpulsed, IsPicture}
 use Rattle.net.specs.Impulsed.IsImpulsed.{emitting, led_on}
 use Rattle.net.specs.Laws.{EmitsOrIsFed, FollowsLeads}
-use Rattle.net.specs.Links.{has_at_number, has_row_at}
+use Rattle.net.specs.HubRows.{has_at_number, has_row_at}
 use Rattle.spreads.specs.Links.{has_at}
 use Rattle.net.specs.Panel.{contact_of}
 use Rattle.net.specs.Passing.{AreContactsSilent, IsPassedOn, PassesBehind, PassesOn, SpreadsOn, SpreadsRows, closes_at_row}

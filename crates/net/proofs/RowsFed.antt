@@ -8,7 +8,7 @@ use Rattle.hubs.specs.declared.hub.Hub.{Hub}
 use Rattle.setups.specs.Wiring.{Wiring, HasWire}
 use Rattle.bit_sets.specs.Rows.{leads}
 use Rattle.net.specs.Laws.{EmitsOrIsFed}
-use Rattle.net.specs.Links.{has_at_number, has_row_at}
+use Rattle.net.specs.HubRows.{has_at_number, has_row_at}
 use Rattle.spreads.specs.Links.{IsInRange, Spreads, has_at, is_fed_at, is_linked}
 use Rattle.net.specs.Nets.{IsNetOf, NetRows, leads_by}
 use Rattle.spreads.specs.declared.links.Link.{Link}

@@ -8,7 +8,7 @@ use Rattle.bit_sets.specs.Bits.{is_bit}
 use Rattle.hubs.specs.Hubs.{number_of}
 use Rattle.hubs.specs.declared.hub.Hub.{Hub}
 use Rattle.net.specs.HubSets.{is_bit_from, is_hub, is_in_row, is_same_number}
-use Rattle.net.specs.Links.{has_at_number, has_row_at}
+use Rattle.net.specs.HubRows.{has_at_number, has_row_at}
 use Rattle.spreads.specs.Links.{has_at}
 use Rattle.net.specs.RowSets.{GainsRows, is_in_sets, is_set_from}
 use Rattle.card_code.specs.declared.row.Row.{Row as CardRow}

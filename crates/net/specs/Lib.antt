@@ -2,9 +2,9 @@ pub mod Cycles
 pub mod HubSets
 pub mod Impulsed
 pub mod Laws
-pub mod Links
+pub mod HubRows
 pub mod NetInside
-pub mod NetRows
+pub mod AddedWires
 pub mod Nets
 pub mod Panel
 pub mod Passing

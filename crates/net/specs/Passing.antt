@@ -8,18 +8,21 @@ use Rattle.hubs.specs.declared.hub.Hub.TheVariants.{CI, CO}
 use Rattle.setups.specs.Wiring.{HasWire, Wiring}
 use Rattle.net.specs.HubSets.{HubSet, has_hub}
 use Rattle.net.specs.Laws.{EmitsOrIsFed}
-use Rattle.net.specs.Links.{has_row_at}
+use Rattle.net.specs.HubRows.{has_row_at}
 use Rattle.net.specs.Panel.{contact_of}
 
--- the same of the exit of a contact
+-- whether the contact to an exit is closed at a row: at the rows 9 to 0 where the first set has the exit, at 11 and 12 where the second one
+-- has it
 abbrev pub closes_at_row : HubSet → HubSet → CardRow → Hub → Bool
 closes_at_row digits zones row hub = has_hub (if nat_lt (passing_place row) 10 then digits else zones) hub
 
--- each hub has the rows that it had, and those of the exits from which wires lead to it, and no others
+-- a row is spread: each hub has it that had it, or to which a wire leads from an exit that had it, and no other
+abbrev pub SpreadsRow : Wiring → ℕ → List ℕ → List ℕ → Type 0
+SpreadsRow wiring row old new = (hub : Hub) → (has_row_at new row hub ≡ true) ↔ EmitsOrIsFed wiring (has_row_at old row) hub
+
+-- so are all rows of a card
 abbrev pub SpreadsRows : Wiring → List ℕ → List ℕ → Type 0
-SpreadsRows wiring old new =
-    (row : CardRow) (hub : Hub)
-    → (has_row_at new (passing_place row) hub ≡ true) ↔ EmitsOrIsFed wiring (has_row_at old (passing_place row)) hub
+SpreadsRows wiring old new = (row : CardRow) → SpreadsRow wiring (passing_place row) old new
 
 -- Hubs have the rows that they had, and no others but those that wires lead to them: all those from the exits of contacts to which a
 -- wire leads.

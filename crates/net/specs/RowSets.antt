@@ -5,7 +5,7 @@ use Rattle.card_code.specs.declared.row.Row.{Row as CardRow}
 use Rattle.setups.specs.Wiring.{HasWire, LeadsToEntries, Wiring}
 use Rattle.hubs.specs.Hubs.{number_of}
 use Rattle.hubs.specs.declared.hub.Hub.{Hub}
-use Rattle.net.specs.Links.{has_row_at}
+use Rattle.net.specs.HubRows.{has_row_at}
 use Rattle.spreads.specs.Links.{has_at}
 use Rattle.net.specs.Panel.{contact_of}
 use Rattle.net.specs.WholeCycles.{after_points}

@@ -4,7 +4,7 @@ ghost use Rattle.std.specs.Prelude.{◌≡◌, ◌<◌, All, OnOk, false};
 ghost use Rattle.bit_sets.specs.Bits.{has_place};
 ghost use Rattle.setups.specs.Wiring.{IsEntryNumber};
 ghost use Rattle.spreads.specs.Links.{IsInRange};
-ghost use Rattle.net.specs.NetRows.{AddsLinks};
+ghost use Rattle.net.specs.AddedWires.{AddsLinks};
 
 use bit_sets::WORDS;
 use spreads::Link;
@@ -47,7 +47,7 @@ pub(crate) fn leads_to_any(links: &[Link], places: &[u64; WORDS]) -> bool
 }
 
 // Whether a link leads to one of these places from an exit that tells of cycles. The answer saves time and changes nothing else.
-pub(crate) fn leads_on(links: &[Link], places: &[u64; WORDS]) -> bool {
+pub(crate) fn telling_exits_lead_to_any(links: &[Link], places: &[u64; WORDS]) -> bool {
     for link in links {
         if link.from >= TELLING && bit_sets::has(places, link.to as usize) {
             return true;

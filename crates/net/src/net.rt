@@ -3,11 +3,11 @@
 ghost use Rattle.std.specs.Prelude.{◌≡◌, ◌<◌, All, IfOk, length};
 ghost use Rattle.setups.specs.Wiring.{IsEntryNumber};
 ghost use Rattle.net.specs.NetInside.{IsWiredFor};
-ghost use Rattle.net.specs.NetRows.{AddsRow};
+ghost use Rattle.net.specs.AddedWires.{AddsRow};
 
 use crate::contacts::CONTACTS;
 use crate::cycle::Point;
-use crate::links::{add_links, leads_on, leads_to_any};
+use crate::links::{add_links, leads_to_any, telling_exits_lead_to_any};
 use crate::picture::{Contacts, Picture, cut_after_hubs};
 use crate::row_sets::RowSets;
 use bit_sets::{EXITS, Rows, WORDS, commons_of, meet, reach, reach_by_rows};
@@ -72,14 +72,12 @@ impl Net {
     ghost use Rattle.net.specs.HubSets.{has_hub};
     ghost use Rattle.net.specs.Impulsed.{IsPicture};
     ghost use Rattle.net.specs.Nets.{IsNetOf};
-    ghost use Rattle.std.specs.Prelude.{◌≡◌, ◌↔◌, ℕ, Bool, true};
+    ghost use Rattle.std.specs.Prelude.{◌≡◌, ℕ, Bool, true};
     ghost use Rattle.hubs.specs.declared.hub.Hub.{Hub};
-    ghost use Rattle.net.specs.Laws.{EmitsOrIsFed};
     ghost use Rattle.net.specs.Passing.{PassesNoCarry};
-    ghost use Rattle.net.specs.Links.{has_row_at};
     ghost use Rattle.std.specs.Prelude.{false};
     ghost use Rattle.card_code.specs.declared.row.Row.{Row as CardRow};
-    ghost use Rattle.net.specs.Passing.{AreContactsSilent, PassesBehind, PassesOn, SpreadsOn, SpreadsRows, closes_at_row};
+    ghost use Rattle.net.specs.Passing.{AreContactsSilent, PassesBehind, PassesOn, SpreadsOn, SpreadsRow, SpreadsRows, closes_at_row};
     ghost use Rattle.spreads.specs.Passing.{SameSets};
     ghost use Rattle.net.specs.RowSets.{LeadsToNoContact, pictures_of};
     ghost use Rattle.net.specs.declared.cycle.Point.TheVariants.{Row};
@@ -94,7 +92,7 @@ impl Net {
         let others = commons_of(&CONTACTS[1..]);
         let has_many = links.len() > MOST_LINKS;
         let is_direct = !leads_to_any(links.as_slice(), &commons);
-        let is_controlled = leads_on(links.as_slice(), &others);
+        let is_controlled = telling_exits_lead_to_any(links.as_slice(), &others);
         Ok(Net {
             rows,
             commons,
@@ -126,8 +124,9 @@ impl Net {
     }
 
     /// Makes `out` what the emitting exits and the wires from them make, whatever it had before. Answers whether, of the hubs from which
-    /// contacts lead, it has carry entries alone: then that is the picture wherever none of these carries passes. At the control point it
-    /// isn't tried, and the answer is false, where the exits that tell of cycles have wires to other such hubs.
+    /// contacts lead, it has carry entries alone: then that is the picture wherever none of these carries passes. It isn't tried at the
+    /// control point where a wire leads to another such hub from an exit that tells of cycles, CC, PX or HX: then the answer is false, and
+    /// `out` keeps what it had.
     pub fn picture_by_wires(&self, point: Point, exits: &Picture, out: &mut Picture) -> bool
         ensures { result ≡ true
             → (wiring : Wiring)
@@ -154,17 +153,14 @@ impl Net {
     /// Spreads rows along the wires, all rows at once: each entry gains the rows of all exits that lead to it. Contacts pass on nothing
     /// here.
     pub fn spread(&self, sets: &mut RowSets)
-        ensures { (wiring : Wiring)
-            → IsNetOf wiring self.now
-            → (row : ℕ) (hub : Hub)
-            → (has_row_at sets.new row hub ≡ true) ↔ EmitsOrIsFed wiring (has_row_at sets.old row) hub }
+        ensures { (wiring : Wiring) → IsNetOf wiring self.now → (row : ℕ) → SpreadsRow wiring row sets.old sets.new }
     {
         self.paths.follow(&mut sets.places);
     }
 
     /// Spreads rows along the wires and the closed contacts, all rows at once: each hub gains the rows at which it is impulsed. The
-    /// contacts closed at the rows 9 to 0 are those of `digits`, at 11 and 12 those of `zones`. No hub from which contacts lead has a row at
-    /// first.
+    /// contacts closed at the rows 9 to 0 are those of `digits`, at 11 and 12 those of `zones`. No hub from which contacts lead, and none
+    /// to which they lead, has a row at first.
     ///
     /// Answers false where impulses may pass one contact behind another: then the sets are not yet complete. It also does where there are
     /// more than 4,096 wires, since so many are followed faster by the words of their rows, point by point.

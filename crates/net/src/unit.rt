@@ -11,7 +11,8 @@ ghost use Rattle.net.specs.declared.cycle.Point.TheVariants.{Row};
 use crate::cycle::{Cycle, Point};
 use crate::picture::Picture;
 
-/// A unit of the machine. What it does depends on its own state, the cycle and the point alone.
+/// A unit of the machine. What it emits and closes depends on its own state, the cycle and the point alone; what it becomes by sensing, on
+/// the picture besides.
 ///
 /// At each point of a cycle all units emit; the panel makes the picture of the impulsed hubs of that; then all units sense
 /// the picture. After the closing point each unit ends the cycle. What a unit gathers at the points of the rows

@@ -13,7 +13,7 @@ use Rattle.hubs.specs.Hubs.{number_of}
 use Rattle.hubs.specs.declared.hub.Hub.{Hub}
 use Rattle.hubs.specs.declared.hub.Hub.TheVariants.{EM}
 use Rattle.net.specs.HubSets.{is_bit, is_same_number}
-use Rattle.net.specs.Links.{has_at}
+use Rattle.net.specs.HubRows.{has_at}
 use Rattle.net.specs.RowSets.{is_in_sets, is_set_from}
 use Rattle.print_unit.specs.Emitters.{emits_row}
 use Rattle.print_unit.specs.declared.emitters.TheConstants.{ROW_SETS}

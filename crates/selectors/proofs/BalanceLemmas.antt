@@ -23,20 +23,20 @@ unfolding tests_to
 latches-long row = refl
 
 -- the row of latches tells them
-pub row-tells : (row : ℕ) (latches : List Bool) → length latches ≡ 32 → row ≡ spread true 4 latches → latches_in row ≡ latches
+pub row-tells : (row : ℕ) (latches : List Bool) → length latches ≡ 32 → row ≡ spread 4 latches → latches_in row ≡ latches
 row-tells row latches long is =
     ap latches_in is
     ∙ sym
-    (all-tests 32 latches (λ group. is_bit (spread true 4 latches) ((group - 1) * 4)) long
+    (all-tests 32 latches (λ group. is_bit (spread 4 latches) ((group - 1) * 4)) long
     (λ k below. sym (first k below)))
   where
-    first : (k : ℕ) → k < 32 → is_bit (spread true 4 latches) ((k + 1 - 1) * 4) ≡ slice_index_or latches k false
+    first : (k : ℕ) → k < 32 → is_bit (spread 4 latches) ((k + 1 - 1) * 4) ≡ slice_index_or latches k false
     first k below = let place : (k + 1 - 1) * 4 ≡ k * 4 + 0 = omega arith in
-        ap (is_bit (spread true 4 latches)) place ∙ spread-bit true 4 latches k 0 (omega arith) (omega (arith, below, long))
+        ap (is_bit (spread 4 latches)) place ∙ spread-bit 4 latches k 0 (omega arith) (omega (arith, below, long))
 
 -- and is that of the latches in it
-pub row-of : (row : ℕ) (latches : List Bool) → length latches ≡ 32 → row ≡ spread true 4 latches → row ≡ spread true 4 (latches_in row)
-row-of row latches long is = is ∙ ap (spread true 4) (sym (row-tells row latches long is))
+pub row-of : (row : ℕ) (latches : List Bool) → length latches ≡ 32 → row ≡ spread 4 latches → row ≡ spread 4 (latches_in row)
+row-of row latches long is = is ∙ ap (spread 4) (sym (row-tells row latches long is))
 
 -- whether a bit of the row is one of a group's four
 abbrev pub is_position : ℕ → ℕ → Bool
@@ -87,11 +87,11 @@ same-rows one other small less same = same_from_bits_below 128 one other small l
 
 -- the row of the latches where one is set or reset
 row-set : (row new place : ℕ) (latch : Bool) (latches : List Bool) → length latches ≡ 32 → place < 32
-    → row ≡ spread true 4 latches → new < 2 ^ 128
+    → row ≡ spread 4 latches → new < 2 ^ 128
     → ((j : ℕ) → j < 128 → is_bit new j ≡ (if is_position place j then latch else is_bit row j))
-    → new ≡ spread true 4 (slice_set latches place latch)
+    → new ≡ spread 4 (slice_set latches place latch)
 row-set row new place latch latches long within is small bits =
-    same-rows new (spread true 4 changed) small below at
+    same-rows new (spread 4 changed) small below at
   where
     changed : List Bool
     changed = slice_set latches place latch
@@ -99,24 +99,24 @@ row-set row new place latch latches long within is small bits =
     changed-long : length changed ≡ 32
     changed-long = length-set latches place latch ∙ long
 
-    below : spread true 4 changed < 2 ^ 128
-    below = let e = spread-below true 4 changed in fits (length changed) changed-long e
+    below : spread 4 changed < 2 ^ 128
+    below = let e = spread-below 4 changed in fits (length changed) changed-long e
       where
-        fits : (n : ℕ) → n ≡ 32 → spread true 4 changed < 2 ^ (4 * n) → spread true 4 changed < 2 ^ 128
+        fits : (n : ℕ) → n ≡ 32 → spread 4 changed < 2 ^ (4 * n) → spread 4 changed < 2 ^ 128
         fits n is less = let e = rw is at less in e
 
     -- a bit is that of a group's position
     one_of : (t p : ℕ) → p < 4 → is_position place (t * 4 + p) ≡ (t == place)
     one_of t p part = grind (arith, nat_tests, part)
 
-    at : (t p : ℕ) → t < 32 → p < 4 → is_bit new (t * 4 + p) ≡ is_bit (spread true 4 changed) (t * 4 + p)
+    at : (t p : ℕ) → t < 32 → p < 4 → is_bit new (t * 4 + p) ≡ is_bit (spread 4 changed) (t * 4 + p)
     at t p there part =
         bits (t * 4 + p) (omega (arith, there, part))
         ∙ ap (λ b. if b then latch else is_bit row (t * 4 + p)) (one_of t p part)
         ∙ ap (λ b. if t == place then latch else b)
-        (ap (λ w. is_bit w (t * 4 + p)) is ∙ spread-bit true 4 latches t p part (omega (arith, there, long)))
+        (ap (λ w. is_bit w (t * 4 + p)) is ∙ spread-bit 4 latches t p part (omega (arith, there, long)))
         ∙ by (cases_eq t place)
-        ∙ sym (spread-bit true 4 changed t p part (omega (arith, there, changed-long)))
+        ∙ sym (spread-bit 4 changed t p part (omega (arith, there, changed-long)))
       where
         chosen : (b x y : Bool) → b ≡ true → (if b then x else y) ≡ x
         chosen b x y e = ap (λ (c : Bool). if c then x else y) e
@@ -133,17 +133,17 @@ row-set row new place latch latches long within is small bits =
 
 -- as code sets one
 pub row-joined : (row place : ℕ) (latch : Bool) (latches : List Bool) → latch ≡ true → row < 2 ^ 128 → length latches ≡ 32 → place < 32
-    → row ≡ spread true 4 latches
-    → bit_or row (15 * 2 ^ (4 * place) % 2 ^ 128) ≡ spread true 4 (slice_set latches place latch)
+    → row ≡ spread 4 latches
+    → bit_or row (15 * 2 ^ (4 * place) % 2 ^ 128) ≡ spread 4 (slice_set latches place latch)
 row-joined row place latch latches on small long within is =
     row-set row _ place true latches long within is (or_lt 128 row _ small (mod-lt _ (omega arith))) (joined-bit row place)
-    ∙ ap (λ b. spread true 4 (slice_set latches place b)) (sym on)
+    ∙ ap (λ b. spread 4 (slice_set latches place b)) (sym on)
 
 -- and resets it
 pub row-cleared : (row place : ℕ) (latch : Bool) (latches : List Bool) → latch ≡ false → row < 2 ^ 128 → length latches ≡ 32 → place < 32
-    → row ≡ spread true 4 latches
-    → bit_and row (bit_not w128 (15 * 2 ^ (4 * place) % 2 ^ 128)) ≡ spread true 4 (slice_set latches place latch)
+    → row ≡ spread 4 latches
+    → bit_and row (bit_not w128 (15 * 2 ^ (4 * place) % 2 ^ 128)) ≡ spread 4 (slice_set latches place latch)
 row-cleared row place latch latches off small long within is =
     row-set row _ place false latches long within is
     (omega (arith, small, and_le_l row (bit_not w128 (15 * 2 ^ (4 * place) % 2 ^ 128)))) (cleared-bit row place)
-    ∙ ap (λ b. spread true 4 (slice_set latches place b)) (sym off)
+    ∙ ap (λ b. spread 4 (slice_set latches place b)) (sym off)

@@ -28,9 +28,9 @@ use Rattle.selectors.specs.Contacts.{balance_closes, carry_closes, has_balance, 
 use Rattle.selectors.specs.Indicate.{Latches, indicate_closes}
 use Rattle.selectors.specs.Pilots.{PilotStates, pilots_closes}
 use Rattle.selectors.specs.Splits.{split_closes, is_digit_row}
-use Rattle.selectors.specs.Spread.{is_same, spread}
+use Rattle.selectors.specs.Spread.{spread}
 use Rattle.selectors.proofs.RowLemmas.{in_no_row}
-use Rattle.selectors.proofs.SpreadLemmas.{spread-below, spread-bit}
+use Rattle.selectors.proofs.SpreadLemmas.{is_same, side-below, side-bit, spread_side}
 
 -- whether a thing that is there, with a part that is there, is of a value
 abbrev side : Bool → List Bool → Option ℕ → Option ℕ → Bool
@@ -52,12 +52,12 @@ spread_row :
     (value : Bool) (parts before : ℕ) (things : List Bool) (thing part : Option ℕ)
     → ((t : ℕ) → thing ≡ Some t → (1 ≤ t) × (t ≤ length things))
     → ((p : ℕ) → part ≡ Some p → (1 ≤ p) × (p ≤ parts))
-    → is_bit_from (Some (before + 1)) (spread value parts things) (option_map (λ place. before + place) (part_place parts thing part))
+    → is_bit_from (Some (before + 1)) (spread_side value parts things) (option_map (λ place. before + place) (part_place parts thing part))
     ≡ side value things thing part
 spread_row value parts before things (Some t) (Some p) thing_in part_in =
     let of_thing = thing_in t refl in let of_part = part_in p refl in
-    part_bit before parts (spread value parts things) t p of_part.0
-    ∙ spread-bit value parts things (t - 1) (p - 1) (omega (arith, of_part)) (omega (arith, of_thing))
+    part_bit before parts (spread_side value parts things) t p of_part.0
+    ∙ side-bit value parts things (t - 1) (p - 1) (omega (arith, of_part)) (omega (arith, of_thing))
 spread_row value parts before things (Some t) None thing_in part_in = refl
 spread_row value parts before things None part thing_in part_in = refl
 
@@ -95,14 +95,14 @@ other_row one other test none is = grind (arith, is, none)
 -- a row of all of a kind has no hub of other letters
 no_spread : (letters : Letters) (value : Bool) (parts : ℕ) (things : List Bool) (hub : Hub) → (letters_of hub ≡ letters → ⊥)
     → parts * length things ≡ count_of (row_of letters).shape
-    → is_bit_from (Some ((row_of letters).before + 1)) (spread value parts things) (number_of hub) ≡ false
+    → is_bit_from (Some ((row_of letters).before + 1)) (spread_side value parts things) (number_of hub) ≡ false
 no_spread letters value parts things hub other whole =
-    in_no_row letters ((row_of letters).before + 1) (parts * length things) (spread value parts things) hub other (omega arith)
-    (omega (arith, whole)) (spread-below value parts things)
+    in_no_row letters ((row_of letters).before + 1) (parts * length things) (spread_side value parts things) hub other (omega arith)
+    (omega (arith, whole)) (side-below value parts things)
 
 -- the rows of the pilots' contacts
 pub pilot_rows : (pilots : PilotStates) (cycle : Cycle) (point : Point) (hub : Hub) → length pilots.transferred ≡ 16
-    → (is_in_row (PIN 1 1) (spread false 3 pilots.transferred) hub || is_in_row (PIT 1 1) (spread true 3 pilots.transferred) hub)
+    → (is_in_row (PIN 1 1) (spread_side false 3 pilots.transferred) hub || is_in_row (PIT 1 1) (spread 3 pilots.transferred) hub)
     ≡ pilots_closes pilots cycle point hub
 pilot_rows pilots cycle point (PIN pilot position) long = one_row _ _ _
     (spread_row false 3 646 pilots.transferred (up_to 16 pilot) (up_to 3 position)
@@ -143,8 +143,8 @@ group_side value latches group position =
 
 -- the rows of the balance positions' contacts
 pub balance_rows : (latches : List Bool) (hub : Hub) → length latches ≡ 32
-    → (is_in_row (BAN (record { width = 3; number = 1 }) 1) (spread false 4 latches) hub
-    || is_in_row (BAT (record { width = 3; number = 1 }) 1) (spread true 4 latches) hub)
+    → (is_in_row (BAN (record { width = 3; number = 1 }) 1) (spread_side false 4 latches) hub
+    || is_in_row (BAT (record { width = 3; number = 1 }) 1) (spread 4 latches) hub)
     ≡ balance_closes latches hub
 balance_rows latches (BAN group position) long = one_row _ _ _
     (spread_row false 4 390 latches (group_place group.width group.number) (up_to 4 position)
@@ -162,12 +162,12 @@ balance_rows latches other long = one_row _ _ _
 
 -- the row of the carries' contacts, which has one of each group
 pub carry_row : (nines : List Bool) (hub : Hub) → length nines ≡ 32
-    → is_in_row (CO (record { width = 3; number = 1 })) (spread true 1 nines) hub ≡ carry_closes K nines hub
+    → is_in_row (CO (record { width = 3; number = 1 })) (spread 1 nines) hub ≡ carry_closes K nines hub
 carry_row nines (CO group) long =
     by (group_place group.width group.number) (λ t e. place-range Groups (Two group.width group.number) t e)
   where
     by : (found : Option ℕ) → ((t : ℕ) → found ≡ Some t → (1 ≤ t) × (t ≤ 32))
-        → is_bit_from (Some 359) (spread true 1 nines) (option_map (λ place. 358 + place) found)
+        → is_bit_from (Some 359) (spread 1 nines) (option_map (λ place. 358 + place) found)
         ≡ (nat_le 3 (unit_after 2 found) && slice_index_or nines (unit_after 2 found - 3) false)
     by None range = refl
     by (Some t) range =
@@ -175,7 +175,7 @@ carry_row nines (CO group) long =
         let one : 358 + t ≡ 358 + ((t - 1) * 1 + 1) = omega (arith, within.0) in
         let there : nat_le 3 (2 + t) ≡ true = let from = within.0 in grind (arith, nat_tests, from) in
         let place : 2 + t - 3 ≡ t - 1 = omega arith in
-        ap (λ n. is_bit_from (Some 359) (spread true 1 nines) (Some n)) one
+        ap (λ n. is_bit_from (Some 359) (spread 1 nines) (Some n)) one
         ∙ spread_row true 1 358 nines (Some t) (Some 1) (λ s e. rw long (range s e)) (λ p e. only p e)
         ∙ ap (λ b. b && slice_index_or nines (t - 1) false) (sym there)
         ∙ ap (λ k. nat_le 3 (2 + t) && slice_index_or nines k false) (sym place)
@@ -212,7 +212,7 @@ latch_of_level a b c other = refl
 
 -- the row of the contacts of group indication in a card cycle
 pub indicate_row : (latches : Latches) (point : Point) (hub : Hub)
-    → is_in_row (IX 1 1) (spread true 30 (latches.minor ∷ latches.intermediate ∷ latches.major ∷ [])) hub
+    → is_in_row (IX 1 1) (spread 30 (latches.minor ∷ latches.intermediate ∷ latches.major ∷ [])) hub
     ≡ indicate_closes latches Card point hub
 indicate_row latches point (IX level position) =
     spread_row true 30 806 (latches.minor ∷ latches.intermediate ∷ latches.major ∷ []) (up_to 3 level) (up_to 30 position)

@@ -8,7 +8,7 @@ use Rattle.hubs.specs.Hubs.{number_of}
 use Rattle.hubs.specs.declared.hub.Hub.{Hub}
 use Rattle.hubs.specs.declared.hub.Hub.TheVariants.{PIX}
 use Rattle.net.proofs.SetLemmas.{set-read}
-use Rattle.net.specs.Links.{has_at}
+use Rattle.net.specs.HubRows.{has_at}
 use Rattle.net.specs.RowSets.{after_rows, pictures_of}
 use Rattle.net.specs.declared.cycle.Cycle.{Cycle}
 use Rattle.net.specs.declared.cycle.Cycle.TheVariants.{RunIn, Card, Prog, Head}

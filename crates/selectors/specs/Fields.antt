@@ -1,5 +1,5 @@
 -- What contracts see of the fields of the balance latches, of the pilots and of group indication.
-use Rattle.std.specs.Prelude.{◌≡◌, ℕ, ◌-◌, ◌*◌, Bool, true, List}
+use Rattle.std.specs.Prelude.{◌≡◌, ℕ, ◌-◌, ◌*◌, Bool, List}
 use Rattle.net.specs.HubSets.{is_bit}
 use Rattle.selectors.specs.Numbered.{tests_to}
 use Rattle.selectors.specs.Spread.{spread}
@@ -27,4 +27,4 @@ balance_latches l = latches_in l.transferred
 
 -- the row has all four positions of each group whose latch is set, and no more
 abbrev pub IsBalanceRow : balance.Inside → Type 0
-IsBalanceRow l = l.transferred ≡ spread true 4 (balance_latches l)
+IsBalanceRow l = l.transferred ≡ spread 4 (balance_latches l)

@@ -1,6 +1,6 @@
 //! The balance latches of the counter groups.
 
-ghost use Rattle.std.specs.Prelude.{◌≡◌, ◌<◌, Bool, true, List, length, slice_set};
+ghost use Rattle.std.specs.Prelude.{◌≡◌, ◌<◌, Bool, List, length, slice_set};
 ghost use Rattle.selectors.specs.Spread.{spread};
 
 use crate::spread::spread;
@@ -76,8 +76,8 @@ fn with_latch(row: u128, place: usize, latch: bool) -> u128
     requires { place < 32 }
     ensures { (latches : List Bool)
         → length latches ≡ 32
-        → row ≡ spread true 4 latches
-        → result ≡ spread true 4 (slice_set latches place latch) }
+        → row ≡ spread 4 latches
+        → result ≡ spread 4 (slice_set latches place latch) }
 {
     let positions = 15 << (4 * place);
     if latch {

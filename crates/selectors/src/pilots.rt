@@ -1,7 +1,7 @@
 //! The pilots.
 
 ghost use Rattle.std.specs.Prelude.{◌≡◌, ◌-◌, ◌≤◌, length};
-ghost use Rattle.net.specs.Links.{has_at};
+ghost use Rattle.net.specs.HubRows.{has_at};
 ghost use Rattle.selectors.specs.Numbered.{tests_to};
 ghost use Rattle.net.specs.HubSets.{has_hub};
 ghost use Rattle.selectors.specs.Pilots.{moves_pilots, pickups};

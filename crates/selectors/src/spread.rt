@@ -1,6 +1,6 @@
 //! Words of a row of contacts in which each thing, as a pilot, has as many contacts.
 
-ghost use Rattle.std.specs.Prelude.{◌≡◌, ◌+◌, ◌-◌, ◌*◌, ◌^◌, ◌≤◌, ◌<◌, true, length};
+ghost use Rattle.std.specs.Prelude.{◌≡◌, ◌+◌, ◌-◌, ◌*◌, ◌^◌, ◌≤◌, ◌<◌, length};
 ghost use Rattle.std.specs.List.{list_any};
 ghost use Rattle.selectors.specs.Spread.{parts_of, spread};
 
@@ -9,7 +9,7 @@ ghost use Rattle.selectors.specs.Spread.{parts_of, spread};
 pub(crate) fn spread(things: &[bool], parts: usize) -> u128
     requires parts { parts ≤ 30 }
     requires fits { parts * length things.now ≤ 128 }
-    ensures value { result ≡ spread true parts things.now }
+    ensures value { result ≡ spread parts things.now }
     ensures below { result < 2 ^ (parts * length things.now) }
 {
     if !has_any(things) {

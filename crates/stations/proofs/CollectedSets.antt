@@ -11,7 +11,7 @@ use Rattle.hubs.specs.declared.hub.Hub.{Hub}
 use Rattle.hubs.specs.declared.hub.Hub.TheVariants.{CA, CB}
 use Rattle.net.proofs.SetLemmas.{set-read}
 use Rattle.net.specs.HubSets.{is_bit}
-use Rattle.net.specs.Links.{has_at, has_row_at}
+use Rattle.net.specs.HubRows.{has_at, has_row_at}
 use Rattle.net.specs.RowSets.{after_rows, pictures_of}
 use Rattle.net.specs.declared.cycle.Cycle.{Cycle}
 use Rattle.net.specs.declared.cycle.Cycle.TheVariants.{RunIn, Card, Prog, Head}

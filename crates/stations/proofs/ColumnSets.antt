@@ -10,7 +10,7 @@ use Rattle.hubs.specs.declared.hub.Hub.{Hub}
 use Rattle.hubs.specs.declared.hub.Hub.TheVariants.{FR, SR}
 use Rattle.net.proofs.SetLemmas.{sets-row}
 use Rattle.net.specs.HubSets.{is_bit}
-use Rattle.net.specs.Links.{has_at}
+use Rattle.net.specs.HubRows.{has_at}
 use Rattle.net.specs.RowSets.{is_in_sets}
 use Rattle.stations.specs.Columns.{column_of, HasColumns}
 use Rattle.stations.specs.Comparing.{positions}

@@ -14,7 +14,7 @@ use Rattle.card_code.proofs.Rows.{or-shifted}
 use Rattle.hub_table.specs.Ranges.{is_within}
 use Rattle.net.proofs.Below.bit_sets.BitLemmas.{is_bit-above, is_bit-or, is_bit-pow, is_bit-zero}
 use Rattle.net.specs.HubSets.{is_bit}
-use Rattle.net.specs.Links.{has_at}
+use Rattle.net.specs.HubRows.{has_at}
 use Rattle.stations.specs.Columns.{column_of, numbered, HasColumns}
 use Rattle.stations.specs.Kept.{card_of}
 use Rattle.stations.specs.Punches.{is_punched, AreColumnsAt}

@@ -5,7 +5,7 @@ use Rattle.card_code.specs.Rows.{row_number, passing_place}
 use Rattle.card_code.specs.declared.row.Row.{Row}
 use Rattle.hub_table.specs.Ranges.{is_within}
 use Rattle.net.specs.HubSets.{is_bit}
-use Rattle.net.specs.Links.{has_at}
+use Rattle.net.specs.HubRows.{has_at}
 
 -- whether the card has the row in the column, 1 to 80
 abbrev pub is_punched : List ℕ → Row → ℕ → Bool

@@ -1,6 +1,6 @@
 -- Helper words for loops over the words of positions.
 use Rattle.std.specs.Prelude.{ℕ, ◌+◌, ◌-◌, List, bit_or}
-use Rattle.net.specs.Links.{has_at}
+use Rattle.net.specs.HubRows.{has_at}
 use Rattle.stations.specs.Comparing.{positions}
 
 -- the positions that were collected at a place, with those whose entries, thirty first ones and then thirty second ones, have the row

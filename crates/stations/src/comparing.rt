@@ -1,7 +1,7 @@
 //! Comparing: thirty positions, each with two entries whose rows are compared over a card cycle.
 
 ghost use Rattle.std.specs.Prelude.{◌≡◌, ℕ, ◌+◌, ◌-◌, ◌<◌, ◌≤◌, ◌&&◌, bit_xor, map, nat_lt, length, false};
-ghost use Rattle.net.specs.Links.{has_at};
+ghost use Rattle.net.specs.HubRows.{has_at};
 ghost use Rattle.std.specs.List.{list_any, slice_range};
 ghost use Rattle.net.specs.HubSets.{is_bit, has_hub};
 ghost use Rattle.stations.specs.Comparing.{positions, is_in_one, sets_at};

@@ -2,7 +2,7 @@
 
 ghost use Rattle.std.specs.Prelude.{◌≡◌, ℕ, ◌+◌, ◌<◌, ◌≤◌, ◌&&◌, nat_lt, length};
 ghost use Rattle.net.specs.HubSets.{is_bit};
-ghost use Rattle.net.specs.Links.{has_at};
+ghost use Rattle.net.specs.HubRows.{has_at};
 
 use std::simd::prelude::*;
 

@@ -5,7 +5,7 @@ ghost use Rattle.card_code.specs.CardCode.{has_row};
 ghost use Rattle.card_code.specs.Rows.{is_row_set, passing_place, row_number};
 ghost use Rattle.card_code.specs.declared.row.Row.{Row as CardRow};
 ghost use Rattle.net.specs.HubSets.{is_bit};
-ghost use Rattle.net.specs.Links.{has_at};
+ghost use Rattle.net.specs.HubRows.{has_at};
 ghost use Rattle.stations.specs.Columns.{column_of, HasColumns};
 ghost use Rattle.stations.specs.Kept.{card_of};
 ghost use Rattle.stations.specs.Punches.{AreColumnsAt, AreRowsAt, IsRowAt};

@@ -11,7 +11,7 @@ use Rattle.hubs.specs.declared.hub.Hub.TheVariants.{SE, SX}
 use Rattle.net.proofs.KindRows.{SE_numbered, numbered_in}
 use Rattle.net.proofs.SetLemmas.{set-read, sets-row}
 use Rattle.net.specs.HubSets.{is_bit}
-use Rattle.net.specs.Links.{has_at}
+use Rattle.net.specs.HubRows.{has_at}
 use Rattle.net.specs.RowSets.{after_rows, is_in_sets, pictures_of}
 use Rattle.net.specs.WholeCycles.{after_points}
 use Rattle.net.specs.declared.cycle.Cycle.{Cycle}

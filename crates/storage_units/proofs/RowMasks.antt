@@ -8,7 +8,7 @@ use Rattle.std.proofs.lemmas.Simd.{bitmask_splat, bit_mask_l, get_or-chunk, leng
 use Rattle.std.specs.Int.{bit_at}
 use Rattle.net.proofs.Below.bit_sets.BitLemmas.{is_bit-and, is_bit-ones}
 use Rattle.net.specs.HubSets.{is_bit}
-use Rattle.net.specs.Links.{has_at}
+use Rattle.net.specs.HubRows.{has_at}
 use Rattle.storage_units.proofs.RowWords.{HasBitsTo}
 use lib.Lanes.{chunk, mask_l, top, zip2}
 use mir.Syntax.{w16}

@@ -7,7 +7,7 @@ use Rattle.std.proofs.lemmas.Nat.{one_shl}
 use Rattle.std.proofs.lemmas.Nat.Bits.{bit_at-lt, bit_at-pow_other, bit_at-pow_same, bit_at-zero, bit_at_above, bit_at_or, same_from_bits_below}
 use Rattle.std.specs.Int.{bit_at}
 use Rattle.net.specs.HubSets.{is_bit}
-use Rattle.net.specs.Links.{has_at}
+use Rattle.net.specs.HubRows.{has_at}
 use Rattle.storage_units.specs.Words.{word_of}
 use Rattle.storage_units.proofs.WordLemmas.{same_bit, word_of-below, word_of-bit}
 

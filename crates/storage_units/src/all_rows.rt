@@ -2,7 +2,7 @@
 
 ghost use Rattle.std.specs.Prelude.{◌≡◌, ℕ, ◌-◌, ◌<◌, ◌≤◌, ◌&&◌, ◌==◌, ◌+◌, nat_lt, length, slice_index_or};
 ghost use Rattle.net.specs.HubSets.{is_bit};
-ghost use Rattle.net.specs.Links.{has_at};
+ghost use Rattle.net.specs.HubRows.{has_at};
 ghost use Rattle.storage_units.specs.Words.{word_of};
 
 use std::simd::prelude::*;

@@ -9,7 +9,7 @@ use Rattle.machine.specs.Below.counters.Counters.{Counter, shows}
 use Rattle.machine.specs.Below.hub_table.Ranges.{is_within}
 use Rattle.machine.specs.Below.placed_lines.declared.placed_line.PlacedLine.{PlacedLine}
 use Rattle.machine.specs.Below.setups.Wiring.{HasWire, LeadsToEntries, Wiring, is_wired}
-use Rattle.machine.specs.Below.hubs.Hubs.{carry_into, carry_out_of, is_entry_hub, is_same_group}
+use Rattle.machine.specs.Below.hubs.Hubs.{carry_into, carry_out_of, is_entry_hub}
 use Rattle.machine.specs.Below.hubs.declared.hub.Hub.{Hub}
 use Rattle.machine.specs.Below.hubs.declared.hub.Hub.TheVariants.{CA, CB, CI, CO, CX, RO, SO, SX}
 use Rattle.machine.specs.Below.net.Impulsed.{IsImpulsed, IsPicture}
@@ -36,7 +36,7 @@ use Rattle.machine.proofs.SomeOutcome.{CycleRun-some}
 use Rattle.whole_cycles.specs.Between.{IsBetween, IsReady}
 use Rattle.whole_cycles.specs.Carries.{but_carries, is_carry}
 use Rattle.whole_cycles.specs.RingRuns.{RingCycle, RingsRunByThemselves}
-use Rattle.whole_cycles.specs.Rings.{JoinsNoGroups, after_turning}
+use Rattle.whole_cycles.specs.Rings.{JoinsNoGroups, after_turning, is_same_group}
 use Rattle.whole_cycles.specs.WholeCycles.{WholeCycle, closing_emits, row_emits, storage_reads_out, wheels_after}
 use Rattle.whole_cycles.proofs.Ready.{machines-ready, ready-moved}
 use Rattle.whole_cycles.proofs.Rings.{rings-turn}

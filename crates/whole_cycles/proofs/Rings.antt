@@ -9,7 +9,7 @@ use Rattle.machine.specs.Below.counters.Wheels.{carries_in, turned}
 use Rattle.machine.specs.Below.counters.WholeCycles as counters
 use Rattle.machine.specs.Below.counters.WholeCycles.{ComesRound}
 use Rattle.machine.specs.Below.setups.Wiring.{LeadsToEntries, Wiring, is_wired}
-use Rattle.machine.specs.Below.hubs.Hubs.{carry_into, carry_out_of, is_exit_hub, is_same_group}
+use Rattle.machine.specs.Below.hubs.Hubs.{carry_into, carry_out_of, is_exit_hub}
 use Rattle.machine.specs.Below.hubs.declared.hub.Group.{Group}
 use Rattle.machine.specs.Below.hubs.declared.hub.Hub.{Hub}
 use Rattle.machine.specs.Below.hubs.declared.hub.Hub.TheVariants.{CI, CO}
@@ -19,7 +19,7 @@ use Rattle.machine.specs.Below.net.declared.cycle.Point.TheVariants.{K}
 use Rattle.machine.specs.Machine.{MachineState, group_units}
 use Rattle.whole_cycles.specs.Between.{IsBetween, IsIdle}
 use Rattle.whole_cycles.specs.Carries.{CarriesLeadToCarries, is_carry}
-use Rattle.whole_cycles.specs.Rings.{JoinsNoGroups, RingsTurnByThemselves, after_turning}
+use Rattle.whole_cycles.specs.Rings.{JoinsNoGroups, RingsTurnByThemselves, after_turning, is_same_group}
 use Rattle.whole_cycles.specs.Units.{group_at}
 use Rattle.whole_cycles.specs.WholeCycles.{before_closing}
 use Rattle.whole_cycles.proofs.Carries.{carries-apart, carries-come}

@@ -1,10 +1,12 @@
 -- Setups in which carries go round single groups alone. There each group that is wired to itself turns as a ring by itself, every
 -- other one on the line, and no carry is seen anywhere else.
-use Rattle.std.specs.Prelude.{◌≡◌, ◌↔◌, Bool, true, false, map, if◌then◌else◌}
+use Rattle.std.specs.Prelude.{◌≡◌, ◌↔◌, Bool, true, false, Option, Some, None, map, if◌then◌else◌}
 use Rattle.machine.specs.Below.counters.Counters.{Counter, counter_ended, top_is_nine, wheels_in}
 use Rattle.machine.specs.Below.counters.Wheels.{turned_round}
 use Rattle.machine.specs.Below.setups.Wiring.{HasWire, LeadsToEntries, Wiring, is_wired}
-use Rattle.machine.specs.Below.hubs.Hubs.{keeps_ring}
+use Rattle.machine.specs.Below.hubs.Carries.{is_one_group}
+use Rattle.machine.specs.Below.hubs.Hubs.{carry_into, carry_out_of}
+use Rattle.machine.specs.Below.hubs.declared.hub.Group.{Group}
 use Rattle.machine.specs.Below.hubs.declared.hub.Hub.{Hub}
 use Rattle.machine.specs.Below.hubs.declared.hub.Hub.TheVariants.{CI, CO}
 use Rattle.machine.specs.Below.net.Impulsed.{IsImpulsed}
@@ -15,6 +17,16 @@ use Rattle.machine.specs.Machine.{MachineState, closes}
 use Rattle.whole_cycles.specs.Between.{IsBetween}
 use Rattle.whole_cycles.specs.Carries.{but_carries, is_carry}
 use Rattle.whole_cycles.specs.WholeCycles.{WholeCycle, before_closing, closing_emits}
+
+-- whether two counter groups, if there are any, are one: none is the same as none
+abbrev pub is_same_group : Option Group → Option Group → Bool
+is_same_group (Some one) (Some other) = is_one_group one other
+is_same_group None None = true
+is_same_group one other = false
+
+-- whether a wire joins no two groups: a carry exit leads to the carry entry of its own group alone, and that is fed by it alone
+abbrev pub keeps_ring : Hub → Hub → Bool
+keeps_ring exit entry = is_same_group (carry_out_of exit) (carry_into entry)
 
 -- every wire from or to a carry hub leads from the carry exit of a group to the carry entry of the same group
 abbrev pub JoinsNoGroups : Wiring → Type 0

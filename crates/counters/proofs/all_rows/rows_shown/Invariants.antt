@@ -1,7 +1,7 @@
 use Rattle.std.proofs.Common.{◌≡◌, ℕ, ◌&&◌, ◌==◌, nat_lt, length, get_or}
 use Rattle.card_code.specs.Rows.{passing_place, row_number}
 use Rattle.card_code.specs.declared.row.Row.{Row as CardRow}
-use Rattle.net.specs.Links.{has_at}
+use Rattle.net.specs.HubRows.{has_at}
 use Rattle.counters.proofs.all_rows.rows_shown.Given as goal
 
 -- the first positions from the units on have the rows of their digits

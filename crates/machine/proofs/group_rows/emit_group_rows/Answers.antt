@@ -1,6 +1,6 @@
 use Rattle.std.proofs.Common.{ap, ◌∙◌, ◌||◌}
 use Rattle.card_code.specs.Rows.{passing_place}
-use Rattle.net.specs.Links.{has_row_at}
+use Rattle.net.specs.HubRows.{has_row_at}
 use Rattle.machine.proofs.Rest.{busy-shows}
 use Rattle.machine.proofs.group_rows.emit_group_rows.Goals as goal
 

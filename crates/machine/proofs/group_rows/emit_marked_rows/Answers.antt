@@ -3,7 +3,7 @@ use Rattle.std.proofs.Math.Bool.{or-false}
 use Rattle.net.proofs.Below.bit_sets.BitLemmas.{lowest_bit, taken_lower}
 use Rattle.card_code.specs.Rows.{passing_place}
 use Rattle.counters.specs.Counters.{counter_emits}
-use Rattle.net.specs.Links.{has_row_at}
+use Rattle.net.specs.HubRows.{has_row_at}
 use Rattle.net.specs.declared.cycle.Point.TheVariants.{Row}
 use Rattle.machine.proofs.Marks.{any-none, any-past, any-taken, emitted-more, is_taken}
 use Rattle.machine.proofs.group_rows.emit_marked_rows.Goals as goal

@@ -3,7 +3,7 @@ use Rattle.card_code.specs.Rows.{passing_place}
 use Rattle.card_code.specs.declared.row.Row.{Row as CardRow}
 use Rattle.counters.specs.Counters.{counter_emits}
 use Rattle.hubs.specs.declared.hub.Hub.{Hub}
-use Rattle.net.specs.Links.{has_row_at}
+use Rattle.net.specs.HubRows.{has_row_at}
 use Rattle.net.specs.declared.cycle.Point.TheVariants.{Row}
 use Rattle.machine.specs.Marked.{any_marked}
 use Rattle.machine.proofs.group_rows.emit_marked_rows.Given as goal

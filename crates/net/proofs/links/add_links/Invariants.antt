@@ -1,5 +1,5 @@
 use Rattle.std.proofs.Common.{All, take}
-use Rattle.net.specs.NetRows.{AddsLinks}
+use Rattle.net.specs.AddedWires.{AddsLinks}
 use Rattle.spreads.specs.Links.{IsInRange}
 use Rattle.net.proofs.links.add_links.Given as goal
 

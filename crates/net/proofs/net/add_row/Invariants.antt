@@ -1,5 +1,5 @@
 use Rattle.std.proofs.Common.{◌≡◌, length, take}
-use Rattle.net.specs.NetRows.{AddsRow}
+use Rattle.net.specs.AddedWires.{AddsRow}
 use Rattle.net.proofs.net.add_row.Given as goal
 
 abbrev pub invariant-loop-to : goal.invariant-loop-to

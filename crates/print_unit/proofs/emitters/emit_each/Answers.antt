@@ -1,6 +1,6 @@
 use Rattle.std.proofs.Common.{◌∙◌, ap, ◌||◌}
 use Rattle.card_code.specs.Rows.{passing_place}
-use Rattle.net.specs.Links.{has_row_at}
+use Rattle.net.specs.HubRows.{has_row_at}
 use Rattle.print_unit.proofs.EmittedRows.{emitted-sets}
 use Rattle.print_unit.proofs.emitters.emit_each.Goals as goal
 

@@ -1,7 +1,7 @@
 use Rattle.std.proofs.Common.{◌≡◌, ◌∙◌, ◌+◌, ◌-◌, ℕ, ap, arith, refl}
 use Rattle.std.proofs.lemmas.List.{length-set}
 use Rattle.net.specs.HubSets.{is_bit}
-use Rattle.net.specs.Links.{has_at}
+use Rattle.net.specs.HubRows.{has_at}
 use Rattle.selectors.proofs.PickupLemmas.{pickups-more}
 use Rattle.selectors.proofs.NumberedLemmas.{all-tests}
 use Rattle.selectors.proofs.pilots.pickups_in.Goals as goal

@@ -1,4 +1,4 @@
-use Rattle.std.proofs.Common.{◌∙◌, ◌*◌, sym, length, true, false}
+use Rattle.std.proofs.Common.{◌∙◌, ◌*◌, sym, length, false}
 use Rattle.std.proofs.lemmas.Nat.{pow_pos}
 use Rattle.selectors.proofs.SpreadLemmas.{has_room, none-set, spread-none, spread-more, spread-all, spread-below}
 use Rattle.selectors.proofs.spread.spread.Goals as goal
@@ -9,11 +9,11 @@ returns-then-not-has_any c =
     record { value = value; below = pow_pos (c.args.parts * length c.args.things.now) }
 
 pub loop-after-init : goal.loop-after-init
-loop-after-init c = spread-none true c.args.parts c.args.things.now
+loop-after-init c = spread-none c.args.parts c.args.things.now
 
 pub with_parts-bits-requires-clause-fits : goal.with_parts-bits-requires-clause-fits
 with_parts-bits-requires-clause-fits c =
-    has_room true c.args.parts c.loop-after.after c.loop-after.bits c.args.things.now c.loop-after.invariant
+    has_room c.args.parts c.loop-after.after c.loop-after.bits c.args.things.now c.loop-after.invariant
     c.loop-after-test.true c.requires.fits
 
 pub loop-after-preserved : goal.loop-after-preserved
@@ -23,6 +23,6 @@ loop-after-preserved c =
 
 pub returns : goal.returns
 returns c =
-    let value = spread-all true c.args.parts c.loop-after.after c.loop-after.bits c.args.things.now c.loop-after-test.false
+    let value = spread-all c.args.parts c.loop-after.after c.loop-after.bits c.args.things.now c.loop-after-test.false
     c.loop-after.invariant in
-    record { value = value; below = rw value (spread-below true c.args.parts c.args.things.now) }
+    record { value = value; below = rw value (spread-below c.args.parts c.args.things.now) }

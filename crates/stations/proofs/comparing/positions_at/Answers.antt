@@ -1,6 +1,6 @@
 use Rattle.std.proofs.Common.{◌∙◌, ◌+◌, ◌-◌, ap, arith, ℕ}
 use Rattle.net.specs.HubSets.{is_bit}
-use Rattle.net.specs.Links.{has_at}
+use Rattle.net.specs.HubRows.{has_at}
 use Rattle.stations.proofs.CollectedSets.{entries-having}
 use Rattle.stations.proofs.PositionWords.{positions_read}
 use Rattle.stations.proofs.comparing.positions_at.Goals as goal

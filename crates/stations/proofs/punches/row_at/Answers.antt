@@ -1,5 +1,5 @@
 use Rattle.std.proofs.Common.{◌∙◌, ap, ℕ, true}
-use Rattle.net.specs.Links.{has_at}
+use Rattle.net.specs.HubRows.{has_at}
 use Rattle.stations.specs.Kept.{card_of}
 use Rattle.stations.proofs.ColumnSets.{row-read}
 use Rattle.stations.proofs.KeptColumns.{kept-columns}

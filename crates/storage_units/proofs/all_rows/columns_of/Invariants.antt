@@ -1,6 +1,6 @@
 use Rattle.std.proofs.Common.{◌≡◌, ℕ, ◌<◌, ◌&&◌, nat_lt, length, slice_index_or}
 use Rattle.net.specs.HubSets.{is_bit}
-use Rattle.net.specs.Links.{has_at}
+use Rattle.net.specs.HubRows.{has_at}
 use Rattle.storage_units.proofs.all_rows.columns_of.Given as goal
 
 -- the first columns have their rows

@@ -1,6 +1,6 @@
 use Rattle.std.proofs.Common.{◌∙◌, ◌-◌, refl, arith}
 use Rattle.std.proofs.lemmas.List.{length-set}
-use Rattle.net.specs.Links.{has_at}
+use Rattle.net.specs.HubRows.{has_at}
 use Rattle.storage_units.specs.Words.{word_of}
 use Rattle.storage_units.proofs.RowWords.{rows-more}
 use Rattle.storage_units.proofs.all_rows.rows_of.Goals as goal

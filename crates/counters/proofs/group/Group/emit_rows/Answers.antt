@@ -2,7 +2,7 @@ use Rattle.std.proofs.Common.{◌∙◌, ◌≤◌, ◌&&◌, ◌||◌, ap, sym,
 use Rattle.std.proofs.lemmas.Bool.Decides.{nat_tests}
 use Rattle.std.proofs.lemmas.List.{length-take-le}
 use Rattle.card_code.specs.Rows.{passing_place, row_number}
-use Rattle.net.specs.Links.{has_row_at}
+use Rattle.net.specs.HubRows.{has_row_at}
 use Rattle.counters.specs.Counters.{Counter, shows}
 use Rattle.counters.specs.Fields.{counter_in}
 use Rattle.counters.proofs.ShownRows.{shows-sets}

@@ -7,7 +7,7 @@ use Rattle.hubs.specs.Hubs.{number_of}
 use Rattle.hubs.specs.declared.hub.Hub.TheVariants.{GE}
 use Rattle.net.proofs.KindRows.{GE_numbered, numbered_in}
 use Rattle.net.proofs.SetLemmas.{set-read}
-use Rattle.net.specs.Links.{has_at}
+use Rattle.net.specs.HubRows.{has_at}
 use Rattle.net.specs.RowSets.{after_rows, pictures_of}
 use Rattle.counters.specs.AllRows.{digit_entered}
 use Rattle.counters.specs.Counters.{Counter, counter_sensed}

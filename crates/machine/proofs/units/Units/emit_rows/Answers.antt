@@ -5,7 +5,7 @@ use Rattle.card_code.specs.declared.row.Row.{Row as CardRow}
 use Rattle.counters.specs.Counters.{counter_emits}
 use Rattle.hubs.specs.declared.hub.Hub.{Hub}
 use Rattle.net.proofs.SetLemmas.{GainsRows-both}
-use Rattle.net.specs.Links.{has_row_at}
+use Rattle.net.specs.HubRows.{has_row_at}
 use Rattle.net.specs.declared.cycle.Point.TheVariants.{Row}
 use Rattle.print_unit.specs.Emitters.{emitters_emit}
 use Rattle.stations.specs.Stations.{stations_emits}

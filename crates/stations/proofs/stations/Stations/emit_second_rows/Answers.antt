@@ -1,6 +1,6 @@
 use Rattle.std.proofs.Common.{◌∙◌, ap, ◌||◌}
 use Rattle.card_code.specs.Rows.{passing_place}
-use Rattle.net.specs.Links.{has_row_at}
+use Rattle.net.specs.HubRows.{has_row_at}
 use Rattle.stations.specs.Stations.{StationCards, second_emits}
 use Rattle.stations.proofs.ColumnSets.{second_columns}
 use Rattle.stations.proofs.stations.Stations.emit_second_rows.Goals as goal

@@ -1,7 +1,7 @@
 use Rattle.std.proofs.Common.{◌∙◌, ◌||◌, ap, refl, sym}
 use Rattle.std.proofs.Math.Bool.{or-false}
 use Rattle.card_code.specs.Rows.{passing_place}
-use Rattle.net.specs.Links.{has_row_at}
+use Rattle.net.specs.HubRows.{has_row_at}
 use Rattle.net.specs.declared.cycle.Point.TheVariants.{Row}
 use Rattle.storage_units.specs.Fields.{state_of}
 use Rattle.storage_units.proofs.AllRows.{reads_out_sets}
