@@ -53,6 +53,7 @@ fn writers_get_pages_up_to_where_they_fail(rt: HostRuntime) -> Result<(), Fail> 
 #[test]
 fn fifteen_lines_stand_when_they_are_put_out(rt: HostRuntime) -> Result<(), Fail> {
     let lines = forty_bolts(rt.alloc())?;
+    assert!(rt; lines.len() >= 15);
     let Some(first) = lines.as_slice().get(..15) else {
         return Ok(());
     };

@@ -1,8 +1,8 @@
 //! Compiles planning charts, runs their decks, and prints of each the wiring chart and the pages.
 //!
 //! The file `index` names the charts whose wiring is known, one a line, and `pages_index` those of which the pages alone are. Where
-//! a deck is refused, the line of its fault stands in place of its pages: what is printed before it is asked by `stream_cases`. The last nine charts of `pages_index` are the examples of
-//! `docs/GALLERY.md`, where their pages and faults are worked out by hand. The machine wired as the written wiring chart says must
+//! a deck is refused, the line of its fault stands in place of its pages: what is printed before it is asked by `run_cases`.
+//! The last nine charts of `pages_index` are the examples of `docs/GALLERY.md`, where their pages and faults are worked out by hand. The machine wired as the written wiring chart says must
 //! print the same pages; where it doesn't, the program ends with a fault.
 
 use crate::answered::Served;
@@ -19,7 +19,7 @@ fn wired(alloc: Global, case: &Case) -> Served {
 // Whether the machine that is wired as a wiring chart says prints these pages.
 fn prints(alloc: Global, wiring: &[u8], deck: &[u8], pages: &[u8]) -> bool {
     let replayed = Served::of(alloc, "replay", wiring, deck);
-    replayed.output.as_slice() == pages
+    replayed.status == 0 && replayed.output.as_slice() == pages
 }
 
 // Writes what is printed or told of the deck of a chart.

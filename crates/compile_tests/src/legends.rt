@@ -48,7 +48,7 @@ STOP 2 5
 
 ";
 
-// What two totals of a signed amount ask for, the one of level 1 and the one of the deck, as the wiring table has it.
+// The first lines of what the deck's total of a signed amount asks for, where level 1 has one too, as the wiring table has it.
 static TOTAL: &str = "\
 JACK TOTAL 4
 JACK LINK 2

@@ -51,7 +51,8 @@ pub fn lines_are_placed()
     ensures { LinesArePlaced }
 {}
 
-/// A cycle that doesn't print, and in which nothing is asked for, leaves the carriage where it stands; a chart's unprinted lines do so.
+/// A cycle that neither prints nor is the first heading cycle, and in which nothing is asked for, leaves the carriage where it stands; so
+/// does the cycle of a line that a lawful chart doesn't print.
 pub fn quiet_cycles_stay()
     ensures quiet { QuietCyclesStay }
     ensures unprinted { UnprintedKindsStay }

@@ -5,8 +5,8 @@
 //! text on a total line the cycle and the first wheel name the storage unit, in the same way; a split and an indicate position are named by
 //! the wheel to which they lead. A column of a control field and its level name the comparing position, and the sign column of an amount
 //! its pilot, together with its lowest total or its mark. Where a column is compared twice for a level, the two positions may change places,
-//! and the first that is not yet taken will do. Where nothing shows the part of a thing, a free one stands in for it, for a counter group one
-//! with some of the wires rather, if there is one: so what is wrong can still be told.
+//! and the first that is not yet taken will do. Where nothing shows the part of a thing, one for which some of its wires
+//! speak stands in for it, else a free one: so what is wrong can still be told.
 #![tactic(auto)]
 
 mod compared;

@@ -194,7 +194,7 @@ fn with_pilots(
 }
 
 /// The numbers of the parts that a setup shows for what a chart asks for; of a kind of which it shows none for some thing, those that it
-/// shows for the others, and a free one for that.
+/// shows for the others, and for that one for which its wires speak, else a free one.
 pub(crate) fn shown_numbers(
     alloc: Global,
     chart: &Chart,

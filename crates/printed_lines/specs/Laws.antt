@@ -63,7 +63,7 @@ TotalLinesPrint =
     ≡ total_line chart.lines level group
 
 -- A heading line prints as the report has it, with any jacks: zero control is off. The chart may break rules: where literals meet on a
--- wheel, the print wheels and the report both have the first.
+-- wheel, `set_on` has the first, as the report does; on a panel the wheel would receive both.
 abbrev pub HeadingLinesPrint : Type 0
 HeadingLinesPrint =
     (chart : Chart) (link suppress symbol : ℕ → Bool) (number : ℕ) → HaveLiteralTexts chart.lines

@@ -13,7 +13,7 @@ pub fn a_card_goes_in()
     ensures { CardGoesIn }
 {}
 
-/// At the end of a group whose level has a total, the total shows the size of the group's sum, clears, and goes up.
+/// At the end of a group whose level has a total that the sum fits, the total shows the size of the group's sum, clears, and goes up.
 pub fn a_total_is_shown()
     ensures { TotalIsShown }
 {}
@@ -23,7 +23,7 @@ pub fn an_empty_level_passes()
     ensures { EmptyLevelPasses }
 {}
 
-/// Where the ended level has no total, the totals stand for the cleared sums as they are.
+/// Where the ended level has no total and the groups below have ended, the totals stand for the cleared sums as they are.
 pub fn an_empty_level_ends()
     ensures { EmptyLevelEnds }
 {}

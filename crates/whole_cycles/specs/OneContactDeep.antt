@@ -8,7 +8,7 @@ use Rattle.machine.specs.Below.hubs.declared.hub.Hub.{Hub}
 use Rattle.machine.specs.Below.hubs.declared.hub.Hub.TheVariants.{CO, FR, SR, CX, GX, SX, EM, CC, PX, HX, BAC, PIC, IE, CSE}
 use Rattle.machine.specs.Below.net.Panel.{contact_of}
 
--- whether a hub is the common hub of contacts
+-- whether a hub is the common hub of contacts, but for those of carries
 abbrev pub is_common : Hub → Bool
 is_common (BAC group position) = true
 is_common (PIC pilot position) = true
