@@ -58,7 +58,7 @@ static CHART_TEXTS: [Words; 4] = [
     Words {
         name: "TooLarge",
         cause: "the chart has more than 500 lines, or a line of more than 200 bytes",
-        cure: "take out empty lines and spaces",
+        cure: "take out empty lines and spaces; or the files are in the wrong order, or a deck stands behind a chart without END",
         example: "",
     },
     Words {
@@ -306,7 +306,7 @@ static WIRING_TEXTS: [Words; 6] = [
     Words {
         name: "TooLarge",
         cause: "the wiring chart has more than 1,000,000 lines, or a line of more than 60 bytes",
-        cure: "take out empty lines and spaces; no setup needs as many",
+        cure: "take out empty lines and spaces; no setup needs as many; or the files are in the wrong order",
         example: "",
     },
     Words {
@@ -370,13 +370,13 @@ static MATCHES: [Words; 2] = [
     Words {
         name: "Unwired",
         cause: "no plan is found by which the panel is wired for the chart: A wires, jacks and stops are missing and B are too much, by the plan that is printed; another form counts once as missing and once as too much",
-        cure: "wire what stands under missing, by the line of the chart that asks for it, and take out what stands under too much. Where all wires of a part seem wrong, look which group the first wires of that part name: the plan is read off them; or the group that the panel's wires name is too narrow for the total",
+        cure: "wire what stands under missing, by the line of the chart that asks for it, and take out what stands under too much. Where all wires of a total seem wrong, the group that they name is too narrow for it, or of two coupled ones the lower digits stand in the one with the higher number. Where those of another part do, look whether its first wires name a part that another thing has too",
         example: "run407 match my.chart my.wiring where the wiring chart lacks a wire",
     },
     Words {
         name: "PrintsOtherwise",
         cause: "besides, the panel prints the deck otherwise than one that is wired for the chart; line L of page P is the first that differs",
-        cure: "look at the two explanations that are printed last, of the first wheel that differs on that line: where they part, there is the wire that is missing or too much",
+        cure: "besides what is said of 94, look at the two explanations that are printed last, of the first wheel that differs on that line: where they part, there is the wire that is missing or too much",
         example: "run407 match --deck my.deck my.chart my.wiring where the wiring chart lacks a wire that the deck needs",
     },
 ];

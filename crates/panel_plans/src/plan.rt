@@ -10,7 +10,7 @@ ghost use Rattle.wanted.specs.Wanted.{parts_of};
 
 use crate::counters::{Units, shown_counter, shown_on, units_on};
 use crate::parts::shown_numbers;
-use crate::stand_ins::{Taken, stand_in};
+use crate::stand_ins::{Taken, is_double, stand_in};
 use chart_rules::Chart;
 use plans::{Plan, TotalCounter};
 use setups::Setup;
@@ -60,7 +60,8 @@ fn shown_each(
     Ok(shown)
 }
 
-// The counters of the totals: those that the setup shows, and free ones for the others; none where too few are left.
+// The counters of the totals: those that the setup shows, and free ones for the others, and where a group is shown for a second total;
+// none where too few are left.
 fn all_counters(
     alloc: Global,
     setup: &Setup,
@@ -74,8 +75,8 @@ fn all_counters(
             so_far: counters.as_slice(),
         };
         let counter = match its {
-            Some(counter) => Some(*counter),
-            None => stand_in(setup, *units, taken),
+            Some(counter) if !is_double(*counter, taken.so_far) => Some(*counter),
+            _ => stand_in(setup, *units, taken),
         };
         match counter {
             Some(counter) => counters.push(counter)?,
@@ -83,6 +84,17 @@ fn all_counters(
         }
     }
     Ok(Some(counters))
+}
+
+// The same for the totals of a chart, by what the setup shows of each.
+fn near_counters(
+    alloc: Global,
+    chart: &Chart,
+    setup: &Setup,
+) -> Result<Option<Vec<TotalCounter>>, AllocError> {
+    let totals = units_of(alloc, chart)?;
+    let shown = shown_each(alloc, setup, totals.as_slice())?;
+    all_counters(alloc, setup, totals.as_slice(), shown.as_slice())
 }
 
 // The plan of a chart with these counters, in which the other parts serve in order what every plan of it has them serve.
@@ -114,17 +126,26 @@ fn again(alloc: Global, chart: &Chart, own: &Plan) -> Result<Plan, AllocError>
     with_counters(alloc, chart, own, own.counters())
 }
 
-// A plan of a chart: that with these counters and the other parts in order, where it is one, else one with the counters of another.
+// A plan of a chart: that with these counters and the other parts in order, where it is one, else one with free groups for what a setup
+// doesn't show, or shows twice, else one with the counters of another.
 fn near(
     alloc: Global,
     chart: &Chart,
     own: &Plan,
+    setup: &Setup,
     counters: &[TotalCounter],
 ) -> Result<Plan, AllocError>
     requires { IsFor chart.now.lines own.now }
     ensures { IfOk result (IsFor chart.now.lines) }
 {
-    let plan = with_counters(alloc, chart, own, counters)?;
+    let in_order = with_counters(alloc, chart, own, counters)?;
+    if in_order.is_for(chart) {
+        return Ok(in_order);
+    }
+    let Some(counters) = near_counters(alloc, chart, setup)? else {
+        return again(alloc, chart, own);
+    };
+    let plan = shown_plan(alloc, chart, own, setup, counters)?;
     if !plan.is_for(chart) {
         return again(alloc, chart, own);
     }
@@ -170,7 +191,7 @@ fn planned(
     if plan.is_for(chart) {
         Ok(plan)
     } else {
-        near(alloc, chart, own, plan.counters())
+        near(alloc, chart, own, setup, plan.counters())
     }
 }
 
@@ -179,9 +200,7 @@ fn near_plan(alloc: Global, chart: &Chart, own: &Plan, setup: &Setup) -> Result<
     requires { IsFor chart.now.lines own.now }
     ensures { IfOk result (IsFor chart.now.lines) }
 {
-    let totals = units_of(alloc, chart)?;
-    let shown = shown_each(alloc, setup, totals.as_slice())?;
-    match all_counters(alloc, setup, totals.as_slice(), shown.as_slice())? {
+    match near_counters(alloc, chart, setup)? {
         Some(counters) => planned(alloc, chart, own, setup, counters),
         None => again(alloc, chart, own),
     }

@@ -4,8 +4,9 @@ ghost use Rattle.std.specs.Prelude.{◌≡◌, ◌≤◌, true, IfSome};
 ghost use Rattle.capacity.specs.Capacities.{HasGroup, standard};
 
 use crate::counters::Units;
-use crate::groups::{GROUPS, carries_to, group_at, is_read_out, leads_to};
+use crate::groups::{GROUPS, carries_to, group_at, is_read_out, leads_to, panel_group};
 use capacity::CounterGroup;
+use hubs::Hub;
 use plans::TotalCounter;
 use setups::Setup;
 use wanted::takes_two;
@@ -32,21 +33,60 @@ fn is_shown(shown: &[Option<TotalCounter>], group: CounterGroup) -> bool {
     })
 }
 
+// Whether two counters have a group in common.
+fn share_group(one: TotalCounter, other: TotalCounter) -> bool {
+    match one {
+        TotalCounter::Single { group } => other.has(group),
+        TotalCounter::Coupled { lower, upper } => other.has(lower) || other.has(upper),
+    }
+}
+
+/// Whether a counter has a group of one of some counters.
+pub(crate) fn is_double(counter: TotalCounter, counters: &[TotalCounter]) -> bool {
+    counters.iter().any(|other| share_group(counter, *other))
+}
+
 // Whether a group is free.
 fn is_free(taken: Taken, group: CounterGroup) -> bool {
     !is_in(taken.so_far, group) && !is_shown(taken.shown, group)
 }
 
-// How many of the wires are there that show the units of a total.
+// Whether a wire leads from a position of a group.
+fn is_wired(setup: &Setup, group: CounterGroup, position: u8) -> bool {
+    !setup
+        .entries_of(Hub::GX(panel_group(group), position))
+        .is_empty()
+}
+
+// From how many positions of a group above the units wires lead.
+fn higher_wires(setup: &Setup, group: CounterGroup) -> u8
+    ensures { result ≤ 7 }
+{
+    let mut count = 0;
+    for place in 1..8 {
+        if is_wired(setup, group, place + 1) {
+            count += 1;
+        }
+    }
+    count
+}
+
+// How much speaks for a group as that of a total, or as the lower one of two. The wire from its units to their wheel counts twice and the
+// read-out in the level's cycle once; where they name two groups, the one that is wired further up has the more.
 fn units_wires(setup: &Setup, units: Units, group: CounterGroup) -> u8
-    ensures { result ≤ 2 }
+    ensures { result ≤ 10 }
 {
     let read_out = is_read_out(setup, units.level, group);
     let leads = leads_to(setup, units.wheel, group);
-    u8::from(read_out) + u8::from(leads)
+    let named = 2 * u8::from(leads) + u8::from(read_out);
+    if named == 0 {
+        0
+    } else {
+        named + higher_wires(setup, group)
+    }
 }
 
-// The first free group of so many positions, or more, with so many of the wires that show the units of a total.
+// The first free group of so many positions, or more, for which so much speaks.
 fn group_with(
     setup: &Setup,
     units: Units,
@@ -69,13 +109,13 @@ fn group_with(
     None
 }
 
-// The free group of so many positions, or more, with the most of these wires.
+// The free group of so many positions, or more, for which the most speaks.
 fn units_group(setup: &Setup, units: Units, taken: Taken, width: u32) -> Option<CounterGroup>
     ensures there { IfSome result (HasGroup standard) }
     ensures wide { IfSome result (λ group. width ≤ group.width) }
 {
-    for missing in 0..3 {
-        let group = group_with(setup, units, taken, width, 2 - missing);
+    for missing in 0..11 {
+        let group = group_with(setup, units, taken, width, 10 - missing);
         if group.is_some() {
             return group;
         }
@@ -135,8 +175,8 @@ fn upper_group(
     None
 }
 
-/// A counter of free groups that stands in for that of a total, if there is one: of the groups that are enough the one with the most of
-/// the wires that would show it.
+/// A counter of free groups that stands in for that of a total, if there is one: of the groups that are enough the one for which the most
+/// speaks.
 pub(crate) fn stand_in(setup: &Setup, units: Units, taken: Taken) -> Option<TotalCounter> {
     if takes_two(units.need) {
         let lower = units_group(setup, units, taken, 8)?;
