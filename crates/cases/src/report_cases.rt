@@ -2,8 +2,8 @@
 //!
 //! The file `index` names the charts whose wiring is known, one a line, and `pages_index` those of which the pages alone are. Where
 //! a deck is refused, the line of its fault stands in place of its pages: what is printed before it is asked by `run_cases`.
-//! The last nine charts of `pages_index` are the examples of `docs/GALLERY.md`, where their pages and faults are worked out by hand. The machine wired as the written wiring chart says must
-//! print the same pages; where it doesn't, the program ends with a fault.
+//! The last nine charts of `pages_index` are the examples of `docs/GALLERY.md`, where their pages and faults are worked out by hand. The
+//! machine wired as the written wiring chart says must print the same pages; where it doesn't, the program ends with a fault.
 
 use crate::answered::Served;
 use crate::case_files::Case;
